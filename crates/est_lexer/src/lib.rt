@@ -1,0 +1,4 @@
+//! Tokens of Estelle texts: specifications, traces and explanations.
+#![tactic(auto)]
+
+pub mod kind;
