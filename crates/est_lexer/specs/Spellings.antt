@@ -18,6 +18,10 @@ words = flat_map (λ group. map (λ w. (w.0.now, w.1)) group.now) WORDS
 unfoldable pub word_kind : List ℕ → Option TokenKind
 word_kind bytes = option_map (λ w. w.1) (find (λ w. str_eq_ignore_ascii_case w.0 bytes) words)
 
+-- The kind of a name: a word, or else an identifier.
+abbrev pub name_kind : List ℕ → TokenKind
+name_kind bytes = unwrap_or (word_kind bytes) Identifier
+
 -- The symbols and the left-out symbols.
 unfoldable pub symbols : List Word
 symbols = map (λ w. (w.0.now, w.1)) SYMBOLS
@@ -53,7 +57,7 @@ is_character _ = false
 -- The kind of the token that the bytes are, if they are one.
 unfoldable pub kind_of : List ℕ → Option TokenKind
 kind_of bytes =
-    if is_identifier bytes then Some (unwrap_or (word_kind bytes) Identifier)
+    if is_identifier bytes then Some (name_kind bytes)
     else if is_number bytes then Some Number
     else if is_character bytes then Some Character
     else symbol_kind bytes
