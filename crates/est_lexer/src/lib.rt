@@ -3,6 +3,7 @@
 
 pub mod between;
 pub mod kind;
+pub mod laws;
 pub mod lex;
 pub mod scan;
 pub mod table;
