@@ -7,4 +7,6 @@ pub mod laws;
 pub mod lex;
 pub mod scan;
 pub mod table;
+#[cfg(test)]
+mod tests;
 pub mod tokens;
