@@ -6,3 +6,4 @@ pub mod Runs
 pub mod SymbolFront
 pub mod There
 pub mod TokenLaws
+pub mod Unique

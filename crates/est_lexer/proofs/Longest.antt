@@ -1,7 +1,8 @@
 use Rattle.std.proofs.Common.{◌≡◌, ◌≤◌, ◌<◌, ◌+◌, ◌-◌, ℕ, suc, zero, List, [], ◌∷◌, length, take, drop, get_or, arith, Bool, true, false, not, refl, sym, subst, eqb, ◌&&◌, Some, None, length-drop, length-take}
 use Rattle.std.specs.List.{prefix_len}
 use Rattle.std.specs.Char.{is_ascii_alphabetic, is_ascii_digit}
-use Rattle.std.proofs.lemmas.Bool.{and_left, and_parts, lt-ltb}
+use Rattle.std.proofs.Math.Bool.{and-false}
+use Rattle.std.proofs.lemmas.Bool.{both_ways, and_left, and_parts, lt-ltb}
 use Rattle.std.proofs.lemmas.List.{drop_more}
 use Rattle.std.proofs.lemmas.List.Folds.{length-prefix_len}
 use Rattle.est_lexer.specs.Between.{opening}
@@ -103,7 +104,7 @@ no_longer_plain (x ∷ y ∷ z ∷ w ∷ ws) (suc (suc (suc (suc k)))) plain mor
 
 plain_front : (rest : List ℕ) → is_plain_rest rest ≡ true → (2 ≤ length rest) × (is_character (39 ∷ take 2 rest) ≡ true)
 plain_front [] plain = absurd (cc)
-plain_front (x ∷ []) plain = absurd (let h : false ≡ true = (and_parts _ _ plain).1 in cc)
+plain_front (x ∷ []) plain = absurd (both_ways _ (and-false (is_plain_character x)) plain)
 plain_front (x ∷ y ∷ rest) plain = (omega arith, plain)
 
 -- A quote, a plain byte and a quote are the longest token there.
@@ -122,8 +123,8 @@ plain_longest rest plain =
 
 quotes_front : (rest : List ℕ) → is_quotes_rest rest ≡ true → (3 ≤ length rest) × (is_character (39 ∷ take 3 rest) ≡ true)
 quotes_front [] quotes = absurd (cc)
-quotes_front (x ∷ []) quotes = absurd (let h : false ≡ true = (and_parts _ _ (and_parts _ _ quotes).0).1 in cc)
-quotes_front (x ∷ y ∷ []) quotes = absurd (let h : false ≡ true = (and_parts _ _ quotes).1 in cc)
+quotes_front (x ∷ []) quotes = absurd (both_ways _ (and-false (eqb x 39 && false)) quotes)
+quotes_front (x ∷ y ∷ []) quotes = absurd (both_ways _ (and-false (eqb x 39 && eqb y 39)) quotes)
 quotes_front (x ∷ y ∷ z ∷ rest) quotes = (omega arith, quotes)
 
 no_longer_quotes : (rest : List ℕ) (k : ℕ) → 3 < k → k ≤ length rest → is_character (39 ∷ take k rest) ≡ false

@@ -77,10 +77,12 @@ find_by_its_letter letter first rest (table ∷ tables) zero by_letter at within
     let more = later_letters (letter + 1) first rest tables parts.1 (omega arith) in
     rw (find-append, more) (sym (option_or_none _))
 find_by_its_letter letter first rest (table ∷ tables) (suc k) by_letter at within =
-    let parts = and_parts _ _ by_letter in
-    let here = other_letter letter first rest table parts.0 (λ h. absurd (omega arith)) in
     let further : to_ascii_lowercase first ≡ (letter + 1) + k = omega (arith, at) in
-    let more = find_by_its_letter (letter + 1) first rest tables k parts.1 further (omega arith) in
+    let shorter : k < length tables = omega arith in
+    let other : to_ascii_lowercase first ≡ letter → ⊥ = λ h. absurd (omega arith) in
+    let parts = and_parts _ _ by_letter in
+    let here = other_letter letter first rest table parts.0 (λ h. other h) in
+    let more = find_by_its_letter (letter + 1) first rest tables k parts.1 further shorter in
     rw (find-append, here) more
 
 -- A letter in lower case lies from `a` to `z`.

@@ -12,6 +12,8 @@ const LINE_FEED: u8 = b'\n';
 /// The most bytes that a text may have.
 pub const MOST_BYTES: usize = 134_217_728;
 
+const _: () = prove!(size_of::<Token>() <= 24);
+
 /// A text with its tokens. The text is borrowed.
 #[derive(Drop)]
 pub struct Tokens<'t> {
