@@ -1,3 +1,6 @@
+pub mod Calls
 pub mod Counts
+pub mod Memory
 pub mod Pieces
+pub mod Places
 pub mod Wholes

@@ -1,0 +1,2 @@
+/// An output in memory, for tests.
+pub struct MemSink;

@@ -1,0 +1,4 @@
+/// Real files.
+pub struct FileShelf;
+/// Standard output.
+pub struct OutSink;
