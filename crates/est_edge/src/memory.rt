@@ -6,7 +6,7 @@ ghost use Rattle.std.proofs.Props.{props};
 use crate::calls::Calls;
 use crate::counting::Count;
 use crate::held::MemFile;
-use crate::places::{raise_at, replace_at};
+use crate::places::{add_last, bytes_of, first_named, raise_at, replace_at};
 use crate::reading::{Failed, Shelf};
 use std::alloc::{AllocError, Global};
 
@@ -80,11 +80,12 @@ impl MemShelf {
             None => {
                 let name = String::from_str(self.alloc, name)?;
                 let faults = self.unheld.again();
-                self.files.push(MemFile {
+                let file = MemFile {
                     name,
                     bytes,
                     faults,
-                })?;
+                };
+                add_last(&mut self.files, file)?;
             }
         }
         Ok(())
@@ -95,9 +96,7 @@ impl MemShelf {
         ensures none { IfNone result (place_of self.now.files.items name.now ≡ length self.now.files.items) }
         ensures some { IfSome result (λ place. (place ≡ place_of self.now.files.items name.now) × (place < length self.now.files.items)) }
     {
-        self.files
-            .iter()
-            .position(|file| file.name.as_str() == name)
+        first_named(&self.files, name)
     }
 }
 
@@ -181,7 +180,7 @@ impl Shelf for MemShelf {
             raise_at(&mut self.files, place);
             return Err(Failed);
         }
-        let rest = &self.files[place].bytes[self.taken..];
+        let rest = &bytes_of(&self.files, place)[self.taken..];
         let n = self.chunk.min(into.len()).min(rest.len());
         into[..n].copy_from_slice(&rest[..n]);
         self.taken += n;
