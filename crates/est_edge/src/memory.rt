@@ -6,7 +6,7 @@ ghost use Rattle.std.proofs.Props.{props};
 use crate::calls::Calls;
 use crate::counting::Count;
 use crate::held::MemFile;
-use crate::places::{add_last, bytes_of, first_named, raise_at, replace_at};
+use crate::places::{add_last, bytes_of, first_named, raise_at, replace_at, unless_at};
 use crate::reading::{Failed, Shelf};
 use std::alloc::{AllocError, Global};
 
@@ -72,9 +72,7 @@ impl MemShelf {
         let bytes = Vec::from_slice(self.alloc, bytes)?;
         match self.place_of(name) {
             Some(place) => {
-                if self.started == Some(place) {
-                    self.started = None;
-                }
+                self.started = unless_at(self.started, place);
                 replace_at(&mut self.files, place, bytes);
             }
             None => {

@@ -1,4 +1,4 @@
-ghost use Rattle.std.specs.Prelude.{◌≡◌, ◌<◌, Some, length, vec_len, OnOk, OnErr};
+ghost use Rattle.std.specs.Prelude.{◌≡◌, ◌≢◌, ◌<◌, None, Some, length, vec_len, OnOk, OnErr};
 ghost use Rattle.std.specs.List.{position};
 ghost use Rattle.std.specs.Str.{bytes_eq};
 ghost use Rattle.std.specs.String.{string_bytes};
@@ -12,6 +12,17 @@ pub fn first_named(files: &Vec<MemFile>, name: &str) -> Option<usize>
     ensures { result ≡ position (λ file. bytes_eq (string_bytes file.name) name.now) files.now.items }
 {
     files.iter().position(|file| file.name.as_str() == name)
+}
+
+/// The place, unless it is this one.
+pub fn unless_at(at: Option<usize>, place: usize) -> Option<usize>
+    ensures gone { at ≡ Some place → result ≡ None }
+    ensures stays { at ≢ Some place → result ≡ at }
+{
+    match at {
+        Some(other) if other == place => None,
+        _ => at,
+    }
 }
 
 /// The bytes of the file at this place.

@@ -1,0 +1,16 @@
+use Rattle.std.proofs.Common.{◌≡◌, ℕ, List, [], Option, Some, ap, ◌∙◌, ◌≤◌, length, arith, drop}
+use Rattle.std.specs.Prelude.{unwrap_or}
+use Rattle.std.specs.Option.{option_and_then}
+use Rattle.est_edge.specs.Places.{bytes_at}
+use Rattle.est_edge.specs.Memory.{rest_of}
+use Rattle.est_edge.proofs.PieceLaws.{next_piece}
+use Rattle.est_edge.proofs.memory.MemShelfShelf.more.Goals as goal
+
+pub returns-clause-piece : goal.returns-clause-piece
+returns-clause-piece c =
+    let files = c.args.self.now.files.items in
+    let bytes = c.bytes_of.result.now in
+    let read : unwrap_or (option_and_then (bytes_at files) c.args.self.now.started) [] ≡ bytes =
+        ap (λ (o : Option ℕ). unwrap_or (option_and_then (bytes_at files) o) []) c.in-Some.is
+        ∙ ap (λ (o : Option (List ℕ)). unwrap_or o []) c.bytes_of.ensures in
+    rw read (next_piece bytes c.copy_from_slice.new.self (drop c.min-n.result c.args.into.now) c.args.self.now.taken c.min-n.result c.copy_from_slice.ensures.after (let least = c.min-n.ensures in omega arith))
