@@ -11,7 +11,7 @@ use Rattle.std.proofs.lemmas.Option.{slice_get-get_or, slice_get_past, same_Some
 use Rattle.std.proofs.lemmas.Slice.Eq.{bytes_eq-Decides}
 use Rattle.std.proofs.lemmas.Bool.Decides.{nat_tests}
 use Rattle.est_edge.specs.declared.held.MemFile.{MemFile}
-use Rattle.est_edge.specs.Places.{place_of, file_of, name_at, bytes_at, count_at, AddsFile, ReplacesAt}
+use Rattle.est_edge.specs.Places.{place_of, file_of, name_at, bytes_at, count_at, AddsFile, ReplacesAt, RaisesAt}
 
 -- two texts that are not equal
 differs_from : (a b : List ℕ) → a ≢ b → bytes_eq a b ≡ false
@@ -197,3 +197,28 @@ pub held_at : (files : List MemFile) (i : ℕ) → i < length files → is_some 
 held_at [] i h = absurd (omega arith)
 held_at (f ∷ fs) zero h = refl
 held_at (f ∷ fs) (suc i) h = held_at fs i (omega arith)
+
+-- names at one place have one count
+one_place_by : (files : List MemFile) (a b : List ℕ) → place_of files a ≡ place_of files b
+    → (place_of files a < length files) ⊎ (place_of files a ≡ length files)
+    → (a ≡ b) ⊎ ((is_some (bytes_at files (place_of files a)) ≡ false) × (is_some (bytes_at files (place_of files b)) ≡ false))
+one_place_by files a b e (inl less) =
+    let first : name_at files (place_of files a) ≡ Some a = name_at-place_of files a less in
+    let second : name_at files (place_of files b) ≡ Some b = name_at-place_of files b (omega arith) in
+    let both : Some a ≡ Some b = cc in
+    inl (same_Some a b both)
+one_place_by files a b e (inr last) =
+    let unheld : Option MemFile → Bool = λ o. is_some (option_map (λ f. f.bytes.items) o) in
+    inr (ap unheld (no_file files a last), ap unheld (no_file files b (sym e ∙ last)))
+
+pub one_place : (files : List MemFile) (a b : List ℕ) → place_of files a ≡ place_of files b
+    → (a ≡ b) ⊎ ((is_some (bytes_at files (place_of files a)) ≡ false) × (is_some (bytes_at files (place_of files b)) ≡ false))
+one_place files a b e = one_place_by files a b e (below_or_at _ _ (place_of-le files a))
+
+-- the count of another name, where that of one rose
+pub raised_others : (old new : List MemFile) (place : ℕ) (name other : List ℕ) (n : ℕ) → RaisesAt old place new → place_of old name ≡ place
+    → ((other ≡ name) ⊎ ((is_some (bytes_at old (place_of old other)) ≡ false) × (is_some (bytes_at old (place_of old name)) ≡ false)) → ⊥)
+    → unwrap_or (count_at new (place_of new other)) n ≡ unwrap_or (count_at old (place_of old other)) n
+raised_others old new place name other n r at apart =
+    ap (λ (i : ℕ). unwrap_or (count_at new i) n) (r.places other)
+    ∙ ap (λ (o : Option ℕ). unwrap_or o n) (r.counts (place_of old other) (λ e. apart (one_place old other name (e ∙ sym at))))

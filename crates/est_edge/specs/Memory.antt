@@ -1,5 +1,5 @@
 -- What a shelf in memory holds, and how it stands.
-use Rattle.std.specs.Prelude.{◌≡◌, ◌≢◌, ℕ, ◌≤◌, List, [], Bool, Option, Some, None, drop, is_some, unwrap_or}
+use Rattle.std.specs.Prelude.{◌≡◌, ◌≢◌, ℕ, ◌≤◌, ◌⊎◌, List, [], Bool, false, Option, Some, None, drop, is_some, unwrap_or}
 use Rattle.std.specs.List.{slice_get}
 use Rattle.std.specs.Option.{option_and_then}
 use Rattle.est_edge.specs.declared.memory.MemShelf.{MemShelf}
@@ -92,7 +92,10 @@ pub record SameReading (old new : MemShelf) : Type 0 where
 abbrev pub SameCounts : MemShelf → MemShelf → Type 0
 SameCounts old new = (name : List ℕ) → count_under new name ≡ count_under old name
 
--- the count of each name is as it was, but for this one, and where no file has this one, for all that no file has
+-- two names have one count: they are one name, or no file has either
+abbrev pub ShareCount : MemShelf → List ℕ → List ℕ → Type 0
+ShareCount shelf a b = (a ≡ b) ⊎ ((holds shelf a ≡ false) × (holds shelf b ≡ false))
+
+-- the count of each name is as it was, but for those that have one count with this one
 abbrev pub SameOtherCounts : MemShelf → MemShelf → List ℕ → Type 0
-SameOtherCounts old new name =
-    (other : List ℕ) → place_of old.files.items other ≢ place_of old.files.items name → count_under new other ≡ count_under old other
+SameOtherCounts old new name = (other : List ℕ) → (ShareCount old other name → ⊥) → count_under new other ≡ count_under old other
