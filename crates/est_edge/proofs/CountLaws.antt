@@ -1,6 +1,6 @@
 -- How counts go on over several calls.
-use Rattle.std.proofs.Common.{◌≡◌, ℕ, ◌<◌, ◌≤◌, List, arith, inl, inr}
-use Rattle.est_edge.specs.Counts.{last_count, Rose, GoesOn, AllGoOn}
+use Rattle.std.proofs.Common.{ℕ, arith, inl, inr}
+use Rattle.est_edge.specs.Counts.{Rose, GoesOn}
 
 -- nothing happened
 pub GoesOn-same : (n : ℕ) → GoesOn n n

@@ -1,9 +1,8 @@
 -- How pieces that are read or written one after another join.
-use Rattle.std.proofs.Common.{◌≡◌, ℕ, ◌+◌, ◌-◌, ◌<◌, ◌≤◌, List, [], ◌++◌, length, take, drop, Option, Some, None, IfSome, arith, ap, sym, ◌∙◌, refl, append_assoc, take-add, length-drop, length-take-le, drop-drop}
+use Rattle.std.proofs.Common.{◌≡◌, ℕ, ◌+◌, ◌-◌, ◌≤◌, List, [], ◌++◌, length, take, drop, Option, Some, None, IfSome, arith, ap, sym, ◌∙◌, refl, append_assoc, take-add, length-drop, length-take-le, drop-drop}
 use Rattle.std.proofs.Math.Seq.{take-append_seam}
 use Rattle.std.proofs.lemmas.List.{take-append-drop, append-nil, take_rest}
 use Rattle.est_edge.specs.Pieces.{TakesOff, appended, IsPrefix}
-
 
 -- a front part of a list is one
 pub IsPrefix-take : (n : ℕ) (xs : List ℕ) → IsPrefix (take n xs) xs
@@ -64,5 +63,5 @@ next_piece bytes front tail taken n copied h =
     let size : length front ≡ n = ap length piece ∙ length-take-le n rest l in
     let seam : take n (front ++ tail) ≡ front = ap (λ (k : ℕ). take k (front ++ tail)) (sym size) ∙ take-append_seam front tail in
     sym (ap (λ (part : List ℕ). part ++ drop (taken + n) bytes) (seam ∙ piece)
-        ∙ ap (λ (part : List ℕ). take n rest ++ part) (sym (drop-drop n taken bytes))
-        ∙ take-append-drop n rest)
+    ∙ ap (λ (part : List ℕ). take n rest ++ part) (sym (drop-drop n taken bytes))
+    ∙ take-append-drop n rest)

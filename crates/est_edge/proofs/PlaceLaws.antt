@@ -1,5 +1,5 @@
 -- Names and places of files in memory.
-use Rattle.std.proofs.Common.{◌≡◌, ◌≢◌, ℕ, ◌+◌, ◌<◌, ◌≤◌, zero, suc, List, [], ◌∷◌, ◌++◌, length, get_or, Bool, true, false, Option, Some, None, IfSome, IfNone, arith, ap, refl, sym, ◌∙◌, subst, length-append, ◌⊎◌, inl, inr, cond, eq-eqb}
+use Rattle.std.proofs.Common.{◌≡◌, ◌≢◌, ℕ, ◌+◌, ◌<◌, ◌≤◌, zero, suc, List, [], ◌∷◌, ◌++◌, length, get_or, Bool, true, false, Option, Some, None, IfSome, IfNone, arith, ap, refl, sym, ◌∙◌, length-append, ◌⊎◌, inl, inr, cond}
 use Rattle.std.specs.List.{slice_get, position, position_or_len}
 use Rattle.std.specs.Option.{option_map, option_and_then}
 use Rattle.std.specs.Prelude.{nat_lt, nat_eq, unwrap_or, is_some}
@@ -102,7 +102,7 @@ place_of-push : (files : List MemFile) (file : MemFile) (name : List ℕ) (n : �
 place_of-push files file name n b e h t =
     let p : MemFile → Bool = λ f. bytes_eq (string_bytes f.name) name in
     let push : place_of (files ++ file ∷ []) name ≡ cond (nat_eq (place_of files name) (length files)) (length files + cond (p file) 0 1) (place_of files name) =
-        position_or_len_push p files file in
+    position_or_len_push p files file in
     (grind (arith, nat_tests), grind (arith, nat_tests), grind (arith, nat_tests))
 
 added_file : (files : List MemFile) (file : MemFile) → place_of files (string_bytes file.name) ≡ length files
@@ -111,7 +111,7 @@ added_file files file last =
     let name = string_bytes file.name in
     let same : bytes_eq name name ≡ true = (bytes_eq-Decides name name).1 refl in
     let at : place_of (files ++ file ∷ []) name ≡ length files =
-        (place_of-push files file name (place_of files name) (bytes_eq name name) refl (place_of-le files name) refl).1 last same in
+    (place_of-push files file name (place_of files name) (bytes_eq name name) refl (place_of-le files name) refl).1 last same in
     ap (λ (i : ℕ). slice_get (files ++ file ∷ []) i) at ∙ slice_get-append_at files file
 
 other_file : (files : List MemFile) (file : MemFile) (other : List ℕ) → other ≢ string_bytes file.name
@@ -135,7 +135,7 @@ AddsFile-push files file last = record {
   others = λ other ne. other_file files file other ne (below_or_at _ _ (place_of-le files other));
   files = λ i h. slice_get-append_before files (file ∷ []) i h;
   places = λ name h. (place_of-push files file name (place_of files name) (bytes_eq (string_bytes file.name) name) refl (place_of-le files name) refl).0 h;
-  length_is = let e = length-append files (file ∷ []) in omega arith
+  length_is = let e = length-append files (file ∷ []) in omega arith;
 }
 
 -- the counts of all names, where a file with the count of those that no file had was added
@@ -165,10 +165,10 @@ pub replaced_others : (old : List MemFile) (place : ℕ) (bytes : List ℕ) (new
     → bytes_at new (place_of new other) ≡ bytes_at old (place_of old other)
 replaced_others old place bytes new name other r at h ne =
     let apart : place_of old other ≢ place = λ e.
-        let first : name_at old (place_of old name) ≡ Some name = name_at-place_of old name (omega arith) in
-        let second : name_at old (place_of old other) ≡ Some other = name_at-place_of old other (omega arith) in
-        let both : Some other ≡ Some name = cc in
-        ne (same_Some other name both)
+    let first : name_at old (place_of old name) ≡ Some name = name_at-place_of old name (omega arith) in
+    let second : name_at old (place_of old other) ≡ Some other = name_at-place_of old other (omega arith) in
+    let both : Some other ≡ Some name = cc in
+    ne (same_Some other name both)
     in ap (λ (i : ℕ). bytes_at new i) (r.places other) ∙ r.others (place_of old other) apart
 
 -- the name and the bytes of the file that is read, where another one was replaced

@@ -1,15 +1,13 @@
 -- One file among others is changed.
-use Rattle.std.proofs.Common.{◌≡◌, ◌≢◌, ℕ, ◌<◌, ◌≤◌, zero, suc, List, [], ◌∷◌, length, set, get_or, Option, Some, None, arith, ap, refl, sym, ◌∙◌, length-set}
+use Rattle.std.proofs.Common.{◌≡◌, ◌≢◌, ℕ, ◌<◌, zero, suc, List, [], ◌∷◌, length, set, get_or, Some, arith, ap, refl, sym, ◌∙◌, length-set}
 use Rattle.std.specs.List.{slice_get}
 use Rattle.std.specs.Option.{option_map}
 use Rattle.std.specs.Prelude.{unwrap_or}
 use Rattle.std.specs.String.{string_bytes}
 use Rattle.std.specs.Str.{bytes_eq}
-use Rattle.std.specs.Global.{Vec}
 use Rattle.std.proofs.lemmas.List.Folds.{position_or_len-set}
 use Rattle.std.proofs.lemmas.Option.{slice_get-get_or}
 use Rattle.est_edge.specs.Counts.{Rose, GoesOn}
-use Rattle.est_edge.specs.declared.counting.Count.{Count}
 use Rattle.est_edge.specs.declared.held.MemFile.{MemFile}
 use Rattle.est_edge.specs.Places.{RaisesAt, ReplacesAt, count_at}
 
@@ -70,9 +68,9 @@ pub RaisesAt-set : (files : List MemFile) (place : ℕ) (old new : MemFile) → 
 RaisesAt-set files place old new h at name bytes rose goes_on =
     let there : get_or files place new ≡ old = get_or_there files place old new h at in
     let same_name : string_bytes new.name ≡ string_bytes (get_or files place new).name =
-        ap (λ n. string_bytes n) name ∙ ap (λ (f : MemFile). string_bytes f.name) (sym there) in
+    ap (λ n. string_bytes n) name ∙ ap (λ (f : MemFile). string_bytes f.name) (sym there) in
     let same_bytes : new.bytes.items ≡ (get_or files place new).bytes.items =
-        ap (λ b. b.items) bytes ∙ ap (λ (f : MemFile). f.bytes.items) (sym there) in
+    ap (λ b. b.items) bytes ∙ ap (λ (f : MemFile). f.bytes.items) (sym there) in
     record {
       length_is = length-set files place new;
       places = λ n. position_or_len-set (λ file. bytes_eq (string_bytes file.name) n) files place new new (ap (λ (m : List ℕ). bytes_eq m n) same_name);
@@ -80,7 +78,7 @@ RaisesAt-set files place old new h at name bytes rose goes_on =
       bytes = λ i. slice_get-set_alike (λ f. f.bytes.items) files place i new same_bytes;
       counts = λ i ne. ap (λ o. option_map (λ (f : MemFile). f.faults.value) o) (slice_get-set_other files place i new ne);
       goes_on = λ i n. GoesOn-set files place i n new (rw there goes_on);
-      rose = λ n. Rose-set files place n new h (rw there rose)
+      rose = λ n. Rose-set files place n new h (rw there rose);
     }
 
 -- one file has other bytes
@@ -90,14 +88,14 @@ pub ReplacesAt-set : (files : List MemFile) (place : ℕ) (old new : MemFile) �
 ReplacesAt-set files place old new h at name faults =
     let there : get_or files place new ≡ old = get_or_there files place old new h at in
     let same_name : string_bytes new.name ≡ string_bytes (get_or files place new).name =
-        ap (λ n. string_bytes n) name ∙ ap (λ (f : MemFile). string_bytes f.name) (sym there) in
+    ap (λ n. string_bytes n) name ∙ ap (λ (f : MemFile). string_bytes f.name) (sym there) in
     let same_count : new.faults.value ≡ (get_or files place new).faults.value =
-        faults ∙ ap (λ (f : MemFile). f.faults.value) (sym there) in
+    faults ∙ ap (λ (f : MemFile). f.faults.value) (sym there) in
     record {
       length_is = length-set files place new;
       places = λ n. position_or_len-set (λ file. bytes_eq (string_bytes file.name) n) files place new new (ap (λ (m : List ℕ). bytes_eq m n) same_name);
       names = λ i. slice_get-set_alike (λ f. string_bytes f.name) files place i new same_name;
       counts = λ i. slice_get-set_alike (λ f. f.faults.value) files place i new same_count;
       others = λ i ne. ap (λ o. option_map (λ (f : MemFile). f.bytes.items) o) (slice_get-set_other files place i new ne);
-      replaced = ap (λ o. option_map (λ (f : MemFile). f.bytes.items) o) (slice_get-set_same files place new h)
+      replaced = ap (λ o. option_map (λ (f : MemFile). f.bytes.items) o) (slice_get-set_same files place new h);
     }

@@ -106,11 +106,17 @@ impl Shelf for MemShelf {
     ghost use Rattle.est_edge.specs.Memory.{told_under, count_under, holds, Reads, rest_of, started_name, taken_from, end_seen, count_under_within, made_by, failing_of, chunk_of, NumbersCall, SameFiles, SameReading, SameCounts, SameOtherCounts};
 
     ghost told = { told_under };
+
     ghost left = { λ shelf. Some (rest_of shelf) };
+
     ghost reads = { Reads };
+
     ghost taken = { taken_from };
+
     ghost ended = { end_seen };
+
     ghost faults = { count_under };
+
     ghost counted = { count_under_within };
 
     fn start(&mut self, name: &str) -> Result<(), Failed>

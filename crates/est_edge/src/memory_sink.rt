@@ -64,7 +64,9 @@ impl Sink for MemSink {
     ghost use Rattle.est_edge.specs.MemorySink.{told_in, room_left, count_in, count_in_within, made_in, failing_in, chunk_in, NumbersPut};
 
     ghost written = { told_in };
+
     ghost faults = { count_in };
+
     ghost counted = { count_in_within };
 
     fn put(&mut self, part: &[u8]) -> Result<usize, Failed>

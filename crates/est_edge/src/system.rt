@@ -46,11 +46,17 @@ impl<R: Files + Input> Shelf for FileShelf<'_, R> {
     ghost use Rattle.std.specs.Prelude.{None};
 
     ghost told = { λ _ _. None };
+
     ghost left = { λ _. None };
+
     ghost reads = { λ _ _. Unit {0} };
+
     ghost taken = { λ shelf. shelf.taken };
+
     ghost ended = { λ shelf. shelf.ended };
+
     ghost faults = { λ shelf _. shelf.faults.value };
+
     ghost counted = { λ shelf _. shelf.faults.within };
 
     fn start(&mut self, name: &str) -> Result<(), Failed> {
@@ -106,7 +112,9 @@ impl<R: Print> Sink for OutSink<'_, R> {
     ghost use Rattle.std.specs.Prelude.{None};
 
     ghost written = { λ _. None };
+
     ghost faults = { λ sink. sink.faults.value };
+
     ghost counted = { λ sink. sink.faults.within };
 
     fn put(&mut self, part: &[u8]) -> Result<usize, Failed> {

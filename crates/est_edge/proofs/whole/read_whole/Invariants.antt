@@ -1,5 +1,5 @@
-use Rattle.std.proofs.Common.{◌≡◌, ℕ, ◌≤◌, length, vec_len}
-use Rattle.est_edge.specs.Counts.{GoesOn, AllGoOn}
+use Rattle.std.proofs.Common.{◌≡◌, ◌≤◌, length, vec_len}
+use Rattle.est_edge.specs.Counts.{AllGoOn}
 use Rattle.est_edge.specs.Pieces.{SameTold, TakesOff}
 use Rattle.est_edge.proofs.whole.read_whole.Given as goal
 
@@ -11,5 +11,5 @@ invariant-turns g l = record {
   counts : AllGoOn (g.S.Shelf.faults l.fn.shelf) (g.S.Shelf.faults l.shelf);
   reads : g.S.Shelf.reads l.shelf l.name;
   taken : g.S.Shelf.taken l.shelf ≡ length l.bytes.items;
-  front : TakesOff (g.S.Shelf.told l.fn.shelf l.name) l.bytes.items (g.S.Shelf.left l.shelf)
+  front : TakesOff (g.S.Shelf.told l.fn.shelf l.name) l.bytes.items (g.S.Shelf.left l.shelf);
 }

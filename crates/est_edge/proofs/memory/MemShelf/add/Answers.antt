@@ -1,4 +1,4 @@
-use Rattle.std.proofs.Common.{◌≡◌, ◌≢◌, ◌<◌, ◌≤◌, ℕ, List, [], Option, Some, length, drop, arith, ◌∙◌, ap, refl, rules}
+use Rattle.std.proofs.Common.{◌≡◌, ◌≢◌, ℕ, List, [], Option, Some, length, drop, arith, ◌∙◌, ap, refl, rules}
 use Rattle.std.specs.Prelude.{is_some, unwrap_or}
 use Rattle.std.specs.Option.{option_and_then}
 use Rattle.std.specs.String.{string_bytes}
@@ -13,10 +13,10 @@ returns-in-Some-clause-others c =
     let old = c.args.self.now.files.items in
     let new = c.replace_at.new.files.items in
     let same : (other : List ℕ) → other ≢ c.args.name.now → bytes_at new (place_of new other) ≡ bytes_at old (place_of old other) =
-        λ other ne. replaced_others old c.in-Some.place c.in_ok-bytes.bytes.items new c.args.name.now other c.replace_at.ensures found.0 found.1 ne in
+    λ other ne. replaced_others old c.in-Some.place c.in_ok-bytes.bytes.items new c.args.name.now other c.replace_at.ensures found.0 found.1 ne in
     record {
       names = λ other ne. ap (λ (o : Option (List ℕ)). is_some o) (same other ne);
-      bytes = λ other ne. ap (λ (o : Option (List ℕ)). unwrap_or o []) (same other ne)
+      bytes = λ other ne. ap (λ (o : Option (List ℕ)). unwrap_or o []) (same other ne);
     }
 
 pub returns-in-Some-clause-reading : goal.returns-in-Some-clause-reading
@@ -28,16 +28,16 @@ returns-in-Some-clause-reading c = λ unread.
     let new = c.replace_at.new.files.items in
     let started = c.args.self.now.started in
     let named : name_at old c.in-Some.place ≡ Some c.args.name.now =
-        ap (λ (i : ℕ). name_at old i) at ∙ name_at-place_of old c.args.name.now (omega arith) in
+    ap (λ (i : ℕ). name_at old i) at ∙ name_at-place_of old c.args.name.now (omega arith) in
     let apart : started ≢ Some c.in-Some.place =
-        λ e. unread (ap (λ (o : Option ℕ). option_and_then (name_at old) o) e ∙ named) in
+    λ e. unread (ap (λ (o : Option ℕ). option_and_then (name_at old) o) e ∙ named) in
     let stays : c.unless_at-self.result ≡ started = c.unless_at-self.ensures.stays apart in
     record {
       name = ap (λ (o : Option ℕ). option_and_then (name_at new) o) stays ∙ replaced_name old new started c.replace_at.ensures.names;
       rest = ap (λ (o : Option (List ℕ)). drop c.args.self.now.taken (unwrap_or o []))
-        (ap (λ (o : Option ℕ). option_and_then (bytes_at new) o) stays ∙ replaced_rest old new c.in-Some.place started c.replace_at.ensures.others apart);
+          (ap (λ (o : Option ℕ). option_and_then (bytes_at new) o) stays ∙ replaced_rest old new c.in-Some.place started c.replace_at.ensures.others apart);
       taken = refl;
-      ended = refl
+      ended = refl;
     }
 
 pub returns-in_ok-add_last-in-None-clause-counts : goal.returns-in_ok-add_last-in-None-clause-counts

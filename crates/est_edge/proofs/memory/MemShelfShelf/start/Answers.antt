@@ -1,4 +1,4 @@
-use Rattle.std.proofs.Common.{◌≡◌, ◌≢◌, ◌<◌, ◌≤◌, ℕ, true, false, length, arith, ap, refl, sym, ◌∙◌, rules}
+use Rattle.std.proofs.Common.{◌≡◌, ◌≢◌, ◌<◌, ℕ, true, false, length, arith, ap, refl, sym, ◌∙◌, rules}
 use Rattle.std.proofs.lemmas.Option.{same_Some}
 use Rattle.est_edge.specs.Places.{place_of}
 use Rattle.est_edge.specs.Calls.{is_listed}
@@ -23,7 +23,7 @@ invariant_of-self-2 c =
       chunked = c.args.self.now.chunked;
       held = λ x e. let same = same_Some c.in-Some.place x e in let less = found.1 in omega arith;
       first = λ x e read n. first_started files c.args.name.now c.in-Some.place x read found.0 found.1 e n;
-      not_past_end = λ x e bytes b. omega arith
+      not_past_end = λ x e bytes b. omega arith;
     }
 
 pub returns-clause-reads : goal.returns-clause-reads
@@ -40,8 +40,8 @@ returns-clause-answer c =
     let less = found.1 in
     let held : holds c.args.self.now c.args.name.now ≡ true = held_at c.args.self.now.files.items (place_of c.args.self.now.files.items c.args.name.now) (omega arith) in
     let listed : is_listed (failing_of c.args.self.now) c.next_fails-fails.new.self.made ≡ false =
-        ap (λ (n : ℕ). is_listed (failing_of c.args.self.now) n) c.next_fails-fails.ensures.made
-        ∙ sym c.next_fails-fails.ensures.listed ∙ c.if-fails.false in
+    ap (λ (n : ℕ). is_listed (failing_of c.args.self.now) n) c.next_fails-fails.ensures.made
+    ∙ sym c.next_fails-fails.ensures.listed ∙ c.if-fails.false in
     rw (held, listed) refl
 
 pub returns-then-fails-clause-one_count : goal.returns-then-fails-clause-one_count
