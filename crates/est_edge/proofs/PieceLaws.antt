@@ -1,36 +1,17 @@
 -- How pieces that are read or written one after another join.
-use Rattle.std.proofs.Common.{◌≡◌, ℕ, ◌+◌, ◌-◌, ◌≤◌, List, [], ◌++◌, length, take, drop, Option, Some, None, IfSome, arith, ap, sym, ◌∙◌, refl, append_assoc, take-add, length-drop, length-take-le, drop-drop}
+use Rattle.std.proofs.Common.{◌≡◌, ℕ, ◌+◌, ◌-◌, ◌≤◌, List, ◌++◌, length, take, drop, Option, Some, None, arith, ap, sym, ◌∙◌, refl, append_assoc, take-add, length-drop, length-take-le, drop-drop}
 use Rattle.std.proofs.Math.Seq.{take-append_seam}
-use Rattle.std.proofs.lemmas.List.{take-append-drop, append-nil, take_rest}
-use Rattle.est_edge.specs.Pieces.{TakesOff, appended, IsPrefix}
+use Rattle.std.proofs.lemmas.List.{take-append-drop, take_rest}
+use Rattle.est_edge.specs.Pieces.{appended, IsPrefix}
 
 -- a front part of a list is one
 pub IsPrefix-take : (n : ℕ) (xs : List ℕ) → IsPrefix (take n xs) xs
 IsPrefix-take n xs = (drop n xs, sym (take-append-drop n xs))
 
--- nothing is appended
-pub appended-nothing : (old : Option (List ℕ)) → old ≡ appended old []
-appended-nothing None = refl
-appended-nothing (Some bytes) = ap (λ (bs : List ℕ). Some bs) (sym (append-nil bytes))
-
 -- two pieces are appended
 pub appended-twice : (old : Option (List ℕ)) (xs ys : List ℕ) → appended (appended old xs) ys ≡ appended old (xs ++ ys)
 appended-twice None xs ys = refl
 appended-twice (Some bytes) xs ys = ap (λ (bs : List ℕ). Some bs) (append_assoc bytes xs ys)
-
--- nothing was taken off
-pub TakesOff-nothing : (old after : Option (List ℕ)) → IfSome old (λ bytes. after ≡ Some bytes) → TakesOff old [] after
-TakesOff-nothing None after h = tt
-TakesOff-nothing (Some bytes) None h = cc
-TakesOff-nothing (Some bytes) (Some rest) h = cc
-
--- two pieces were taken off
-pub TakesOff-twice : (old mid after : Option (List ℕ)) (xs ys : List ℕ)
-    → TakesOff old xs mid → TakesOff mid ys after → TakesOff old (xs ++ ys) after
-TakesOff-twice None mid after xs ys g h = tt
-TakesOff-twice (Some bytes) None after xs ys g h = absurd g
-TakesOff-twice (Some bytes) (Some rest) None xs ys g h = absurd h
-TakesOff-twice (Some bytes) (Some rest) (Some last) xs ys g h = g ∙ ap (λ (bs : List ℕ). xs ++ bs) h ∙ sym (append_assoc xs ys last)
 
 -- the next part of a list is appended behind its first part
 pub appended-next : (before old new : Option (List ℕ)) (bytes : List ℕ) (done n : ℕ)

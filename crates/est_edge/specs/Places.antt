@@ -16,13 +16,15 @@ place_of files name = position_or_len (λ file. bytes_eq (string_bytes file.name
 abbrev pub file_of : List MemFile → List ℕ → Option MemFile
 file_of files name = slice_get files (place_of files name)
 
--- the name, the bytes and the count of faults of the file at a place
+-- the name of the file at a place
 abbrev pub name_at : List MemFile → ℕ → Option (List ℕ)
 name_at files place = option_map (λ file. string_bytes file.name) (slice_get files place)
 
+-- the bytes of the file at a place
 abbrev pub bytes_at : List MemFile → ℕ → Option (List ℕ)
 bytes_at files place = option_map (λ file. file.bytes.items) (slice_get files place)
 
+-- the count of faults of the file at a place
 abbrev pub count_at : List MemFile → ℕ → Option ℕ
 count_at files place = option_map (λ file. file.faults.value) (slice_get files place)
 

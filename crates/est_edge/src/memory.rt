@@ -11,7 +11,7 @@ use crate::reading::{Failed, Shelf};
 use std::alloc::{AllocError, Global};
 
 /// Files in memory, for tests. The calls of `start` and `more` are numbered together from 1, and
-/// the listed ones fail.
+/// the listed ones fail. What it holds is always told: no bytes under a name that no file has.
 #[derive(Debug, Drop)]
 pub struct MemShelf {
     alloc: Global,
@@ -31,7 +31,7 @@ pub struct MemShelf {
 impl MemShelf {
     ghost use Rattle.std.specs.Prelude.{◌≡◌, ℕ, ◌<◌, List, None, false, length, IsTrue, IfOk, OnOk, OnErr, IfSome, IfNone};
     ghost use Rattle.est_edge.specs.Places.{place_of};
-    ghost use Rattle.est_edge.specs.Memory.{holds, bytes_under, count_under, Reads, started_name, made_by, failing_of, chunk_of, SamePlan, SameFiles, SameOtherFiles, SameReading, SameCounts};
+    ghost use Rattle.est_edge.specs.Memory.{holds, bytes_under, count_under, Reads, started_name, taken_from, end_seen, made_by, failing_of, chunk_of, SamePlan, SameFiles, SameOtherFiles, SameReading, SameCounts};
 
     /// No file yet.
     pub fn new(alloc: Global, chunk: usize, failing: &[u64]) -> Result<MemShelf, AllocError>
@@ -39,6 +39,7 @@ impl MemShelf {
         ensures reads { IfOk result (λ shelf. started_name shelf ≡ None) }
         ensures empty { IfOk result (λ shelf. (name : List ℕ) → holds shelf name ≡ false) }
         ensures counts { IfOk result (λ shelf. (name : List ℕ) → count_under shelf name ≡ 0) }
+        ensures begun { IfOk result (λ shelf. (taken_from shelf ≡ 0) × (end_seen shelf ≡ false)) }
         ensures made { IfOk result (λ shelf. made_by shelf ≡ 0) }
         ensures failing { IfOk result (λ shelf. failing_of shelf ≡ failing.now) }
         ensures chunk { IfOk result (λ shelf. chunk_of shelf ≡ chunk) }
