@@ -73,8 +73,9 @@ later_letters letter first rest (table ∷ tables) by_letter later =
 pub find_by_its_letter : (letter first : ℕ) (rest : List ℕ) (tables : List (List Word)) (k : ℕ) → is_by_letter letter tables ≡ true → to_ascii_lowercase first ≡ letter + k → k < length tables → find (λ w. str_eq_ignore_ascii_case w.0 (first ∷ rest)) (get_or tables k []) ≡ find (λ w. str_eq_ignore_ascii_case w.0 (first ∷ rest)) (all_of tables)
 find_by_its_letter letter first rest [] k by_letter at within = absurd (omega arith)
 find_by_its_letter letter first rest (table ∷ tables) zero by_letter at within =
+    let later : to_ascii_lowercase first < letter + 1 = omega arith in
     let parts = and_parts _ _ by_letter in
-    let more = later_letters (letter + 1) first rest tables parts.1 (omega arith) in
+    let more = later_letters (letter + 1) first rest tables parts.1 later in
     rw (find-append, more) (sym (option_or_none _))
 find_by_its_letter letter first rest (table ∷ tables) (suc k) by_letter at within =
     let further : to_ascii_lowercase first ≡ (letter + 1) + k = omega (arith, at) in

@@ -1,11 +1,11 @@
 //! Tokens of Estelle texts: specifications, traces and explanations.
 #![tactic(auto)]
 
-pub mod between;
+mod between;
 pub mod kind;
 pub mod laws;
 pub mod lex;
-pub mod scan;
+mod scan;
 pub mod table;
 #[cfg(test)]
 mod tests;
