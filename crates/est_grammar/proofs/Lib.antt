@@ -1,3 +1,4 @@
 pub mod KindsApart
 pub mod SkeletonFits
 pub mod Parsing
+pub mod Made

@@ -114,6 +114,10 @@ module _ (tokens : Tokens) where
   pub right_found : {g h : Rule} {a b : ℕ} {t : Shape} → disjoint apart (can_begin marks g) (can_begin marks h) ≡ true → can_be_empty marks g ≡ false → can_be_empty marks h ≡ false → Finds tokens h a b t → Finds tokens (alt g h) a b (right t)
   right_found {g} {h} j e f x = laws.right_found (table.fits (text_of tokens)) (table.far (text_of tokens) (can_begin marks g) (can_begin marks h) j) e f x
 
+  -- the first alternative, where the token cannot begin the second
+  pub left_refused_else : {g h : Rule} {a i : ℕ} {z : Bool} (k : TokenKind) → can_be_empty marks h ≡ false → can_begin marks h ≡ k ∷ [] → stands tokens a k ≡ false → Fails tokens g a i z → Fails tokens (alt g h) a i z
+  left_refused_else {g} {h} {a} k f b n x = laws.left_refused_else (table.fits (text_of tokens)) (λ m. exits.not_one is_of k (slice_get (tokens_of tokens) a) n (subst (λ ks. MeetsOne is_of (slice_get (tokens_of tokens) a) ks) b m)) f x
+
   -- [ g ], where g begins with one kind of token
   pub opt_found : {g : Rule} {a b : ℕ} {t : Shape} → can_be_empty marks g ≡ false → Finds tokens g a b t → Finds tokens (opt g) a b (some t)
   opt_found e x = laws.opt_found (table.fits (text_of tokens)) e x

@@ -1,9 +1,10 @@
 -- What the functions of the parser answer.
-use Rattle.std.specs.Prelude.{◌≡◌, ℕ, ◌+◌, ◌<◌, Bool, true, false, List, length, Result, Ok, Err, slice_get}
+use Rattle.std.specs.Prelude.{◌≡◌, ℕ, ◌+◌, ◌<◌, ◌≤◌, Bool, true, false, List, length, Result, Ok, Err, slice_get}
 use Rattle.est_lexer.specs.declared.kind.TokenKind.{TokenKind}
 use Rattle.est_lexer.specs.declared.tokens.Tokens.{Tokens}
 use Rattle.est_lexer.specs.Places.{text_of, tokens_of}
-use Rattle.est_language.specs.Grammar.{meets}
+use Rattle.est_language.specs.Grammar.{meets, nothing}
+use Rattle.est_language.specs.Reading.{Found}
 use Rattle.est_language.specs.Answers as answers
 use Rattle.est_language.specs.Answers.{Cause, unsaid, wrong_at}
 use Rattle.est_grammar.specs.declared.error.Refusal.{Refusal}
@@ -24,6 +25,10 @@ Reads tokens g at view result = answers.Reads (skeleton (text_of tokens)) marks 
 -- the place behind is no smaller, and not behind the end
 abbrev pub Onward : {A : Type 0} → Tokens → ℕ → Result (A × ℕ) Refusal → Type 0
 Onward tokens at result = answers.Onward (tokens_of tokens) at result
+
+-- g is read from a place up to another, and the tree keeps nothing of it
+abbrev pub Passes : Tokens → Rule → ℕ → ℕ → Type 0
+Passes tokens g at next = Found (skeleton (text_of tokens)) marks (tokens_of tokens) g 0 at next nothing × (at ≤ next) × (next ≤ length (tokens_of tokens))
 
 -- whether a token of this kind stands at a place
 abbrev pub stands : Tokens → ℕ → TokenKind → Bool
