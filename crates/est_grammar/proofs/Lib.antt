@@ -2,3 +2,4 @@ pub mod KindsApart
 pub mod SkeletonFits
 pub mod Parsing
 pub mod Made
+pub mod Top

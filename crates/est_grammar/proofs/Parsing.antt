@@ -3,6 +3,8 @@ use Rattle.std.proofs.Common.{◌≡◌, ℕ, ◌+◌, ◌<◌, ◌≤◌, Bool,
 use Rattle.std.specs.Result.{IsErr, IsErrAnd}
 use Rattle.std.specs.Option.{IfSome}
 use Rattle.std.specs.Str.{str_to_ascii_lowercase}
+use Rattle.std.specs.declared.alloc.AllocError.{AllocError}
+use Rattle.std.proofs.lemmas.Result.{err_from_is_err_and}
 use Rattle.est_lexer.specs.declared.kind.Token.{Token}
 use Rattle.est_lexer.specs.declared.kind.TokenKind.{TokenKind}
 use Rattle.est_lexer.specs.declared.tokens.Tokens.{Tokens}
@@ -45,6 +47,10 @@ module _ (tokens : Tokens) where
       → ((i : ℕ) (z : Bool) → Fails tokens h a' i z → Fails tokens g a i z)
       → Refuses (skeleton (text_of tokens)) marks h (tokens_of tokens) 0 a' (cause e) → Reads {A = B} tokens g a w r
   exit w r e is f h = exits.exit cause w r e is f h
+
+  -- want of memory says nothing of the tokens
+  pub out_of_memory : {B : Type 0} (g : Rule) (a : ℕ) (w : B → Shape) (r : Result (B × ℕ) Refusal) (e : AllocError) → IsErr r × IsErrAnd r (λ x. x ≡ Memory e) → Reads {A = B} tokens g a w r
+  out_of_memory g a w r e is = let p = err_from_is_err_and r is.1 in rw (p.1, p.2) tt
 
   -- a token that was taken, and then the rest
   pub take_found : {g : Rule} {a m b : ℕ} {t : Shape} {k : TokenKind} → Takes k tokens a (Ok m) → Finds tokens g m b t → Finds tokens (word k g) a b t

@@ -6,6 +6,10 @@ mod channel;
 mod error;
 mod header;
 mod lists;
+mod parser;
 mod specification;
 mod token;
 mod transition;
+
+pub use error::ParseError;
+pub use parser::parse;

@@ -8,7 +8,7 @@ use Rattle.est_grammar.proofs.Parsing.{exit, take_found, take_refused, take_end,
 use Rattle.est_grammar.proofs.specification.after_semicolon.Goals as goal
 
 pub returns-then-symbol_is : goal.returns-then-symbol_is
-returns-then-symbol_is c = let l = c.if-symbol_is.ensures.inside c.if-symbol_is.true in (skip_found c.args.tokens.now (opt_found c.args.tokens.now refl (word_end c.args.tokens.now c.if-symbol_is.ensures.test)), omega arith, omega (arith, l))
+returns-then-symbol_is c = let l = c.if-symbol_is.ensures.inside refl in (skip_found c.args.tokens.now (opt_found c.args.tokens.now refl (word_end c.args.tokens.now c.if-symbol_is.ensures.test)), omega arith, omega (arith, l))
 
 pub returns-else-symbol_is : goal.returns-else-symbol_is
 returns-else-symbol_is c = (skip_found c.args.tokens.now (opt_out c.args.tokens.now (Special Semicolon) refl refl c.requires c.if-symbol_is.ensures.test), omega arith, c.requires)

@@ -4,7 +4,9 @@ use Rattle.est_lexer.specs.declared.kind.ReservedWord.TheVariants as words
 use Rattle.est_lexer.specs.declared.kind.Symbol.TheVariants.{Comma, Semicolon, Colon, Period, LeftParenthesis, RightParenthesis}
 use Rattle.est_lexer.specs.declared.kind.TokenKind.TheVariants.{Identifier, Reserved, Symbol as Special}
 use Rattle.est_grammar.specs.Views.{spec_shape}
-use Rattle.est_grammar.proofs.Parsing.{exit, take_found, take_refused, take_end, take_bad, word_found, word_end, word_refused, done_found, here_found, here_refused, skip_found, rule_found, rule_refused, seq_found, seq_refused_first, seq_refused, left_found, right_found, left_refused_else, opt_found, opt_out, opt_refused, rep_out, rep_refused, refused_here, turns_none, turns_first, turns_more, moves}
+use Rattle.est_language.specs.Grammar.{rule}
+use Rattle.est_grammar.specs.Skeleton.{specification}
+use Rattle.est_grammar.proofs.Parsing.{out_of_memory, exit, take_found, take_refused, take_end, take_bad, word_found, word_end, word_refused, done_found, here_found, here_refused, skip_found, rule_found, rule_refused, seq_found, seq_refused_first, seq_refused, left_found, right_found, left_refused_else, opt_found, opt_out, opt_refused, rep_out, rep_refused, refused_here, turns_none, turns_first, turns_more, moves}
 use Rattle.est_grammar.proofs.Made.{channels_first, parts_last}
 use Rattle.est_grammar.proofs.specification.specification.Goals as goal
 
@@ -52,3 +54,6 @@ pub returns-clause-reads : goal.returns-clause-reads
 returns-clause-reads c = 
     rw (c.in_ok-push-3.ensures.ok, c.in_ok-push-2.ensures.ok, c.in_ok-push.ensures.ok, c.in_ok-variables.ensures, channels_first c.in_ok-header.header c.in_ok-body.body c.in_ok-variable.variable c.in_ok-parts.parts c.in_ok-parts.ensures.all, parts_last c.in_ok-header.header c.in_ok-body.body c.in_ok-variable.variable c.in_ok-parts.parts _ c.in_ok-parts.ensures.all)
     (rule_found c.args.tokens.now (take_found c.args.tokens.now c.in_ok-at_name.ensures (seq_found c.args.tokens.now refl c.in_ok-name.ensures.reads (take_found c.args.tokens.now c.in_ok-at_channels.ensures (seq_found c.args.tokens.now refl c.in_ok-parts.ensures.reads (seq_found c.args.tokens.now refl c.in_ok-header.ensures.reads (seq_found c.args.tokens.now refl c.in_ok-body.ensures.reads (take_found c.args.tokens.now c.in_ok-at_variable.ensures (seq_found c.args.tokens.now refl c.in_ok-variable.ensures.reads (take_found c.args.tokens.now c.in_ok-at_first.ensures (c.in_ok-first.ensures.reads)))))))))))
+
+pub returns-in_err-variables-clause-reads : goal.returns-in_err-variables-clause-reads
+returns-in_err-variables-clause-reads c = out_of_memory c.args.tokens.now (rule specification) c.args.at spec_shape _ _ c.from_residual-in_err-variables.ensures
