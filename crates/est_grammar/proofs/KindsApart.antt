@@ -187,6 +187,7 @@ same_kind-apart a b x e h w = not_both (same_kind a b) e (subst (λ v. same_kind
 -- a kind that is the same as another is the same as what that is the same as
 pub same_kind-implies : (a b x : TokenKind) → same_kind a b ≡ true → same_kind x a ≡ true → same_kind x b ≡ true
 same_kind-implies a b x e h = subst (λ v. same_kind x v ≡ true) (same_kind-true a b e) h
+
 -- a test of words that says whether they are equal is the test of their numbers
 word_test : (a b : ReservedWord) (v : Bool) → (v ≡ true → a ≡ b) → (v ≡ false → a ≡ b → ⊥) → v ≡ nat_eq (word_number a) (word_number b)
 word_test a b true equal differ = sym (subst (λ x. nat_eq (word_number a) (word_number x) ≡ true) (equal refl) (number-same (word_number a)))

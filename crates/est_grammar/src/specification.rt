@@ -2,7 +2,6 @@
 
 ghost use Rattle.std.specs.Prelude.{◌≡◌, ◌≤◌, length, IfOk};
 ghost use Rattle.est_lexer.specs.Places.{tokens_of};
-
 ghost use Rattle.est_lexer.specs.declared.kind.Symbol.TheVariants.{Semicolon};
 ghost use Rattle.est_language.specs.Grammar.{rule, seq, opt, skip, done, nothing};
 ghost use Rattle.est_grammar.specs.Skeleton.{several, sign, specification as a_specification, channel as a_channel, module_variable as a_module_variable, init as an_init, initialization as an_initialization};

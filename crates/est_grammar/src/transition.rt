@@ -14,7 +14,9 @@ use est_lexer::kind::{ReservedWord, Symbol};
 use est_lexer::tokens::Tokens;
 use est_syntax::expression::{Access, Exprs};
 use est_syntax::name::Used;
-use est_syntax::specification::{Block, Clause, Clauses, Parts, Sending, Sendings, Statement, Transition};
+use est_syntax::specification::{
+    Block, Clause, Clauses, Parts, Sending, Sendings, Statement, Transition,
+};
 use std::alloc::Global;
 
 // "trans" [ "from" .. ] [ "to" .. ] [ "when" .. ] "begin" [ output ] "end" ";"

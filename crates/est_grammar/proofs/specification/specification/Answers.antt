@@ -51,7 +51,7 @@ returns-in_err-first-clause-reads c =
     exit c.args.tokens.now spec_shape _ _ c.from_residual-in_err-first.ensures (λ i z f. rule_refused c.args.tokens.now (take_refused c.args.tokens.now c.in_ok-at_name.ensures (seq_refused c.args.tokens.now refl c.in_ok-name.ensures.reads (take_refused c.args.tokens.now c.in_ok-at_channels.ensures (seq_refused c.args.tokens.now refl c.in_ok-parts.ensures.reads (seq_refused c.args.tokens.now refl c.in_ok-header.ensures.reads (seq_refused c.args.tokens.now refl c.in_ok-body.ensures.reads (take_refused c.args.tokens.now c.in_ok-at_variable.ensures (seq_refused c.args.tokens.now refl c.in_ok-variable.ensures.reads (take_refused c.args.tokens.now c.in_ok-at_first.ensures (f))))))))))) (c.in_err-first.ensures.reads)
 
 pub returns-clause-reads : goal.returns-clause-reads
-returns-clause-reads c = 
+returns-clause-reads c =
     rw (c.in_ok-push-3.ensures.ok, c.in_ok-push-2.ensures.ok, c.in_ok-push.ensures.ok, c.in_ok-variables.ensures, channels_first c.in_ok-header.header c.in_ok-body.body c.in_ok-variable.variable c.in_ok-parts.parts c.in_ok-parts.ensures.all, parts_last c.in_ok-header.header c.in_ok-body.body c.in_ok-variable.variable c.in_ok-parts.parts _ c.in_ok-parts.ensures.all)
     (rule_found c.args.tokens.now (take_found c.args.tokens.now c.in_ok-at_name.ensures (seq_found c.args.tokens.now refl c.in_ok-name.ensures.reads (take_found c.args.tokens.now c.in_ok-at_channels.ensures (seq_found c.args.tokens.now refl c.in_ok-parts.ensures.reads (seq_found c.args.tokens.now refl c.in_ok-header.ensures.reads (seq_found c.args.tokens.now refl c.in_ok-body.ensures.reads (take_found c.args.tokens.now c.in_ok-at_variable.ensures (seq_found c.args.tokens.now refl c.in_ok-variable.ensures.reads (take_found c.args.tokens.now c.in_ok-at_first.ensures (c.in_ok-first.ensures.reads)))))))))))
 
