@@ -17,20 +17,20 @@ use Rattle.est_grammar.proofs.Parsing.{Finds}
 
 module _ (tokens : Tokens) where
   -- the whole list is read
-  pub accepted : (spec : Spec) (end : ℕ) → end ≡ length (tokens_of tokens) → Finds tokens (rule specification) 0 end (spec_shape spec) → HasOneTree tokens spec
+  pub accepted : (spec : Spec) (end : ℕ) → end ≡ length (tokens_of tokens) → Finds tokens (rule specification) 0 end (spec_shape spec) → HasOneTree (text_of tokens) (tokens_of tokens) spec
   accepted spec end e h = exits.whole_tree (fits (text_of tokens)) (rule specification) 0 (tokens_of tokens) (spec_shape spec) end e h
 
   -- tokens stand behind the end
-  pub behind : (t : Shape) (end : ℕ) → (end ≡ length (tokens_of tokens) → ⊥) → Finds tokens (rule specification) 0 end t → IsFirstBadPlace tokens end
+  pub behind : (t : Shape) (end : ℕ) → (end ≡ length (tokens_of tokens) → ⊥) → Finds tokens (rule specification) 0 end t → IsFirstBadPlace (text_of tokens) (tokens_of tokens) end
   behind t end n h = (exits.tokens_behind (fits (text_of tokens)) (rule specification) 0 (tokens_of tokens) end t n h).0
 
   -- the grammar is refused
-  pub wrong : (place : ℕ) → Refuses (skeleton (text_of tokens)) marks (rule specification) (tokens_of tokens) 0 0 (wrong_at place) → IsFirstBadPlace tokens place
+  pub wrong : (place : ℕ) → Refuses (skeleton (text_of tokens)) marks (rule specification) (tokens_of tokens) 0 0 (wrong_at place) → IsFirstBadPlace (text_of tokens) (tokens_of tokens) place
   wrong place h = (exits.explained (fits (text_of tokens)) (rule specification) 0 (tokens_of tokens) (wrong_at place) h).0
 
   -- the error that names a bad place is a refusal
-  pub refused_at : (place : ℕ) (e : ParseError) → IsFirstBadPlace tokens place → IsReason tokens place e → IsRefusal tokens e
-  refused_at place (errors.BadToken p) f r = (subst (λ v. IsFirstBadPlace tokens v) (sym r.0) f, subst (λ v. IsReason tokens v (errors.BadToken v)) (sym r.0) (refl, r.1, r.2))
-  refused_at place (errors.LeftOut p) f r = (subst (λ v. IsFirstBadPlace tokens v) (sym r.0) f, subst (λ v. IsReason tokens v (errors.LeftOut v)) (sym r.0) (refl, r.1))
-  refused_at place (errors.NotYet p) f r = (subst (λ v. IsFirstBadPlace tokens v) (sym r.0) f, subst (λ v. IsReason tokens v (errors.NotYet v)) (sym r.0) (refl, r.1))
+  pub refused_at : (place : ℕ) (e : ParseError) → IsFirstBadPlace (text_of tokens) (tokens_of tokens) place → IsReason (tokens_of tokens) place e → IsRefusal (text_of tokens) (tokens_of tokens) e
+  refused_at place (errors.BadToken p) f r = (subst (λ v. IsFirstBadPlace (text_of tokens) (tokens_of tokens) v) (sym r.0) f, subst (λ v. IsReason (tokens_of tokens) v (errors.BadToken v)) (sym r.0) (refl, r.1, r.2))
+  refused_at place (errors.LeftOut p) f r = (subst (λ v. IsFirstBadPlace (text_of tokens) (tokens_of tokens) v) (sym r.0) f, subst (λ v. IsReason (tokens_of tokens) v (errors.LeftOut v)) (sym r.0) (refl, r.1))
+  refused_at place (errors.NotYet p) f r = (subst (λ v. IsFirstBadPlace (text_of tokens) (tokens_of tokens) v) (sym r.0) f, subst (λ v. IsReason (tokens_of tokens) v (errors.NotYet v)) (sym r.0) (refl, r.1))
   refused_at place (errors.Memory e) f r = elim r [ ]

@@ -1,6 +1,7 @@
 //! The parser of a whole specification.
 
 ghost use Rattle.std.specs.Prelude.{◌≡◌, IfOk, IfErr};
+ghost use Rattle.est_lexer.specs.Places.{text_of, tokens_of};
 ghost use Rattle.est_grammar.specs.Answer.{HasOneTree, IsRefusal, IsReason, is_not_yet as kind_is_not_yet};
 
 use crate::error::{ParseError, Refusal};
@@ -46,8 +47,8 @@ const SYMBOLS: [Symbol; 5] = [
 
 /// The specification that the tokens are, or why they are none.
 pub fn parse(alloc: Global, tokens: &Tokens) -> Result<Spec, ParseError>
-    ensures tree { IfOk result (HasOneTree tokens.now) }
-    ensures refused { IfErr result (IsRefusal tokens.now) }
+    ensures tree { IfOk result (HasOneTree (text_of tokens.now) (tokens_of tokens.now)) }
+    ensures refused { IfErr result (IsRefusal (text_of tokens.now) (tokens_of tokens.now)) }
 {
     match specification(alloc, tokens, 0) {
         Ok((spec, end)) => {
@@ -64,7 +65,7 @@ pub fn parse(alloc: Global, tokens: &Tokens) -> Result<Spec, ParseError>
 
 // Why the token of a place, or the end of the list, is refused there.
 fn refusal(tokens: &Tokens, place: u32) -> ParseError
-    ensures { IsReason tokens.now place result }
+    ensures { IsReason (tokens_of tokens.now) place result }
 {
     match tokens.token_at(place) {
         None => ParseError::BadToken { place },

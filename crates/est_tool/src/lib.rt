@@ -1,0 +1,11 @@
+//! The commands of the program: words, reports and the top call.
+#![tactic(auto)]
+
+mod check;
+mod counts;
+mod report;
+pub mod status;
+#[cfg(test)]
+mod tests;
+pub mod top;
+pub mod words;
