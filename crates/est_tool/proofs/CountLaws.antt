@@ -3,10 +3,9 @@ use Rattle.std.proofs.Common.{◌≡◌, ◌≤◌, ◌+◌, ℕ, suc, Bool, tru
 use Rattle.std.specs.Prelude.{sum_by}
 use Rattle.std.proofs.lemmas.List.Sums.{sum_by-cons}
 use Rattle.est_lexer.specs.declared.kind.Token.{Token}
-use Rattle.est_lexer.specs.declared.kind.TokenKind.{TokenKind}
-use Rattle.est_language.specs.Grammar.{Grammar, word, token, here, skip, seq, opt, rep, rule, chain, nothing, both, Tree, t_word, t_here, t_seq, t_rule, t_rep_out, t_rep_in, t_token}
+use Rattle.est_language.specs.Grammar.{seq, rep, rule, chain, nothing, both, Tree, t_word, t_here, t_seq, t_rule, t_rep_out, t_rep_in, t_token}
 use Rattle.est_language.proofs.Trees.{tree_forward}
-use Rattle.est_grammar.specs.Skeleton.{Production, Rule, specification, header, body, point, transition, channel, listed, name, sign, said, several, module_variable, initialization}
+use Rattle.est_grammar.specs.Skeleton.{Rule, specification, header, body, point, transition, listed, name, sign, said, module_variable, initialization}
 use Rattle.est_grammar.specs.Answer.{HasOneTree}
 use Rattle.est_grammar.specs.Language.{skeleton}
 use Rattle.est_grammar.specs.Views.{Shape, used_shape, names_shape, point_shape, points_shape, header_shape, group_shape, groups_shape, body_shape, one_transition, last_parts, behind_channels, channels_shape, spec_shape, without, without_some, where_true, states_shape, first_shape, initialization_shape}
@@ -26,7 +25,6 @@ use Rattle.est_syntax.specs.declared.specification.Queue.{Queue}
 use Rattle.est_syntax.specs.declared.specification.Part.{Part}
 use Rattle.est_syntax.specs.declared.specification.Part.TheVariants as part
 use Rattle.est_syntax.specs.declared.specification.Spec.{Spec}
-use Rattle.est_syntax.specs.declared.specification.Statement.{Statement}
 use Rattle.est_tool.specs.Counts.{transitions_of, points_of, transition_count, port_count}
 
 -- the names of one declaration of interaction points

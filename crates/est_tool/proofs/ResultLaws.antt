@@ -1,5 +1,5 @@
 -- What a call writes, from what its steps answered.
-use Rattle.std.proofs.Common.{◌≡◌, ◌⊎◌, inl, inr, ◌∙◌, ◌≤◌, ◌<◌, ℕ, List, Option, Some, None, length, replicate, sym, subst, refl, Result, Ok, Err, IfOk, IfSome, lit<, ◌+◌, arith}
+use Rattle.std.proofs.Common.{◌≡◌, ◌⊎◌, inl, inr, ◌∙◌, ◌≤◌, ◌<◌, ℕ, List, Option, Some, None, length, replicate, sym, subst, refl, Result, Ok, Err, IfOk, IfSome, ◌+◌, arith}
 use Rattle.std.proofs.lemmas.List.{length-replicate}
 use Rattle.std.specs.Prelude.{String, string_bytes}
 use Rattle.std.specs.Global.{Global}
@@ -8,7 +8,7 @@ use Rattle.est_lexer.specs.declared.kind.Token.{Token}
 use Rattle.est_edge.specs.Wholes.{IsWhole}
 use Rattle.est_edge.specs.declared.whole.ReadError.{ReadError}
 use Rattle.est_edge.specs.declared.whole.ReadError.TheVariants.{TooLong as ReadTooLong}
-use Rattle.est_edge.specs.Pieces.{appended, IsPrefix}
+use Rattle.est_edge.specs.Pieces.{appended}
 use Rattle.est_grammar.specs.declared.error.ParseError.{ParseError}
 use Rattle.est_grammar.specs.declared.error.ParseError.TheVariants.{BadToken, LeftOut, NotYet, Memory}
 use Rattle.est_tool.specs.declared.status.Status.{Status}

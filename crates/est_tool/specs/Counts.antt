@@ -1,11 +1,10 @@
 -- How many bodies, transitions and ports a specification has.
-use Rattle.std.specs.Prelude.{ℕ, zero, ◌+◌, List, [], ◌∷◌, length, sum_by}
+use Rattle.std.specs.Prelude.{ℕ, length, sum_by}
 use Rattle.est_syntax.specs.declared.specification.Spec.{Spec}
 use Rattle.est_syntax.specs.declared.specification.Part.{Part}
-use Rattle.est_syntax.specs.declared.specification.Part.TheVariants.{Channel, Header, Body, Modvars, States}
+use Rattle.est_syntax.specs.declared.specification.Part.TheVariants.{Header, Body}
 use Rattle.est_syntax.specs.declared.specification.Body.{out-Body}
 use Rattle.est_syntax.specs.declared.specification.Group.{out-Group}
-use Rattle.est_syntax.specs.declared.specification.Point.{Point}
 
 -- the bodies that a part declares
 abbrev pub bodies_of : Part → ℕ

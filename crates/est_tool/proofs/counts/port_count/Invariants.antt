@@ -1,5 +1,5 @@
 -- the count so far
-use Rattle.std.proofs.Common.{◌≡◌, take, length}
+use Rattle.std.proofs.Common.{◌≡◌, take}
 use Rattle.std.specs.Prelude.{sum_by}
 use Rattle.est_tool.specs.Counts.{points_of}
 use Rattle.est_tool.proofs.counts.port_count.Given as goal
