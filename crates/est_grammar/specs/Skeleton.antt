@@ -1,5 +1,5 @@
 -- The grammar of skeleton specifications: one process, states, plain transitions (ISO 9074, 7).
-use Rattle.std.specs.Prelude.{ℕ, Bool, true, false, List, [], ◌∷◌, ◌++◌}
+use Rattle.std.specs.Prelude.{false, List, [], ◌∷◌, ◌++◌}
 use Rattle.est_lexer.specs.declared.kind.ReservedWord.{ReservedWord}
 use Rattle.est_lexer.specs.declared.kind.ReservedWord.TheVariants as words
 use Rattle.est_lexer.specs.declared.kind.Symbol.{Symbol}
