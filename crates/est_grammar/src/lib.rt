@@ -8,6 +8,8 @@ mod header;
 mod lists;
 mod parser;
 mod specification;
+#[cfg(test)]
+mod tests;
 mod token;
 mod transition;
 

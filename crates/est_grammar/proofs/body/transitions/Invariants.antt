@@ -1,6 +1,5 @@
 use Rattle.std.proofs.Common.{length, ◌-◌, map}
 use Rattle.est_lexer.specs.Places.{tokens_of}
-use Rattle.est_lexer.specs.declared.kind.Symbol.TheVariants.{Comma}
 use Rattle.est_language.specs.Grammar.{rep, rule}
 use Rattle.est_grammar.specs.Skeleton.{transition}
 use Rattle.est_grammar.specs.Views.{group_shape}

@@ -1,10 +1,8 @@
-use Rattle.std.proofs.Common.{rules, arith, refl, sym, ap, map, length, ◌+◌, ◌-◌, ◌≡◌, ◌∷◌, []}
-use Rattle.std.proofs.lemmas.List.{map-append}
-use Rattle.est_lexer.specs.declared.kind.ReservedWord.TheVariants as words
-use Rattle.est_lexer.specs.declared.kind.Symbol.TheVariants.{Comma, Semicolon, Colon, Period, LeftParenthesis, RightParenthesis}
-use Rattle.est_lexer.specs.declared.kind.TokenKind.TheVariants.{Identifier, Reserved, Symbol as Special}
+use Rattle.std.proofs.Common.{arith, refl}
+use Rattle.est_lexer.specs.declared.kind.Symbol.TheVariants.{Semicolon, Colon, LeftParenthesis, RightParenthesis}
+use Rattle.est_lexer.specs.declared.kind.TokenKind.TheVariants.{Symbol as Special}
 use Rattle.est_grammar.specs.Views.{point_shape}
-use Rattle.est_grammar.proofs.Parsing.{exit, take_found, take_refused, take_end, take_bad, word_found, word_end, word_refused, done_found, here_found, here_refused, skip_found, rule_found, rule_refused, seq_found, seq_refused_first, seq_refused, left_found, right_found, left_refused_else, opt_found, opt_out, opt_refused, rep_out, rep_refused, refused_here, turns_none, turns_first, turns_more, moves}
+use Rattle.est_grammar.proofs.Parsing.{exit, take_found, take_refused, take_end, take_bad, here_found, here_refused, rule_found, rule_refused, seq_found, seq_refused_first, seq_refused}
 use Rattle.est_grammar.proofs.header.point.Goals as goal
 
 pub returns-in_err-names-clause-reads : goal.returns-in_err-names-clause-reads

@@ -1,6 +1,6 @@
-use Rattle.std.proofs.Common.{rules, refl, sym, ◌∙◌}
+use Rattle.std.proofs.Common.{sym, ◌∙◌}
 use Rattle.est_grammar.specs.Views.{spec_shape}
-use Rattle.est_grammar.proofs.Top.{accepted, behind, wrong, refused_at}
+use Rattle.est_grammar.proofs.Top.{accepted, behind, refused_at}
 use Rattle.est_grammar.proofs.parser.parse.Goals as goal
 
 pub returns-then-end-count-clause-tree : goal.returns-then-end-count-clause-tree

@@ -1,7 +1,7 @@
 use Rattle.std.proofs.Common.{length, ◌-◌, map}
 use Rattle.est_lexer.specs.Places.{tokens_of}
 use Rattle.est_lexer.specs.declared.kind.Symbol.TheVariants.{Comma}
-use Rattle.est_language.specs.Grammar.{rep, rule}
+use Rattle.est_language.specs.Grammar.{rep}
 use Rattle.est_grammar.specs.Skeleton.{name, listed, sign}
 use Rattle.est_grammar.specs.Views.{used_shape}
 use Rattle.est_grammar.proofs.Parsing.{Turns}
