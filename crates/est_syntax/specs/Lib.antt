@@ -1,0 +1,6 @@
+pub mod Breaks
+pub mod Environment
+pub mod Faults
+pub mod Kinds
+pub mod Least
+pub mod Names
