@@ -1,5 +1,6 @@
 //! The rules that a specification must keep beyond its grammar (ISO 9074), and checked specifications.
 #![tactic(auto)]
 
+pub mod declare;
 pub mod least;
 pub mod names;
