@@ -1,6 +1,7 @@
 //! The rules that a specification must keep beyond its grammar (ISO 9074), and checked specifications.
 #![tactic(auto)]
 
+pub mod build;
 pub mod check;
 pub mod declare;
 pub mod least;
