@@ -6,5 +6,6 @@ pub mod check;
 pub mod declare;
 pub mod least;
 pub mod names;
+pub mod pass;
 pub mod table;
 pub mod uses;
