@@ -1,3 +1,4 @@
 pub mod Entries
 pub mod Passes
+pub mod Skeleton
 pub mod Tables
