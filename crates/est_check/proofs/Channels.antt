@@ -166,8 +166,8 @@ pub by_alike : (c : Channel) (front : Entries) → RolesFor c front → (bs : Li
 by_alike c front h [] = tt
 by_alike c front h (b ∷ bs) =
     alike-append (MemberFor c) (flat.interactions (senders front b.roles) b.interactions) (interactions_region b b.interactions) (flat.by_parts front bs) (by_region bs)
-      (interactions_alike c b (senders front b.roles) b.interactions (senders_for c front h record { known = true; first = false; second = false } b.roles))
-      (by_alike c front h bs)
+    (interactions_alike c b (senders front b.roles) b.interactions (senders_for c front h record { known = true; first = false; second = false } b.roles))
+    (by_alike c front h bs)
 
 -- the tables of a channel
 abbrev pub MembersFor : Channel → Members → Type 0
@@ -178,14 +178,14 @@ members_for c least n =
     let front : Entries = (enter_roles ([], least) c.roles).0 in
     let state : State = ([], (enter_roles ([], least) c.roles).1) in
     let is : member_entry (channel_pass least c).0 n ≡ first_of (first (flat.roles c.roles) n) (first (flat.by_parts front c.by) n) =
-      ap (λ s. whole front s.0 n) (flat.by_parts_is front state c.by)
-      ∙ whole-enter_list front state (flat.by_parts front c.by) n
-      ∙ ap (λ o. first_of o (first (flat.by_parts front c.by) n)) (first_of-none (entry_of front n) ∙ roles_table least c.roles n)
+    ap (λ s. whole front s.0 n) (flat.by_parts_is front state c.by)
+    ∙ whole-enter_list front state (flat.by_parts front c.by) n
+    ∙ ap (λ o. first_of o (first (flat.by_parts front c.by) n)) (first_of-none (entry_of front n) ∙ roles_table least c.roles n)
     in subst (λ o. Both (MemberFor c) o (declared_in (channel_region c) n)) (sym is)
-      (subst (Both (MemberFor c) (first_of (first (flat.roles c.roles) n) (first (flat.by_parts front c.by) n))) (sym (declared_in-append (roles_region c.roles) (by_region c.by) n))
-        (both_append (MemberFor c) (first (flat.roles c.roles) n) (first (flat.by_parts front c.by) n) (declared_in (roles_region c.roles) n) (declared_in (by_region c.by) n)
-          (first_alike (MemberFor c) (flat.roles c.roles) (roles_region c.roles) n (roles_alike c c.roles))
-          (first_alike (MemberFor c) (flat.by_parts front c.by) (by_region c.by) n (by_alike c front (roles_for c least) c.by))))
+    (subst (Both (MemberFor c) (first_of (first (flat.roles c.roles) n) (first (flat.by_parts front c.by) n))) (sym (declared_in-append (roles_region c.roles) (by_region c.by) n))
+    (both_append (MemberFor c) (first (flat.roles c.roles) n) (first (flat.by_parts front c.by) n) (declared_in (roles_region c.roles) n) (declared_in (by_region c.by) n)
+    (first_alike (MemberFor c) (flat.roles c.roles) (roles_region c.roles) n (roles_alike c c.roles))
+    (first_alike (MemberFor c) (flat.by_parts front c.by) (by_region c.by) n (by_alike c front (roles_for c least) c.by))))
 
 -- the environment within a channel
 pub member_sort_stands : (c : Channel) (s : Standing) (t : Sort) → MemberStands c s t → tables.name_sort s ≡ environment.name_sort t
@@ -222,8 +222,8 @@ noted_by c least =
     let r : State = enter_roles ([], least) c.roles in
     ap (λ s. s.1) (flat.by_parts_is r.0 ([], r.1) c.by)
     ∙ noted-enter_list r.0 (spellings_of (roles_region c.roles)) ([], r.1) (flat.by_parts r.0 c.by)
-      (agree_front (MemberFor c) r.0 (roles_region c.roles) (λ n. subst (λ o. Both (MemberFor c) o (declared_in (roles_region c.roles) n)) (sym (roles_table least c.roles n))
-        (first_alike (MemberFor c) (flat.roles c.roles) (roles_region c.roles) n (roles_alike c c.roles))))
+    (agree_front (MemberFor c) r.0 (roles_region c.roles) (λ n. subst (λ o. Both (MemberFor c) o (declared_in (roles_region c.roles) n)) (sym (roles_table least c.roles n))
+    (first_alike (MemberFor c) (flat.roles c.roles) (roles_region c.roles) n (roles_alike c c.roles))))
     ∙ ap (λ l. least_with r.1 (twice_faults (spellings_of (roles_region c.roles)) l)) (names_alike (MemberFor c) (flat.by_parts r.0 c.by) (by_region c.by) (by_alike c r.0 (roles_for c least) c.by))
 
 pub noted_channel : (c : Channel) (least : Option Fault) → (channel_pass least c).1 ≡ least_with least (channel_faults c)
@@ -232,7 +232,7 @@ noted_channel c least =
     let one : List Fault = twice_faults [] (names_of (roles_region c.roles)) in
     let other : List Fault = twice_faults (spellings_of (roles_region c.roles)) (names_of (by_region c.by)) in
     let noted : (enter_by_parts r.0 ([], r.1) c.by).1 ≡ least_with least (one ++ other) =
-      noted_by c least ∙ ap (λ l. least_with l other) (noted_roles c least) ∙ sym (least_append least one other)
+    noted_by c least ∙ ap (λ l. least_with l other) (noted_roles c least) ∙ sym (least_append least one other)
     in
     ap (λ l. least_with l (by_faults (members_environment (channel_pass least c).0) c.by)) noted
     ∙ ap (λ env. least_with (least_with least (one ++ other)) (by_faults env c.by)) (channel_environment_is c (channel_pass least c).0 (members_for c least))

@@ -94,14 +94,14 @@ Agree names w = (n : List ℕ) → is_among n names ≡ is_some (w n)
 pub among-push : (n : List ℕ) (names : List (List ℕ)) (m : List ℕ) → is_among n (names ++ m ∷ []) ≡ (is_among n names || is_name n m)
 among-push n [] m = or_false (is_name n m)
   where
-  or_false : (b : Bool) → (b || false) ≡ b
-  or_false true = refl
-  or_false false = refl
+    or_false : (b : Bool) → (b || false) ≡ b
+    or_false true = refl
+    or_false false = refl
 among-push n (x ∷ names) m = ap (λ b. is_name n x || b) (among-push n names m) ∙ or_assoc (is_name n x) (is_among n names) (is_name n m)
   where
-  or_assoc : (a b c : Bool) → (a || (b || c)) ≡ ((a || b) || c)
-  or_assoc true b c = refl
-  or_assoc false b c = refl
+    or_assoc : (a b c : Bool) → (a || (b || c)) ≡ ((a || b) || c)
+    or_assoc true b c = refl
+    or_assoc false b c = refl
 
 pub some-first_of : (o : Option Entry) (b : Bool) (e : Entry) → (is_some o || b) ≡ is_some (first_of o (if b then Some e else None))
 some-first_of None true e = refl
@@ -131,8 +131,8 @@ pub noted-enter_list : (front : Entries) (names : List (List ℕ)) (s : State) (
 noted-enter_list front names s [] agree = refl
 noted-enter_list front names s (d ∷ ds) agree =
     noted-enter_list front (names ++ spelled d.0 ∷ []) (enter_behind front s d.0 d.1) ds
-      (agree-push names (whole front s.0) (whole front (enter_behind front s d.0 d.1).0) (spelled d.0) d.1 agree
-        (λ n. whole-behind front s d.0 d.1 n (entry_of front (spelled d.0)) refl))
+    (agree-push names (whole front s.0) (whole front (enter_behind front s d.0 d.1).0) (spelled d.0) d.1 agree
+    (λ n. whole-behind front s d.0 d.1 n (entry_of front (spelled d.0)) refl))
     ∙ ap (λ l. least_with l (twice_faults (names ++ spelled d.0 ∷ []) (names_in ds)))
-      (noted-behind front s d.0 d.1 (entry_of front (spelled d.0)) (is_among (spelled d.0) names) (agree (spelled d.0)))
+    (noted-behind front s d.0 d.1 (entry_of front (spelled d.0)) (is_among (spelled d.0) names) (agree (spelled d.0)))
     ∙ sym (least_append s.1 (broken_if (is_among (spelled d.0) names) d.0.place DeclaredTwice) (twice_faults (names ++ spelled d.0 ∷ []) (names_in ds)))

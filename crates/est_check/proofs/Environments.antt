@@ -65,7 +65,7 @@ passage_for all t None (Some side) u channels h = absurd h
 passage_for all t (Some q) None u channels h = absurd h
 passage_for all t (Some q) (Some side) u channels h =
     ap Some (passage_both side q.second (member_entry (members_at t.channels q.channel) (spelled u)) (declared_in (channel_region side.channel) (spelled u)) h.1
-      (channels q.channel side.channel h.0 (spelled u)))
+    (channels q.channel side.channel h.0 (spelled u)))
 
 pub role_sort_for : (all : List Part) (t : Table) (o : Option ℕ) (p : Option Channel) (u : Used) → ChannelsFor all t → Both (ChannelFor all) o p → member_sort_at t o u ≡ environments.role_sort p u
 role_sort_for all t None None u channels h = refl
@@ -102,13 +102,13 @@ side_by_for all t None (Some c) u channels h = absurd h
 side_by_for all t (Some k) None u channels h = absurd h
 side_by_for all t (Some k) (Some c) u channels h =
     subst (λ o. SideFor all (passes.side_with k o) (names.side_by (Some c) u))
-      (sym (role_both c (member_entry (members_at t.channels k) (spelled u)) (declared_in (channel_region c) (spelled u)) (channels k c h (spelled u))))
-      (side_with_for all k c (role_named c u) h)
+    (sym (role_both c (member_entry (members_at t.channels k) (spelled u)) (declared_in (channel_region c) (spelled u)) (channels k c h (spelled u))))
+    (side_with_for all k c (role_named c u) h)
 
 pub side_outside : (all : List Part) (r : Region) (t : Table) → OuterFor all r t → ChannelsFor all t → (p : Point) → SideFor all (table_side t outside p) (side_of (alone r) p)
 side_outside all r t outer channels p =
     side_by_for all t (channel_number (table_found t outside p.channel)) (channel_by (meaning (alone r) p.channel)) p.role channels
-      (channel_for all (table_found t outside p.channel) (meaning (alone r) p.channel) (means_outside all r t outer p.channel))
+    (channel_for all (table_found t outside p.channel) (meaning (alone r) p.channel) (means_outside all r t outer p.channel))
 
 -- names that are declared together, and the interaction points of a header
 pub together_alike : (R : Entry → Declaration → Type 0) (us : List Used) (e : Entry) (last : ℕ) (s : Sort) → ((u : Used) → R e (declaration u last s)) → Alike R (flat.together us e) (declared_together us last s)
@@ -119,9 +119,9 @@ pub points_alike : (all : List Part) (r : Region) (t : Table) → OuterFor all r
 points_alike all r t outer channels [] = tt
 points_alike all r t outer channels (p ∷ ps) =
     alike-append (EntryFor all) (flat.together p.names (entry p.role.place (stands.Point (table_side t outside p)))) (declared_together p.names p.role.place (names.point p (side_of (alone r) p)))
-      (flat.points t outside ps) (points_region (alone r) ps)
-      (together_alike (EntryFor all) p.names (entry p.role.place (stands.Point (table_side t outside p))) p.role.place (names.point p (side_of (alone r) p)) (λ u. (refl, side_outside all r t outer channels p)))
-      (points_alike all r t outer channels ps)
+    (flat.points t outside ps) (points_region (alone r) ps)
+    (together_alike (EntryFor all) p.names (entry p.role.place (stands.Point (table_side t outside p))) p.role.place (names.point p (side_of (alone r) p)) (λ u. (refl, side_outside all r t outer channels p)))
+    (points_alike all r t outer channels ps)
 
 -- the names of a body's header
 pub header_both : (all : List Part) (scope : Scope) (t : Table) (o : Option ℕ) (p : Option Header) (n : List ℕ) → HeadersFor all scope t → Both (HeaderFor all) o p

@@ -74,8 +74,8 @@ numbered_here all number p ps h = ap (slice_get all) (sym (add-zero number)) ∙
 pub numbered_behind : (all : List Part) (number : ℕ) (p : Part) (ps : List Part) → Numbered all number (p ∷ ps) → Numbered all (suc number) ps
 numbered_behind all number p ps h k q is = ap (slice_get all) (shifted number k) ∙ h (suc k) q is
   where
-  shifted : (m n : ℕ) → suc m + n ≡ m + suc n
-  shifted m n = omega arith
+    shifted : (m n : ℕ) → suc m + n ≡ m + suc n
+    shifted m n = omega arith
 
 pub numbered : (all : List Part) → Numbered all 0 all
 numbered all k p h = ap (slice_get all) (zero-add k) ∙ h
@@ -85,8 +85,8 @@ pub modvars_alike : (all : List Part) (ms : List ModvarDef) → Alike (EntryFor 
 modvars_alike all [] = tt
 modvars_alike all (m ∷ ms) =
     alike-append (EntryFor all) (flat.together m.names (entry m.header.place stands.ModuleVariable)) (declared_together m.names m.header.place (module_variable m)) (flat.modvars ms) (modvars_region ms)
-      (together_alike (EntryFor all) m.names (entry m.header.place stands.ModuleVariable) m.header.place (module_variable m) (λ u. (refl, tt)))
-      (modvars_alike all ms)
+    (together_alike (EntryFor all) m.names (entry m.header.place stands.ModuleVariable) m.header.place (module_variable m) (λ u. (refl, tt)))
+    (modvars_alike all ms)
 
 pub part_alike : (all : List Part) (number : ℕ) (p : Part) → IsFlat p → slice_get all number ≡ Some p → Alike (EntryFor all) (flat.of_part number p) (part_region p)
 part_alike all number (part.Channel c) f h = (refl, (refl, h), tt)
@@ -99,14 +99,14 @@ pub parts_alike : (all : List Part) (number : ℕ) (ps : List Part) → AreFlat 
 parts_alike all number [] f h = tt
 parts_alike all number (p ∷ ps) f h =
     alike-append (EntryFor all) (flat.of_part number p) (part_region p) (flat.of_parts (suc number) ps) (parts_region ps)
-      (part_alike all number p f.0 (numbered_here all number p ps h))
-      (parts_alike all (suc number) ps f.1 (numbered_behind all number p ps h))
+    (part_alike all number p f.0 (numbered_here all number p ps h))
+    (parts_alike all (suc number) ps f.1 (numbered_behind all number p ps h))
 
 pub outer_both : (least : Option Fault) (ps : List Part) → AreFlat ps → (n : List ℕ) → Both (EntryFor ps) (entry_of (enter_parts ([], least) 0 ps).0 n) (declared_in (parts_region ps) n)
 outer_both least ps f n =
     subst (λ o. Both (EntryFor ps) o (declared_in (parts_region ps) n))
-      (sym (ap (λ s. entry_of s.0 n) (flat.of_parts_is ([], least) 0 ps) ∙ whole-enter_list [] ([], least) (flat.of_parts 0 ps) n))
-      (first_alike (EntryFor ps) (flat.of_parts 0 ps) (parts_region ps) n (parts_alike ps 0 ps f (numbered ps)))
+    (sym (ap (λ s. entry_of s.0 n) (flat.of_parts_is ([], least) 0 ps) ∙ whole-enter_list [] ([], least) (flat.of_parts 0 ps) n))
+    (first_alike (EntryFor ps) (flat.of_parts 0 ps) (parts_region ps) n (parts_alike ps 0 ps f (numbered ps)))
 
 pub noted_outer : (least : Option Fault) (ps : List Part) → AreFlat ps → (enter_parts ([], least) 0 ps).1 ≡ least_with least (twice_faults [] (names_of (parts_region ps)))
 noted_outer least ps f =
@@ -164,23 +164,23 @@ pub header_for_points : (all : List Part) (r : Region) (t : Table) → OuterFor 
     → Both (EntryFor all) (entry_of (header_pass t outside least h).0 n) (declared_in (points_region (alone r) h.points) n)
 header_for_points all r t outer channels least h n =
     subst (λ o. Both (EntryFor all) o (declared_in (points_region (alone r) h.points) n))
-      (sym (ap (λ s. entry_of s.0 n) (flat.points_is t outside ([], least) h.points) ∙ whole-enter_list [] ([], least) (flat.points t outside h.points) n))
-      (first_alike (EntryFor all) (flat.points t outside h.points) (points_region (alone r) h.points) n (points_alike all r t outer channels h.points))
+    (sym (ap (λ s. entry_of s.0 n) (flat.points_is t outside ([], least) h.points) ∙ whole-enter_list [] ([], least) (flat.points t outside h.points) n))
+    (first_alike (EntryFor all) (flat.points t outside h.points) (points_region (alone r) h.points) n (points_alike all r t outer channels h.points))
 
 pub names_at_for : (all : List Part) (r : Region) (t : Table) → OuterFor all r t → ChannelsFor all t → (least : Option Fault) (ps : List Part) (k : ℕ) (h : Header) → HeaderFor ps k h → (n : List ℕ)
     → Both (EntryFor all) (entry_of (names_by (slice_get (names_list t least ps) k)) n) (declared_in (points_region (alone r) h.points) n)
 names_at_for all r t outer channels least [] k h is n = absurd (none-some (part.Header h) is)
 names_at_for all r t outer channels least (p ∷ ps) zero h is n =
     subst (λ q. Both (EntryFor all) (entry_of (header_part t outside least q).0 n) (declared_in (points_region (alone r) h.points) n)) (sym (ap (or_part p) is))
-      (header_for_points all r t outer channels least h n)
+    (header_for_points all r t outer channels least h n)
 names_at_for all r t outer channels least (p ∷ ps) (suc k) h is n = names_at_for all r t outer channels (header_part t outside least p).1 ps k h is n
 
 pub noted_header : (all : List Part) (r : Region) (t : Table) → OuterFor all r t → ChannelsFor all t → (least : Option Fault) (h : Header) → (header_pass t outside least h).1 ≡ least_with least (header_faults (alone r) h)
 noted_header all r t outer channels least h =
     ap (λ l. least_with l (points_faults (table_environment t outside) h.points))
-      (ap (λ s. s.1) (flat.points_is t outside ([], least) h.points)
-      ∙ noted-enter_list [] [] ([], least) (flat.points t outside h.points) (λ n. refl)
-      ∙ ap (λ l. least_with least (twice_faults [] l)) (names_alike (EntryFor all) (flat.points t outside h.points) (points_region (alone r) h.points) (points_alike all r t outer channels h.points)))
+    (ap (λ s. s.1) (flat.points_is t outside ([], least) h.points)
+    ∙ noted-enter_list [] [] ([], least) (flat.points t outside h.points) (λ n. refl)
+    ∙ ap (λ l. least_with least (twice_faults [] l)) (names_alike (EntryFor all) (flat.points t outside h.points) (points_region (alone r) h.points) (points_alike all r t outer channels h.points)))
     ∙ ap (λ env. least_with (least_with least (twice_faults [] (names_of (points_region (alone r) h.points)))) (points_faults env h.points)) (environment_outside all r t outer channels)
     ∙ sym (least_append least (twice_faults [] (names_of (points_region (alone r) h.points))) (points_faults (environment (alone r)) h.points))
 
@@ -226,26 +226,26 @@ own_both all r t for number least b f h n =
     let front : Entries = front_of t number in
     let own : Entries = (enter_state_parts front ([], least) (out-Body b).parts).0 in
     let is : first_of (header_entry t number n) (entry_of own n) ≡ first_of (entry_of front n) (first (flat.of_state_parts (out-Body b).parts) n) =
-      ap (λ o. first_of o (entry_of own n)) (header_entry_is t number n)
-      ∙ ap (λ s. whole front s.0 n) (flat.of_state_parts_is front ([], least) (out-Body b).parts)
-      ∙ whole-enter_list front ([], least) (flat.of_state_parts (out-Body b).parts) n
-      ∙ ap (λ o. first_of o (first (flat.of_state_parts (out-Body b).parts) n)) (first_of-none (entry_of front n))
+    ap (λ o. first_of o (entry_of own n)) (header_entry_is t number n)
+    ∙ ap (λ s. whole front s.0 n) (flat.of_state_parts_is front ([], least) (out-Body b).parts)
+    ∙ whole-enter_list front ([], least) (flat.of_state_parts (out-Body b).parts) n
+    ∙ ap (λ o. first_of o (first (flat.of_state_parts (out-Body b).parts) n)) (first_of-none (entry_of front n))
     in subst (λ o. Both (EntryFor all) o (declared_in (body_region (alone r) b) n)) (sym is)
-      (subst (Both (EntryFor all) (first_of (entry_of front n) (first (flat.of_state_parts (out-Body b).parts) n))) (sym (declared_in-append (header_region (alone r) b) (parts_region (out-Body b).parts) n))
-        (both_append (EntryFor all) (entry_of front n) (first (flat.of_state_parts (out-Body b).parts) n) (declared_in (header_region (alone r) b) n) (declared_in (parts_region (out-Body b).parts) n)
-          (header_both all (alone r) t number (header_by (meaning (alone r) (out-Body b).header)) n for.headers h)
-          (first_alike (EntryFor all) (flat.of_state_parts (out-Body b).parts) (parts_region (out-Body b).parts) n (state_parts_alike all (out-Body b).parts f))))
+    (subst (Both (EntryFor all) (first_of (entry_of front n) (first (flat.of_state_parts (out-Body b).parts) n))) (sym (declared_in-append (header_region (alone r) b) (parts_region (out-Body b).parts) n))
+    (both_append (EntryFor all) (entry_of front n) (first (flat.of_state_parts (out-Body b).parts) n) (declared_in (header_region (alone r) b) n) (declared_in (parts_region (out-Body b).parts) n)
+    (header_both all (alone r) t number (header_by (meaning (alone r) (out-Body b).header)) n for.headers h)
+    (first_alike (EntryFor all) (flat.of_state_parts (out-Body b).parts) (parts_region (out-Body b).parts) n (state_parts_alike all (out-Body b).parts f))))
 
 pub means_inside : (all : List Part) (r : Region) (t : Table) → TableFor all r t → (number : Option ℕ) (least : Option Fault) (b : Body) → AreStates (out-Body b).parts
     → Both (HeaderFor all) number (header_by (meaning (alone r) (out-Body b).header)) → (u : Used)
     → FoundFor all (table_found t record { within = true; header = number; own = (enter_state_parts (front_of t number) ([], least) (out-Body b).parts).0 } u) (meaning (body_scope (alone r) b) u)
 means_inside all r t for number least b f h u =
     found_inside all
-      (own_entry t record { within = true; header = number; own = (enter_state_parts (front_of t number) ([], least) (out-Body b).parts).0 } (spelled u))
-      (declared_in (body_region (alone r) b) (spelled u)) u.place
-      (outer_found true (entry_of t.outer (spelled u)) u.place) (found (r ∷ []) (spelled u) u.place)
-      (own_both all r t for number least b f h (spelled u))
-      (found_around all (entry_of t.outer (spelled u)) (declared_in r (spelled u)) u.place (for.outer (spelled u)))
+    (own_entry t record { within = true; header = number; own = (enter_state_parts (front_of t number) ([], least) (out-Body b).parts).0 } (spelled u))
+    (declared_in (body_region (alone r) b) (spelled u)) u.place
+    (outer_found true (entry_of t.outer (spelled u)) u.place) (found (r ∷ []) (spelled u) u.place)
+    (own_both all r t for number least b f h (spelled u))
+    (found_around all (entry_of t.outer (spelled u)) (declared_in r (spelled u)) u.place (for.outer (spelled u)))
 
 -- the faults of a body
 pub noted_inside : (all : List Part) (r : Region) (t : Table) → TableFor all r t → (number : Option ℕ) (least : Option Fault) (b : Body) → AreStates (out-Body b).parts
@@ -257,10 +257,10 @@ noted_inside all r t for number least b f h =
     let twice : List Fault = twice_faults (spellings_of (header_region (alone r) b)) (names_of (parts_region (out-Body b).parts)) in
     let names : BodyNames = record { within = true; header = number; own = s.0 } in
     ap (λ l. least_with l (text_faults (table_environment t names) b))
-      (ap (λ q. q.1) (flat.of_state_parts_is front ([], least) (out-Body b).parts)
-      ∙ noted-enter_list front (spellings_of (header_region (alone r) b)) ([], least) (flat.of_state_parts (out-Body b).parts)
-        (agree_front (EntryFor all) front (header_region (alone r) b) (λ n. header_both all (alone r) t number (header_by (meaning (alone r) (out-Body b).header)) n for.headers h))
-      ∙ ap (λ l. least_with least (twice_faults (spellings_of (header_region (alone r) b)) l)) (names_alike (EntryFor all) (flat.of_state_parts (out-Body b).parts) (parts_region (out-Body b).parts) (state_parts_alike all (out-Body b).parts f)))
+    (ap (λ q. q.1) (flat.of_state_parts_is front ([], least) (out-Body b).parts)
+    ∙ noted-enter_list front (spellings_of (header_region (alone r) b)) ([], least) (flat.of_state_parts (out-Body b).parts)
+    (agree_front (EntryFor all) front (header_region (alone r) b) (λ n. header_both all (alone r) t number (header_by (meaning (alone r) (out-Body b).header)) n for.headers h))
+    ∙ ap (λ l. least_with least (twice_faults (spellings_of (header_region (alone r) b)) l)) (names_alike (EntryFor all) (flat.of_state_parts (out-Body b).parts) (parts_region (out-Body b).parts) (state_parts_alike all (out-Body b).parts f)))
     ∙ ap (λ env. least_with (least_with least twice) (text_faults env b)) (environment_is all t names (body_scope (alone r) b) for.channels (means_inside all r t for number least b f h))
     ∙ sym (least_append least twice (text_faults (environment (body_scope (alone r) b)) b))
 
@@ -269,7 +269,7 @@ noted_body all r t for least b f =
     let used : List Fault = use_faults (environment (alone r)) sort.Header (out-Body b).header in
     let twice : List Fault = twice_faults (spellings_of (header_region (alone r) b)) (names_of (parts_region (out-Body b).parts)) in
     noted_inside all r t for (header_number (table_found t outside (out-Body b).header)) (least_with least (use_faults (table_environment t outside) sort.Header (out-Body b).header)) b f
-      (header_for all (table_found t outside (out-Body b).header) (meaning (alone r) (out-Body b).header) (means_outside all r t for.outer (out-Body b).header))
+    (header_for all (table_found t outside (out-Body b).header) (meaning (alone r) (out-Body b).header) (means_outside all r t for.outer (out-Body b).header))
     ∙ ap (λ env. least_with (least_with least (use_faults env sort.Header (out-Body b).header)) (twice ++ text_faults (environment (body_scope (alone r) b)) b)) (environment_outside all r t for.outer for.channels)
     ∙ sym (least_append least used (twice ++ text_faults (environment (body_scope (alone r) b)) b))
     ∙ ap (least_with least) (sym (append_assoc used twice (text_faults (environment (body_scope (alone r) b)) b)))

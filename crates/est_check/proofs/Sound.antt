@@ -47,7 +47,7 @@ table_for ps f =
       outer = outer;
       channels = channels;
       headers = λ k h is n. subst (λ es. Rattle.est_check.proofs.Stands.Both (Rattle.est_check.proofs.Stands.EntryFor ps) (Rattle.est_check.specs.Entries.entry_of (names_by (slice_get es k)) n) (declared_in (names.points_region (alone (parts_region ps)) h.points) n))
-        (sym (names_are bare [] c.1 ps)) (names_at_for ps (parts_region ps) bare outer channels c.1 ps k h is n);
+          (sym (names_are bare [] c.1 ps)) (names_at_for ps (parts_region ps) bare outer channels c.1 ps k h is n);
     }
 
 -- all faults of flat parts, pass by pass
@@ -78,9 +78,9 @@ noted_all s f =
     let y : List Fault = each (of_rest (alone r)) ps in
     ap (λ env. least_with (parts_pass t (tables None ps).1 ps) (statement_faults env s.first)) (environment_outside ps r t for.outer for.channels)
     ∙ ap (λ l. least_with l (statement_faults (environment (alone r)) s.first))
-      (noted_parts ps r t for (tables None ps).1 ps f
-      ∙ ap (λ l. least_with l y) (noted_headers ps r bare for.outer for.channels [] c.1 ps
-        ∙ ap (λ l. least_with l x) (noted_channels [] o.1 ps ∙ ap (λ l. least_with l b) (noted_outer None ps f))))
+    (noted_parts ps r t for (tables None ps).1 ps f
+    ∙ ap (λ l. least_with l y) (noted_headers ps r bare for.outer for.channels [] c.1 ps
+    ∙ ap (λ l. least_with l x) (noted_channels [] o.1 ps ∙ ap (λ l. least_with l b) (noted_outer None ps f))))
     ∙ least_five None a b x y (statement_faults (environment (alone r)) s.first)
 
 -- a fault of some part
@@ -168,24 +168,24 @@ noted_breaks s f i = twice_breaks s f (into_either f (twice_faults [] (names_of 
 pub noted_either : (s : Spec) (f : Fault) (p : Part) → IsIn p s.parts → IsIn f (of_channel p) ⊎ (IsIn f (of_header (spec_scope s) p) ⊎ IsIn f (of_rest (spec_scope s) p)) → IsIn f (all_faults s)
 noted_either s f p i (inl h) =
     in_second f (twice_faults [] (names_of (parts_region s.parts))) (each of_channel s.parts ++ behind_channels s)
-      (in_first f (each of_channel s.parts) (behind_channels s) (in_each of_channel f p s.parts i h))
+    (in_first f (each of_channel s.parts) (behind_channels s) (in_each of_channel f p s.parts i h))
 noted_either s f p i (inr (inl h)) =
     in_second f (twice_faults [] (names_of (parts_region s.parts))) (each of_channel s.parts ++ behind_channels s)
-      (in_second f (each of_channel s.parts) (behind_channels s)
-        (in_first f (each (of_header (spec_scope s)) s.parts) (each (of_rest (spec_scope s)) s.parts ++ statement_faults (environment (spec_scope s)) s.first) (in_each (of_header (spec_scope s)) f p s.parts i h)))
+    (in_second f (each of_channel s.parts) (behind_channels s)
+    (in_first f (each (of_header (spec_scope s)) s.parts) (each (of_rest (spec_scope s)) s.parts ++ statement_faults (environment (spec_scope s)) s.first) (in_each (of_header (spec_scope s)) f p s.parts i h)))
 noted_either s f p i (inr (inr h)) =
     in_second f (twice_faults [] (names_of (parts_region s.parts))) (each of_channel s.parts ++ behind_channels s)
-      (in_second f (each of_channel s.parts) (behind_channels s)
-        (in_second f (each (of_header (spec_scope s)) s.parts) (each (of_rest (spec_scope s)) s.parts ++ statement_faults (environment (spec_scope s)) s.first)
-          (in_first f (each (of_rest (spec_scope s)) s.parts) (statement_faults (environment (spec_scope s)) s.first) (in_each (of_rest (spec_scope s)) f p s.parts i h))))
+    (in_second f (each of_channel s.parts) (behind_channels s)
+    (in_second f (each (of_header (spec_scope s)) s.parts) (each (of_rest (spec_scope s)) s.parts ++ statement_faults (environment (spec_scope s)) s.first)
+    (in_first f (each (of_rest (spec_scope s)) s.parts) (statement_faults (environment (spec_scope s)) s.first) (in_each (of_rest (spec_scope s)) f p s.parts i h))))
 
 pub noted_outside : (s : Spec) (f : Fault) → IsIn f (twice_faults [] (names_of (parts_region s.parts))) ⊎ IsIn f (statement_faults (environment (spec_scope s)) s.first) → IsIn f (all_faults s)
 noted_outside s f (inl h) = in_first f (twice_faults [] (names_of (parts_region s.parts))) (each of_channel s.parts ++ behind_channels s) h
 noted_outside s f (inr h) =
     in_second f (twice_faults [] (names_of (parts_region s.parts))) (each of_channel s.parts ++ behind_channels s)
-      (in_second f (each of_channel s.parts) (behind_channels s)
-        (in_second f (each (of_header (spec_scope s)) s.parts) (each (of_rest (spec_scope s)) s.parts ++ statement_faults (environment (spec_scope s)) s.first)
-          (in_second f (each (of_rest (spec_scope s)) s.parts) (statement_faults (environment (spec_scope s)) s.first) h)))
+    (in_second f (each of_channel s.parts) (behind_channels s)
+    (in_second f (each (of_header (spec_scope s)) s.parts) (each (of_rest (spec_scope s)) s.parts ++ statement_faults (environment (spec_scope s)) s.first)
+    (in_second f (each (of_rest (spec_scope s)) s.parts) (statement_faults (environment (spec_scope s)) s.first) h)))
 
 -- what a name of a skeleton may be declared as
 abbrev pub Known : {s : Spec} → IsSkeleton s → Sort → Type 0
@@ -235,9 +235,14 @@ known_together sk (u ∷ us) last m h = (h, known_together sk us last m h)
 
 pub known_parts : {s : Spec} (sk : IsSkeleton s) (cs : List Channel)
     → AllKnown sk (parts_region (channel_parts cs ++ part.Header sk.header ∷ part.Body sk.body ∷ part.Modvars (sk.variable ∷ []) ∷ []))
-known_parts sk [] =
-    (refl, (tt, known-append sk (names.declared_together sk.variable.names sk.variable.header.place (names.module_variable sk.variable) ++ []) []
-      (known-append sk (names.declared_together sk.variable.names sk.variable.header.place (names.module_variable sk.variable)) [] (known_together sk sk.variable.names sk.variable.header.place sk.variable refl) tt) tt))
+known_parts sk [] = (
+  refl,
+  (
+    tt,
+    known-append sk (names.declared_together sk.variable.names sk.variable.header.place (names.module_variable sk.variable) ++ []) []
+        (known-append sk (names.declared_together sk.variable.names sk.variable.header.place (names.module_variable sk.variable)) [] (known_together sk sk.variable.names sk.variable.header.place sk.variable refl) tt) tt,
+  ),
+)
 known_parts sk (c ∷ cs) = (tt, known_parts sk cs)
 
 pub all_known : {s : Spec} (sk : IsSkeleton s) → AllKnown sk (parts_region s.parts)

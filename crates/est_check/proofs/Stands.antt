@@ -62,7 +62,7 @@ first_alike R [] (d ∷ ds) n h = absurd h
 first_alike R (x ∷ xs) [] n h = absurd h
 first_alike R (x ∷ xs) (d ∷ ds) n h =
     subst (λ u. Both R (first (x ∷ xs) n) (if is_name n (spelled u) then Some d else declared_in ds n)) h.0
-      (first_by R (is_name n (spelled x.0)) x.1 d (first xs n) (declared_in ds n) h.1 (first_alike R xs ds n h.2))
+    (first_by R (is_name n (spelled x.0)) x.1 d (first xs n) (declared_in ds n) h.1 (first_alike R xs ds n h.2))
 
 abbrev pub or_declared : Option Declaration → Option Declaration → Option Declaration
 or_declared None o = o
@@ -135,7 +135,7 @@ found_outside all None (Some d) place h = absurd h
 found_outside all (Some e) None place h = absurd h
 found_outside all (Some e) (Some d) place h =
     subst (λ n. FoundFor all (if nat_lt e.last place then found.Seen e else found.Nothing) (meaning_by (if nat_lt n place then Some d else None) None)) h.0
-      (seen_by all e d (nat_lt e.last place) h)
+    (seen_by all e d (nat_lt e.last place) h)
 
 -- what is found within a body
 pub around_by : (all : List Part) (e : Entry) (d : Declaration) (b c : Bool) → EntryFor all e d → c ≡ names.is_shared d.sort
@@ -150,7 +150,7 @@ found_around all None (Some d) place h = absurd h
 found_around all (Some e) None place h = absurd h
 found_around all (Some e) (Some d) place h =
     subst (λ n. FoundFor all (outer_found true (Some e) place) (meaning_by None (if nat_lt n place then Some d else None))) h.0
-      (around_by all e d (nat_lt e.last place) (tables.is_shared e.stands) h (shared_for all e.stands d.sort h.1))
+    (around_by all e d (nat_lt e.last place) (tables.is_shared e.stands) h (shared_for all e.stands d.sort h.1))
 
 pub own_by : (all : List Part) (e : Entry) (d : Declaration) (b : Bool) (outer : Found) (around : Option Declaration) → EntryFor all e d → FoundFor all outer (meaning_by None around)
     → FoundFor all (if b then found.Seen e else outer) (meaning_by (if b then Some d else None) around)
@@ -164,7 +164,7 @@ found_inside all None (Some d) place outer around h k = absurd h
 found_inside all (Some e) None place outer around h k = absurd h
 found_inside all (Some e) (Some d) place outer around h k =
     subst (λ n. FoundFor all (found_by (Some e) place outer) (meaning_by (if nat_lt n place then Some d else None) around)) h.0
-      (own_by all e d (nat_lt e.last place) outer around h k)
+    (own_by all e d (nat_lt e.last place) outer around h k)
 
 -- the sort, the channel, the header and the side of what is found
 pub sort_for : (all : List Part) (s : Standing) (t : Sort) → StandsFor all s t → tables.name_sort s ≡ environment.name_sort t

@@ -100,7 +100,7 @@ fn side_with(number: usize, role: Option<Entry>) -> Option<PointSide>
 }
 
 /// The side of an interaction point, where its channel and role are such.
-fn side_of(table: &Table, body: &BodyNames, point: &Point) -> Option<PointSide>
+pub fn side_of(table: &Table, body: &BodyNames, point: &Point) -> Option<PointSide>
     ensures { result ≡ table_side table.now body.now point.now }
 {
     match table.channel_number(body, &point.channel) {

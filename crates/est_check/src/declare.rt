@@ -214,7 +214,7 @@ fn senders_from(roles: &Names, mut senders: Senders, list: &[Used]) -> Senders
 }
 
 /// Which roles may send the interactions of a `by` part.
-fn senders(roles: &Names, list: &[Used]) -> Senders
+pub fn senders(roles: &Names, list: &[Used]) -> Senders
     ensures { result ≡ senders roles.now list.now }
 {
     senders_from(

@@ -7,5 +7,6 @@ pub mod declare;
 pub mod least;
 pub mod names;
 pub mod pass;
+pub mod ports;
 pub mod table;
 pub mod uses;

@@ -33,7 +33,12 @@ fn header_number(table: &Table, outer: &BodyNames, used: &Used) -> Option<usize>
     }
 }
 
-fn names_behind(alloc: Global, front: &Names, parts: &[Part], least: &mut Least) -> Result<Names, AllocError>
+fn names_behind(
+    alloc: Global,
+    front: &Names,
+    parts: &[Part],
+    least: &mut Least,
+) -> Result<Names, AllocError>
     ensures { IfOk result (λ n. (n, least.new.at) ≡ enter_state_parts front.now ([], least.old.at) parts.now) }
 {
     let mut own = Names::new(alloc);
@@ -42,7 +47,13 @@ fn names_behind(alloc: Global, front: &Names, parts: &[Part], least: &mut Least)
 }
 
 /// The names of a body behind those of the header of this number.
-fn own_names(alloc: Global, table: &Table, header: Option<usize>, parts: &[Part], least: &mut Least) -> Result<Names, AllocError>
+fn own_names(
+    alloc: Global,
+    table: &Table,
+    header: Option<usize>,
+    parts: &[Part],
+    least: &mut Least,
+) -> Result<Names, AllocError>
     ensures { IfOk result (λ n. (n, least.new.at) ≡ enter_state_parts (front_of table.now header) ([], least.old.at) parts.now) }
 {
     match header {

@@ -91,7 +91,7 @@ pub fn check_point_role(table: &Table, channel: Option<usize>, used: &Used, leas
     }
 }
 
-fn may_send(second: bool, who: Senders) -> bool
+pub fn may_send(second: bool, who: Senders) -> bool
     ensures { result ≡ may_send second who }
 {
     if second { who.second } else { who.first }
