@@ -1,5 +1,5 @@
 -- The trees of skeletons: specifications with channels, one header, one body with states, and one module variable.
-use Rattle.std.specs.Prelude.{◌≡◌, ℕ, ◌≤◌, Bool, true, false, List, [], ◌∷◌, ◌++◌, Option, Some, None}
+use Rattle.std.specs.Prelude.{◌≡◌, ◌≤◌, true, List, [], ◌∷◌, ◌++◌, Some, length}
 use Rattle.est_syntax.specs.declared.name.Used.{Used}
 use Rattle.est_syntax.specs.declared.expression.Access.{Access}
 use Rattle.est_syntax.specs.declared.specification.Channel.{Channel}
@@ -15,6 +15,8 @@ use Rattle.est_syntax.specs.declared.specification.Part.{Part}
 use Rattle.est_syntax.specs.declared.specification.Part.TheVariants as part
 use Rattle.est_syntax.specs.declared.specification.Spec.{Spec}
 use Rattle.est_syntax.specs.Least.{IsIn}
+use Rattle.est_syntax.specs.Ports.{ports_of}
+use Rattle.est_check.specs.Counts.{transition_count}
 
 -- these channels as parts
 abbrev pub channel_parts : List Channel → List Part
@@ -54,3 +56,5 @@ pub record IsSkeleton (s : Spec) : Type 0 where
   pub system : header.system ≡ true
   pub plain : IsPlainBody body
   pub init : IsInit s.first
+  pub few_transitions : transition_count s.parts ≤ 1048576
+  pub few_ports : length (ports_of s) ≤ 1048576
