@@ -2,5 +2,9 @@
 #![tactic(auto)]
 
 pub mod expression;
+pub mod kind;
 pub mod name;
+pub mod ports;
+pub mod rule;
+pub mod sort;
 pub mod specification;
