@@ -1,0 +1,6 @@
+//! The meaning of specifications (ISO 9074): situations, steps and runs.
+#![tactic(auto)]
+
+pub mod event;
+pub mod run;
+pub mod world;
