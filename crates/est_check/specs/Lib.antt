@@ -1,0 +1,6 @@
+pub mod Counts
+pub mod Entries
+pub mod Passes
+pub mod PortPass
+pub mod Skeleton
+pub mod Tables
