@@ -1,5 +1,5 @@
 -- The tables of channels are their regions.
-use Rattle.std.specs.Prelude.{if◌then◌else◌, not, ◌&&◌, ◌||◌, is_some, slice_get}
+use Rattle.std.specs.Prelude.{if◌then◌else◌, ◌&&◌, ◌||◌, is_some}
 use Rattle.std.proofs.Common.{◌≡◌, refl, sym, ap, ◌∙◌, subst, ℕ, Bool, true, false, List, [], ◌∷◌, ◌++◌, Option, Some, None, append_assoc}
 use Rattle.std.proofs.lemmas.List.{append-nil}
 use Rattle.est_syntax.specs.declared.name.Used.{Used}
@@ -24,8 +24,8 @@ use Rattle.est_check.specs.Entries.{Entries, State, entry_of, enter_roles, enter
 use Rattle.est_check.specs.Entries as entries
 use Rattle.est_check.specs.Tables.{first_of, member_entry, member_sort, sort_found, found_among, members_environment}
 use Rattle.est_check.specs.Tables as tables
-use Rattle.est_check.specs.Passes.{channel_after, channel_with, channel_pass}
-use Rattle.est_check.proofs.Entering.{enter_list, first, names_in, whole, whole-enter_list, noted-enter_list, first_of-none, Agree}
+use Rattle.est_check.specs.Passes.{channel_pass}
+use Rattle.est_check.proofs.Entering.{first, whole, whole-enter_list, noted-enter_list, first_of-none, Agree}
 use Rattle.est_check.proofs.Flat as flat
 use Rattle.est_check.proofs.Stands.{Both, Alike, alike-append, names_alike, first_alike, or_declared, declared_in-append, both_append}
 

@@ -1,17 +1,15 @@
 -- What a table has after names were entered, and which of them were declared twice.
-use Rattle.std.specs.Prelude.{◌==◌, if◌then◌else◌, ◌||◌, is_some}
-use Rattle.std.specs.Map.{lookup}
+use Rattle.std.specs.Prelude.{if◌then◌else◌, ◌||◌, is_some}
 use Rattle.std.specs.Cmp.Lexicographic.{same_text}
-use Rattle.std.proofs.Common.{◌≡◌, refl, sym, ap, ◌∙◌, subst, ℕ, Bool, true, false, List, [], ◌∷◌, ◌++◌, Option, Some, None}
+use Rattle.std.proofs.Common.{◌≡◌, refl, sym, ap, ◌∙◌, ℕ, Bool, true, false, List, [], ◌∷◌, ◌++◌, Option, Some, None}
 use Rattle.est_syntax.specs.declared.name.Used.{Used}
-use Rattle.est_syntax.specs.declared.rule.Fault.{Fault}
 use Rattle.est_syntax.specs.declared.rule.Rule.TheVariants.{DeclaredTwice}
 use Rattle.est_syntax.specs.Least.{least_with}
 use Rattle.est_syntax.specs.Names.{is_name, spelled}
-use Rattle.est_syntax.specs.Faults.{broken, broken_if, is_among, twice_faults}
+use Rattle.est_syntax.specs.Faults.{broken_if, is_among, twice_faults}
 use Rattle.est_syntax.proofs.LeastLaws.{least_append}
 use Rattle.est_check.specs.declared.names.Entry.{Entry}
-use Rattle.est_check.specs.Entries.{Entries, State, entry_of, enter, enter_by, behind_by, enter_behind}
+use Rattle.est_check.specs.Entries.{Entries, State, entry_of, enter_by, behind_by, enter_behind}
 use Rattle.est_check.specs.Tables.{first_of}
 
 -- names entered one by one behind a region in front

@@ -1,32 +1,26 @@
 -- The environments by the tables are those of the scopes.
-use Rattle.std.specs.Prelude.{if◌then◌else◌, not, ◌&&◌, ◌||◌, is_some, slice_get, nat_lt}
-use Rattle.std.proofs.Common.{◌≡◌, refl, sym, ap, ◌∙◌, subst, ℕ, Bool, true, false, List, [], ◌∷◌, ◌++◌, Option, Some, None}
+use Rattle.std.specs.Prelude.{not}
+use Rattle.std.proofs.Common.{◌≡◌, refl, sym, ap, ◌∙◌, subst, ℕ, Bool, true, false, List, [], ◌∷◌, Option, Some, None}
 use Rattle.est_syntax.specs.declared.name.Used.{Used}
 use Rattle.est_syntax.specs.declared.specification.Channel.{Channel}
 use Rattle.est_syntax.specs.declared.specification.Header.{Header}
 use Rattle.est_syntax.specs.declared.specification.Point.{Point}
-use Rattle.est_syntax.specs.declared.specification.Body.{Body, out-Body}
 use Rattle.est_syntax.specs.declared.specification.Part.{Part}
-use Rattle.est_syntax.specs.declared.specification.Part.TheVariants as part
 use Rattle.est_syntax.specs.Names.{spelled, Side, Sort, role, interaction, Declaration, Region, Scope, Meaning, declared_in, declaration, declared_together, channel_region, role_named, side_of, meaning, points_region, header_names, header_region, header_by, channel_by, found, in_force}
 use Rattle.est_syntax.specs.Names as names
 use Rattle.est_syntax.specs.Environment.{Environment, are_roles, has_role, environment}
 use Rattle.est_syntax.specs.Environment as environments
 use Rattle.est_check.specs.declared.names.Entry.{Entry}
-use Rattle.est_check.specs.declared.names.Senders.{Senders}
 use Rattle.est_check.specs.declared.names.PointSide.{PointSide}
 use Rattle.est_check.specs.declared.names.Standing.{Standing}
 use Rattle.est_check.specs.declared.names.Standing.TheVariants as stands
-use Rattle.est_check.specs.declared.table.Members.{Members}
 use Rattle.est_check.specs.declared.table.Table.{Table}
 use Rattle.est_check.specs.declared.table.BodyNames.{BodyNames}
-use Rattle.est_check.specs.Entries.{Entries, entry, entry_of}
-use Rattle.est_check.specs.Entries as entries
+use Rattle.est_check.specs.Entries.{entry, entry_of}
 use Rattle.est_check.specs.Tables.{first_of, member_entry, members_at, names_at, header_entry, own_entry, table_found, channel_number, side_found, sort_found, member_sort_at, may_send, table_environment}
 use Rattle.est_check.specs.Tables as tables
 use Rattle.est_check.specs.Passes.{outside, table_side, header_number, front_of}
 use Rattle.est_check.specs.Passes as passes
-use Rattle.est_check.proofs.Entering.{first}
 use Rattle.est_check.proofs.Flat as flat
 use Rattle.est_check.proofs.Stands.{Both, Alike, alike-append, SideFor, EntryFor, FoundFor, ChannelFor, HeaderFor, found_outside, sort_found_for, channel_for, side_for}
 use Rattle.est_check.proofs.Channels.{MemberStands, MemberFor, MembersFor, role_both, member_sort_for}

@@ -1,5 +1,5 @@
 -- The names of each part, as one list in the order of the text.
-use Rattle.std.proofs.Common.{◌≡◌, refl, sym, ap, ◌∙◌, ℕ, suc, Bool, true, false, List, [], ◌∷◌, ◌++◌, Option, Some, None}
+use Rattle.std.proofs.Common.{◌≡◌, refl, sym, ap, ◌∙◌, ℕ, suc, true, false, List, [], ◌∷◌, ◌++◌}
 use Rattle.est_syntax.specs.declared.name.Used.{Used}
 use Rattle.est_syntax.specs.declared.specification.InteractionDef.{InteractionDef}
 use Rattle.est_syntax.specs.declared.specification.ByPart.{ByPart}
@@ -8,7 +8,7 @@ use Rattle.est_syntax.specs.declared.specification.ModvarDef.{ModvarDef}
 use Rattle.est_syntax.specs.declared.specification.Body.{out-Body}
 use Rattle.est_syntax.specs.declared.specification.Part.{Part}
 use Rattle.est_syntax.specs.declared.specification.Part.TheVariants as part
-use Rattle.est_syntax.specs.Names.{spelled, channel_last, header_last}
+use Rattle.est_syntax.specs.Names.{channel_last, header_last}
 use Rattle.est_check.specs.declared.names.Entry.{Entry}
 use Rattle.est_check.specs.declared.names.Senders.{Senders}
 use Rattle.est_check.specs.declared.names.Standing.TheVariants as stands

@@ -1,6 +1,6 @@
 -- Each pass over the parts of a specification notes what that part breaks.
-use Rattle.std.specs.Prelude.{if◌then◌else◌, slice_get, ◌⊎◌}
-use Rattle.std.proofs.Common.{◌≡◌, refl, sym, ap, ◌∙◌, subst, ℕ, ◌+◌, zero, suc, Bool, true, false, List, [], ◌∷◌, ◌++◌, Option, Some, None, append_assoc, arith, inl, inr}
+use Rattle.std.specs.Prelude.{slice_get}
+use Rattle.std.proofs.Common.{◌≡◌, refl, sym, ap, ◌∙◌, subst, ℕ, ◌+◌, zero, suc, true, List, [], ◌∷◌, ◌++◌, Option, Some, None, append_assoc, arith}
 use Rattle.std.proofs.lemmas.Option.{none-some}
 use Rattle.std.proofs.lemmas.List.{append-nil}
 use Rattle.std.proofs.Math.Nat.{add-zero, zero-add}
@@ -14,23 +14,21 @@ use Rattle.est_syntax.specs.declared.specification.Body.{Body, out-Body}
 use Rattle.est_syntax.specs.declared.specification.Part.{Part}
 use Rattle.est_syntax.specs.declared.specification.Part.TheVariants as part
 use Rattle.est_syntax.specs.Least.{least_with}
-use Rattle.est_syntax.specs.Names.{spelled, Declaration, Region, Scope, declared_in, declared_together, module_variable, modvars_region, part_region, parts_region, states_region, points_region, header_region, header_by, meaning, found, body_region, body_scope}
-use Rattle.est_syntax.specs.Names as names
-use Rattle.est_syntax.specs.Environment.{Environment, environment}
-use Rattle.est_syntax.specs.Faults.{names_of, spellings_of, twice_faults, by_faults, channel_faults, points_faults, header_faults, use_faults, modvars_faults, text_faults, body_faults, part_faults}
+use Rattle.est_syntax.specs.Names.{spelled, Region, Scope, declared_in, declared_together, module_variable, modvars_region, part_region, parts_region, states_region, points_region, header_region, header_by, meaning, found, body_region, body_scope}
+use Rattle.est_syntax.specs.Environment.{environment}
+use Rattle.est_syntax.specs.Faults.{names_of, spellings_of, twice_faults, channel_faults, points_faults, header_faults, use_faults, modvars_faults, text_faults, body_faults}
 use Rattle.est_syntax.proofs.LeastLaws.{least_append}
-use Rattle.est_check.specs.declared.names.Entry.{Entry}
 use Rattle.est_check.specs.declared.names.Standing.TheVariants as stands
 use Rattle.est_check.specs.declared.table.Members.{Members}
 use Rattle.est_check.specs.declared.table.Table.{Table}
 use Rattle.est_check.specs.declared.table.BodyNames.{BodyNames}
 use Rattle.est_check.specs.Entries.{Entries, State, entry, entry_of, enter_parts, enter_state_parts}
-use Rattle.est_check.specs.Tables.{first_of, member_entry, members_at, members_by, names_at, names_by, own_entry, header_entry, table_found, outer_found, table_environment}
-use Rattle.est_check.specs.Passes.{outside, channel_part, with_members, channels_pass, enter_points, header_pass, header_part, with_names, headers_pass, header_number, front_of, body_after, body_with, body_pass, part_pass, parts_pass}
+use Rattle.est_check.specs.Tables.{first_of, members_by, names_by, own_entry, header_entry, table_found, outer_found, table_environment}
+use Rattle.est_check.specs.Passes.{outside, channel_part, channels_pass, header_pass, header_part, headers_pass, header_number, front_of, body_with, body_pass, part_pass, parts_pass}
 use Rattle.est_check.specs.Skeleton.{AreStates}
-use Rattle.est_check.proofs.Entering.{enter_list, first, names_in, whole, whole-enter_list, noted-enter_list, first_of-none}
+use Rattle.est_check.proofs.Entering.{first, whole, whole-enter_list, noted-enter_list, first_of-none}
 use Rattle.est_check.proofs.Flat as flat
-use Rattle.est_check.proofs.Stands.{Both, Alike, alike-append, names_alike, first_alike, EntryFor, FoundFor, ChannelFor, HeaderFor, declared_in-append, both_append, or_declared, found_inside, found_around, header_for}
+use Rattle.est_check.proofs.Stands.{Both, Alike, alike-append, names_alike, first_alike, EntryFor, FoundFor, ChannelFor, HeaderFor, declared_in-append, both_append, found_inside, found_around, header_for}
 use Rattle.est_check.proofs.Channels.{MembersFor, members_for, noted_channel, agree_front}
 use Rattle.est_check.proofs.Environments.{OuterFor, ChannelsFor, HeadersFor, alone, means_outside, environment_outside, environment_is, together_alike, points_alike, header_both, header_entry_is}
 

@@ -24,14 +24,13 @@ use Rattle.est_syntax.specs.declared.specification.Spec.{Spec}
 use Rattle.est_syntax.specs.Least.{IsIn}
 use Rattle.est_syntax.specs.Names.{Side, Sort, Declaration, Region, Scope, Meaning, nothing, unseen, seen, meaning, header_by, header_in, side_of, parts_region, spec_scope}
 use Rattle.est_syntax.specs.Names as names
-use Rattle.est_syntax.specs.Environment.{Environment, environment, sort_by, name_sort, has_role, are_roles}
+use Rattle.est_syntax.specs.Environment.{environment, sort_by, name_sort, has_role}
 use Rattle.est_syntax.specs.Faults.{takes, used_as, use_faults, modvars_faults, statement_faults, names_of, twice_faults, part_faults}
-use Rattle.est_syntax.specs.Breaks.{outermost, outside, inside, Breaks, IsGood, modvar_by, modvar_in}
+use Rattle.est_syntax.specs.Breaks.{outermost, outside, inside, IsGood, modvar_by, modvar_in}
 use Rattle.est_syntax.specs.Ports.{interaction_signals, by_signals, signals_of, named_ports, point_ports, header_ports, header_of_variable, header_started, ports_of}
 use Rattle.est_syntax.proofs.LeastLaws.{in_first, in_second}
 use Rattle.est_check.specs.declared.names.Senders.{Senders}
 use Rattle.est_check.specs.declared.names.PointSide.{PointSide}
-use Rattle.est_check.specs.declared.table.Members.{Members}
 use Rattle.est_check.specs.declared.table.Table.{Table}
 use Rattle.est_check.specs.Entries.{Entries, State, senders, enter_parts}
 use Rattle.est_check.specs.Tables.{members_by, members_at, may_send}
@@ -80,8 +79,8 @@ push_by_parts_is into roles second side [] h e = sym (append-nil into)
 push_by_parts_is into roles second side (b ∷ bs) h e =
     push_by_parts_is (push_interactions into second (senders roles b.roles) b.interactions) roles second side bs h e
     ∙ ap (λ l. l ++ by_signals side bs) (push_interactions_is into second (senders roles b.roles) side b b.interactions
-      (senders_may side.channel roles h second b.roles ∙ ap (λ x. has_role side.channel x b.roles) e)
-      (senders_may side.channel roles h (not second) b.roles ∙ ap (λ x. has_role side.channel (not x) b.roles) e))
+    (senders_may side.channel roles h second b.roles ∙ ap (λ x. has_role side.channel x b.roles) e)
+    (senders_may side.channel roles h (not second) b.roles ∙ ap (λ x. has_role side.channel (not x) b.roles) e))
     ∙ append_assoc into (interaction_signals side b b.interactions) (by_signals side bs)
 
 pub signals_at_is : (all : List Part) (t : Table) (q : Option PointSide) (side : Option Side) → RolesAt all t → SideFor all q side → signals_at t all q ≡ signals_of side
@@ -105,7 +104,7 @@ push_points_is all r t for roles into [] = sym (append-nil into)
 push_points_is all r t for roles into (p ∷ ps) =
     push_points_is all r t for roles (push_named into (signals_at t all (table_side t passes.outside p)) p.names) ps
     ∙ ap (λ l. l ++ point_ports (alone r) ps) (push_named_is into (signals_at t all (table_side t passes.outside p)) p.names
-      ∙ ap (λ l. into ++ named_ports l p.names) (signals_at_is all t (table_side t passes.outside p) (side_of (alone r) p) roles (side_outside all r t for.outer for.channels p)))
+    ∙ ap (λ l. into ++ named_ports l p.names) (signals_at_is all t (table_side t passes.outside p) (side_of (alone r) p) roles (side_outside all r t for.outer for.channels p)))
     ∙ append_assoc into (named_ports (signals_of (side_of (alone r) p)) p.names) (point_ports (alone r) ps)
 
 pub ports_in_is : (t : Table) (all : List Part) (cs : List Channel) (h : Header) (ps : List Part) → ports_in t passes.outside all (channel_parts cs ++ part.Header h ∷ ps) ≡ push_points [] t passes.outside all h.points
@@ -168,26 +167,26 @@ variable_part (c ∷ cs) h b m = inr (variable_part cs h b m)
 pub variable_header : (s : Spec) (sk : IsSkeleton s) → IsGood s → header_by (meaning (spec_scope s) sk.variable.header) ≡ Some sk.header
 variable_header s sk good =
     let here : IsIn (part.Modvars (sk.variable ∷ [])) s.parts =
-      subst (IsIn (part.Modvars (sk.variable ∷ []))) (sym sk.parts) (variable_part sk.channels sk.header sk.body sk.variable) in
+    subst (IsIn (part.Modvars (sk.variable ∷ []))) (sym sk.parts) (variable_part sk.channels sk.header sk.body sk.variable) in
     header_meaning_known sk (meaning (spec_scope s) sk.variable.header) (known_meaning sk (parts_region s.parts) sk.variable.header (all_known sk))
-      (takes_fine sort.Header sk.variable.header.place (sort_by (meaning (spec_scope s) sk.variable.header))
-        (λ f i. good f.place f.rule (inside (spec_scope s) (part.Modvars (sk.variable ∷ [])) (outermost here)
-          (in_first f (use_faults (environment (spec_scope s)) sort.Header sk.variable.header) [] i))))
+    (takes_fine sort.Header sk.variable.header.place (sort_by (meaning (spec_scope s) sk.variable.header))
+    (λ f i. good f.place f.rule (inside (spec_scope s) (part.Modvars (sk.variable ∷ [])) (outermost here)
+    (in_first f (use_faults (environment (spec_scope s)) sort.Header sk.variable.header) [] i))))
 
 pub started_by : (s : Spec) (sk : IsSkeleton s) → IsGood s → (st : Statement) → IsInit st → NoFault (statement_faults (environment (spec_scope s)) st) → header_started (spec_scope s) st ≡ Some sk.header
 started_by s sk good (statement.Empty place) h k = absurd h
 started_by s sk good (statement.Output sendings place) h k = absurd h
 started_by s sk good (statement.Init target named arguments place) h k =
     ap (header_of_variable (spec_scope s))
-      (variable_meaning_is sk (meaning (spec_scope s) target.name) (known_meaning sk (parts_region s.parts) target.name (all_known sk))
-        (takes_fine sort.ModuleVariable target.name.place (sort_by (meaning (spec_scope s) target.name))
-          (λ f i. k f (in_first f (use_faults (environment (spec_scope s)) sort.ModuleVariable target.name) (use_faults (environment (spec_scope s)) sort.Body named) i))))
+    (variable_meaning_is sk (meaning (spec_scope s) target.name) (known_meaning sk (parts_region s.parts) target.name (all_known sk))
+    (takes_fine sort.ModuleVariable target.name.place (sort_by (meaning (spec_scope s) target.name))
+    (λ f i. k f (in_first f (use_faults (environment (spec_scope s)) sort.ModuleVariable target.name) (use_faults (environment (spec_scope s)) sort.Body named) i))))
     ∙ variable_header s sk good
 
 pub started : (s : Spec) (sk : IsSkeleton s) → IsGood s → header_started (spec_scope s) s.first ≡ Some sk.header
 started s sk good =
     started_by s sk good s.first sk.init
-      (λ f i. good f.place f.rule (outside (in_second f (twice_faults [] (names_of (parts_region s.parts))) (statement_faults (environment (spec_scope s)) s.first) i)))
+    (λ f i. good f.place f.rule (outside (in_second f (twice_faults [] (names_of (parts_region s.parts))) (statement_faults (environment (spec_scope s)) s.first) i)))
 
 -- the ports of a good skeleton
 pub ports_are : (s : Spec) → IsSkeleton s → IsGood s → ports_in (tables None s.parts).0 passes.outside s.parts s.parts ≡ ports_of s

@@ -1,5 +1,5 @@
 -- What the passes note is what a skeleton breaks.
-use Rattle.std.specs.Prelude.{if◌then◌else◌, slice_get, ◌⊎◌, nat_lt, ◌≢◌}
+use Rattle.std.specs.Prelude.{if◌then◌else◌, slice_get, ◌⊎◌, nat_lt}
 use Rattle.std.proofs.Common.{◌≡◌, refl, sym, ap, ◌∙◌, subst, ℕ, Bool, true, false, List, [], ◌∷◌, ◌++◌, Option, Some, None, inl, inr}
 use Rattle.std.proofs.lemmas.Option.{none-some}
 use Rattle.est_syntax.specs.declared.name.Used.{Used}
@@ -20,19 +20,18 @@ use Rattle.est_syntax.specs.Least.{least_with, IsIn, IsLeast}
 use Rattle.est_syntax.specs.Names.{Sort, Declaration, Region, Scope, Meaning, nothing, unseen, seen, meaning, meaning_by, in_force, declared_in, spelled, is_name, header_in, header_by, parts_region, spec_scope}
 use Rattle.est_syntax.specs.Names as names
 use Rattle.est_syntax.specs.Environment.{environment}
-use Rattle.est_syntax.specs.Faults.{names_of, twice_faults, statement_faults, part_faults, outer_faults}
+use Rattle.est_syntax.specs.Faults.{names_of, twice_faults, statement_faults, part_faults}
 use Rattle.est_syntax.specs.Breaks.{HasPart, outermost, nested, HasStatement, own, of_first_part, of_transition, Breaks, outside, inside, no_system, system_inside, other_header, around_itself, IsLeastFault, IsGood}
 use Rattle.est_syntax.proofs.LeastLaws.{least_append, least_is, in_first, in_second, into_either}
 use Rattle.est_check.specs.declared.table.Table.{Table}
 use Rattle.est_check.specs.declared.table.Members.{Members}
 use Rattle.est_check.specs.Entries.{Entries, State, enter_parts}
-use Rattle.est_check.specs.Tables.{members_by, names_by, table_environment}
-use Rattle.est_check.specs.Passes.{channels_pass, headers_pass, parts_pass, tables, spec_pass}
-use Rattle.est_check.specs.Passes as passes
-use Rattle.est_check.specs.Skeleton.{AreStates, IsPlain, IsInit, IsPlainBody, IsSkeleton, channel_parts}
+use Rattle.est_check.specs.Tables.{members_by, names_by}
+use Rattle.est_check.specs.Passes.{channels_pass, parts_pass, tables, spec_pass}
+use Rattle.est_check.specs.Skeleton.{AreStates, IsPlain, IsPlainBody, IsSkeleton, channel_parts}
 use Rattle.est_check.proofs.Stands.{ChannelFor, HeaderFor}
 use Rattle.est_check.proofs.Channels.{MembersFor}
-use Rattle.est_check.proofs.Environments.{OuterFor, ChannelsFor, HeadersFor, alone, environment_outside}
+use Rattle.est_check.proofs.Environments.{OuterFor, ChannelsFor, alone, environment_outside}
 use Rattle.est_check.proofs.Parts.{IsFlat, AreFlat, each, of_channel, of_header, of_rest, outer_both, noted_outer, members_are, members_at_for, noted_channels, names_are, names_at_for, noted_headers, TableFor, noted_parts}
 
 -- the tables of flat parts

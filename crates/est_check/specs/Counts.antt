@@ -1,5 +1,5 @@
 -- How many bodies, transitions and ports a specification has.
-use Rattle.std.specs.Prelude.{ℕ, suc, ◌+◌, List, [], ◌∷◌, length}
+use Rattle.std.specs.Prelude.{ℕ, ◌+◌, List, [], ◌∷◌, length}
 use Rattle.est_syntax.specs.declared.specification.Group.{Group, out-Group}
 use Rattle.est_syntax.specs.declared.specification.Body.{out-Body}
 use Rattle.est_syntax.specs.declared.specification.Part.{Part}

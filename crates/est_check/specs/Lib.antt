@@ -1,3 +1,5 @@
+pub mod Answers
+pub mod Checked
 pub mod Counts
 pub mod Entries
 pub mod Passes

@@ -1,5 +1,5 @@
 -- The ports of a specification by its tables.
-use Rattle.std.specs.Prelude.{ℕ, Bool, true, false, not, List, [], ◌∷◌, ◌++◌, Option, Some, None, slice_get}
+use Rattle.std.specs.Prelude.{ℕ, Bool, not, List, [], ◌∷◌, ◌++◌, Option, Some, None, slice_get}
 use Rattle.est_syntax.specs.declared.name.Used.{Used}
 use Rattle.est_syntax.specs.declared.ports.Port.{Port}
 use Rattle.est_syntax.specs.declared.ports.Signal.{Signal}
@@ -14,7 +14,7 @@ use Rattle.est_check.specs.declared.table.Table.{Table}
 use Rattle.est_check.specs.declared.table.BodyNames.{BodyNames}
 use Rattle.est_check.specs.Entries.{Entries, senders}
 use Rattle.est_check.specs.Tables.{members_at, may_send}
-use Rattle.est_check.specs.Passes.{outside, table_side}
+use Rattle.est_check.specs.Passes.{table_side}
 
 abbrev pub signal : Used → Bool → Senders → Signal
 signal u second who = record { name = u.name; kinds = []; sends = may_send second who; receives = may_send (not second) who }

@@ -1,5 +1,5 @@
 -- What a name means by the tables of a specification.
-use Rattle.std.specs.Prelude.{ℕ, Bool, true, false, not, ◌&&◌, nat_lt, nat_le, List, [], ◌∷◌, Option, Some, None, if◌then◌else◌, slice_get}
+use Rattle.std.specs.Prelude.{ℕ, Bool, true, false, not, ◌&&◌, nat_lt, List, [], Option, Some, None, if◌then◌else◌, slice_get}
 use Rattle.est_syntax.specs.declared.name.Used.{Used}
 use Rattle.est_syntax.specs.declared.sort.NameSort.{NameSort}
 use Rattle.est_syntax.specs.declared.sort.NameSort.TheVariants as sort

@@ -6,7 +6,7 @@ ghost use Rattle.est_check.specs.Entries.{enter_parts, role_by};
 ghost use Rattle.est_check.specs.Tables.{table_found, member_entry, members_at};
 ghost use Rattle.est_check.specs.Passes.{outside, channel_pass, channel_part, channels_pass, side_with, side_by, table_side, enter_points, header_pass, header_part, headers_pass, tables};
 
-use crate::check::{check_by_parts, check_points};
+use crate::constructs::{check_by_parts, check_points};
 use crate::declare::{enter_by_parts, enter_parts, enter_roles, enter_together};
 use crate::least::Least;
 use crate::names::{Entry, Names, PointSide, Standing};

@@ -8,7 +8,7 @@ ghost use Rattle.est_check.specs.Tables.{table_found};
 ghost use Rattle.est_check.specs.Passes.{outside, header_number, front_of, body_with, body_pass, part_pass, parts_pass, spec_pass, spec_after, tables};
 
 use crate::build::tables;
-use crate::check::{check_modvars, check_statement, check_text};
+use crate::constructs::{check_modvars, check_statement, check_text};
 use crate::declare::enter_state_parts;
 use crate::least::Least;
 use crate::names::{Names, Standing};

@@ -1,4 +1,4 @@
-use Rattle.std.proofs.Common.{◌≡◌, drop, ◌+◌}
+use Rattle.std.proofs.Common.{◌≡◌, drop}
 use Rattle.est_check.specs.PortPass.{push_by_parts}
 use Rattle.est_check.proofs.ports.push_by_parts.Given as goal
 

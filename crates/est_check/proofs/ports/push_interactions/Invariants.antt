@@ -1,4 +1,4 @@
-use Rattle.std.proofs.Common.{◌≡◌, drop, ◌+◌}
+use Rattle.std.proofs.Common.{◌≡◌, drop}
 use Rattle.est_check.specs.PortPass.{push_interactions}
 use Rattle.est_check.proofs.ports.push_interactions.Given as goal
 

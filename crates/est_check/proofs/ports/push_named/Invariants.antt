@@ -1,4 +1,4 @@
-use Rattle.std.proofs.Common.{◌≡◌, drop, ◌+◌}
+use Rattle.std.proofs.Common.{◌≡◌, drop}
 use Rattle.est_check.specs.PortPass.{push_named, signals_at}
 use Rattle.est_check.proofs.ports.push_named.Given as goal
 

@@ -4,7 +4,7 @@ use Rattle.est_syntax.specs.Faults.{groups_faults, transitions_faults}
 use Rattle.est_check.specs.Tables.{table_environment}
 use Rattle.est_syntax.specs.declared.specification.Group.{out-Group}
 use Rattle.est_syntax.proofs.LeastLaws.{least_loop}
-use Rattle.est_check.proofs.check.check_groups.Goals as goal
+use Rattle.est_check.proofs.constructs.check_groups.Goals as goal
 
 pub loop-item-preserved : goal.loop-item-preserved
 loop-item-preserved c =
