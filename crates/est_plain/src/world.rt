@@ -10,6 +10,7 @@ use crate::block::{add_arrival, attempt, choice, has_few, list_enabled, run_firs
 use crate::outline::{queues_of, transitions_of};
 use crate::situation::{Flat, PointQueue};
 use crate::text::{header_of, root_of};
+use est_check::Checked;
 use est_meaning::event::{Event, Events};
 use est_meaning::run::{BlockFault, Fired, Firing, Offers, Started};
 use est_meaning::world::World;
@@ -190,8 +191,19 @@ impl<'c> PlainWorld<'c> {
         }
     }
 
+    /// The world after the start of a checked specification.
+    pub fn start(
+        alloc: Global,
+        checked: &'c Checked,
+        statements: u32,
+    ) -> Result<Started<PlainWorld<'c>>, AllocError>
+        ensures { IfOk result (λ started. StartedAs ⟦<PlainWorld<'c> as World>⟧.speaks ⟦<PlainWorld<'c> as World>⟧.stack ⟦<PlainWorld<'c> as World>⟧.limit ⟦<PlainWorld<'c> as World>⟧.fired statements checked.now started) }
+    {
+        PlainWorld::of_spec(alloc, checked.spec(), checked.ports(), statements)
+    }
+
     /// The world after the start of a specification with these ports.
-    pub fn of_spec(
+    fn of_spec(
         alloc: Global,
         spec: &'c Spec,
         ports: &'c Ports,
