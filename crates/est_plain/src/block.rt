@@ -325,6 +325,7 @@ pub fn choice<'c>(transitions: &[&'c Transition], what: &Firing) -> Option<&'c T
 pub fn has_few(ports: &[Port], transitions: &[&Transition]) -> bool
     ensures few { IsTrue result → HasFew ports.now }
     ensures transitions { IsTrue result → length transitions.now < 2 ^ 32 }
+    ensures only { HasFew ports.now → length transitions.now < 2 ^ 32 → IsTrue result }
 {
     if ports.len() > MOST || transitions.len() > MOST {
         return false;
