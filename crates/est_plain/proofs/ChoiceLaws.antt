@@ -6,13 +6,13 @@ use Rattle.std.proofs.lemmas.List.{append-nil}
 use Rattle.std.proofs.lemmas.Option.{slice_get-map, slice_get_read}
 use Rattle.std.specs.Borrow.{Bor}
 use Rattle.std.specs.Option.{option_map}
-use Rattle.est_syntax.specs.declared.name.Name.{Name}
 use Rattle.est_syntax.specs.declared.specification.Transition.{Transition}
 use Rattle.est_meaning.specs.declared.event.Interaction.{Interaction}
 use Rattle.est_meaning.specs.declared.run.Firing.{Firing}
 use Rattle.est_meaning.specs.Text.{numbered}
 use Rattle.est_meaning.specs.Order.{FiringBefore, IsBeforeAll, IsAscending, IsAmong}
-use Rattle.est_plain.specs.declared.situation.Port.{Port}
+use Rattle.est_syntax.specs.declared.ports.Port.{Port}
+use Rattle.est_syntax.specs.declared.ports.Signal.{Signal}
 use Rattle.est_plain.specs.declared.situation.Waiting.{Waiting}
 use Rattle.est_plain.specs.Flat.{seen, choice_in, firing_at, ListsFirst, arrival_in, arrival_at, arrival_as}
 
@@ -40,8 +40,8 @@ arrival_no_port ports i ws e = sym (append-nil ws) ∙ ap (λ o. ws ++ arrival_a
 pub arrival_no_signal : (ports : List Port) (i : Interaction) (ws : List Waiting) (port : Port) → Some port ≡ slice_get ports i.port → None ≡ slice_get port.signals i.signal → ws ≡ ws ++ arrival_in ports i
 arrival_no_signal ports i ws port e f = sym (append-nil ws) ∙ ap (λ o. ws ++ arrival_as port i o) f ∙ ap (λ o. ws ++ arrival_at i o) e
 
-pub arrival_one : (ports : List Port) (i : Interaction) (ws : List Waiting) (port : Port) (signal : Name) → Some port ≡ slice_get ports i.port → Some signal ≡ slice_get port.signals i.signal
-    → ws ++ record { at = port.name; signal = signal; values = i.values } ∷ [] ≡ ws ++ arrival_in ports i
+pub arrival_one : (ports : List Port) (i : Interaction) (ws : List Waiting) (port : Port) (signal : Signal) → Some port ≡ slice_get ports i.port → Some signal ≡ slice_get port.signals i.signal
+    → ws ++ record { at = port.name; signal = signal.name; values = i.values } ∷ [] ≡ ws ++ arrival_in ports i
 arrival_one ports i ws port signal e f = ap (λ o. ws ++ arrival_as port i o) f ∙ ap (λ o. ws ++ arrival_at i o) e
 
 -- LISTS OF FIRINGS

@@ -15,9 +15,9 @@ use Rattle.est_meaning.specs.Choices as meaning
 use Rattle.est_meaning.specs.Choices.{Choice, choice_of, head_of, came_through, has_arrived, fits_state, is_enabled_choice, is_enabled, is_offered, is_due, IsAncestor, parent, beyond, Outranks, priority_at, CanFire, IsPossible, IsSettled, stamp_after, restamped, first_choice}
 use Rattle.est_meaning.specs.Step.{root_row}
 use Rattle.est_plain.specs.declared.situation.Flat.{Flat}
-use Rattle.est_plain.specs.declared.situation.Port.{Port}
+use Rattle.est_plain.specs.declared.situation.PointQueue.{PointQueue}
 use Rattle.est_plain.specs.declared.situation.Waiting.{Waiting}
-use Rattle.est_plain.specs.Flat.{is_common, port_for, ports_for, is_port, point_named, queue_named, item_of, waits_in, queued, bare, situation_of, head_matches, arrived_in, is_enabled_in, choice_in}
+use Rattle.est_plain.specs.Flat.{is_common, queue_for, queues_for, has_name, point_named, queue_named, item_of, waits_in, queued, bare, situation_of, head_matches, arrived_in, is_enabled_in, choice_in}
 
 -- TESTS
 
@@ -30,29 +30,29 @@ true_false b e f = (let g : true ≡ false = sym e ∙ f in cc)
 
 -- QUEUES
 
-found_port : (spec : Spec) (d : Declared) (b : Bool) (rest : Option Declared) (ports : Option Port) → ports ≡ option_map (port_for spec) rest → cond b (Some (port_for spec d)) ports ≡ option_map (port_for spec) (cond b (Some d) rest)
-found_port spec d true rest ports e = refl
-found_port spec d false rest ports e = e
+found_port : (spec : Spec) (d : Declared) (b : Bool) (rest : Option Declared) (points : Option PointQueue) → points ≡ option_map (queue_for spec) rest → cond b (Some (queue_for spec d)) points ≡ option_map (queue_for spec) (cond b (Some d) rest)
+found_port spec d true rest points e = refl
+found_port spec d false rest points e = e
 
-find_port : (spec : Spec) (name : Name) (ds : List Declared) → find (is_port name) (map (port_for spec) ds) ≡ option_map (port_for spec) (find (is_declared name) ds)
+find_port : (spec : Spec) (name : Name) (ds : List Declared) → find (has_name name) (map (queue_for spec) ds) ≡ option_map (queue_for spec) (find (is_declared name) ds)
 find_port spec name [] = refl
-find_port spec name (d ∷ ds) = found_port spec d (is_name name d.name) (find (is_declared name) ds) (find (is_port name) (map (port_for spec) ds)) (find_port spec name ds)
+find_port spec name (d ∷ ds) = found_port spec d (is_name name d.name) (find (is_declared name) ds) (find (has_name name) (map (queue_for spec) ds)) (find_port spec name ds)
 
 by_discipline : (name : Name) (q : Queue) → queue_by (point_named name) q ≡ (if is_common q then Shared 1 else Own (point_named name))
 by_discipline name Individual = refl
 by_discipline name Common = refl
 
 by_declaration : (spec : Spec) (name : Name) (d : Option Declared)
-    → queue_in spec (point_named name) d ≡ (if option_map_or (λ (p : Port). p.is_shared) (option_map (port_for spec) d) false then Shared 1 else Own (point_named name))
+    → queue_in spec (point_named name) d ≡ (if option_map_or (λ (p : PointQueue). p.is_shared) (option_map (queue_for spec) d) false then Shared 1 else Own (point_named name))
 by_declaration spec name None = refl
 by_declaration spec name (Some d) = by_discipline name (discipline spec d)
 
 -- the queue of an interaction point of the root
-pub queue_is : (spec : Spec) (body : Body) (state : Option Name) (queues : QueueName → List Item) (clock : ℕ) (name : Name) → queue_of spec (bare body state queues clock) (point_named name) ≡ queue_named (ports_for spec body) name
+pub queue_is : (spec : Spec) (body : Body) (state : Option Name) (queues : QueueName → List Item) (clock : ℕ) (name : Name) → queue_of spec (bare body state queues clock) (point_named name) ≡ queue_named (queues_for spec body) name
 queue_is spec body state queues clock name =
     let ds = points_in (header_of spec body) in
     by_declaration spec name (find (is_declared name) ds)
-    ∙ ap (λ o. if option_map_or (λ (p : Port). p.is_shared) o false then Shared 1 else Own (point_named name)) (sym (find_port spec name ds))
+    ∙ ap (λ o. if option_map_or (λ (p : PointQueue). p.is_shared) o false then Shared 1 else Own (point_named name)) (sym (find_port spec name ds))
 
 -- ENABLED
 
@@ -73,18 +73,18 @@ head_is name signal None = refl
 head_is name signal (Some x) = ap (λ b. b && is_name signal x.signal) (and_true (is_name name x.at))
 
 module _ (spec : Spec) (body : Body) (flat : Flat) where
-  arrived_is : (w : Option Awaited) → has_arrived spec (situation_of (ports_for spec body) body flat) 1 w ≡ arrived_in (ports_for spec body) flat.waiting.items w
+  arrived_is : (w : Option Awaited) → has_arrived spec (situation_of (queues_for spec body) body flat) 1 w ≡ arrived_in (queues_for spec body) flat.waiting.items w
   arrived_is None = refl
   arrived_is (Some w) =
-      let ports = ports_for spec body in
+      let points = queues_for spec body in
       let ws = flat.waiting.items in
       let name = w.at.name.name in
       let signal = w.signal.name in
-      ap (λ q. option_map_or (came_through (point_named name) signal) (head_of (queued ports ws q)) false) (queue_is spec body flat.state (queued ports ws) flat.clock name)
-      ∙ ap (λ o. option_map_or (came_through (point_named name) signal) o false) (head_filter (waits_in ports (queue_named ports name)) ws)
-      ∙ head_is name signal (find (waits_in ports (queue_named ports name)) ws)
+      ap (λ q. option_map_or (came_through (point_named name) signal) (head_of (queued points ws q)) false) (queue_is spec body flat.state (queued points ws) flat.clock name)
+      ∙ ap (λ o. option_map_or (came_through (point_named name) signal) o false) (head_filter (waits_in points (queue_named points name)) ws)
+      ∙ head_is name signal (find (waits_in points (queue_named points name)) ws)
 
-  enabled_is : (t : Transition) → is_enabled_choice spec (situation_of (ports_for spec body) body flat) (record { row = record (root_row body) { state = flat.state }; transition = t }) ≡ is_enabled_in (ports_for spec body) flat t
+  enabled_is : (t : Transition) → is_enabled_choice spec (situation_of (queues_for spec body) body flat) (record { row = record (root_row body) { state = flat.state }; transition = t }) ≡ is_enabled_in (queues_for spec body) flat t
   enabled_is t = ap (λ b. fits_state (from_of t) flat.state && b) (arrived_is (when_of t))
 
 -- CHOICES
@@ -103,14 +103,14 @@ pub choice_is : (spec : Spec) (body : Body) (state : Option Name) (queues : Queu
 choice_is spec body state queues clock f = chosen_by spec body state f.transition (nat_eq f.choice 1) (nat_eq f.instance 1)
 
 module _ (spec : Spec) (body : Body) (flat : Flat) where
-  passes : (t : Option Transition) → option_map_or (is_enabled_choice spec (situation_of (ports_for spec body) body flat)) (option_map (chosen body flat.state) t) false ≡ option_map_or (is_enabled_in (ports_for spec body) flat) t false
+  passes : (t : Option Transition) → option_map_or (is_enabled_choice spec (situation_of (queues_for spec body) body flat)) (option_map (chosen body flat.state) t) false ≡ option_map_or (is_enabled_in (queues_for spec body) flat) t false
   passes None = refl
   passes (Some t) = enabled_is spec body flat t
 
-  pub offered_is : (limit : ℕ) (f : Firing) → is_offered limit spec (situation_of (ports_for spec body) body flat) f ≡ option_map_or (is_enabled_in (ports_for spec body) flat) (choice_in (transitions_of body) f) false
+  pub offered_is : (limit : ℕ) (f : Firing) → is_offered limit spec (situation_of (queues_for spec body) body flat) f ≡ option_map_or (is_enabled_in (queues_for spec body) flat) (choice_in (transitions_of body) f) false
   offered_is limit f =
-      let ports = ports_for spec body in
-      ap (λ o. option_map_or (is_enabled_choice spec (situation_of ports body flat)) o false) (choice_is spec body flat.state (queued ports flat.waiting.items) flat.clock f)
+      let points = queues_for spec body in
+      ap (λ o. option_map_or (is_enabled_choice spec (situation_of points body flat)) o false) (choice_is spec body flat.state (queued points flat.waiting.items) flat.clock f)
       ∙ passes (choice_in (transitions_of body) f)
 
 -- POSSIBLE FIRINGS
@@ -144,22 +144,22 @@ false_true : false ≡ true → ⊥
 false_true e = cc
 
 -- a firing whose clauses hold is possible, since the root has no ancestor and no transition a priority
-pub possible_of : (limit : ℕ) (spec : Spec) (body : Body) (flat : Flat) (f : Firing) → option_map_or (is_enabled_in (ports_for spec body) flat) (choice_in (transitions_of body) f) false ≡ true → IsPossible limit spec (situation_of (ports_for spec body) body flat) f
+pub possible_of : (limit : ℕ) (spec : Spec) (body : Body) (flat : Flat) (f : Firing) → option_map_or (is_enabled_in (queues_for spec body) flat) (choice_in (transitions_of body) f) false ≡ true → IsPossible limit spec (situation_of (queues_for spec body) body flat) f
 unfolding IsPossible IsSettled
 possible_of limit spec body flat f e =
-    let ports = ports_for spec body in
-    let queues = queued ports flat.waiting.items in
+    let points = queues_for spec body in
+    let queues = queued points flat.waiting.items in
     record {
       settled = tt;
       offered = offered_is spec body flat limit f ∙ e;
-      unranked = λ g same due out. unranked_by _ _ (no_priority (choice_of spec (situation_of ports body flat) g)) out;
+      unranked = λ g same due out. unranked_by _ _ (no_priority (choice_of spec (situation_of points body flat) g)) out;
       unpreceded = λ g above due.
           (let nobody = no_choice (transitions_of body) g (not_one g.instance (ancestor_zero body flat.state queues flat.clock g.instance f.instance above)) in
-          false_true (sym (offered_is spec body flat limit g ∙ ap (λ o. option_map_or (is_enabled_in ports flat) o false) nobody) ∙ due));
+          false_true (sym (offered_is spec body flat limit g ∙ ap (λ o. option_map_or (is_enabled_in points flat) o false) nobody) ∙ due));
     }
 
 -- and the clauses of a possible firing hold
-pub enabled_of : (limit : ℕ) (spec : Spec) (body : Body) (flat : Flat) (f : Firing) → IsPossible limit spec (situation_of (ports_for spec body) body flat) f → option_map_or (is_enabled_in (ports_for spec body) flat) (choice_in (transitions_of body) f) false ≡ true
+pub enabled_of : (limit : ℕ) (spec : Spec) (body : Body) (flat : Flat) (f : Firing) → IsPossible limit spec (situation_of (queues_for spec body) body flat) f → option_map_or (is_enabled_in (queues_for spec body) flat) (choice_in (transitions_of body) f) false ≡ true
 unfolding IsPossible
 enabled_of limit spec body flat f p = sym (offered_is spec body flat limit f) ∙ p.offered
 

@@ -17,7 +17,7 @@ use Rattle.est_syntax.specs.declared.specification.Spec.{Spec}
 use Rattle.est_meaning.specs.declared.event.Event.{Event}
 use Rattle.est_meaning.specs.declared.event.Event.TheVariants as event
 use Rattle.est_meaning.specs.declared.run.Firing.{Firing}
-use Rattle.est_meaning.specs.Text.{Declared, Carried, Awaited, is_name, discipline, carried_at, points_in, header_of, numbered, from_of, to_of, when_of}
+use Rattle.est_meaning.specs.Text.{Declared, Awaited, is_name, discipline, points_in, header_of, numbered, from_of, to_of, when_of}
 use Rattle.est_meaning.specs.Situation.{nothing, InteractionPoint, QueueName, Own, Shared, is_queue, Item, Situation}
 use Rattle.est_meaning.specs.Order.{IsAscending, IsAmong}
 use Rattle.est_meaning.specs.Stack.{Stack}
@@ -26,7 +26,12 @@ use Rattle.est_syntax.specs.declared.specification.FirstPart.{FirstPart}
 use Rattle.est_meaning.specs.Choices.{fits_state}
 use Rattle.est_meaning.specs.Step.{root_row}
 use Rattle.est_plain.specs.declared.situation.Flat.{Flat}
-use Rattle.est_plain.specs.declared.situation.Port.{Port}
+use Rattle.est_plain.specs.declared.situation.PointQueue.{PointQueue}
+use Rattle.est_syntax.specs.declared.ports.Port.{Port}
+use Rattle.est_syntax.specs.declared.ports.Signal.{Signal}
+use Rattle.est_meaning.specs.Situation.{is_point}
+use Rattle.est_meaning.specs.Links.{port_point}
+use Rattle.est_meaning.specs.Blocks.{is_signal}
 use Rattle.est_plain.specs.declared.situation.Waiting.{Waiting}
 
 -- both hold the same
@@ -41,16 +46,13 @@ abbrev pub is_common : Queue → Bool
 is_common Individual = false
 is_common Common = true
 
-abbrev pub signal_name : Carried → Name
-signal_name carried = carried.interaction.name.name
+-- how the text queues what comes through an interaction point
+abbrev pub queue_for : Spec → Declared → PointQueue
+queue_for spec d = record { name = d.name; is_shared = is_common (discipline spec d) }
 
--- what the text says of an outside port
-abbrev pub port_for : Spec → Declared → Port
-port_for spec d = record { name = d.name; is_shared = is_common (discipline spec d); signals = map signal_name (carried_at spec d) }
-
--- the outside ports of a root with this body
-abbrev pub ports_for : Spec → Body → List Port
-ports_for spec body = map (port_for spec) (points_in (header_of spec body))
+-- the external interaction points of a root with this body
+abbrev pub queues_for : Spec → Body → List PointQueue
+queues_for spec body = map (queue_for spec) (points_in (header_of spec body))
 
 abbrev pub seen : List (Bor Transition) → List Transition
 seen xs = map (λ (x : Bor Transition). x.now) xs
@@ -65,29 +67,29 @@ pub record HasFew (ports : List Port) : Type 0 where
 
 -- QUEUES
 
-abbrev pub is_port : Name → Port → Bool
-is_port name port = is_name name port.name
+abbrev pub has_name : Name → PointQueue → Bool
+has_name name point = is_name name point.name
 
 -- the interaction point shares the common queue
-abbrev pub shares : List Port → Name → Bool
-shares ports name = option_map_or (λ (p : Port). p.is_shared) (find (is_port name) ports) false
+abbrev pub shares : List PointQueue → Name → Bool
+shares points name = option_map_or (λ (p : PointQueue). p.is_shared) (find (has_name name) points) false
 
 abbrev pub point_named : Name → InteractionPoint
 point_named name = record { instance = 1; name = name; index = [] }
 
-abbrev pub queue_named : List Port → Name → QueueName
-queue_named ports name = if shares ports name then Shared 1 else Own (point_named name)
+abbrev pub queue_named : List PointQueue → Name → QueueName
+queue_named points name = if shares points name then Shared 1 else Own (point_named name)
 
 abbrev pub item_of : Waiting → Item
 item_of w = record { at = point_named w.at; signal = w.signal; values = w.values }
 
 -- an item waits in this queue
-abbrev pub waits_in : List Port → QueueName → Waiting → Bool
-waits_in ports queue w = is_queue queue (queue_named ports w.at)
+abbrev pub waits_in : List PointQueue → QueueName → Waiting → Bool
+waits_in points queue w = is_queue queue (queue_named points w.at)
 
 -- a queue is what waits in it, in order of arrival
-abbrev pub queued : List Port → List Waiting → QueueName → List Item
-queued ports waiting queue = map item_of (filter (waits_in ports queue) waiting)
+abbrev pub queued : List PointQueue → List Waiting → QueueName → List Item
+queued points waiting queue = map item_of (filter (waits_in points queue) waiting)
 
 -- the items without the first that passes a test
 abbrev pub without_first : (Waiting → Bool) → List Waiting → List Waiting
@@ -102,8 +104,8 @@ bare body state queues clock =
     record { rows = record (root_row body) { state = state } ∷ []; peer = nothing; down = nothing; queues = queues; stamps = nothing; clock = clock; next = 2 }
 
 -- what a flat situation stands for
-abbrev pub situation_of : List Port → Body → Flat → Situation
-situation_of ports body flat = bare body flat.state (queued ports flat.waiting.items) flat.clock
+abbrev pub situation_of : List PointQueue → Body → Flat → Situation
+situation_of points body flat = bare body flat.state (queued points flat.waiting.items) flat.clock
 
 -- CHOICES
 
@@ -111,22 +113,26 @@ abbrev pub head_matches : Name → Name → Option Waiting → Bool
 head_matches at signal None = false
 head_matches at signal (Some x) = is_name at x.at && is_name signal x.signal
 
-abbrev pub arrived_in : List Port → List Waiting → Option Awaited → Bool
-arrived_in ports waiting None = true
-arrived_in ports waiting (Some w) = head_matches w.at.name.name w.signal.name (find (waits_in ports (queue_named ports w.at.name.name)) waiting)
+abbrev pub arrived_in : List PointQueue → List Waiting → Option Awaited → Bool
+arrived_in points waiting None = true
+arrived_in points waiting (Some w) = head_matches w.at.name.name w.signal.name (find (waits_in points (queue_named points w.at.name.name)) waiting)
 
-abbrev pub is_enabled_in : List Port → Flat → Transition → Bool
-is_enabled_in ports flat t = fits_state (from_of t) flat.state && arrived_in ports flat.waiting.items (when_of t)
+abbrev pub is_enabled_in : List PointQueue → Flat → Transition → Bool
+is_enabled_in points flat t = fits_state (from_of t) flat.state && arrived_in points flat.waiting.items (when_of t)
 
 abbrev pub choice_in : List Transition → Firing → Option Transition
 choice_in transitions f = if nat_eq f.choice 1 then (if nat_eq f.instance 1 then numbered transitions f.transition else None) else None
 
 -- BLOCKS
 
+-- the outside port of an interaction point's name
+abbrev pub is_port : Name → Port → Bool
+is_port name port = is_point (point_named name) (port_point port)
+
 -- port and number of an interaction that leaves
 abbrev pub signal_in : List Port → Name → ℕ → Option Port → Option (ℕ × ℕ)
 signal_in ports signal k None = None
-signal_in ports signal k (Some port) = option_map_or (λ j. Some (k, j)) (position (is_name signal) port.signals) None
+signal_in ports signal k (Some port) = option_map_or (λ j. Some (k, j)) (position (is_signal signal) port.signals) None
 
 abbrev pub leaving : List Port → Name → Name → Option (ℕ × ℕ)
 leaving ports at signal = option_map_or (λ k. signal_in ports signal k (slice_get ports k)) (position (is_port at) ports) None
@@ -161,29 +167,29 @@ EndsAs None false outs = Unit {0}
 -- STEPS
 
 -- what waits behind a transition that took the interaction that it awaits
-abbrev pub taken_in : List Port → List Waiting → Option Awaited → List Waiting
-taken_in ports waiting None = waiting
-taken_in ports waiting (Some w) = without_first (waits_in ports (queue_named ports w.at.name.name)) waiting
+abbrev pub taken_in : List PointQueue → List Waiting → Option Awaited → List Waiting
+taken_in points waiting None = waiting
+taken_in points waiting (Some w) = without_first (waits_in points (queue_named points w.at.name.name)) waiting
 
 abbrev pub next_in : Option Name → Option Used → Option Name
 next_in state None = state
 next_in state (Some u) = Some u.name
 
 -- the situation after a transition whose block is done
-pub record IsAfter (ports : List Port) (flat : Flat) (t : Transition) (next : Flat) : Type 0 where
+pub record IsAfter (points : List PointQueue) (flat : Flat) (t : Transition) (next : Flat) : Type 0 where
   pub state_is : next.state ≡ next_in flat.state (to_of t)
-  pub waiting_is : next.waiting.items ≡ taken_in ports flat.waiting.items (when_of t)
+  pub waiting_is : next.waiting.items ≡ taken_in points flat.waiting.items (when_of t)
   pub clock_is : next.clock ≡ flat.clock
 
 -- what comes of a transition: the next situation with its outside events, or none where the block passes its limit
-abbrev pub AttemptIs : List Port → ℕ → Flat → Transition → Option Flat → List Event → Type 0
-AttemptIs ports limit flat t None outs = block_in ports t.block.statements limit [] ≡ None
-AttemptIs ports limit flat t (Some next) outs = IsAfter ports flat t next × (block_in ports t.block.statements limit [] ≡ Some outs)
+abbrev pub AttemptIs : List PointQueue → List Port → ℕ → Flat → Transition → Option Flat → List Event → Type 0
+AttemptIs points ports limit flat t None outs = block_in ports t.block.statements limit [] ≡ None
+AttemptIs points ports limit flat t (Some next) outs = IsAfter points flat t next × (block_in ports t.block.statements limit [] ≡ Some outs)
 
 -- what an arrival adds to what waits
-abbrev pub arrival_as : Port → Interaction → Option Name → List Waiting
+abbrev pub arrival_as : Port → Interaction → Option Signal → List Waiting
 arrival_as port i None = []
-arrival_as port i (Some signal) = record { at = port.name; signal = signal; values = i.values } ∷ []
+arrival_as port i (Some signal) = record { at = port.name; signal = signal.name; values = i.values } ∷ []
 
 abbrev pub arrival_at : Interaction → Option Port → List Waiting
 arrival_at i None = []
@@ -202,8 +208,8 @@ FirstIs ports left (Some part) (Some state) outs = (state ≡ next_in None part.
 -- STACKS
 
 -- what a current situation and those below it, the latest last, stand for
-abbrev pub stack_of : List Port → Body → Flat → List Flat → Stack
-stack_of ports body now below = record { now = situation_of ports body now; below = map (situation_of ports body) (reverse below) }
+abbrev pub stack_of : List PointQueue → Body → Flat → List Flat → Stack
+stack_of points body now below = record { now = situation_of points body now; below = map (situation_of points body) (reverse below) }
 
 -- OPTIONS
 

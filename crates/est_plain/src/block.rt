@@ -2,18 +2,20 @@
 
 ghost use Rattle.std.specs.Prelude.{◌≡◌, ◌<◌, ◌^◌, ◌++◌, [], length, slice_get, IsTrue, IfOk, OnOk, option_copied};
 ghost use Rattle.std.specs.List.{position};
-ghost use Rattle.est_meaning.specs.Text.{is_name, when_of};
+ghost use Rattle.est_meaning.specs.Text.{when_of};
+ghost use Rattle.est_meaning.specs.Blocks.{is_signal};
 ghost use Rattle.est_plain.specs.Flat.{HasFew, is_port, leaving, sent_in, entered_in, block_in, EndsAs, arrived_in, is_enabled_in, head_matches, taken_in, next_in, AttemptIs, arrival_in, FirstIs, ListsFirst, choice_in, seen};
 
 use crate::clauses::{awaited, fits_state, next_state};
 use crate::queue::{head, take_head};
-use crate::situation::{Flat, Port, Waiting};
+use crate::situation::{Flat, PointQueue, Waiting};
 use crate::text::same_name;
 use est_meaning::event::{Event, Interaction};
 use est_meaning::run::Firing;
 use est_syntax::copy::copy_values;
-use est_syntax::kind::{Names, Values};
+use est_syntax::kind::Values;
 use est_syntax::name::{Name, Used};
+use est_syntax::ports::{Port, Signal, Signals};
 use est_syntax::specification::{FirstPart, Sendings, Statement, Statements, Transition};
 use std::alloc::{AllocError, Global};
 
@@ -31,14 +33,14 @@ fn matches(item: Option<&Waiting>, at: &Name, signal: &Name) -> bool
 }
 
 /// Whether the interaction that a transition awaits has arrived.
-fn has_arrived(ports: &[Port], waiting: &[Waiting], transition: &Transition) -> bool
-    ensures { result ≡ arrived_in ports.now waiting.now (when_of transition.now) }
+fn has_arrived(points: &[PointQueue], waiting: &[Waiting], transition: &Transition) -> bool
+    ensures { result ≡ arrived_in points.now waiting.now (when_of transition.now) }
 {
     match awaited(transition) {
         None => true,
         Some((at, signal)) => {
             matches(
-                head(ports, waiting, &at.name.name),
+                head(points, waiting, &at.name.name),
                 &at.name.name,
                 &signal.name,
             )
@@ -47,11 +49,22 @@ fn has_arrived(ports: &[Port], waiting: &[Waiting], transition: &Transition) -> 
 }
 
 /// Whether all clauses of a transition hold.
-pub fn is_enabled(ports: &[Port], flat: &Flat, transition: &Transition) -> bool
-    ensures { result ≡ is_enabled_in ports.now flat.now transition.now }
+pub fn is_enabled(points: &[PointQueue], flat: &Flat, transition: &Transition) -> bool
+    ensures { result ≡ is_enabled_in points.now flat.now transition.now }
 {
     if fits_state(transition, &flat.state) {
-        has_arrived(ports, flat.waiting.as_slice(), transition)
+        has_arrived(points, flat.waiting.as_slice(), transition)
+    } else {
+        false
+    }
+}
+
+/// Whether a port is the interaction point of a name.
+fn is_port(at: &Name, port: &Port) -> bool
+    ensures { result ≡ is_port at.now port.now }
+{
+    if same_name(at, &port.name) {
+        port.index.len() == 0
     } else {
         false
     }
@@ -61,17 +74,17 @@ pub fn is_enabled(ports: &[Port], flat: &Flat, transition: &Transition) -> bool
 fn port_number(ports: &[Port], at: &Name) -> Option<usize>
     ensures { result ≡ position (is_port at.now) ports.now }
 {
-    ports.iter().position(|port| same_name(at, &port.name))
+    ports.iter().position(|port| is_port(at, port))
 }
 
 /// The number of an interaction at a port.
-fn signal_number(signals: &Names, signal: &Name) -> Option<usize>
-    ensures { result ≡ position (is_name signal.now) signals.now }
+fn signal_number(signals: &Signals, name: &Name) -> Option<usize>
+    ensures { result ≡ position (is_signal name.now) signals.now }
 {
     signals
         .as_slice()
         .iter()
-        .position(|name| same_name(signal, name))
+        .position(|signal| same_name(name, &signal.name))
 }
 
 /// Port and number of an interaction that leaves there.
@@ -157,12 +170,12 @@ pub fn run_block(
 }
 
 /// Takes the interaction that a transition awaits, where it awaits one.
-fn take_awaited(ports: &[Port], transition: &Transition, waiting: &mut Vec<Waiting>)
-    ensures { waiting.new.items ≡ taken_in ports.now waiting.old.items (when_of transition.now) }
+fn take_awaited(points: &[PointQueue], transition: &Transition, waiting: &mut Vec<Waiting>)
+    ensures { waiting.new.items ≡ taken_in points.now waiting.old.items (when_of transition.now) }
 {
     match awaited(transition) {
         None => {}
-        Some((at, _)) => take_head(ports, waiting, &at.name.name),
+        Some((at, _)) => take_head(points, waiting, &at.name.name),
     }
 }
 
@@ -180,6 +193,7 @@ fn set_state(alloc: Global, state: Option<&Used>, flat: &mut Flat) -> Result<(),
 /// Tries a transition on a copy of a situation. Answers none where its block passes the limit.
 pub fn attempt(
     alloc: Global,
+    points: &[PointQueue],
     ports: &[Port],
     limit: u32,
     flat: &Flat,
@@ -188,10 +202,10 @@ pub fn attempt(
 ) -> Result<Option<Flat>, AllocError>
     requires few { HasFew ports.now }
     requires empty { outs.old.items ≡ [] }
-    ensures { IfOk result (λ next. AttemptIs ports.now limit flat.now transition.now next outs.new.items) }
+    ensures { IfOk result (λ next. AttemptIs points.now ports.now limit flat.now transition.now next outs.new.items) }
 {
     let mut next = flat.copy(alloc)?;
-    take_awaited(ports, transition, &mut next.waiting);
+    take_awaited(points, transition, &mut next.waiting);
     if run_block(alloc, ports, &transition.block.statements, limit, outs)? {
         set_state(alloc, next_state(transition), &mut next)?;
         Ok(Some(next))
@@ -208,7 +222,7 @@ fn port_at(ports: &[Port], number: u32) -> Option<&Port>
 }
 
 /// The interaction of a number.
-fn signal_at(signals: &Names, number: u32) -> Option<&Name>
+fn signal_at(signals: &Signals, number: u32) -> Option<&Signal>
     ensures { option_copied result ≡ slice_get signals.now number }
 {
     signals.as_slice().get(number as usize)
@@ -230,7 +244,7 @@ pub fn add_arrival(
             Some(signal) => {
                 waiting.push(Waiting {
                     at: port.name.copy(alloc)?,
-                    signal: signal.copy(alloc)?,
+                    signal: signal.name.copy(alloc)?,
                     values: copy_values(alloc, &interaction.values)?,
                 })?;
                 Ok(())
@@ -268,17 +282,17 @@ pub fn run_first(
 
 /// Lists the firings of the transitions whose clauses hold.
 pub fn list_enabled(
-    ports: &[Port],
+    points: &[PointQueue],
     transitions: &[&Transition],
     flat: &Flat,
     into: &mut Vec<Firing>,
 ) -> Result<(), AllocError>
     requires few { length transitions.now < 2 ^ 32 }
     requires empty { into.old.items ≡ [] }
-    ensures { OnOk result (ListsFirst (is_enabled_in ports.now flat.now) (seen transitions.now) (length transitions.now) into.new.items) }
+    ensures { OnOk result (ListsFirst (is_enabled_in points.now flat.now) (seen transitions.now) (length transitions.now) into.new.items) }
 {
     for (index, transition) in transitions.iter().enumerate() {
-        if is_enabled(ports, flat, transition) {
+        if is_enabled(points, flat, transition) {
             into.push(Firing {
                 instance: 1,
                 transition: index as u32 + 1,
@@ -311,6 +325,7 @@ pub fn choice<'c>(transitions: &[&'c Transition], what: &Firing) -> Option<&'c T
 pub fn has_few(ports: &[Port], transitions: &[&Transition]) -> bool
     ensures few { IsTrue result → HasFew ports.now }
     ensures transitions { IsTrue result → length transitions.now < 2 ^ 32 }
+    ensures only { HasFew ports.now → length transitions.now < 2 ^ 32 → IsTrue result }
 {
     if ports.len() > MOST || transitions.len() > MOST {
         return false;

@@ -4,36 +4,36 @@ ghost use Rattle.std.specs.Prelude.{◌≡◌, find};
 ghost use Rattle.std.specs.List.{position};
 ghost use Rattle.std.specs.Option.{option_copied};
 ghost use Rattle.est_meaning.specs.Situation.{is_queue};
-ghost use Rattle.est_plain.specs.Flat.{is_port, shares, queue_named, waits_in, without_first};
+ghost use Rattle.est_plain.specs.Flat.{has_name, shares, queue_named, waits_in, without_first};
 
-use crate::situation::{Port, Waiting};
+use crate::situation::{PointQueue, Waiting};
 use crate::text::same_name;
 use est_syntax::name::Name;
 
-/// The first port of a name.
-fn port_named<'p>(ports: &'p [Port], name: &Name) -> Option<&'p Port>
-    ensures { option_copied result ≡ find (is_port name.now) ports.now }
+/// The first interaction point of a name.
+fn point_named<'p>(points: &'p [PointQueue], name: &Name) -> Option<&'p PointQueue>
+    ensures { option_copied result ≡ find (has_name name.now) points.now }
 {
-    ports.iter().find(|port| same_name(name, &port.name))
+    points.iter().find(|point| same_name(name, &point.name))
 }
 
 /// Whether an interaction point shares the common queue.
-fn shares(ports: &[Port], name: &Name) -> bool
-    ensures { result ≡ shares ports.now name.now }
+fn shares(points: &[PointQueue], name: &Name) -> bool
+    ensures { result ≡ shares points.now name.now }
 {
-    match port_named(ports, name) {
+    match point_named(points, name) {
         None => false,
-        Some(port) => port.is_shared,
+        Some(point) => point.is_shared,
     }
 }
 
 /// Whether two interaction points have one queue.
-fn same_queue(ports: &[Port], a: &Name, b: &Name) -> bool
-    ensures { result ≡ is_queue (queue_named ports.now a.now) (queue_named ports.now b.now) }
+fn same_queue(points: &[PointQueue], a: &Name, b: &Name) -> bool
+    ensures { result ≡ is_queue (queue_named points.now a.now) (queue_named points.now b.now) }
 {
-    if shares(ports, a) {
-        shares(ports, b)
-    } else if shares(ports, b) {
+    if shares(points, a) {
+        shares(points, b)
+    } else if shares(points, b) {
         false
     } else {
         same_name(a, b)
@@ -41,28 +41,28 @@ fn same_queue(ports: &[Port], a: &Name, b: &Name) -> bool
 }
 
 /// The head of the queue of an interaction point.
-pub fn head<'w>(ports: &[Port], waiting: &'w [Waiting], name: &Name) -> Option<&'w Waiting>
-    ensures { option_copied result ≡ find (waits_in ports.now (queue_named ports.now name.now)) waiting.now }
+pub fn head<'w>(points: &[PointQueue], waiting: &'w [Waiting], name: &Name) -> Option<&'w Waiting>
+    ensures { option_copied result ≡ find (waits_in points.now (queue_named points.now name.now)) waiting.now }
 {
     waiting
         .iter()
-        .find(|item| same_queue(ports, name, &item.at))
+        .find(|item| same_queue(points, name, &item.at))
 }
 
 /// Where the head of the queue of an interaction point stands.
-fn head_index(ports: &[Port], waiting: &[Waiting], name: &Name) -> Option<usize>
-    ensures { result ≡ position (waits_in ports.now (queue_named ports.now name.now)) waiting.now }
+fn head_index(points: &[PointQueue], waiting: &[Waiting], name: &Name) -> Option<usize>
+    ensures { result ≡ position (waits_in points.now (queue_named points.now name.now)) waiting.now }
 {
     waiting
         .iter()
-        .position(|item| same_queue(ports, name, &item.at))
+        .position(|item| same_queue(points, name, &item.at))
 }
 
 /// Takes the head of the queue of an interaction point.
-pub fn take_head(ports: &[Port], waiting: &mut Vec<Waiting>, name: &Name)
-    ensures { waiting.new.items ≡ without_first (waits_in ports.now (queue_named ports.now name.now)) waiting.old.items }
+pub fn take_head(points: &[PointQueue], waiting: &mut Vec<Waiting>, name: &Name)
+    ensures { waiting.new.items ≡ without_first (waits_in points.now (queue_named points.now name.now)) waiting.old.items }
 {
-    match head_index(ports, waiting.as_slice(), name) {
+    match head_index(points, waiting.as_slice(), name) {
         None => {}
         Some(index) => {
             waiting.remove(index);

@@ -4,16 +4,15 @@ ghost use Rattle.std.specs.Prelude.{◌≡◌, IfOk};
 ghost use Rattle.est_plain.specs.Flat.{SameFlat};
 
 use est_syntax::copy::copy_values;
-use est_syntax::kind::{Names, Values};
+use est_syntax::kind::Values;
 use est_syntax::name::Name;
 use std::alloc::{AllocError, Global};
 
-/// An outside port: its name, whether it shares the common queue, and its interactions.
+/// An interaction point, and whether it shares the common queue of its instance.
 #[derive(Debug, Drop)]
-pub struct Port {
+pub struct PointQueue {
     pub name: Name,
     pub is_shared: bool,
-    pub signals: Names,
 }
 
 /// An interaction that waits, with the interaction point through which it came.

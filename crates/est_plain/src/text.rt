@@ -3,33 +3,18 @@
 ghost use Rattle.std.specs.Prelude.{◌≡◌, find};
 ghost use Rattle.std.specs.List.{filter_map, position_from};
 ghost use Rattle.std.specs.Option.{option_copied};
-ghost use Rattle.est_syntax.specs.declared.specification.Channel.{Channel};
 ghost use Rattle.est_syntax.specs.declared.specification.Header.{Header};
 ghost use Rattle.est_syntax.specs.declared.specification.Body.{Body, out-Body};
-ghost use Rattle.est_meaning.specs.Text.{is_name, uses_name, channel_named, header_named, header_of, body_named, root_of};
+ghost use Rattle.est_meaning.specs.Text.{is_name, uses_name, header_named, header_of, body_named, root_of};
 
 use est_syntax::name::Name;
-use est_syntax::specification::{Body, Channel, Header, Part, Spec, Statement};
+use est_syntax::specification::{Body, Header, Part, Spec, Statement};
 
 /// Whether two names are spelled alike.
 pub fn same_name(a: &Name, b: &Name) -> bool
     ensures { result ≡ is_name a.now b.now }
 {
     a.bytes.as_slice() == b.bytes.as_slice()
-}
-
-/// The channel of a name.
-pub fn channel_named<'c>(spec: &'c Spec, name: &Name) -> Option<&'c Channel>
-    ensures { option_copied result ≡ channel_named spec.now name.now }
-{
-    for part in spec.parts.as_slice() {
-        if let Part::Channel(channel) = part {
-            if same_name(name, &channel.name.name) {
-                return Some(channel);
-            }
-        }
-    }
-    None
 }
 
 /// The module header of a name.

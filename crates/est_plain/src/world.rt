@@ -1,17 +1,20 @@
 //! A world of one instance that keeps a copy of its situation for each move.
 
 ghost use Rattle.std.specs.Prelude.{◌≡◌, ◌<◌, ◌≤◌, ◌^◌, ◌+◌, ◌∷◌, ◌++◌, [], refl, length, Some, OnOk, OnErr, IfOk};
+ghost use Rattle.est_syntax.specs.Ports.{ports_of};
 ghost use Rattle.est_meaning.specs.Text.{root_of, transitions_of};
 ghost use Rattle.est_meaning.specs.Stack.{StartedAs};
-ghost use Rattle.est_plain.specs.Flat.{ports_for, seen, HasFew};
+ghost use Rattle.est_plain.specs.Flat.{queues_for, seen, HasFew};
 
 use crate::block::{add_arrival, attempt, choice, has_few, list_enabled, run_first};
-use crate::outline::{ports_of, transitions_of};
-use crate::situation::{Flat, Port};
+use crate::outline::{queues_of, transitions_of};
+use crate::situation::{Flat, PointQueue};
 use crate::text::{header_of, root_of};
+use est_check::Checked;
 use est_meaning::event::{Event, Events};
 use est_meaning::run::{BlockFault, Fired, Firing, Offers, Started};
 use est_meaning::world::World;
+use est_syntax::ports::Ports;
 use est_syntax::specification::{Body, Spec, Transition};
 use std::alloc::{AllocError, Global};
 use std::mem;
@@ -21,16 +24,18 @@ use std::mem;
 pub struct PlainWorld<'c> {
     spec: &'c Spec,
     root: &'c Body,
-    ports: Vec<Port>,
+    ports: &'c Ports,
+    points: Vec<PointQueue>,
     transitions: Vec<&'c Transition>,
     limit: u32,
     fired: u64,
     now: Flat,
     below: Vec<Flat>,
     ghost root_is: { root_of spec.now ≡ Some root.now },
-    ghost ports_are: { ports.items ≡ ports_for spec.now root.now },
+    ghost ports_are: { ports.now ≡ ports_of spec.now },
+    ghost points_are: { points.items ≡ queues_for spec.now root.now },
     ghost transitions_are: { seen transitions.items ≡ transitions_of root.now },
-    ghost few: { HasFew ports.items },
+    ghost few: { HasFew ports.now },
     ghost few_transitions: { length transitions.items < 2 ^ 32 },
 }
 
@@ -50,7 +55,7 @@ impl<'c> World for PlainWorld<'c> {
 
     ghost speaks = { λ w spec. w.spec.now ≡ spec };
 
-    ghost stack = { λ w _. stack_of w.ports.items w.root.now w.now w.below.items };
+    ghost stack = { λ w _. stack_of w.points.items w.root.now w.now w.below.items };
 
     ghost limit = { λ w. w.limit };
 
@@ -61,7 +66,7 @@ impl<'c> World for PlainWorld<'c> {
     fn options(&mut self, alloc: Global, into: &mut Vec<Firing>) -> Result<Offers, AllocError> {
         into.clear();
         list_enabled(
-            self.ports.as_slice(),
+            self.points.as_slice(),
             self.transitions.as_slice(),
             &self.now,
             into,
@@ -80,8 +85,11 @@ impl<'c> World for PlainWorld<'c> {
         match choice(self.transitions.as_slice(), what) {
             None => Ok(Fired::Fault(BlockFault::NoModule)),
             Some(transition) => {
+                let points = self.points.as_slice();
                 let ports = self.ports.as_slice();
-                match attempt(alloc, ports, self.limit, &self.now, transition, outs)? {
+                match attempt(
+                    alloc, points, ports, self.limit, &self.now, transition, outs,
+                )? {
                     None => {
                         outs.clear();
                         Ok(Fired::Limit)
@@ -130,13 +138,13 @@ impl<'c> World for PlainWorld<'c> {
     }
 }
 
-/// The external interaction points of a root.
-fn ports_for(alloc: Global, spec: &Spec, root: &Body) -> Result<Vec<Port>, AllocError>
-    ensures { IfOk result (λ ports. ports.items ≡ ports_for spec.now root.now) }
+/// How the text queues what comes through the external interaction points of a root.
+fn queues_for(alloc: Global, spec: &Spec, root: &Body) -> Result<Vec<PointQueue>, AllocError>
+    ensures { IfOk result (λ queues. queues.items ≡ queues_for spec.now root.now) }
 {
     match header_of(spec, root) {
         None => Ok(Vec::new(alloc)),
-        Some(header) => ports_of(alloc, spec, header),
+        Some(header) => queues_of(alloc, spec, header),
     }
 }
 
@@ -145,14 +153,16 @@ impl<'c> PlainWorld<'c> {
     fn begin(
         alloc: Global,
         spec: &'c Spec,
+        ports: &'c Ports,
         root: &'c Body,
         left: u32,
     ) -> Result<Started<PlainWorld<'c>>, AllocError>
+        requires ports { ports.now ≡ ports_of spec.now }
         requires root { root_of spec.now ≡ Some root.now }
         requires left { left + 1 < 2 ^ 32 }
         ensures { IfOk result (λ started. StartedAs ⟦<PlainWorld<'c> as World>⟧.speaks ⟦<PlainWorld<'c> as World>⟧.stack ⟦<PlainWorld<'c> as World>⟧.limit ⟦<PlainWorld<'c> as World>⟧.fired (left + 1) spec.now started) }
     {
-        let ports = ports_for(alloc, spec, root)?;
+        let points = queues_for(alloc, spec, root)?;
         let transitions = transitions_of(alloc, root)?;
         if !has_few(ports.as_slice(), transitions.as_slice()) {
             return Err(AllocError);
@@ -165,6 +175,7 @@ impl<'c> PlainWorld<'c> {
                     spec,
                     root,
                     ports,
+                    points,
                     transitions,
                     limit: left + 1,
                     fired: 0,
@@ -180,12 +191,25 @@ impl<'c> PlainWorld<'c> {
         }
     }
 
-    /// The world after the start of a specification.
-    pub fn of_spec(
+    /// The world after the start of a checked specification.
+    pub fn start(
         alloc: Global,
-        spec: &'c Spec,
+        checked: &'c Checked,
         statements: u32,
     ) -> Result<Started<PlainWorld<'c>>, AllocError>
+        ensures { IfOk result (λ started. StartedAs ⟦<PlainWorld<'c> as World>⟧.speaks ⟦<PlainWorld<'c> as World>⟧.stack ⟦<PlainWorld<'c> as World>⟧.limit ⟦<PlainWorld<'c> as World>⟧.fired statements checked.now started) }
+    {
+        PlainWorld::of_spec(alloc, checked.spec(), checked.ports(), statements)
+    }
+
+    /// The world after the start of a specification with these ports.
+    fn of_spec(
+        alloc: Global,
+        spec: &'c Spec,
+        ports: &'c Ports,
+        statements: u32,
+    ) -> Result<Started<PlainWorld<'c>>, AllocError>
+        requires { ports.now ≡ ports_of spec.now }
         ensures { IfOk result (λ started. StartedAs ⟦<PlainWorld<'c> as World>⟧.speaks ⟦<PlainWorld<'c> as World>⟧.stack ⟦<PlainWorld<'c> as World>⟧.limit ⟦<PlainWorld<'c> as World>⟧.fired statements spec.now started) }
     {
         if statements == 0 {
@@ -193,7 +217,7 @@ impl<'c> PlainWorld<'c> {
         }
         match root_of(spec) {
             None => Ok(Started::Fault(BlockFault::NoModule)),
-            Some(root) => PlainWorld::begin(alloc, spec, root, statements - 1),
+            Some(root) => PlainWorld::begin(alloc, spec, ports, root, statements - 1),
         }
     }
 }

@@ -1,5 +1,5 @@
 use Rattle.std.proofs.Common.{◌≡◌, ◌<◌, ◌^◌, ℕ, length, Some, slice_get}
-use Rattle.est_plain.specs.declared.situation.Port.{Port}
+use Rattle.est_syntax.specs.declared.ports.Port.{Port}
 use Rattle.est_plain.proofs.block.has_few.Given as goal
 
 abbrev pub invariant-loop-port : goal.invariant-loop-port

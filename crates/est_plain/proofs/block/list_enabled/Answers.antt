@@ -6,7 +6,7 @@ use Rattle.est_plain.proofs.block.list_enabled.Goals.{then-is_enabled+in_ok-push
 
 pub loop-index-preserved : goal.loop-index-preserved
 loop-index-preserved c =
-    let test = is_enabled_in c.args.ports.now c.args.flat.now in
+    let test = is_enabled_in c.args.points.now c.args.flat.now in
     let ts = seen c.args.transitions.now in
     let x = c.index-transitions-index.result in
     let t = x.now in

@@ -5,10 +5,10 @@ use Rattle.est_plain.proofs.queue.take_head.Goals as goal
 
 pub returns-in-Some : goal.returns-in-Some
 returns-in-Some c =
-    let ports = c.args.ports.now in
-    c.remove.ensures.items ∙ without_some (waits_in ports (queue_named ports c.args.name.now)) c.args.waiting.now.items c.in-Some.index (rw c.as_slice.ensures.value at c.in-Some.ensures)
+    let points = c.args.points.now in
+    c.remove.ensures.items ∙ without_some (waits_in points (queue_named points c.args.name.now)) c.args.waiting.now.items c.in-Some.index (rw c.as_slice.ensures.value at c.in-Some.ensures)
 
 pub returns-in-None : goal.returns-in-None
 returns-in-None c =
-    let ports = c.args.ports.now in
-    without_none (waits_in ports (queue_named ports c.args.name.now)) c.args.waiting.now.items (rw c.as_slice.ensures.value at c.in-None.ensures)
+    let points = c.args.points.now in
+    without_none (waits_in points (queue_named points c.args.name.now)) c.args.waiting.now.items (rw c.as_slice.ensures.value at c.in-None.ensures)
