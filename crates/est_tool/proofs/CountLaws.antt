@@ -1,4 +1,4 @@
--- A sentence has no more transitions and ports than tokens.
+-- A sentence has no more transitions and interaction points than tokens.
 use Rattle.std.proofs.Common.{◌≡◌, ◌≤◌, ◌+◌, ℕ, suc, Bool, true, false, List, [], ◌∷◌, Option, Some, None, length, map, arith, refl}
 use Rattle.std.specs.Prelude.{sum_by}
 use Rattle.std.proofs.lemmas.List.Sums.{sum_by-cons}
@@ -25,7 +25,23 @@ use Rattle.est_syntax.specs.declared.specification.Queue.{Queue}
 use Rattle.est_syntax.specs.declared.specification.Part.{Part}
 use Rattle.est_syntax.specs.declared.specification.Part.TheVariants as part
 use Rattle.est_syntax.specs.declared.specification.Spec.{Spec}
-use Rattle.est_tool.specs.Counts.{transitions_of, points_of, transition_count, port_count}
+
+-- the interaction points that a part declares
+abbrev pub points_of : Part → ℕ
+points_of (part.Header h) = sum_by (λ p. length p.names) h.points
+points_of _ = 0
+
+-- the transitions of the bodies that a part declares
+abbrev pub transitions_of : Part → ℕ
+transitions_of (part.Body b) = sum_by (λ g. length (out-Group g).transitions) (out-Body b).groups
+transitions_of _ = 0
+
+-- the interaction points and the transitions of the parts
+abbrev pub port_sum : List Part → ℕ
+port_sum ps = sum_by points_of ps
+
+abbrev pub transition_sum : List Part → ℕ
+transition_sum ps = sum_by transitions_of ps
 
 -- the names of one declaration of interaction points
 abbrev names_in : Point → ℕ
@@ -43,13 +59,6 @@ ones (x ∷ xs) = let rest : sum_by (λ y. 1) xs ≡ length xs = ones xs in omeg
 -- the sum over three items
 three : {X : Type 0} (f : X → ℕ) (x y z : X) → sum_by f (x ∷ y ∷ z ∷ []) ≡ f x + f y + f z
 three f x y z = omega (arith, sum_by-cons f x (y ∷ z ∷ []), sum_by-cons f y (z ∷ []), sum_by-cons f z [])
-
--- the ports and the transitions of the parts
-abbrev port_sum : List Part → ℕ
-port_sum ps = sum_by points_of ps
-
-abbrev transition_sum : List Part → ℕ
-transition_sum ps = sum_by transitions_of ps
 
 -- channels have neither transitions nor ports
 module _ (f : Part → ℕ) (none : (c : Channel) → f (part.Channel c) ≡ 0) where
@@ -207,20 +216,20 @@ module _ (text : List ℕ) (s : List Token) (n : ℕ) where
       let few : (q + port_sum (behind_channels ps) ≤ b) × (q + transition_sum (behind_channels ps) ≤ b) = few_behind (behind_channels ps) t d q b last in
       (omega (arith, few.0, sum_behind_channels points_of (λ c. refl) ps), omega (arith, few.1, sum_behind_channels transitions_of (λ c. refl) ps))
 
-  few_in_sentence : (spec : Spec) (d a b : ℕ) → Has (rule specification) d a b (spec_shape spec) → (port_count spec ≤ b) × (transition_count spec ≤ b)
+  few_in_sentence : (spec : Spec) (d a b : ℕ) → Has (rule specification) d a b (spec_shape spec) → (port_sum spec.parts ≤ b) × (transition_sum spec.parts ≤ b)
   few_in_sentence spec d a b tree = no_queue spec.queue tree
     where
       shape : Shape
       shape = both (used_shape spec.name) (both (channels_shape spec.parts) (last_parts (behind_channels spec.parts) (initialization_shape spec.first)))
 
-      no_scale : (scale : Option Used) → Has (rule specification) d a b (without_some scale shape) → (port_count spec ≤ b) × (transition_count spec ≤ b)
+      no_scale : (scale : Option Used) → Has (rule specification) d a b (without_some scale shape) → (port_sum spec.parts ≤ b) × (transition_sum spec.parts ≤ b)
       no_scale None h = plain_specification spec.name spec.parts _ d a b h
       no_scale (Some x) h = absurd (none_specification h)
 
-      no_queue : (queue : Option Queue) → Has (rule specification) d a b (without_some queue (without_some spec.scale shape)) → (port_count spec ≤ b) × (transition_count spec ≤ b)
+      no_queue : (queue : Option Queue) → Has (rule specification) d a b (without_some queue (without_some spec.scale shape)) → (port_sum spec.parts ≤ b) × (transition_sum spec.parts ≤ b)
       no_queue None h = no_scale spec.scale h
       no_queue (Some x) h = absurd (none_specification h)
 
 -- a sentence has no more ports and transitions than tokens
-pub sentence_few : (text : List ℕ) (tokens : List Token) (spec : Spec) → HasOneTree text tokens spec → (port_count spec ≤ length tokens) × (transition_count spec ≤ length tokens)
+pub sentence_few : (text : List ℕ) (tokens : List Token) (spec : Spec) → HasOneTree text tokens spec → (port_sum spec.parts ≤ length tokens) × (transition_sum spec.parts ≤ length tokens)
 sentence_few text tokens spec tree = few_in_sentence text tokens (length tokens) spec 0 0 (length tokens) tree.0

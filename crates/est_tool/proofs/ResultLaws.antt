@@ -13,7 +13,8 @@ use Rattle.est_grammar.specs.declared.error.ParseError.{ParseError}
 use Rattle.est_grammar.specs.declared.error.ParseError.TheVariants.{BadToken, LeftOut, NotYet, Memory}
 use Rattle.est_tool.specs.declared.status.Status.{Status}
 use Rattle.est_tool.specs.declared.status.Status.TheVariants.{Fine, BadSpec, TooLong, Usage, ReadFault, WriteFault, OutOfMemory, NotBuilt}
-use Rattle.est_tool.specs.Check.{most_bytes, CheckGives, longer, sentence, refused, IsRefusalReport}
+use Rattle.est_tool.specs.Check.{most_bytes, CheckGives, longer, sentence, refused, IsJudgement, good, broken, IsRefusalReport}
+use Rattle.est_syntax.specs.declared.specification.Spec.{Spec}
 use Rattle.est_tool.specs.Result.{GivenFor, Writes, HasReport, IsSent, whole, broken_off, IsDelivered}
 use Rattle.est_tool.specs.Reports.{too_long_line}
 
@@ -34,10 +35,15 @@ refusal_has_report text tokens (LeftOut place) status report is = subst HasRepor
 refusal_has_report text tokens (NotYet place) status report is = subst HasReport (sym is.0) tt
 refusal_has_report text tokens (Memory e) status report is = absurd is
 
+-- and so does that of a sentence
+judgement_has_report : (text : List ℕ) (tokens : List Token) (spec : Spec) (report : List ℕ) (status : Status) → IsJudgement text tokens spec report status → HasReport status
+judgement_has_report text tokens spec report status (good fine is) = tt
+judgement_has_report text tokens spec report status (broken place rule least is) = tt
+
 -- what `check` gives comes with a report
 pub check_has_report : {text : List ℕ} (status : Status) (report : List ℕ) → CheckGives text status report → HasReport status
 check_has_report status report (longer long) = tt
-check_has_report status report (sentence tokens spec short list tree) = tt
+check_has_report {text} status report (sentence tokens spec status' report' short list tree is) = judgement_has_report text tokens spec report' status' is
 check_has_report {text} status report (refused tokens error status' report' short list place is) = refusal_has_report text tokens error status' report' is
 
 gives_longer : (text : List ℕ) (status : Status) (report : List ℕ) → most_bytes < length text → status ≡ TooLong → report ≡ too_long_line → CheckGives text status report
@@ -95,9 +101,13 @@ refusal_not_too_long text tokens (LeftOut place) status report is long = let e :
 refusal_not_too_long text tokens (NotYet place) status report is long = let e : NotBuilt ≡ TooLong = sym is.0 ∙ long in cc
 refusal_not_too_long text tokens (Memory e) status report is long = is
 
+judgement_not_too_long : (text : List ℕ) (tokens : List Token) (spec : Spec) (report : List ℕ) (status : Status) → IsJudgement text tokens spec report status → status ≡ TooLong → ⊥
+judgement_not_too_long text tokens spec report status (good fine is) long = cc
+judgement_not_too_long text tokens spec report status (broken place rule least is) long = cc
+
 check_too_long : {text : List ℕ} (status : Status) (report : List ℕ) → CheckGives text status report → length text ≤ most_bytes → status ≡ TooLong → ⊥
 check_too_long status report (longer long) short is = omega (arith, long, short)
-check_too_long status report (sentence tokens spec within list tree) short is = cc
+check_too_long {text} status report (sentence tokens spec status' report' within list tree why) short is = judgement_not_too_long text tokens spec report' status' why is
 check_too_long {text} status report (refused tokens error status' report' within list place why) short is = refusal_not_too_long text tokens error status' report' why is
 
 sent_status : (status : Status) (report : List ℕ) (answer : Status) (before after : Option (List ℕ)) → IsSent status report answer before after → (answer ≡ status) ⊎ (answer ≡ WriteFault)

@@ -1,5 +1,4 @@
 pub mod Check
-pub mod Counts
 pub mod Reports
 pub mod Result
 pub mod Statuses

@@ -1,14 +1,13 @@
 //! The command `check`.
-ghost use Rattle.std.specs.Prelude.{◌≡◌, ◌≤◌, ◌<◌, ◌^◌, IfOk, length, string_bytes};
+ghost use Rattle.std.specs.Prelude.{◌≡◌, ◌≤◌, IfOk, length, string_bytes};
+ghost use Rattle.est_check.specs.Skeleton.{IsSkeleton};
 ghost use Rattle.est_grammar.specs.Answer.{IsRefusal};
 ghost use Rattle.est_lexer.specs.Places.{text_of, tokens_of};
-ghost use Rattle.est_tool.specs.Check.{CheckGives, IsRefusalReport, refusal_at};
-ghost use Rattle.est_tool.specs.Counts.{body_count, transition_count, port_count};
-ghost use Rattle.est_tool.specs.Reports.{ok_line};
+ghost use Rattle.est_tool.specs.Check.{CheckGives, IsJudged, IsRefusalReport, refusal_at};
 
-use crate::counts::{body_count, port_count, transition_count};
-use crate::report::{ok_report, refusal_report};
+use crate::report::{ok_report, refusal_report, rule_text};
 use crate::status::Status;
+use est_check::{CheckError, check};
 use est_grammar::{ParseError, parse};
 use est_lexer::lex::lex;
 use est_lexer::tokens::Tokens;
@@ -22,23 +21,27 @@ pub(crate) fn check_text(alloc: Global, text: &[u8]) -> Result<(Status, String),
 {
     let tokens = lex(alloc, text)?;
     match parse(alloc, &tokens) {
-        Ok(spec) => Ok((Status::Fine, good(alloc, &spec)?)),
+        Ok(spec) => judged(alloc, &tokens, spec),
         Err(error) => refused(alloc, &tokens, error),
     }
 }
 
-// The report of a sentence.
-fn good(alloc: Global, spec: &Spec) -> Result<String, AllocError>
-    requires transitions { transition_count spec.now < 2 ^ 32 }
-    requires ports { port_count spec.now < 2 ^ 32 }
-    ensures { IfOk result (λ report. string_bytes report ≡ ok_line (body_count spec.now) (transition_count spec.now) (port_count spec.now)) }
+// The status and the report of a sentence.
+fn judged(alloc: Global, tokens: &Tokens<'_>, spec: Spec) -> Result<(Status, String), AllocError>
+    requires { IsSkeleton spec }
+    ensures { IfOk result (IsJudged (text_of tokens.now) (tokens_of tokens.now) spec) }
 {
-    ok_report(
-        alloc,
-        body_count(spec),
-        transition_count(spec),
-        port_count(spec),
-    )
+    match check(alloc, spec) {
+        Ok(checked) => {
+            let report = ok_report(alloc, checked.counts())?;
+            Ok((Status::Fine, report))
+        }
+        Err(CheckError::Fault { place, rule }) => {
+            let report = refusal(alloc, tokens, place, rule_text(rule))?;
+            Ok((Status::BadSpec, report))
+        }
+        Err(CheckError::Memory(error)) => Err(error),
+    }
 }
 
 // The status and the report of a refusal by the grammar.
@@ -47,7 +50,6 @@ fn refused(
     tokens: &Tokens<'_>,
     error: ParseError,
 ) -> Result<(Status, String), AllocError>
-    requires { IsRefusal (text_of tokens.now) (tokens_of tokens.now) error }
     ensures { IfOk result (λ made. IsRefusalReport (text_of tokens.now) (tokens_of tokens.now) error made.0 (string_bytes made.1)) }
 {
     match error {
@@ -67,11 +69,10 @@ fn refused(
     }
 }
 
-// The report of a refusal at the token with this number.
+// The report of a refusal at the token with this number, or behind the last one.
 fn refusal(alloc: Global, tokens: &Tokens<'_>, place: u32, why: &str) -> Result<String, AllocError>
-    requires { place ≤ length (tokens_of tokens.now) }
     ensures { IfOk result (λ report. string_bytes report ≡ refusal_at (text_of tokens.now) (tokens_of tokens.now) place why.now) }
 {
-    let (line, column) = tokens.line_column(place);
+    let (line, column) = tokens.line_column(place.min(tokens.count()));
     refusal_report(alloc, line, column, why)
 }

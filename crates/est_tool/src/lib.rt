@@ -2,7 +2,6 @@
 #![tactic(auto)]
 
 mod check;
-mod counts;
 mod report;
 pub mod status;
 #[cfg(test)]

@@ -40,6 +40,15 @@ fn skeleton(alloc: Global) -> Result<String, AllocError> {
     Ok(text)
 }
 
+// The skeleton with another interaction sent by its first transition.
+fn wrong_direction(alloc: Global) -> Result<String, AllocError> {
+    let mut text = String::from_str(alloc, HEAD)?;
+    text.push_str("  state S0, S1;\n  initialize to S0 begin end;\n")?;
+    text.push_str("  trans from S0 to S1 when P.Go begin output P.Go end;\n")?;
+    text.push_str("end;\nmodvar X: M;\ninitialize begin init X with MB end;\nend.\n")?;
+    Ok(text)
+}
+
 // What `check` answers for a text, and what it writes.
 fn checked(alloc: Global, text: &str) -> Result<(Status, Vec<u8>), AllocError> {
     let mut shelf = MemShelf::new(alloc, 4096, &[])?;
@@ -54,7 +63,13 @@ fn checked(alloc: Global, text: &str) -> Result<(Status, Vec<u8>), AllocError> {
 fn reports_of_texts(rt: HostRuntime) -> Result<(), Fail> {
     let alloc = rt.alloc();
     let skeleton = skeleton(alloc)?;
+    let wrong = wrong_direction(alloc)?;
     let cases = [
+        (
+            wrong.as_str(),
+            2,
+            "specification:9:48: rule 12: wrong direction\n",
+        ),
         ("", 2, "specification:1:1: bad token\n"),
         (
             "specification S systemprocess;",
