@@ -1,16 +1,17 @@
 #!/usr/bin/env python3
 """Times the program on inputs that it makes itself, and prints one table.
 
-Each row is the best of some runs of one command on one input. The last column is the time over
-that of the row above, whose input is half as large: near 2 where the work is linear.
+Each row is the best of some runs of one command on one input, in processor time (user and system),
+so that other work on the machine changes it little. The last column is the time over that of the
+row above, whose input is half as large: near 2 where the work is linear.
 """
 
 import pathlib
+import resource
 import shutil
 import subprocess
 import sys
 import tempfile
-import time
 
 import inputs
 
@@ -22,9 +23,10 @@ RUNS = 5
 def seconds(command):
     best = None
     for _ in range(RUNS):
-        begin = time.perf_counter()
+        before = resource.getrusage(resource.RUSAGE_CHILDREN)
         done = subprocess.run(command, stdout=subprocess.DEVNULL, stderr=subprocess.DEVNULL)
-        taken = time.perf_counter() - begin
+        after = resource.getrusage(resource.RUSAGE_CHILDREN)
+        taken = after.ru_utime + after.ru_stime - before.ru_utime - before.ru_stime
         if done.returncode != 0:
             sys.exit(f"{command} ended with status {done.returncode}")
         best = taken if best is None else min(best, taken)
@@ -44,8 +46,8 @@ def rows(name, sizes, make, suffix, command, folder):
 
 
 def main():
-    program = TOP / "hawkopal"
-    subprocess.run([program, "check", TOP / "examples" / "skel.est"], check=True, stdout=subprocess.DEVNULL)
+    program = TOP / "crates" / "hawkopal" / "out" / "hawkopal"
+    subprocess.run([TOP / "hawkopal", "check", TOP / "examples" / "skel.est"], check=True, stdout=subprocess.DEVNULL)
     tokens = TOP / "crates" / "token_bench" / "out" / "token_bench"
     if not tokens.exists():
         subprocess.run(["rt", "run"], cwd=tokens.parent.parent, stdout=subprocess.DEVNULL, stderr=subprocess.DEVNULL)
@@ -55,10 +57,12 @@ def main():
     with tempfile.TemporaryDirectory() as name:
         folder = pathlib.Path(name)
         sizes = [256 * kib, 512 * kib, mib]
-        rows("check of skeletons", sizes, inputs.skeleton, ".est", lambda p: [program, "check", p], folder)
+        check = lambda path: [program, "check", path]
+        rows("check of transitions", sizes, inputs.skeleton, ".est", check, folder)
+        rows("check of states", sizes, inputs.states, ".states", check, folder)
         if shutil.which("fpc"):
             rows("fpc -Cn of Pascal", sizes, inputs.pascal, ".pas", lambda p: ["fpc", "-Cn", p], folder)
-        rows("tokens of skeletons", sizes, inputs.skeleton, ".tok", lambda p: [tokens, p], folder)
+        rows("tokens of a specification", sizes, inputs.skeleton, ".tok", lambda p: [tokens, p], folder)
         rows("tokens of explanations", [16 * mib, 32 * mib, 64 * mib], inputs.explanation, ".exp", lambda p: [tokens, p], folder)
 
 

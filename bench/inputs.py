@@ -31,6 +31,25 @@ def skeleton(size, seed):
     return "".join(parts)
 
 
+def states(size, seed):
+    """A good skeleton specification of about `size` bytes, most of them states that are named once
+    and used once."""
+    draw = random.Random(seed)
+    head = (
+        "specification Large;\n"
+        "channel C(A, B);\n  by A: Go;\n  by B: Left; Right;\n"
+        "module M systemactivity; ip P: C(B); end;\n"
+        "body MB for M;\n  state "
+    )
+    count = max(2, (size - 300) // 18)
+    names = [f"s{i:07d}" for i in range(count)]
+    used = list(names)
+    draw.shuffle(used)
+    text = [head, ",".join(names), ";\n  initialize to s0000000 begin end;\n  trans from "]
+    text += [",".join(used), " begin end;\nend;\nmodvar X: M;\ninitialize begin init X with MB end;\nend.\n"]
+    return "".join(text)
+
+
 def explanation(size, seed):
     """The text of an explanation of about `size` bytes."""
     draw = random.Random(seed)
