@@ -1,0 +1,6 @@
+pub mod Between
+pub mod Lines
+pub mod Places
+pub mod Spans
+pub mod Spellings
+pub mod TokenList

@@ -2,3 +2,6 @@
 #![tactic(auto)]
 
 pub mod kind;
+pub mod lex;
+pub mod table;
+pub mod tokens;

@@ -1,0 +1,93 @@
+-- From what a call answers to what its caller answers.
+use Rattle.std.proofs.Common.{◌≡◌, ℕ, suc, ◌+◌, ◌<◌, ◌≤◌, Bool, true, false, List, [], ◌∷◌, length, refl, sym, subst, ◌⊎◌, arith, add-one, Result, inl, inr, Option}
+use Rattle.std.specs.Result.{IsErr, IsErrAnd}
+use Rattle.std.proofs.lemmas.Result.{err_from_is_err_and}
+use Rattle.est_language.specs.Grammar.{Language, Grammar, Shape, meets, Tree, p_whole}
+use Rattle.est_language.specs.Marks.{Marks, Fits, MeetsOne}
+use Rattle.est_language.specs.Reading.{Found, Refused, same, before}
+use Rattle.est_language.specs.Places.{HasTree, HasPartial}
+use Rattle.est_language.specs.Answers.{Cause, unsaid, wrong_at, too_deep_at, Refuses, Reads, Explains}
+use Rattle.est_language.proofs.Parts
+use Rattle.est_language.proofs.Trees
+
+-- a refusal of h inside of g is a refusal of g
+pub passed_on : {Token V T P : Type 0} {L : Language Token V T P} {S : Marks T P} {g h : Grammar T P} {s : List Token} {d a d' a' : ℕ} (c : Cause)
+    → ((i : ℕ) (z : Bool) → Refused L S s h d' a' i z → Refused L S s g d a i z)
+    → Refuses L S h s d' a' c → Refuses L S g s d a c
+passed_on unsaid f h = tt
+passed_on (too_deep_at i) f h = f i true h
+passed_on (wrong_at i) f h = f i false h
+
+-- a call of h inside of g that answers an error is an error of g
+pub exit : {B E Token V T P : Type 0} {L : Language Token V T P} {S : Marks T P} {g h : Grammar T P} {s : List Token} {d a d' a' : ℕ} (cause : E → Cause) (w : B → Shape V) (r : Result (B × ℕ) E) (e : E)
+    → IsErr r × IsErrAnd r (λ x. x ≡ e)
+    → ((i : ℕ) (z : Bool) → Refused L S s h d' a' i z → Refused L S s g d a i z)
+    → Refuses L S h s d' a' (cause e) → Reads {A = B} {E = E} L S cause g s d a w r
+exit cause w r e is f h = let p = err_from_is_err_and r is.1 in rw (p.1, p.2) (passed_on (cause e) f h)
+
+-- a test that is not met
+pub not_met : {b : Bool} → b ≡ false → b ≡ true → ⊥
+not_met e q = cc
+
+-- neither of two
+pub neither : {A B : Type 0} → (A → ⊥) → (B → ⊥) → A ⊎ B → ⊥
+neither n m (inl e) = n e
+neither n m (inr e) = m e
+
+-- none of no facts
+pub nothing_left : ⊥ → ⊥
+nothing_left z = z
+
+-- a token that does not meet the one test meets none
+pub not_one : {T Token : Type 0} (h : T → Token → Bool) (k : T) (o : Option Token) → meets h k o ≡ false → MeetsOne h o (k ∷ []) → ⊥
+not_one h k o e (inl q) = cc
+not_one h k o e (inr q) = q
+
+-- From what is found of the whole grammar at place 0 to the answer.
+module _ {Token V T P : Type 0} {L : Language Token V T P} {S : Marks T P} (fits : Fits L S) (g : Grammar T P) (d : ℕ) (s : List Token) where
+  -- the whole list is read
+  pub whole_tree : (t : Shape V) (b : ℕ) → b ≡ length s → Found L S s g d 0 b t → HasTree L g d s t × ((u : Shape V) → HasTree L g d s u → u ≡ t)
+  whole_tree t b e h = (subst (λ v. Tree L s (length s) g d 0 v t) e h.tree, only)
+    where
+      only : (u : Shape V) → HasTree L g d s u → u ≡ t
+      only u y = elim (h.only d (length s) (length s) u (omega arith) (omega arith) y) [
+        | same p q ↦ q
+        | before l w ↦ absurd (omega (arith, e, l))
+      ]
+
+  -- tokens stand behind the end
+  pub tokens_behind : (b : ℕ) (t : Shape V) → (b ≡ length s → ⊥) → Found L S s g d 0 b t → Explains L g d s (wrong_at b)
+  tokens_behind b t n h = (record { no_tree = no_tree; inside = inside; front = front; no_more = λ l. no_more l d }, no_more)
+    where
+      inside : b ≤ length s
+      inside = Parts.found_inside L S fits s h
+
+      no_tree : (u : Shape V) → HasTree L g d s u → ⊥
+      no_tree u y = elim (h.only d (length s) (length s) u (omega arith) (omega arith) y) [
+        | same p q ↦ n (sym p)
+        | before l w ↦ absurd (omega (arith, inside, l))
+      ]
+
+      front : HasPartial L g d s b
+      front = p_whole (Trees.tree_of_fewer L s (length s) b h.tree (omega arith) inside) refl
+
+      no_more : b < length s → (levels : ℕ) → HasPartial L g levels s (b + 1) → ⊥
+      no_more l e y = omega (arith, h.most e (b + 1) (omega arith) (omega arith) y)
+
+  -- the grammar is refused
+  pub explained : (c : Cause) → Refuses L S g s d 0 c → Explains L g d s c
+  explained unsaid h = tt
+  explained (wrong_at i) h = (record { no_tree = no_tree; inside = h.inside; front = h.partial; no_more = λ l. no_more l d }, no_more)
+    where
+      no_tree : (u : Shape V) → HasTree L g d s u → ⊥
+      no_tree u y = omega (arith, (h.only d (length s) (length s) u tt (omega arith) (omega arith) y).2)
+
+      no_more : i < length s → (levels : ℕ) → HasPartial L g levels s (i + 1) → ⊥
+      no_more l e y = omega (arith, h.most e (i + 1) tt (omega arith) (omega arith) y)
+  explained (too_deep_at i) h = (record { no_tree = no_tree; inside = h.inside; front = h.partial; no_more = no_more }, (h.more refl).0, (suc d, subst (λ v. HasPartial L g (suc d) s v) (sym (add-one i)) (h.more refl).1))
+    where
+      no_tree : (u : Shape V) → HasTree L g d s u → ⊥
+      no_tree u y = omega (arith, (h.only d (length s) (length s) u (omega arith) (omega arith) (omega arith) y).2)
+
+      no_more : i < length s → HasPartial L g d s (i + 1) → ⊥
+      no_more l y = omega (arith, h.most d (i + 1) (omega arith) (omega arith) (omega arith) y)

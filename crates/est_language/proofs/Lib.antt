@@ -1,0 +1,7 @@
+pub mod Members
+pub mod Trees
+pub mod Parts
+pub mod Laws
+pub mod Flat
+pub mod Exits
+pub mod Fronts

@@ -1,0 +1,6 @@
+pub mod Grammar
+pub mod Marks
+pub mod Reading
+pub mod Places
+pub mod Answers
+pub mod Laws

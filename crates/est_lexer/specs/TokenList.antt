@@ -1,0 +1,52 @@
+use Rattle.std.specs.Prelude.{◌≡◌, ℕ, false, List, [], ◌∷◌, ◌+◌, ◌-◌, ◌<◌, ◌≤◌, length, drop, slice_index, slice_range, Some, None}
+use Rattle.std.specs.List.{prefix_len}
+use Rattle.std.specs.Char.{is_ascii_digit}
+use Rattle.est_lexer.specs.declared.kind.Token.{Token}
+use Rattle.est_lexer.specs.declared.kind.TokenKind.TheVariants.{Bad}
+use Rattle.est_lexer.specs.Between.{is_blank, opening, closing, IsBetween}
+use Rattle.est_lexer.specs.Spellings.{kind_of}
+use Rattle.est_lexer.specs.Spans.{end_of, spelling}
+
+-- How many digits stand in a row from a place on.
+abbrev pub digits_at : List ℕ → ℕ → ℕ
+digits_at text place = prefix_len is_ascii_digit (drop place text)
+
+-- A token may begin at a place: no comment begins there, nor 19 or more digits in a row.
+pub record MayBegin (text : List ℕ) (place : ℕ) : Type 0 where
+  pub no_comment : opening text place ≡ 0
+  pub few_digits : digits_at text place < 19
+
+-- The token is the longest one at its start.
+pub record IsLongest (text : List ℕ) (token : Token) : Type 0 where
+  pub may_begin : MayBegin text token.start
+  pub inside : end_of token ≤ length text
+  pub kind : kind_of (spelling text token) ≡ Some token.kind
+  pub longest : (end : ℕ) → end_of token < end → end ≤ length text → kind_of (slice_range text token.start end) ≡ None
+
+-- Neither a blank nor a comment nor a token begins at a place.
+pub record NoneBegins (text : List ℕ) (place : ℕ) : Type 0 where
+  pub inside : place < length text
+  pub no_blank : is_blank (slice_index text place) ≡ false
+  pub may_begin : MayBegin text place
+  pub no_token : (end : ℕ) → end ≤ length text → kind_of (slice_range text place end) ≡ None
+
+-- A comment begins at a place, and nothing behind its mark ends it.
+pub record IsOpenComment (text : List ℕ) (place : ℕ) : Type 0 where
+  pub begins : 0 < opening text place
+  pub unended : (mark : ℕ) → place + opening text place ≤ mark → closing text mark ≡ 0
+
+-- The span of a bad token: one byte where nothing begins, the rest of the text for an open comment, the whole run of 19 or more digits.
+pub data IsBadSpan (text : List ℕ) (place : ℕ) : ℕ → Type 0 where
+  illegal : NoneBegins text place → IsBadSpan text place 1
+  open_comment : IsOpenComment text place → IsBadSpan text place (length text - place)
+  many_digits : 19 ≤ digits_at text place → IsBadSpan text place (digits_at text place)
+
+-- The tokens from a place on: each is the longest at its start, only blanks and comments lie before, between and behind them, and a bad token ends the list, whatever lies behind it.
+pub data AreTokensFrom (text : List ℕ) : ℕ → List Token → Type 0 where
+  none_left : (from : ℕ) → IsBetween text from (length text) → AreTokensFrom text from []
+  bad : (from : ℕ) (token : Token) → IsBetween text from token.start → token.kind ≡ Bad → IsBadSpan text token.start token.length → AreTokensFrom text from (token ∷ [])
+  next : (from : ℕ) (token : Token) (tokens : List Token) → IsBetween text from token.start → IsLongest text token → AreTokensFrom text (end_of token) tokens → AreTokensFrom text from (token ∷ tokens)
+
+-- The token list of a text.
+abbrev pub IsTokenList : List ℕ → List Token → Type 0
+IsTokenList text tokens = AreTokensFrom text 0 tokens

@@ -1,0 +1,157 @@
+//! The words and symbols of the profile with their spellings.
+
+use crate::kind::TokenKind::{LeftOut, Reserved};
+use crate::kind::{LeftOutToken, ReservedWord, Symbol, TokenKind};
+
+/// A word or a symbol: its spelling, in lower case, and its kind.
+pub type Word = (&'static [u8], TokenKind);
+
+/// The reserved and the left-out words by their first letter, from `a` to `z`.
+pub static WORDS: [&[Word]; 26] = [
+    &[
+        (b"activity", Reserved(ReservedWord::Activity)),
+        (b"all", Reserved(ReservedWord::All)),
+        (b"and", Reserved(ReservedWord::And)),
+        (b"any", Reserved(ReservedWord::Any)),
+        (b"array", Reserved(ReservedWord::Array)),
+        (b"attach", Reserved(ReservedWord::Attach)),
+    ],
+    &[
+        (b"begin", Reserved(ReservedWord::Begin)),
+        (b"body", Reserved(ReservedWord::Body)),
+        (b"by", Reserved(ReservedWord::By)),
+    ],
+    &[
+        (b"case", Reserved(ReservedWord::Case)),
+        (b"channel", Reserved(ReservedWord::Channel)),
+        (b"common", Reserved(ReservedWord::Common)),
+        (b"connect", Reserved(ReservedWord::Connect)),
+        (b"const", Reserved(ReservedWord::Const)),
+    ],
+    &[
+        (b"default", Reserved(ReservedWord::Default)),
+        (b"delay", Reserved(ReservedWord::Delay)),
+        (b"detach", Reserved(ReservedWord::Detach)),
+        (b"disconnect", Reserved(ReservedWord::Disconnect)),
+        (b"div", Reserved(ReservedWord::Div)),
+        (b"do", Reserved(ReservedWord::Do)),
+        (b"downto", Reserved(ReservedWord::Downto)),
+    ],
+    &[
+        (b"else", Reserved(ReservedWord::Else)),
+        (b"end", Reserved(ReservedWord::End)),
+        (b"exist", LeftOut(LeftOutToken::Exist)),
+        (b"export", Reserved(ReservedWord::Export)),
+        (b"external", LeftOut(LeftOutToken::External)),
+    ],
+    &[
+        (b"file", LeftOut(LeftOutToken::File)),
+        (b"for", Reserved(ReservedWord::For)),
+        (b"forone", LeftOut(LeftOutToken::Forone)),
+        (b"forward", LeftOut(LeftOutToken::Forward)),
+        (b"from", Reserved(ReservedWord::From)),
+        (b"function", Reserved(ReservedWord::Function)),
+    ],
+    &[(b"goto", LeftOut(LeftOutToken::Goto))],
+    &[],
+    &[
+        (b"if", Reserved(ReservedWord::If)),
+        (b"in", Reserved(ReservedWord::In)),
+        (b"individual", Reserved(ReservedWord::Individual)),
+        (b"init", Reserved(ReservedWord::Init)),
+        (b"initialize", Reserved(ReservedWord::Initialize)),
+        (b"ip", Reserved(ReservedWord::Ip)),
+    ],
+    &[],
+    &[],
+    &[(b"label", LeftOut(LeftOutToken::Label))],
+    &[
+        (b"mod", Reserved(ReservedWord::Mod)),
+        (b"module", Reserved(ReservedWord::Module)),
+        (b"modvar", Reserved(ReservedWord::Modvar)),
+    ],
+    &[
+        (b"name", Reserved(ReservedWord::Name)),
+        (b"nil", LeftOut(LeftOutToken::Nil)),
+        (b"not", Reserved(ReservedWord::Not)),
+    ],
+    &[
+        (b"of", Reserved(ReservedWord::Of)),
+        (b"or", Reserved(ReservedWord::Or)),
+        (b"otherwise", Reserved(ReservedWord::Otherwise)),
+        (b"output", Reserved(ReservedWord::Output)),
+    ],
+    &[
+        (b"packed", Reserved(ReservedWord::Packed)),
+        (b"primitive", LeftOut(LeftOutToken::Primitive)),
+        (b"priority", Reserved(ReservedWord::Priority)),
+        (b"procedure", Reserved(ReservedWord::Procedure)),
+        (b"process", LeftOut(LeftOutToken::Process)),
+        (b"provided", Reserved(ReservedWord::Provided)),
+        (b"pure", Reserved(ReservedWord::Pure)),
+    ],
+    &[(b"queue", Reserved(ReservedWord::Queue))],
+    &[
+        (b"real", LeftOut(LeftOutToken::Real)),
+        (b"record", Reserved(ReservedWord::Record)),
+        (b"release", Reserved(ReservedWord::Release)),
+        (b"repeat", Reserved(ReservedWord::Repeat)),
+    ],
+    &[
+        (b"same", Reserved(ReservedWord::Same)),
+        (b"set", Reserved(ReservedWord::Set)),
+        (b"specification", Reserved(ReservedWord::Specification)),
+        (b"state", Reserved(ReservedWord::State)),
+        (b"stateset", Reserved(ReservedWord::Stateset)),
+        (b"suchthat", LeftOut(LeftOutToken::Suchthat)),
+        (b"systemactivity", Reserved(ReservedWord::Systemactivity)),
+        (b"systemprocess", LeftOut(LeftOutToken::Systemprocess)),
+    ],
+    &[
+        (b"terminate", LeftOut(LeftOutToken::Terminate)),
+        (b"then", Reserved(ReservedWord::Then)),
+        (b"timescale", Reserved(ReservedWord::Timescale)),
+        (b"to", Reserved(ReservedWord::To)),
+        (b"trans", Reserved(ReservedWord::Trans)),
+        (b"type", Reserved(ReservedWord::Type)),
+    ],
+    &[(b"until", Reserved(ReservedWord::Until))],
+    &[(b"var", Reserved(ReservedWord::Var))],
+    &[
+        (b"when", Reserved(ReservedWord::When)),
+        (b"while", Reserved(ReservedWord::While)),
+        (b"with", Reserved(ReservedWord::With)),
+    ],
+    &[],
+    &[],
+    &[],
+];
+
+/// The symbols and the left-out symbols, each before those that begin it.
+pub static SYMBOLS: [Word; 25] = [
+    (b"...", LeftOut(LeftOutToken::Ellipsis)),
+    (b"..", TokenKind::Symbol(Symbol::DoublePeriod)),
+    (b".", TokenKind::Symbol(Symbol::Period)),
+    (b":=", TokenKind::Symbol(Symbol::Assign)),
+    (b":", TokenKind::Symbol(Symbol::Colon)),
+    (b"<>", TokenKind::Symbol(Symbol::Unequal)),
+    (b"<=", TokenKind::Symbol(Symbol::AtMost)),
+    (b"<", TokenKind::Symbol(Symbol::Below)),
+    (b">=", TokenKind::Symbol(Symbol::AtLeast)),
+    (b">", TokenKind::Symbol(Symbol::Above)),
+    (b"=", TokenKind::Symbol(Symbol::Equal)),
+    (b"+", TokenKind::Symbol(Symbol::Plus)),
+    (b"-", TokenKind::Symbol(Symbol::Minus)),
+    (b"*", TokenKind::Symbol(Symbol::Star)),
+    (b"(", TokenKind::Symbol(Symbol::LeftParenthesis)),
+    (b")", TokenKind::Symbol(Symbol::RightParenthesis)),
+    (b"[", TokenKind::Symbol(Symbol::LeftBracket)),
+    (b"]", TokenKind::Symbol(Symbol::RightBracket)),
+    (b",", TokenKind::Symbol(Symbol::Comma)),
+    (b";", TokenKind::Symbol(Symbol::Semicolon)),
+    (b"_", TokenKind::Symbol(Symbol::Underscore)),
+    (b"?", TokenKind::Symbol(Symbol::QuestionMark)),
+    (b"^", LeftOut(LeftOutToken::Caret)),
+    (b"@", LeftOut(LeftOutToken::At)),
+    (b"/", LeftOut(LeftOutToken::Slash)),
+];
