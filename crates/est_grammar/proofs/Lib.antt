@@ -1,0 +1,3 @@
+pub mod KindsApart
+pub mod SkeletonFits
+pub mod Parsing

@@ -1,0 +1,5 @@
+pub mod Kinds
+pub mod Skeleton
+pub mod Language
+pub mod Views
+pub mod Reading

@@ -1,0 +1,5 @@
+//! The parser of specifications.
+#![tactic(auto)]
+
+mod error;
+mod token;
