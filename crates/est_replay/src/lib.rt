@@ -1,0 +1,5 @@
+//! Explanations: how a trace is said to come about.
+#![tactic(auto)]
+
+pub mod error;
+pub mod explanation;
