@@ -1,13 +1,15 @@
 //! Words, symbols and numbers, taken one at a time.
 
-ghost use Rattle.std.specs.Prelude.{◌≡◌, ◌≤◌, ◌<◌, true, length, MatchOption};
+ghost use Rattle.std.specs.Prelude.{◌≡◌, ◌≤◌, ◌<◌, true, length, MatchOption, IfOk};
+ghost use Rattle.std.specs.Option.{option_map};
 ghost use Rattle.est_lexer.specs.Places.{tokens_of};
 ghost use Rattle.est_texts.specs.Kinds.{is_spelled as has_spelling, is_number as is_numeric};
 ghost use Rattle.est_texts.specs.Tests.{spelled, number, value_of};
-ghost use Rattle.est_texts.specs.Takes.{stands, Takes, FindsNumber, TakesNumber};
+ghost use Rattle.est_texts.specs.Takes.{stands, IsSpelledAt, Takes, FindsNumber, TakesNumber};
 
 use est_lexer::kind::TokenKind;
 use est_lexer::tokens::Tokens;
+use std::alloc::{AllocError, Global};
 
 /// The token at a place is none that may stand there, or there is none.
 #[derive(Clone, Copy, Debug, PartialEq, Eq)]
@@ -63,6 +65,19 @@ pub fn word_is(tokens: &Tokens, at: u32, word: &[u8]) -> bool
     match tokens.token_at(at) {
         Some(token) => is_spelled(token.kind) && word.eq_ignore_ascii_case(tokens.spelled(at)),
         None => false,
+    }
+}
+
+/// The spelling in lower case of the word or symbol at the place, where one stands there.
+pub fn word_at(alloc: Global, tokens: &Tokens, at: u32) -> Result<Option<Vec<u8>>, AllocError>
+    ensures { IfOk result (λ found. IsSpelledAt tokens.now at (option_map (λ bytes. bytes.items) found)) }
+{
+    match tokens.token_at(at) {
+        Some(token) if is_spelled(token.kind) => {
+            let word = tokens.spelled(at).to_ascii_lowercase(alloc)?;
+            Ok(Some(word))
+        }
+        _ => Ok(None),
     }
 }
 

@@ -1,0 +1,43 @@
+-- The ports of skeletons, and events at them.
+use Rattle.std.specs.Prelude.{◌≡◌, ℕ, ◌≤◌, ◌^◌, true, List, [], All, length, Some, slice_get}
+use Rattle.std.specs.Str.{str_eq_ignore_ascii_case, str_to_ascii_lowercase}
+use Rattle.est_syntax.specs.declared.ports.Signal.{Signal}
+use Rattle.est_syntax.specs.declared.ports.Port.{Port}
+use Rattle.est_meaning.specs.declared.event.Event.{Event}
+use Rattle.est_meaning.specs.declared.event.Event.TheVariants.{Arrives, Leaves, Passes}
+
+-- no two items have the same name, in any letter case
+abbrev pub HaveDifferentNames : {A : Type 0} → (A → List ℕ) → List A → Type 0
+HaveDifferentNames {A} name xs = (i j : ℕ) (x y : A) → slice_get xs i ≡ Some x → slice_get xs j ≡ Some y → str_eq_ignore_ascii_case (name x) (name y) ≡ true → i ≡ j
+
+-- a name is kept in lower case
+abbrev pub IsLowerCase : List ℕ → Type 0
+IsLowerCase name = str_to_ascii_lowercase name ≡ name
+
+-- a signal without parameters
+pub record IsPlainSignal (x : Signal) : Type 0 where
+  pub lower_case : IsLowerCase x.name.bytes
+  pub no_parameters : x.kinds ≡ []
+
+-- a port that is no element of an array, with signals without parameters, whose names differ, and whose numbers can be written
+pub record IsPlainPort (p : Port) : Type 0 where
+  pub lower_case : IsLowerCase p.name.bytes
+  pub no_subscripts : p.index_kinds ≡ []
+  pub different : HaveDifferentNames (λ (x : Signal). x.name.bytes) p.signals
+  pub each : (i : ℕ) (x : Signal) → slice_get p.signals i ≡ Some x → IsPlainSignal x
+  pub few : length p.signals ≤ 2 ^ 32
+
+-- the ports of a skeleton: plain ports whose names differ, and whose numbers can be written
+pub record ArePlain (ports : List Port) : Type 0 where
+  pub different : HaveDifferentNames (λ (p : Port). p.name.bytes) ports
+  pub each : (i : ℕ) (p : Port) → slice_get ports i ≡ Some p → IsPlainPort p
+  pub few : length ports ≤ 2 ^ 32
+
+-- an event with no values
+abbrev pub HasNoValues : Event → Type 0
+HasNoValues (Arrives x) = x.values ≡ []
+HasNoValues (Leaves x) = x.values ≡ []
+HasNoValues (Passes units) = Unit {0}
+
+abbrev pub HaveNoValues : List Event → Type 0
+HaveNoValues events = All HasNoValues events

@@ -1,0 +1,9 @@
+//! Traces: what happens at the outside ports of a specification.
+#![tactic(auto)]
+
+pub mod error;
+mod interaction;
+mod lookup;
+mod table;
+pub mod trace;
+mod way;
