@@ -3,3 +3,5 @@
 
 pub mod error;
 pub mod explanation;
+#[cfg(test)]
+mod tests;

@@ -5,5 +5,7 @@ pub mod error;
 mod interaction;
 mod lookup;
 mod table;
+#[cfg(test)]
+mod tests;
 pub mod trace;
 mod way;

@@ -1,0 +1,72 @@
+use Rattle.std.proofs.Common.{rules, ◌≡◌, ℕ, zero, suc, ◌≤◌, ◌^◌, Bool, true, false, List, [], ◌∷◌, ◌++◌, length, refl, sym, ap, ◌∙◌, subst, arith, Some, slice_get}
+use Rattle.std.specs.Prelude.{codes}
+use Rattle.std.specs.Str.{str_eq_ignore_ascii_case, str_to_ascii_lowercase}
+use Rattle.est_syntax.specs.declared.ports.Signal.{Signal}
+use Rattle.est_syntax.specs.declared.ports.Port.{Port}
+use Rattle.est_trace.specs.Skeletons.{HaveDifferentNames, IsLowerCase, IsPlainSignal, IsPlainPort, ArePlain}
+use Rattle.est_trace.specs.Directories.{signal_name, port_name}
+use Rattle.est_trace.proofs.tests.two_ports.Goals as goal
+
+one_differs : {A : Type 0} (name : A → List ℕ) (x : A) → HaveDifferentNames name (x ∷ [])
+one_differs name x zero zero a b e h k = refl
+one_differs name x zero (suc j) a b e h k = cc
+one_differs name x (suc i) j a b e h k = cc
+
+two_differ : {A : Type 0} (name : A → List ℕ) (x y : A) → str_eq_ignore_ascii_case (name x) (name y) ≡ false → str_eq_ignore_ascii_case (name y) (name x) ≡ false → HaveDifferentNames name (x ∷ y ∷ [])
+two_differ name x y f g zero zero a b e h k = refl
+two_differ name x y f g zero (suc zero) a b e h k = let p : x ≡ a = cc in let q : y ≡ b = cc in let r : str_eq_ignore_ascii_case (name x) (name y) ≡ true = subst (λ v. str_eq_ignore_ascii_case (name v) (name y) ≡ true) (sym p) (subst (λ v. str_eq_ignore_ascii_case (name a) (name v) ≡ true) (sym q) k) in absurd cc
+two_differ name x y f g zero (suc (suc j)) a b e h k = cc
+two_differ name x y f g (suc zero) zero a b e h k = let p : y ≡ a = cc in let q : x ≡ b = cc in let r : str_eq_ignore_ascii_case (name y) (name x) ≡ true = subst (λ v. str_eq_ignore_ascii_case (name v) (name x) ≡ true) (sym p) (subst (λ v. str_eq_ignore_ascii_case (name a) (name v) ≡ true) (sym q) k) in absurd cc
+two_differ name x y f g (suc zero) (suc zero) a b e h k = refl
+two_differ name x y f g (suc zero) (suc (suc j)) a b e h k = cc
+two_differ name x y f g (suc (suc i)) j a b e h k = cc
+
+one_each : {A : Type 0} (P : A → Type 0) (x : A) → P x → (i : ℕ) (a : A) → slice_get (x ∷ []) i ≡ Some a → P a
+one_each P x h zero a e = let p : x ≡ a = cc in subst P p h
+one_each P x h (suc i) a e = cc
+
+two_each : {A : Type 0} (P : A → Type 0) (x y : A) → P x → P y → (i : ℕ) (a : A) → slice_get (x ∷ y ∷ []) i ≡ Some a → P a
+two_each P x y h k zero a e = let p : x ≡ a = cc in subst P p h
+two_each P x y h k (suc zero) a e = let p : y ≡ a = cc in subst P p k
+two_each P x y h k (suc (suc i)) a e = cc
+
+plain_signal : (x : Signal) (name : List ℕ) → IsLowerCase name → (x.name.bytes ≡ name) × (x.kinds ≡ []) → IsPlainSignal x
+plain_signal x name l h = record { lower_case = subst IsLowerCase (sym h.0) l; no_parameters = h.1 }
+
+names_differ : {A : Type 0} (name : A → List ℕ) (x y : A) (a b : List ℕ) → name x ≡ a → name y ≡ b → str_eq_ignore_ascii_case a b ≡ false → str_eq_ignore_ascii_case (name x) (name y) ≡ false
+names_differ name x y a b p q h = subst (λ v. str_eq_ignore_ascii_case v (name y) ≡ false) (sym p) (subst (λ v. str_eq_ignore_ascii_case a v ≡ false) (sym q) h)
+
+two_pushed : {A : Type 0} (x y : A) (xs ys zs : List A) → xs ≡ [] → ys ≡ xs ++ x ∷ [] → zs ≡ ys ++ y ∷ [] → zs ≡ x ∷ y ∷ []
+two_pushed x y xs ys zs p q r = r ∙ ap (λ v. v ++ y ∷ []) (q ∙ ap (λ v. v ++ x ∷ []) p)
+
+pub returns : goal.returns
+returns c =
+    let go = c.in_ok-go.go in
+    let left = c.in_ok-left.left in
+    let up = c.in_ok-up.up in
+    let p = c.in_ok-p.p in
+    let q = c.in_ok-q.q in
+    let pp = c.in_ok-p.ensures in
+    let qq = c.in_ok-q.ensures in
+    let both : p.signals ≡ go ∷ left ∷ [] = pp.2 ∙ two_pushed go left c.new-both.result c.push.new.self c.push-2.new.self c.new-both.ensures c.in_ok-push.ensures.ok c.in_ok-push-2.ensures.ok in
+    let one : q.signals ≡ up ∷ [] = qq.2 ∙ (c.in_ok-push-3.ensures.ok ∙ ap (λ v. v ++ up ∷ []) c.new-one.ensures) in
+    let ports : c.push-5.new.self ≡ p ∷ q ∷ [] = two_pushed p q c.new-ports.result c.push-4.new.self c.push-5.new.self c.new-ports.ensures c.in_ok-push-4.ensures.ok c.in_ok-push-5.ensures.ok in
+    let plain_p : IsPlainPort p = record {
+      lower_case = subst IsLowerCase (sym pp.0) refl;
+      no_subscripts = pp.1;
+      different = subst (λ v. HaveDifferentNames signal_name v) (sym both) (two_differ signal_name go left (names_differ signal_name go left (codes "go") (codes "left") c.in_ok-go.ensures.0 c.in_ok-left.ensures.0 refl) (names_differ signal_name left go (codes "left") (codes "go") c.in_ok-left.ensures.0 c.in_ok-go.ensures.0 refl));
+      each = subst (λ v. (i : ℕ) (x : Signal) → slice_get v i ≡ Some x → IsPlainSignal x) (sym both) (two_each IsPlainSignal go left (plain_signal go (codes "go") refl c.in_ok-go.ensures) (plain_signal left (codes "left") refl c.in_ok-left.ensures));
+      few = subst (λ v. length v ≤ 2 ^ 32) (sym both) (omega arith);
+    } in
+    let plain_q : IsPlainPort q = record {
+      lower_case = subst IsLowerCase (sym qq.0) refl;
+      no_subscripts = qq.1;
+      different = subst (λ v. HaveDifferentNames signal_name v) (sym one) (one_differs signal_name up);
+      each = subst (λ v. (i : ℕ) (x : Signal) → slice_get v i ≡ Some x → IsPlainSignal x) (sym one) (one_each IsPlainSignal up (plain_signal up (codes "up") refl c.in_ok-up.ensures));
+      few = subst (λ v. length v ≤ 2 ^ 32) (sym one) (omega arith);
+    } in
+    subst ArePlain (sym ports) (record {
+      different = two_differ port_name p q (names_differ port_name p q (codes "p") (codes "q") pp.0 qq.0 refl) (names_differ port_name q p (codes "q") (codes "p") qq.0 pp.0 refl);
+      each = two_each IsPlainPort p q plain_p plain_q;
+      few = omega arith;
+    })
