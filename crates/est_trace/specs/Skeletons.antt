@@ -1,6 +1,6 @@
 -- The ports of skeletons, and events at them.
 use Rattle.std.specs.Prelude.{◌≡◌, ℕ, ◌≤◌, ◌^◌, true, List, [], All, length, Some, slice_get}
-use Rattle.std.specs.Str.{str_eq_ignore_ascii_case, str_to_ascii_lowercase}
+use Rattle.std.specs.Str.{str_eq_ignore_ascii_case}
 use Rattle.est_syntax.specs.declared.ports.Signal.{Signal}
 use Rattle.est_syntax.specs.declared.ports.Port.{Port}
 use Rattle.est_meaning.specs.declared.event.Event.{Event}
@@ -10,21 +10,11 @@ use Rattle.est_meaning.specs.declared.event.Event.TheVariants.{Arrives, Leaves, 
 abbrev pub HaveDifferentNames : {A : Type 0} → (A → List ℕ) → List A → Type 0
 HaveDifferentNames {A} name xs = (i j : ℕ) (x y : A) → slice_get xs i ≡ Some x → slice_get xs j ≡ Some y → str_eq_ignore_ascii_case (name x) (name y) ≡ true → i ≡ j
 
--- a name is kept in lower case
-abbrev pub IsLowerCase : List ℕ → Type 0
-IsLowerCase name = str_to_ascii_lowercase name ≡ name
-
--- a signal without parameters
-pub record IsPlainSignal (x : Signal) : Type 0 where
-  pub lower_case : IsLowerCase x.name.bytes
-  pub no_parameters : x.kinds ≡ []
-
 -- a port that is no element of an array, with signals without parameters, whose names differ, and whose numbers can be written
 pub record IsPlainPort (p : Port) : Type 0 where
-  pub lower_case : IsLowerCase p.name.bytes
   pub no_subscripts : p.index_kinds ≡ []
   pub different : HaveDifferentNames (λ (x : Signal). x.name.bytes) p.signals
-  pub each : (i : ℕ) (x : Signal) → slice_get p.signals i ≡ Some x → IsPlainSignal x
+  pub no_parameters : (i : ℕ) (x : Signal) → slice_get p.signals i ≡ Some x → x.kinds ≡ []
   pub few : length p.signals ≤ 2 ^ 32
 
 -- the ports of a skeleton: plain ports whose names differ, and whose numbers can be written

@@ -18,7 +18,7 @@ returns-in_default-number_of c =
     let bytes = c.in-Some.name.items in
     let s : IsSpelledAt c.args.tokens.now c.args.at (Some bytes) = subst (λ o. IsSpelledAt c.args.tokens.now c.args.at (option_map (λ bytes. bytes.items) o)) c.in-Some.is c.in_ok-name.ensures in
     no_name port_name (λ p. some_pass c.args.way p.signals) (port_signal c.args.way) c.args.directory.now.ports.now c.args.tokens.now c.args.at
-    bytes (λ j y e. (c.requires.plain.each j y e).lower_case) s (names_in c.args.directory.now.names) c.requires.named
+    bytes s (names_in c.args.directory.now.names) c.requires.named
     (subst (λ v. IsNumberOf v (names_in c.args.directory.now.names) None) c.deref.ensures.value c.in_default-number_of.ensures)
 
 pub returns-then-is_passed : goal.returns-then-is_passed
@@ -29,7 +29,7 @@ returns-then-is_passed c =
     let s : IsSpelledAt c.args.tokens.now c.args.at (Some bytes) = subst (λ o. IsSpelledAt c.args.tokens.now c.args.at (option_map (λ bytes. bytes.items) o)) c.in-Some.is c.in_ok-name.ensures in
     let q = port_and_row d c.requires i bytes c.index.result.now c.args.way (subst (λ v. slice_get (names_in d.names) i ≡ Some v) c.deref.ensures.value c.in-Some-number_of.ensures) c.index.ensures in
     chosen port_name (λ p. some_pass c.args.way p.signals) (port_signal c.args.way) d.ports.now c.args.tokens.now c.args.at
-    bytes i q.0 (c.requires.plain.each i q.0 q.1).lower_case s q.1 q.2 (sym q.3 ∙ sym c.if-is_passed.ensures)
+    bytes i q.0 s q.1 q.2 (sym q.3 ∙ sym c.if-is_passed.ensures)
 
 pub returns : goal.returns
 returns c =
@@ -39,4 +39,4 @@ returns c =
     let s : IsSpelledAt c.args.tokens.now c.args.at (Some bytes) = subst (λ o. IsSpelledAt c.args.tokens.now c.args.at (option_map (λ bytes. bytes.items) o)) c.in-Some.is c.in_ok-name.ensures in
     let q = port_and_row d c.requires i bytes c.index.result.now c.args.way (subst (λ v. slice_get (names_in d.names) i ≡ Some v) c.deref.ensures.value c.in-Some-number_of.ensures) c.index.ensures in
     not_allowed port_name (λ p. some_pass c.args.way p.signals) (port_signal c.args.way) d.ports.now c.args.tokens.now c.args.at
-    bytes (λ j y e. (c.requires.plain.each j y e).lower_case) s c.requires.plain.different i q.0 q.1 q.2 (sym q.3 ∙ sym c.if-is_passed.ensures)
+    bytes s c.requires.plain.different i q.0 q.1 q.2 (sym q.3 ∙ sym c.if-is_passed.ensures)

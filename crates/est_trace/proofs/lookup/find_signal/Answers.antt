@@ -22,7 +22,7 @@ returns-in_default-number_of c = λ p e.
     let s : IsSpelledAt c.args.tokens.now c.args.at (Some bytes) = subst (λ o. IsSpelledAt c.args.tokens.now c.args.at (option_map (λ bytes. bytes.items) o)) c.in-Some.is c.in_ok-name.ensures in
     let told = row_of_port d c.requires.directory c.args.port c.index.result.now p c.index.ensures e in
     no_name signal_name (passes c.args.way) (λ x. done) p.signals c.args.tokens.now c.args.at
-    bytes (λ j y q. ((c.requires.directory.plain.each c.args.port p e).each j y q).lower_case) s (names_in c.index.result.now.signals) (told_names c.index.result.now p told)
+    bytes s (names_in c.index.result.now.signals) (told_names c.index.result.now p told)
     (subst (λ v. IsNumberOf v (names_in c.index.result.now.signals) None) c.deref.ensures.value c.in_default-number_of.ensures)
 
 pub bounds-signals-signal : goal.bounds-signals-signal
@@ -68,7 +68,7 @@ returns-then-passes c = λ p e.
     let n : slice_get (names_in row.signals) k ≡ Some bytes = subst (λ v. slice_get (names_in row.signals) k ≡ Some v) c.deref.ensures.value c.in-Some-number_of.ensures in
     let r = signal_read d c.requires.directory c.args.port k row c.index-directory-port.result p c.as_slice-signals.result.now x bytes c.index.ensures e c.requires.inside c.index-directory-port.is c.as_slice-signals.ensures n c.index-signals-signal.is in
     let plain = c.requires.directory.plain.each c.args.port p e in
-    chosen signal_name (passes c.args.way) (λ x. done) p.signals c.args.tokens.now c.args.at bytes k x (plain.each k x r.0).lower_case s r.0 r.1 (sym c.if-passes.ensures)
+    chosen signal_name (passes c.args.way) (λ x. done) p.signals c.args.tokens.now c.args.at bytes k x s r.0 r.1 (sym c.if-passes.ensures)
 
 pub returns : goal.returns
 returns c = λ p e.
@@ -81,4 +81,4 @@ returns c = λ p e.
     let n : slice_get (names_in row.signals) k ≡ Some bytes = subst (λ v. slice_get (names_in row.signals) k ≡ Some v) c.deref.ensures.value c.in-Some-number_of.ensures in
     let r = signal_read d c.requires.directory c.args.port k row c.index-directory-port.result p c.as_slice-signals.result.now x bytes c.index.ensures e c.requires.inside c.index-directory-port.is c.as_slice-signals.ensures n c.index-signals-signal.is in
     let plain = c.requires.directory.plain.each c.args.port p e in
-    not_allowed signal_name (passes c.args.way) (λ x. done) p.signals c.args.tokens.now c.args.at bytes (λ j y q. (plain.each j y q).lower_case) s plain.different k x r.0 r.1 (sym c.if-passes.ensures)
+    not_allowed signal_name (passes c.args.way) (λ x. done) p.signals c.args.tokens.now c.args.at bytes s plain.different k x r.0 r.1 (sym c.if-passes.ensures)

@@ -3,7 +3,7 @@ use Rattle.std.specs.Prelude.{codes}
 use Rattle.std.specs.Str.{str_eq_ignore_ascii_case, str_to_ascii_lowercase}
 use Rattle.est_syntax.specs.declared.ports.Signal.{Signal}
 use Rattle.est_syntax.specs.declared.ports.Port.{Port}
-use Rattle.est_trace.specs.Skeletons.{HaveDifferentNames, IsLowerCase, IsPlainSignal, IsPlainPort, ArePlain}
+use Rattle.est_trace.specs.Skeletons.{HaveDifferentNames, IsPlainPort, ArePlain}
 use Rattle.est_trace.specs.Directories.{signal_name, port_name}
 use Rattle.est_trace.proofs.tests.two_ports.Goals as goal
 
@@ -30,9 +30,6 @@ two_each P x y h k zero a e = let p : x ≡ a = cc in subst P p h
 two_each P x y h k (suc zero) a e = let p : y ≡ a = cc in subst P p k
 two_each P x y h k (suc (suc i)) a e = cc
 
-plain_signal : (x : Signal) (name : List ℕ) → IsLowerCase name → (x.name.bytes ≡ name) × (x.kinds ≡ []) → IsPlainSignal x
-plain_signal x name l h = record { lower_case = subst IsLowerCase (sym h.0) l; no_parameters = h.1 }
-
 names_differ : {A : Type 0} (name : A → List ℕ) (x y : A) (a b : List ℕ) → name x ≡ a → name y ≡ b → str_eq_ignore_ascii_case a b ≡ false → str_eq_ignore_ascii_case (name x) (name y) ≡ false
 names_differ name x y a b p q h = subst (λ v. str_eq_ignore_ascii_case v (name y) ≡ false) (sym p) (subst (λ v. str_eq_ignore_ascii_case a v ≡ false) (sym q) h)
 
@@ -52,17 +49,15 @@ returns c =
     let one : q.signals ≡ up ∷ [] = qq.2 ∙ (c.in_ok-push-3.ensures.ok ∙ ap (λ v. v ++ up ∷ []) c.new-one.ensures) in
     let ports : c.push-5.new.self ≡ p ∷ q ∷ [] = two_pushed p q c.new-ports.result c.push-4.new.self c.push-5.new.self c.new-ports.ensures c.in_ok-push-4.ensures.ok c.in_ok-push-5.ensures.ok in
     let plain_p : IsPlainPort p = record {
-      lower_case = subst IsLowerCase (sym pp.0) refl;
       no_subscripts = pp.1;
       different = subst (λ v. HaveDifferentNames signal_name v) (sym both) (two_differ signal_name go left (names_differ signal_name go left (codes "go") (codes "left") c.in_ok-go.ensures.0 c.in_ok-left.ensures.0 refl) (names_differ signal_name left go (codes "left") (codes "go") c.in_ok-left.ensures.0 c.in_ok-go.ensures.0 refl));
-      each = subst (λ v. (i : ℕ) (x : Signal) → slice_get v i ≡ Some x → IsPlainSignal x) (sym both) (two_each IsPlainSignal go left (plain_signal go (codes "go") refl c.in_ok-go.ensures) (plain_signal left (codes "left") refl c.in_ok-left.ensures));
+      no_parameters = subst (λ v. (i : ℕ) (x : Signal) → slice_get v i ≡ Some x → x.kinds ≡ []) (sym both) (two_each (λ x. x.kinds ≡ []) go left c.in_ok-go.ensures.1 c.in_ok-left.ensures.1);
       few = subst (λ v. length v ≤ 2 ^ 32) (sym both) (omega arith);
     } in
     let plain_q : IsPlainPort q = record {
-      lower_case = subst IsLowerCase (sym qq.0) refl;
       no_subscripts = qq.1;
       different = subst (λ v. HaveDifferentNames signal_name v) (sym one) (one_differs signal_name up);
-      each = subst (λ v. (i : ℕ) (x : Signal) → slice_get v i ≡ Some x → IsPlainSignal x) (sym one) (one_each IsPlainSignal up (plain_signal up (codes "up") refl c.in_ok-up.ensures));
+      no_parameters = subst (λ v. (i : ℕ) (x : Signal) → slice_get v i ≡ Some x → x.kinds ≡ []) (sym one) (one_each (λ x. x.kinds ≡ []) up c.in_ok-up.ensures.1);
       few = subst (λ v. length v ≤ 2 ^ 32) (sym one) (omega arith);
     } in
     subst ArePlain (sym ports) (record {
