@@ -11,16 +11,19 @@ use Rattle.est_trace.specs.Grammar.{some_pass}
 use Rattle.est_trace.specs.Skeletons.{ArePlain}
 use Rattle.est_trace.specs.Tables.{names_in}
 
+-- the name of a signal
 abbrev pub signal_name : Signal → List ℕ
 signal_name x = x.name.bytes
 
+-- the name of a port
 abbrev pub port_name : Port → List ℕ
 port_name p = p.name.bytes
 
--- the name in lower case
+-- the name of a signal in lower case
 abbrev pub signal_key : Signal → List ℕ
 signal_key x = str_to_ascii_lowercase (signal_name x)
 
+-- the name of a port in lower case
 abbrev pub port_key : Port → List ℕ
 port_key p = str_to_ascii_lowercase (port_name p)
 

@@ -20,6 +20,7 @@ values_shape (x ∷ xs) = left nothing
 abbrev pub interaction_shape : Interaction → Shape
 interaction_shape x = pick x.port (pick x.signal (values_shape x.values))
 
+-- which of the three events, and what it keeps
 abbrev pub event_shape : Event → Shape
 event_shape (Arrives x) = left (interaction_shape x)
 event_shape (Leaves x) = right (left (interaction_shape x))
@@ -30,8 +31,10 @@ abbrev pub nested : List Shape → Shape → Shape
 nested [] u = u
 nested (t ∷ ts) u = some (both t (nested ts u))
 
+-- the events in order
 abbrev pub events_shape : List Event → Shape
 events_shape events = nested (map event_shape events) nothing
 
+-- a trace keeps its events alone
 abbrev pub trace_shape : List Event → Shape
 trace_shape events = both (events_shape events) nothing
