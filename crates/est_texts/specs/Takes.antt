@@ -1,6 +1,5 @@
 -- What a function answers that takes one token.
 use Rattle.std.specs.Prelude.{◌≡◌, ℕ, ◌+◌, ◌<◌, Bool, true, false, Option, Some, None, List, length, Result, Ok, Err, slice_get, bytes_eq}
-use Rattle.std.specs.Str.{str_to_ascii_lowercase}
 use Rattle.est_lexer.specs.declared.kind.Token.{Token}
 use Rattle.est_lexer.specs.declared.tokens.Tokens.{Tokens}
 use Rattle.est_lexer.specs.Places.{text_of, tokens_of}
@@ -14,7 +13,7 @@ stands tokens at test = meets (holds (text_of tokens)) test (slice_get (tokens_o
 
 -- the word or symbol at the place is this in lower case, or none stands there
 abbrev pub IsSpelledAt : Tokens → ℕ → Option (List ℕ) → Type 0
-IsSpelledAt tokens at (Some bytes) = (at < length (tokens_of tokens)) × ((word : List ℕ) → stands tokens at (spelled word) ≡ bytes_eq (str_to_ascii_lowercase word) bytes)
+IsSpelledAt tokens at (Some bytes) = (at < length (tokens_of tokens)) × ((word : List ℕ) → stands tokens at (spelled word) ≡ bytes_eq word bytes)
 IsSpelledAt tokens at None = (word : List ℕ) → stands tokens at (spelled word) ≡ false
 
 -- the place behind the token, or the place where none stands that meets the test

@@ -2,6 +2,7 @@
 
 ghost use Rattle.std.specs.Prelude.{◌≡◌, ◌≤◌, ◌<◌, true, length, MatchOption, IfOk};
 ghost use Rattle.std.specs.Option.{option_map};
+ghost use Rattle.std.specs.Str.{str_to_ascii_lowercase};
 ghost use Rattle.est_lexer.specs.Places.{tokens_of};
 ghost use Rattle.est_texts.specs.Kinds.{is_spelled as has_spelling, is_number as is_numeric};
 ghost use Rattle.est_texts.specs.Tests.{spelled, number, value_of};
@@ -56,8 +57,10 @@ fn value_up_to(digits: &[u8], high: u32) -> Option<u32>
     Some(value as u32)
 }
 
-/// Whether this word or symbol stands at the place, in any letter case.
+/// Whether this word or symbol, which is given in lower case, stands at the place in any letter
+/// case.
 pub fn word_is(tokens: &Tokens, at: u32, word: &[u8]) -> bool
+    requires { str_to_ascii_lowercase word.now ≡ word.now }
     ensures test { stands tokens.now at (spelled word.now) ≡ result }
     ensures inside { result ≡ true → at < length (tokens_of tokens.now) }
     ensures room { result ≡ true → at < 134217728 }
@@ -81,8 +84,9 @@ pub fn word_at(alloc: Global, tokens: &Tokens, at: u32) -> Result<Option<Vec<u8>
     }
 }
 
-/// Takes this word or symbol, in any letter case.
+/// Takes this word or symbol, which is given in lower case, in any letter case.
 pub fn expect_word(tokens: &Tokens, at: u32, word: &[u8]) -> Result<u32, BadToken>
+    requires { str_to_ascii_lowercase word.now ≡ word.now }
     ensures { Takes (spelled word.now) tokens.now at result }
 {
     if word_is(tokens, at, word) {

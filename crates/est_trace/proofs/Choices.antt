@@ -2,7 +2,6 @@
 use Rattle.std.proofs.Common.{inl, length-take, get_or-take, ◌≡◌, ℕ, ◌+◌, ◌<◌, Bool, true, false, List, [], ◌∷◌, ◌++◌, length, get_or, take, map, refl, sym, ap, ◌∙◌, subst, arith, Option, Some, None, slice_get, bytes_eq}
 use Rattle.std.specs.List.{list_any}
 use Rattle.std.specs.Option.{option_map}
-use Rattle.std.specs.Str.{str_to_ascii_lowercase}
 use Rattle.std.proofs.lemmas.List.{length-map, get_or-map, map-append, take_more}
 use Rattle.std.proofs.lemmas.List.Folds.{list_any_none}
 use Rattle.std.proofs.lemmas.Option.{slice_get-map, slice_get-get_or, slice_get_within, get_or_from_slice_get}
@@ -41,27 +40,23 @@ same_image f g xs ys i x y e p q = some_same (sym (image_at f xs i x p) ∙ (ap 
 
 -- items whose names differ
 module _ {A : Type 0} (name : A → List ℕ) (xs : List A) (d : HaveDifferentNames name xs) where
-  -- the name in lower case
-  abbrev pub key : A → List ℕ
-  key x = str_to_ascii_lowercase (name x)
-
-  pub one_item : (i j : ℕ) (x y : A) → slice_get xs i ≡ Some x → slice_get xs j ≡ Some y → key x ≡ key y → x ≡ y
+  pub one_item : (i j : ℕ) (x y : A) → slice_get xs i ≡ Some x → slice_get xs j ≡ Some y → name x ≡ name y → x ≡ y
   one_item i j x y e h n =
-      let p : i ≡ j = d i j x y e h ((bytes_eq-Decides (key x) (key y)).1 n) in
+      let p : i ≡ j = d i j x y e h n in
       some_same (sym e ∙ (ap (slice_get xs) p ∙ h))
 
   -- the name of an item is none of those before it
-  pub new_name : (i : ℕ) (x : A) → slice_get xs i ≡ Some x → list_any (bytes_eq (key x)) (map key (take i xs)) ≡ false
-  new_name i x e = list_any_none (bytes_eq (key x)) (map key (take i xs)) (λ k z l. fresh k z (omega (arith, l, length-map (take i xs) key, length-take i xs)) (omega (arith, l, length-map (take i xs) key, length-take i xs)) refl)
+  pub new_name : (i : ℕ) (x : A) → slice_get xs i ≡ Some x → list_any (bytes_eq (name x)) (map name (take i xs)) ≡ false
+  new_name i x e = list_any_none (bytes_eq (name x)) (map name (take i xs)) (λ k z l. fresh k z (omega (arith, l, length-map (take i xs) name, length-take i xs)) (omega (arith, l, length-map (take i xs) name, length-take i xs)) refl)
     where
-      same : (k : ℕ) (z : List ℕ) → k < i → k < length xs → get_or (map key (take i xs)) k z ≡ key (get_or xs k x)
-      same k z l m = get_or-map key (take i xs) k x z (omega (arith, length-take i xs, l, m)) ∙ ap key (get_or-take i xs k x l)
+      same : (k : ℕ) (z : List ℕ) → k < i → k < length xs → get_or (map name (take i xs)) k z ≡ name (get_or xs k x)
+      same k z l m = get_or-map name (take i xs) k x z (omega (arith, length-take i xs, l, m)) ∙ ap name (get_or-take i xs k x l)
 
-      clash : (k : ℕ) → k < i → k < length xs → bytes_eq (key x) (key (get_or xs k x)) ≡ true → ⊥
-      clash k l m h = let p : i ≡ k = d i k x (get_or xs k x) e (slice_get-get_or xs k x m) h in omega arith
+      clash : (k : ℕ) → k < i → k < length xs → bytes_eq (name x) (name (get_or xs k x)) ≡ true → ⊥
+      clash k l m h = let p : i ≡ k = d i k x (get_or xs k x) e (slice_get-get_or xs k x m) ((bytes_eq-Decides (name x) (name (get_or xs k x))).0 h) in omega arith
 
-      fresh : (k : ℕ) (z : List ℕ) → k < i → k < length xs → {b : Bool} → bytes_eq (key x) (get_or (map key (take i xs)) k z) ≡ b → bytes_eq (key x) (get_or (map key (take i xs)) k z) ≡ false
-      fresh k z l m {b = true} h = absurd (clash k l m (subst (λ v. bytes_eq (key x) v ≡ true) (same k z l m) h))
+      fresh : (k : ℕ) (z : List ℕ) → k < i → k < length xs → {b : Bool} → bytes_eq (name x) (get_or (map name (take i xs)) k z) ≡ b → bytes_eq (name x) (get_or (map name (take i xs)) k z) ≡ false
+      fresh k z l m {b = true} h = absurd (clash k l m (subst (λ v. bytes_eq (name x) v ≡ true) (same k z l m) h))
       fresh k z l m {b = false} h = h
 
 -- the names so far, and one more
@@ -73,11 +68,11 @@ module _ {A : Type 0} (name : A → List ℕ) (allowed : A → Bool) (rest : A �
   abbrev alternative : A → Rule
   alternative x = when (allowed x) (word (spelled (name x)) (rest x))
 
-  spelled_so : (bytes : List ℕ) (x : A) → IsSpelledAt tokens at (Some bytes) → stands tokens at (spelled (name x)) ≡ bytes_eq (str_to_ascii_lowercase (name x)) bytes
+  spelled_so : (bytes : List ℕ) (x : A) → IsSpelledAt tokens at (Some bytes) → stands tokens at (spelled (name x)) ≡ bytes_eq (name x) bytes
   spelled_so bytes x s = s.1 (name x)
 
-  pub chosen : (bytes : List ℕ) (i : ℕ) (x : A) → IsSpelledAt tokens at (Some bytes) → slice_get xs i ≡ Some x → str_to_ascii_lowercase (name x) ≡ bytes → allowed x ≡ true → IsChosen alternative xs tokens at (Some i)
-  chosen bytes i x s e n w = (x, e, laws.when_meets (holds (text_of tokens)) marks (allowed x) (word (spelled (name x)) (rest x)) (slice_get (tokens_of tokens) at) w (inl (spelled_so bytes x s ∙ (bytes_eq-Decides (str_to_ascii_lowercase (name x)) bytes).1 n)))
+  pub chosen : (bytes : List ℕ) (i : ℕ) (x : A) → IsSpelledAt tokens at (Some bytes) → slice_get xs i ≡ Some x → name x ≡ bytes → allowed x ≡ true → IsChosen alternative xs tokens at (Some i)
+  chosen bytes i x s e n w = (x, e, laws.when_meets (holds (text_of tokens)) marks (allowed x) (word (spelled (name x)) (rest x)) (slice_get (tokens_of tokens) at) w (inl (spelled_so bytes x s ∙ (bytes_eq-Decides (name x) bytes).1 n)))
 
   none_chosen : ((j : ℕ) (y : A) → slice_get xs j ≡ Some y → allowed y ≡ true → stands tokens at (spelled (name y)) ≡ true → ⊥) → IsChosen alternative xs tokens at None
   none_chosen h m =
@@ -89,11 +84,11 @@ module _ {A : Type 0} (name : A → List ℕ) (allowed : A → Bool) (rest : A �
   no_word s = none_chosen (λ j y e w k. not_met (s (name y)) k)
 
   module _ (bytes : List ℕ) (s : IsSpelledAt tokens at (Some bytes)) where
-    none_named : ((j : ℕ) (y : A) → slice_get xs j ≡ Some y → allowed y ≡ true → str_to_ascii_lowercase (name y) ≡ bytes → ⊥) → IsChosen alternative xs tokens at None
-    none_named h = none_chosen (λ j y e w k. h j y e w ((bytes_eq-Decides (str_to_ascii_lowercase (name y)) bytes).0 (sym (spelled_so bytes y s) ∙ k)))
+    none_named : ((j : ℕ) (y : A) → slice_get xs j ≡ Some y → allowed y ≡ true → name y ≡ bytes → ⊥) → IsChosen alternative xs tokens at None
+    none_named h = none_chosen (λ j y e w k. h j y e w ((bytes_eq-Decides (name y) bytes).0 (sym (spelled_so bytes y s) ∙ k)))
 
-    pub no_name : (names : List (List ℕ)) → names ≡ map (λ y. str_to_ascii_lowercase (name y)) xs → IsNumberOf bytes names None → IsChosen alternative xs tokens at None
-    no_name names q n = none_named (λ j y e w k. n j (subst (λ v. slice_get v j ≡ Some bytes) (sym q) (image_at (λ y. str_to_ascii_lowercase (name y)) xs j y e ∙ ap Some k)))
+    pub no_name : (names : List (List ℕ)) → names ≡ map name xs → IsNumberOf bytes names None → IsChosen alternative xs tokens at None
+    no_name names q n = none_named (λ j y e w k. n j (subst (λ v. slice_get v j ≡ Some bytes) (sym q) (image_at name xs j y e ∙ ap Some k)))
 
-    pub not_allowed : HaveDifferentNames name xs → (i : ℕ) (x : A) → slice_get xs i ≡ Some x → str_to_ascii_lowercase (name x) ≡ bytes → allowed x ≡ false → IsChosen alternative xs tokens at None
+    pub not_allowed : HaveDifferentNames name xs → (i : ℕ) (x : A) → slice_get xs i ≡ Some x → name x ≡ bytes → allowed x ≡ false → IsChosen alternative xs tokens at None
     not_allowed d i x e n w = none_named (λ j y h k z. let p : x ≡ y = one_item name xs d i j x y e h (n ∙ sym z) in not_met w (ap allowed p ∙ k))

@@ -1,5 +1,6 @@
 -- Alternatives that begin with different names.
 use Rattle.std.proofs.Common.{◌≡◌, ℕ, true, false, List, [], ◌∷◌, Option, refl, inl, inr}
+use Rattle.std.proofs.lemmas.Slice.Eq.{bytes_eq-Decides}
 use Rattle.est_lexer.specs.declared.kind.Token.{Token}
 use Rattle.est_language.specs.Grammar.{meets, word, done}
 use Rattle.est_language.specs.Marks.{MeetsOne, can_begin, can_be_empty}
@@ -19,7 +20,7 @@ only_one text k o (inr e) = elim e [ ]
 
 module _ (text : List ℕ) where
   named_distinct : {A : Type 0} (name : A → List ℕ) (f : A → Rule) → ((x : A) (o : Option Token) → MeetsOne (holds text) o (can_begin marks (f x)) → meets (holds text) (spelled (name x)) o ≡ true) → (xs : List A) → HaveDifferentNames name xs → IsDistinct (tracing text) marks f xs
-  named_distinct name f begins xs d o i j x y e e' m m' = d i j x y e e' (one_word text (name x) (name y) o (begins x o m) (begins y o m'))
+  named_distinct name f begins xs d o i j x y e e' m m' = d i j x y e e' ((bytes_eq-Decides (name x) (name y)).0 (one_word text (name x) (name y) o (begins x o m) (begins y o m')))
 
   pub signals_distinct : (way : Way) (p : Port) → IsPlainPort p → IsDistinct (tracing text) marks (signal way) p.signals
   signals_distinct way p h = named_distinct (λ (x : Signal). x.name.bytes) (signal way) (λ x o m. only_one text (spelled x.name.bytes) o (when_begins (holds text) marks (passes way x) (word (spelled x.name.bytes) done) o m).1) p.signals h.different

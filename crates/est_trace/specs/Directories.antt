@@ -1,6 +1,5 @@
 -- What a directory of ports keeps.
 use Rattle.std.specs.Prelude.{◌≡◌, ℕ, Bool, List, map}
-use Rattle.std.specs.Str.{str_to_ascii_lowercase}
 use Rattle.est_syntax.specs.declared.ports.Signal.{Signal}
 use Rattle.est_syntax.specs.declared.ports.Port.{Port}
 use Rattle.est_trace.specs.declared.lookup.Row.{Row}
@@ -19,17 +18,9 @@ signal_name x = x.name.bytes
 abbrev pub port_name : Port → List ℕ
 port_name p = p.name.bytes
 
--- the name of a signal in lower case
-abbrev pub signal_key : Signal → List ℕ
-signal_key x = str_to_ascii_lowercase (signal_name x)
-
--- the name of a port in lower case
-abbrev pub port_key : Port → List ℕ
-port_key p = str_to_ascii_lowercase (port_name p)
-
--- of a port: whether some signal comes in, whether some goes out, and the names of its signals in lower case
+-- of a port: whether some signal comes in, whether some goes out, and the names of its signals
 abbrev pub kept_of : Port → Bool × Bool × List (List ℕ)
-kept_of p = (some_pass In p.signals, some_pass Out p.signals, map signal_key p.signals)
+kept_of p = (some_pass In p.signals, some_pass Out p.signals, map signal_name p.signals)
 
 -- what a row tells of a port
 abbrev pub told_by : Row → Bool × Bool × List (List ℕ)
@@ -43,5 +34,5 @@ passed_by Out row = row.sends
 -- the directory tells of plain ports, in their order
 pub record IsDirectory (directory : Directory) : Type 0 where
   pub plain : ArePlain directory.ports.now
-  pub named : names_in directory.names ≡ map port_key directory.ports.now
+  pub named : names_in directory.names ≡ map port_name directory.ports.now
   pub told : map told_by directory.rows.items ≡ map kept_of directory.ports.now

@@ -1,14 +1,13 @@
 -- The ports of skeletons, and events at them.
-use Rattle.std.specs.Prelude.{◌≡◌, ℕ, ◌≤◌, ◌^◌, true, List, [], All, length, Some, slice_get}
-use Rattle.std.specs.Str.{str_eq_ignore_ascii_case}
+use Rattle.std.specs.Prelude.{◌≡◌, ℕ, ◌≤◌, ◌^◌, List, [], All, length, Some, slice_get}
 use Rattle.est_syntax.specs.declared.ports.Signal.{Signal}
 use Rattle.est_syntax.specs.declared.ports.Port.{Port}
 use Rattle.est_meaning.specs.declared.event.Event.{Event}
 use Rattle.est_meaning.specs.declared.event.Event.TheVariants.{Arrives, Leaves, Passes}
 
--- no two items have the same name, in any letter case
+-- no two items have one name
 abbrev pub HaveDifferentNames : {A : Type 0} → (A → List ℕ) → List A → Type 0
-HaveDifferentNames {A} name xs = (i j : ℕ) (x y : A) → slice_get xs i ≡ Some x → slice_get xs j ≡ Some y → str_eq_ignore_ascii_case (name x) (name y) ≡ true → i ≡ j
+HaveDifferentNames {A} name xs = (i j : ℕ) (x y : A) → slice_get xs i ≡ Some x → slice_get xs j ≡ Some y → name x ≡ name y → i ≡ j
 
 -- A port that is no element of an array, with signals without parameters whose names differ. They are few enough that their numbers fit 32 bits.
 pub record IsPlainPort (p : Port) : Type 0 where

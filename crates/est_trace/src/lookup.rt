@@ -5,7 +5,7 @@ ghost use Rattle.est_trace.specs.declared.way.Way.TheVariants.{In as Coming, Out
 ghost use Rattle.est_trace.specs.Grammar.{passes as does_pass, some_pass as some_do_pass, port as a_port};
 ghost use Rattle.est_trace.specs.Skeletons.{ArePlain, HaveDifferentNames};
 ghost use Rattle.est_trace.specs.Tables.{names_in};
-ghost use Rattle.est_trace.specs.Directories.{signal_name, signal_key, passed_by, IsDirectory};
+ghost use Rattle.est_trace.specs.Directories.{signal_name, passed_by, IsDirectory};
 ghost use Rattle.est_trace.specs.Lookups.{IsChosen, ChoosesSignal};
 
 use crate::table::NameTable;
@@ -57,7 +57,7 @@ fn row_of(alloc: Global, signals: &[Signal]) -> Result<Row, AllocError>
     requires { HaveDifferentNames signal_name signals.now }
     ensures receives { IfOk result (λ row. row.receives ≡ some_do_pass Coming signals.now) }
     ensures sends { IfOk result (λ row. row.sends ≡ some_do_pass Going signals.now) }
-    ensures signals { IfOk result (λ row. names_in row.signals ≡ map signal_key signals.now) }
+    ensures signals { IfOk result (λ row. names_in row.signals ≡ map signal_name signals.now) }
 {
     let mut names = NameTable::new(alloc);
     for signal in signals.iter() {

@@ -2,13 +2,12 @@
 
 ghost use Rattle.std.specs.Prelude.{◌≡◌, false, [], ◌∷◌, ◌++◌, OnOk, bytes_eq};
 ghost use Rattle.std.specs.List.{list_any};
-ghost use Rattle.std.specs.Str.{str_to_ascii_lowercase};
 ghost use Rattle.est_trace.specs.Tables.{names_in, IsNumberOf};
 
 use indexmap::IndexSet;
 use std::alloc::{AllocError, Global};
 
-/// Different names in lower case, in the order of their declaration.
+/// Different names in the order of their declaration.
 #[derive(Drop)]
 pub struct NameTable {
     set: IndexSet<Vec<u8>>,
@@ -24,17 +23,17 @@ impl NameTable {
         }
     }
 
-    /// Puts a new name last, in lower case.
+    /// Puts a new name last.
     pub fn add(&mut self, alloc: Global, name: &[u8]) -> Result<(), AllocError>
-        requires { list_any (bytes_eq (str_to_ascii_lowercase name.now)) (names_in self.old) ≡ false }
-        ensures { OnOk result (names_in self.new ≡ names_in self.old ++ str_to_ascii_lowercase name.now ∷ []) }
+        requires { list_any (bytes_eq name.now) (names_in self.old) ≡ false }
+        ensures { OnOk result (names_in self.new ≡ names_in self.old ++ name.now ∷ []) }
     {
-        let key = name.to_ascii_lowercase(alloc)?;
+        let key = Vec::from_slice(alloc, name)?;
         self.set.insert(key)?;
         Ok(())
     }
 
-    /// The number of a name that is given in lower case, counted from 0.
+    /// The number of a name, counted from 0.
     pub fn number_of(&self, name: &[u8]) -> Option<usize>
         ensures { IsNumberOf name.now (names_in self.now) result }
     {

@@ -12,14 +12,14 @@ one_differs name x zero zero a b e h k = refl
 one_differs name x zero (suc j) a b e h k = cc
 one_differs name x (suc i) j a b e h k = cc
 
-two_differ : {A : Type 0} (name : A → List ℕ) (x y : A) → str_eq_ignore_ascii_case (name x) (name y) ≡ false → str_eq_ignore_ascii_case (name y) (name x) ≡ false → HaveDifferentNames name (x ∷ y ∷ [])
-two_differ name x y f g zero zero a b e h k = refl
-two_differ name x y f g zero (suc zero) a b e h k = let p : x ≡ a = cc in let q : y ≡ b = cc in let r : str_eq_ignore_ascii_case (name x) (name y) ≡ true = subst (λ v. str_eq_ignore_ascii_case (name v) (name y) ≡ true) (sym p) (subst (λ v. str_eq_ignore_ascii_case (name a) (name v) ≡ true) (sym q) k) in absurd cc
-two_differ name x y f g zero (suc (suc j)) a b e h k = cc
-two_differ name x y f g (suc zero) zero a b e h k = let p : y ≡ a = cc in let q : x ≡ b = cc in let r : str_eq_ignore_ascii_case (name y) (name x) ≡ true = subst (λ v. str_eq_ignore_ascii_case (name v) (name x) ≡ true) (sym p) (subst (λ v. str_eq_ignore_ascii_case (name a) (name v) ≡ true) (sym q) k) in absurd cc
-two_differ name x y f g (suc zero) (suc zero) a b e h k = refl
-two_differ name x y f g (suc zero) (suc (suc j)) a b e h k = cc
-two_differ name x y f g (suc (suc i)) j a b e h k = cc
+two_differ : {A : Type 0} (name : A → List ℕ) (x y : A) → (name x ≡ name y → ⊥) → HaveDifferentNames name (x ∷ y ∷ [])
+two_differ name x y f zero zero a b e h k = refl
+two_differ name x y f zero (suc zero) a b e h k = let p : x ≡ a = cc in let q : y ≡ b = cc in absurd (f (ap name p ∙ (k ∙ sym (ap name q))))
+two_differ name x y f zero (suc (suc j)) a b e h k = cc
+two_differ name x y f (suc zero) zero a b e h k = let p : y ≡ a = cc in let q : x ≡ b = cc in absurd (f (ap name q ∙ sym (ap name p ∙ k)))
+two_differ name x y f (suc zero) (suc zero) a b e h k = refl
+two_differ name x y f (suc zero) (suc (suc j)) a b e h k = cc
+two_differ name x y f (suc (suc i)) j a b e h k = cc
 
 one_each : {A : Type 0} (P : A → Type 0) (x : A) → P x → (i : ℕ) (a : A) → slice_get (x ∷ []) i ≡ Some a → P a
 one_each P x h zero a e = let p : x ≡ a = cc in subst P p h
@@ -30,8 +30,8 @@ two_each P x y h k zero a e = let p : x ≡ a = cc in subst P p h
 two_each P x y h k (suc zero) a e = let p : y ≡ a = cc in subst P p k
 two_each P x y h k (suc (suc i)) a e = cc
 
-names_differ : {A : Type 0} (name : A → List ℕ) (x y : A) (a b : List ℕ) → name x ≡ a → name y ≡ b → str_eq_ignore_ascii_case a b ≡ false → str_eq_ignore_ascii_case (name x) (name y) ≡ false
-names_differ name x y a b p q h = subst (λ v. str_eq_ignore_ascii_case v (name y) ≡ false) (sym p) (subst (λ v. str_eq_ignore_ascii_case a v ≡ false) (sym q) h)
+names_differ : {A : Type 0} (name : A → List ℕ) (x y : A) (a b : List ℕ) → name x ≡ a → name y ≡ b → (a ≡ b → ⊥) → name x ≡ name y → ⊥
+names_differ name x y a b p q h k = h (sym p ∙ (k ∙ q))
 
 two_pushed : {A : Type 0} (x y : A) (xs ys zs : List A) → xs ≡ [] → ys ≡ xs ++ x ∷ [] → zs ≡ ys ++ y ∷ [] → zs ≡ x ∷ y ∷ []
 two_pushed x y xs ys zs p q r = r ∙ ap (λ v. v ++ y ∷ []) (q ∙ ap (λ v. v ++ x ∷ []) p)
@@ -50,7 +50,7 @@ returns c =
     let ports : c.push-5.new.self ≡ p ∷ q ∷ [] = two_pushed p q c.new-ports.result c.push-4.new.self c.push-5.new.self c.new-ports.ensures c.in_ok-push-4.ensures.ok c.in_ok-push-5.ensures.ok in
     let plain_p : IsPlainPort p = record {
       no_subscripts = pp.1;
-      different = subst (λ v. HaveDifferentNames signal_name v) (sym both) (two_differ signal_name go left (names_differ signal_name go left (codes "go") (codes "left") c.in_ok-go.ensures.0 c.in_ok-left.ensures.0 refl) (names_differ signal_name left go (codes "left") (codes "go") c.in_ok-left.ensures.0 c.in_ok-go.ensures.0 refl));
+      different = subst (λ v. HaveDifferentNames signal_name v) (sym both) (two_differ signal_name go left (names_differ signal_name go left (codes "go") (codes "left") c.in_ok-go.ensures.0 c.in_ok-left.ensures.0 (λ e. cc)));
       no_parameters = subst (λ v. (i : ℕ) (x : Signal) → slice_get v i ≡ Some x → x.kinds ≡ []) (sym both) (two_each (λ x. x.kinds ≡ []) go left c.in_ok-go.ensures.1 c.in_ok-left.ensures.1);
       few = subst (λ v. length v ≤ 2 ^ 32) (sym both) (omega arith);
     } in
@@ -61,7 +61,7 @@ returns c =
       few = subst (λ v. length v ≤ 2 ^ 32) (sym one) (omega arith);
     } in
     subst ArePlain (sym ports) (record {
-      different = two_differ port_name p q (names_differ port_name p q (codes "p") (codes "q") pp.0 qq.0 refl) (names_differ port_name q p (codes "q") (codes "p") qq.0 pp.0 refl);
+      different = two_differ port_name p q (names_differ port_name p q (codes "p") (codes "q") pp.0 qq.0 (λ e. cc));
       each = two_each IsPlainPort p q plain_p plain_q;
       few = omega arith;
     })
