@@ -9,18 +9,16 @@ use Rattle.est_meaning.specs.declared.event.Event.TheVariants.{Arrives, Leaves, 
 abbrev pub HaveDifferentNames : {A : Type 0} → (A → List ℕ) → List A → Type 0
 HaveDifferentNames {A} name xs = (i j : ℕ) (x y : A) → slice_get xs i ≡ Some x → slice_get xs j ≡ Some y → name x ≡ name y → i ≡ j
 
--- A port that is no element of an array, with signals without parameters whose names differ. They are few enough that their numbers fit 32 bits.
+-- a port that is no element of an array, with signals without parameters whose names differ
 pub record IsPlainPort (p : Port) : Type 0 where
   pub no_subscripts : p.index_kinds ≡ []
   pub different : HaveDifferentNames (λ (x : Signal). x.name.bytes) p.signals
   pub no_parameters : (i : ℕ) (x : Signal) → slice_get p.signals i ≡ Some x → x.kinds ≡ []
-  pub few : length p.signals ≤ 2 ^ 32
 
--- The ports of a skeleton: plain ports whose names differ. They are few enough that their numbers fit 32 bits.
+-- the ports of a skeleton: plain ports whose names differ
 pub record ArePlain (ports : List Port) : Type 0 where
   pub different : HaveDifferentNames (λ (p : Port). p.name.bytes) ports
   pub each : (i : ℕ) (p : Port) → slice_get ports i ≡ Some p → IsPlainPort p
-  pub few : length ports ≤ 2 ^ 32
 
 -- an event with no values
 abbrev pub HasNoValues : Event → Type 0

@@ -97,6 +97,16 @@ fn is_passed(row: &Row, way: Way) -> bool
     }
 }
 
+// The number in 32 bits. A list with more items than those count is more than memory holds.
+fn narrow(number: usize) -> Result<u32, AllocError>
+    ensures { IfOk result (λ narrowed. narrowed ≡ number) }
+{
+    match u32::try_from(number) {
+        Ok(narrowed) => Ok(narrowed),
+        Err(_) => Err(AllocError),
+    }
+}
+
 /// The number of the port that stands at the place and that some signal passes this way.
 pub fn find_port(
     alloc: Global,
@@ -114,11 +124,11 @@ pub fn find_port(
     let Some(port) = directory.names.number_of(&name) else {
         return Ok(None);
     };
-    if is_passed(&directory.rows[port], way) {
-        Ok(Some(port as u32))
-    } else {
-        Ok(None)
+    if !is_passed(&directory.rows[port], way) {
+        return Ok(None);
     }
+    let number = narrow(port)?;
+    Ok(Some(number))
 }
 
 /// The number of the signal that stands at the place and passes the port this way.
@@ -141,9 +151,9 @@ pub fn find_signal(
         return Ok(None);
     };
     let signals = directory.ports[port as usize].signals.as_slice();
-    if passes(&signals[signal], way) {
-        Ok(Some(signal as u32))
-    } else {
-        Ok(None)
+    if !passes(&signals[signal], way) {
+        return Ok(None);
     }
+    let number = narrow(signal)?;
+    Ok(Some(number))
 }

@@ -52,16 +52,13 @@ returns c =
       no_subscripts = pp.1;
       different = subst (λ v. HaveDifferentNames signal_name v) (sym both) (two_differ signal_name go left (names_differ signal_name go left (codes "go") (codes "left") c.in_ok-go.ensures.0 c.in_ok-left.ensures.0 (λ e. cc)));
       no_parameters = subst (λ v. (i : ℕ) (x : Signal) → slice_get v i ≡ Some x → x.kinds ≡ []) (sym both) (two_each (λ x. x.kinds ≡ []) go left c.in_ok-go.ensures.1 c.in_ok-left.ensures.1);
-      few = subst (λ v. length v ≤ 2 ^ 32) (sym both) (omega arith);
     } in
     let plain_q : IsPlainPort q = record {
       no_subscripts = qq.1;
       different = subst (λ v. HaveDifferentNames signal_name v) (sym one) (one_differs signal_name up);
       no_parameters = subst (λ v. (i : ℕ) (x : Signal) → slice_get v i ≡ Some x → x.kinds ≡ []) (sym one) (one_each (λ x. x.kinds ≡ []) up c.in_ok-up.ensures.1);
-      few = subst (λ v. length v ≤ 2 ^ 32) (sym one) (omega arith);
     } in
     subst ArePlain (sym ports) (record {
       different = two_differ port_name p q (names_differ port_name p q (codes "p") (codes "q") pp.0 qq.0 (λ e. cc));
       each = two_each IsPlainPort p q plain_p plain_q;
-      few = omega arith;
     })
