@@ -8,3 +8,4 @@ pub mod Shapes
 pub mod Tables
 pub mod Choices
 pub mod Directories
+pub mod GoodPorts

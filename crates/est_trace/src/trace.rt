@@ -5,6 +5,7 @@ ghost use Rattle.std.specs.Bool.{Decides};
 ghost use Rattle.est_lexer.specs.Places.{text_of, tokens_of};
 ghost use Rattle.est_language.specs.Grammar.{rule};
 ghost use Rattle.est_language.specs.Marks.{MeetsOne};
+ghost use Rattle.est_syntax.specs.Ports.{ports_of};
 ghost use Rattle.est_texts.specs.Tests.{holds};
 ghost use Rattle.est_trace.specs.Grammar.{event as an_event, trace as a_trace, event_starts};
 ghost use Rattle.est_trace.specs.Shapes.{event_shape, events_shape, trace_shape};
@@ -16,6 +17,7 @@ use crate::error::TraceError;
 use crate::interaction::interaction;
 use crate::lookup::{Directory, directory_of};
 use crate::way::Way;
+use est_check::Checked;
 use est_lexer::tokens::Tokens;
 use est_meaning::event::{Event, Trace};
 use est_syntax::ports::Ports;
@@ -25,9 +27,22 @@ use std::alloc::Global;
 /// The most events that a trace may have.
 pub const MOST_EVENTS: u32 = 200_000;
 
+/// The trace of a specification that the tokens are, or the first token that is refused.
+pub fn read_trace(alloc: Global, checked: &Checked, tokens: &Tokens) -> Result<Trace, TraceError>
+    ensures { ReadsTrace (ports_of checked.now) tokens.now result }
+{
+    let _spec = checked.spec();
+    let ports = checked.ports();
+    read_events(alloc, ports, tokens)
+}
+
 /// The trace that the tokens are, for a specification with these ports, or the first token that
 /// is refused.
-pub fn read_events(alloc: Global, ports: &Ports, tokens: &Tokens) -> Result<Trace, TraceError>
+pub(crate) fn read_events(
+    alloc: Global,
+    ports: &Ports,
+    tokens: &Tokens,
+) -> Result<Trace, TraceError>
     requires { ArePlain ports.now }
     ensures { ReadsTrace ports.now tokens.now result }
 {
