@@ -1,16 +1,17 @@
 use Rattle.std.specs.Prelude.{◌≡◌, ℕ, Bool, true, List, ◌+◌, ◌<◌, ◌≤◌, ◌==◌, ◌||◌, ◌&&◌, slice_index, if◌then◌else◌}
+use Rattle.std.specs.Str.{byte}
 
 -- A blank is a tab, a line feed, a form feed, a carriage return or a space.
 abbrev pub is_blank : ℕ → Bool
-is_blank byte = (byte == 9) || (byte == 10) || (byte == 12) || (byte == 13) || (byte == 32)
+is_blank b = (b == 9) || (b == 10) || (b == 12) || (b == 13) || (b == 32)
 
 -- How many bytes the mark has that begins a comment at a place, `{` or `(*`: 0 where none stands there (ISO 7185, 6.1.8).
 unfoldable pub opening : List ℕ → ℕ → ℕ
-opening text place = if slice_index text place == 123 then 1 else if (slice_index text place == 40) && (slice_index text (place + 1) == 42) then 2 else 0
+opening text place = if slice_index text place == byte "{" then 1 else if (slice_index text place == byte "(") && (slice_index text (place + 1) == byte "*") then 2 else 0
 
 -- How many bytes the mark has that ends a comment at a place, `}` or `*)`: 0 where none stands there (ISO 7185, 6.1.8).
 unfoldable pub closing : List ℕ → ℕ → ℕ
-closing text place = if slice_index text place == 125 then 1 else if (slice_index text place == 42) && (slice_index text (place + 1) == 41) then 2 else 0
+closing text place = if slice_index text place == byte "}" then 1 else if (slice_index text place == byte "*") && (slice_index text (place + 1) == byte ")") then 2 else 0
 
 -- The first mark from a place on that ends a comment ends at `to`.
 pub record IsFirstEnd (text : List ℕ) (from to : ℕ) : Type 0 where

@@ -1,0 +1,7 @@
+//! Explanations: how a trace is said to come about.
+#![tactic(auto)]
+
+pub mod error;
+pub mod explanation;
+#[cfg(test)]
+mod tests;
