@@ -5,10 +5,9 @@ use Rattle.std.specs.Option.{option_map, option_map_or}
 use Rattle.est_syntax.specs.declared.name.Name.{Name}
 use Rattle.est_syntax.specs.declared.name.Used.{Used}
 use Rattle.est_syntax.specs.declared.specification.Transition.{Transition}
-use Rattle.est_syntax.specs.declared.specification.Body.{Body}
 use Rattle.est_syntax.specs.declared.specification.Spec.{Spec}
 use Rattle.est_meaning.specs.declared.run.Firing.{Firing}
-use Rattle.est_meaning.specs.Text.{is_name, uses_name, body_at, transitions_of, numbered, from_of, when_of, Awaited, has_delay, priority_of}
+use Rattle.est_meaning.specs.Text.{is_name, uses_name, transitions_of, numbered, from_of, when_of, Awaited, has_delay, priority_of}
 use Rattle.est_meaning.specs.Situation.{InteractionPoint, is_point, Item, Row, Clocked, Situation, row_of}
 use Rattle.est_meaning.specs.Links.{queue_of}
 
@@ -20,7 +19,7 @@ pub record Choice : Type 0 where
   pub transition : Transition
 
 abbrev pub choice_in : Spec → ℕ → Row → Option Choice
-choice_in spec number row = option_map (λ (t : Transition). record { row = row; transition = t }) (option_and_then (λ (b : Body). numbered (transitions_of b) number) (body_at spec row.body))
+choice_in spec number row = option_map (λ (t : Transition). record { row = row; transition = t }) (numbered (transitions_of row.body) number)
 
 -- the choice of a firing; without `any` the one choice of a transition is 1 (ISO 9074, 7, any-clause)
 abbrev pub choice_of : Spec → Situation → Firing → Option Choice

@@ -5,7 +5,7 @@ use Rattle.std.specs.Option.{option_map_or}
 use Rattle.est_syntax.specs.declared.specification.Queue.{Queue}
 use Rattle.est_syntax.specs.declared.specification.Queue.TheVariants.{Individual, Common}
 use Rattle.est_syntax.specs.declared.specification.Spec.{Spec}
-use Rattle.est_meaning.specs.Text.{Declared, points_in, ports_of, is_declared, discipline, body_at, header_of}
+use Rattle.est_meaning.specs.Text.{Declared, points_in, ports_of, is_declared, discipline, header_of}
 use Rattle.est_meaning.specs.Situation.{InteractionPoint, is_point, QueueName, Own, Shared, Item, Row, Situation, row_of, with_queue}
 
 -- POINTS OF AN INSTANCE
@@ -16,7 +16,7 @@ point_of number declared = record { instance = number; name = declared.name; ind
 
 -- the external interaction points that the header of an instance declares, in order
 abbrev pub declared_of : Spec → Row → List Declared
-declared_of spec row = points_in (option_and_then (header_of spec) (body_at spec row.body))
+declared_of spec row = points_in (header_of spec row.body)
 
 abbrev pub external_of : Spec → Row → List InteractionPoint
 external_of spec row = map (point_of row.number) (declared_of spec row)

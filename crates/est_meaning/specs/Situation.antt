@@ -6,6 +6,7 @@ use Rattle.std.specs.Ordering.{int_eq}
 use Rattle.std.specs.Cmp.Lexicographic.{pointwise}
 use Rattle.est_syntax.specs.declared.name.Name.{Name}
 use Rattle.est_syntax.specs.declared.kind.Value.{Value}
+use Rattle.est_syntax.specs.declared.specification.Body.{Body}
 use Rattle.est_meaning.specs.Text.{is_name}
 
 -- a finite map: it gives some value at finitely many keys, and none at all others
@@ -50,11 +51,11 @@ pub record ModuleElement : Type 0 where
 abbrev pub Holding : Type 0
 Holding = Option ℕ
 
--- a living instance: its parent is 0 for the root, and its body is told by the place of the body's name (ISO 9074, 5, module instances)
+-- a living instance: its parent is 0 for the root (ISO 9074, 5, module instances)
 pub record Row : Type 0 where
   pub number : ℕ
   pub parent : ℕ
-  pub body : ℕ
+  pub body : Body
   pub state : Option Name
   -- the values of variables and parameters
   pub variables : Map Name Value

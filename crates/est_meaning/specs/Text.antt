@@ -1,7 +1,7 @@
 -- What the text of a specification declares.
 --
 -- These definitions serve skeletons: no interaction point has subscripts, and each `trans` holds one transition.
-use Rattle.std.specs.Prelude.{ℕ, zero, suc, Bool, false, not, ◌==◌, nat_eq, List, [], ◌∷◌, map, find, Option, Some, None, option_and_then, unwrap_or, slice_get}
+use Rattle.std.specs.Prelude.{ℕ, zero, suc, Bool, false, not, ◌==◌, List, [], ◌∷◌, map, find, Option, Some, None, option_and_then, unwrap_or, slice_get}
 use Rattle.std.specs.Cmp.Lexicographic.{pointwise}
 use Rattle.std.specs.List.{filter_map, flat_map, list_any}
 use Rattle.std.specs.Option.{option_map_or, option_or}
@@ -72,10 +72,6 @@ header_named spec name = find (λ (h : Header). uses_name name h.name) (filter_m
 -- the module body of a name (ISO 9074, 7, module body definition)
 abbrev pub body_named : Spec → Name → Option Body
 body_named spec name = find (λ (b : Body). uses_name name (out-Body b).name) (filter_map body_in spec.parts)
-
--- the module body whose name stands at this place of the text
-abbrev pub body_at : Spec → ℕ → Option Body
-body_at spec place = find (λ (b : Body). nat_eq place (out-Body b).name.place) (filter_map body_in spec.parts)
 
 -- the header that a body is for
 abbrev pub header_of : Spec → Body → Option Header
