@@ -1,3 +1,4 @@
 pub mod Grammar
 pub mod Shapes
 pub mod Reading
+pub mod Replay
