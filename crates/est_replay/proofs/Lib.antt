@@ -1,3 +1,6 @@
 pub mod Parts
 pub mod Shapes
 pub mod Checks
+pub mod Events
+pub mod Moving
+pub mod Replaying

@@ -2,3 +2,4 @@ pub mod Grammar
 pub mod Shapes
 pub mod Reading
 pub mod Replay
+pub mod Standing

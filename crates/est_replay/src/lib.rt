@@ -4,4 +4,5 @@
 pub mod error;
 pub mod explanation;
 pub mod laws;
+pub mod replay;
 pub mod verdict;
