@@ -1,23 +1,22 @@
 -- Laws of the checks of a replay.
-use Rattle.std.proofs.Common.{◌≡◌, ◌≤◌, ◌<◌, ◌+◌, ◌⊎◌, ℕ, List, [], ◌∷◌, ◌++◌, length, take, drop, reverse, refl, sym, ap, subst, ◌∙◌, inl, inr, append_assoc, arith, Some}
+use Rattle.std.proofs.Common.{◌≡◌, ◌≤◌, ◌+◌, ◌⊎◌, ℕ, List, [], ◌∷◌, ◌++◌, length, take, drop, reverse, refl, sym, ap, subst, ◌∙◌, inl, inr, append_assoc, arith}
 use Rattle.std.proofs.lemmas.List.{append-nil, take-append-drop, reverse-append, reverse-reverse, length-reverse}
 use Rattle.est_syntax.specs.declared.specification.Spec.{Spec}
 use Rattle.est_meaning.specs.declared.event.Event.{Event}
 use Rattle.est_meaning.specs.declared.run.Firing.{Firing}
-use Rattle.est_meaning.specs.declared.run.BlockFault.{BlockFault}
 use Rattle.est_meaning.specs.declared.run.Move.{Move}
 use Rattle.est_meaning.specs.declared.run.Move.TheVariants.{Take, Fire}
 use Rattle.est_meaning.specs.Choices.{IsSettled, IsPossible}
 use Rattle.est_meaning.specs.Blocks.{Outcome, Done, Fault, Limit}
-use Rattle.est_meaning.specs.Step.{outcome, IsStep, start_of}
-use Rattle.est_meaning.specs.Run.{Setup, Place, first_place, after_firing, Takes, Fires, Moves, IsBoundedRun, Follows, FollowsBefore, Explains, YieldsFirst, Yields}
+use Rattle.est_meaning.specs.Step.{outcome, start_of}
+use Rattle.est_meaning.specs.Run.{Setup, Place, first_place, after_firing, Fires, Moves, IsBoundedRun, Follows, FollowsBefore, Yields}
 use Rattle.est_meaning.proofs.StepLaws.{possible_settled, limit_done, fault_done}
 use Rattle.est_meaning.proofs.RunLaws.{Grows, follows_grows, moves_one, one_place, explains_follows}
 use Rattle.est_replay.specs.declared.verdict.Why.{Why}
 use Rattle.est_replay.specs.declared.verdict.Why.TheVariants as why
 use Rattle.est_replay.specs.declared.verdict.Replayed.{Replayed}
 use Rattle.est_replay.specs.declared.verdict.Replayed.TheVariants.{Confirmed, Rejected}
-use Rattle.est_replay.specs.Replay.{IsPrefix, Agrees, HasNoEvent, FiringFails, MoveFails, IsPassed, FailsAtStart, FailsAtMove, FailsAtEnd, IsAnswer, AnswersFrom, IsReplay, OneAnswer}
+use Rattle.est_replay.specs.Replay.{IsPrefix, Agrees, FiringFails, MoveFails, IsPassed, IsAnswer, AnswersFrom, OneAnswer}
 
 -- AGREEING
 
@@ -164,16 +163,22 @@ one_on c claim m earlier left p q a t = record { is_run = (p, a.is_run, t.moves,
 pub yields_passed : (c : Setup) (run : List Move) (claim : ℕ) → Yields c run claim → (p : Place) × IsPassed c claim run [] p
 yields_passed c run claim y =
     elim y [
-      | inl a ↦ (a.place, record {
+      | inl a ↦ (
+        a.place,
+        record {
           is_run = a.is_run;
           before = a.before;
           agrees = (drop claim c.trace, sym (take-append-drop claim c.trace) ∙ ap (λ w. w ++ drop claim c.trace) (sym a.agree));
-        })
-      | inr a ↦ (let e = a.1 in (e.place, record {
+        },
+      )
+      | inr a ↦ (let e = a.1 in (
+        e.place,
+        record {
           is_run = e.is_run;
           before = follows_before c run e.place e.is_run (explains_follows c run e);
           agrees = follows_agrees c claim [] e.place (explains_follows c run e);
-        }))
+        },
+      ))
     ]
 
 -- THE WALK
@@ -195,14 +200,14 @@ walks_one c claim Y p [] made a b x y =
 walks_one c claim Y p (m ∷ left) made a b x y =
     elim x [
       | inl s ↦ elim y [
-          | inl t ↦ s.1 ∙ ap (Rejected (made + 1)) (fails_one c (Agrees c claim left) p m s.0 t.0 s.2 t.2) ∙ sym t.1
-          | inr t ↦ absurd (passes_not_fails c (Agrees c claim left) p m t.0 s.0 t.1 s.2)
-        ]
+        | inl t ↦ s.1 ∙ ap (Rejected (made + 1)) (fails_one c (Agrees c claim left) p m s.0 t.0 s.2 t.2) ∙ sym t.1
+        | inr t ↦ absurd (passes_not_fails c (Agrees c claim left) p m t.0 s.0 t.1 s.2)
+      ]
       | inr s ↦ elim y [
-          | inl t ↦ absurd (passes_not_fails c (Agrees c claim left) p m s.0 t.0 s.1 t.2)
-          | inr t ↦ (let e : t.0 ≡ s.0 = moves_one c p m t.0 s.0 t.1.moves s.1.moves in
-              walks_one c claim Y s.0 left (made + 1) a b s.2 (subst (λ q. Walks c claim Y q left (made + 1) b) e t.2))
-        ]
+        | inl t ↦ absurd (passes_not_fails c (Agrees c claim left) p m s.0 t.0 s.1 t.2)
+        | inr t ↦ (let e : t.0 ≡ s.0 = moves_one c p m t.0 s.0 t.1.moves s.1.moves in
+            walks_one c claim Y s.0 left (made + 1) a b s.2 (subst (λ q. Walks c claim Y q left (made + 1) b) e t.2))
+      ]
     ]
 
 -- a walk that goes on behind a run that passes is one from the start
@@ -240,12 +245,12 @@ answer_walked c moves claim (Rejected at w) x =
     elim x [
       | inl s ↦ (let e : Rejected at w ≡ Rejected 0 why.WrongOutput = ap (λ n. Rejected n w) s.at_is ∙ ap (Rejected 0) s.why_is in inl (e, s.differs))
       | inr y ↦ elim y [
-          | inl s ↦ walked c moves (reverse s.earlier) (s.move ∷ s.left) claim s.place (length s.earlier) (Rejected at w)
-              (s.moves_are ∙ ap (λ ms. ms ++ s.move ∷ s.left) (sym (reverse-reverse s.earlier))) (sym (length-reverse s.earlier)) s.passed
-              (inl (w, ap (λ n. Rejected n w) s.at_is, s.fails))
-          | inr s ↦ (let e : Rejected at w ≡ Rejected (length moves + 1) why.NotAll = ap (λ n. Rejected n w) s.at_is ∙ ap (Rejected (length moves + 1)) s.why_is in
-              walked c moves (reverse moves) [] claim s.place (length moves) (Rejected at w) (walked_whole moves) (sym (length-reverse moves)) s.passed (inr (e, s.unyielded)))
-        ]
+        | inl s ↦ walked c moves (reverse s.earlier) (s.move ∷ s.left) claim s.place (length s.earlier) (Rejected at w)
+            (s.moves_are ∙ ap (λ ms. ms ++ s.move ∷ s.left) (sym (reverse-reverse s.earlier))) (sym (length-reverse s.earlier)) s.passed
+            (inl (w, ap (λ n. Rejected n w) s.at_is, s.fails))
+        | inr s ↦ (let e : Rejected at w ≡ Rejected (length moves + 1) why.NotAll = ap (λ n. Rejected n w) s.at_is ∙ ap (Rejected (length moves + 1)) s.why_is in
+            walked c moves (reverse moves) [] claim s.place (length moves) (Rejected at w) (walked_whole moves) (sym (length-reverse moves)) s.passed (inr (e, s.unyielded)))
+      ]
     ]
 
 walked_one : (c : Setup) (moves : List Move) (claim : ℕ) (a b : Replayed) → IsWalked c moves claim a → IsWalked c moves claim b → a ≡ b

@@ -1,9 +1,9 @@
 -- Laws of events that agree with a trace.
-use Rattle.std.proofs.Common.{◌≡◌, ◌≢◌, ◌≤◌, ◌<◌, ◌+◌, ◌-◌, ◌⊎◌, ℕ, zero, suc, Bool, true, false, ◌&&◌, ◌==◌, List, [], ◌∷◌, ◌++◌, length, take, drop, get_or, refl, sym, ap, subst, ◌∙◌, inl, inr, append_assoc, arith}
+use Rattle.std.proofs.Common.{◌≡◌, ◌≤◌, ◌<◌, ◌+◌, ◌-◌, ℕ, zero, suc, Bool, true, false, ◌&&◌, ◌==◌, List, [], ◌∷◌, ◌++◌, length, take, drop, get_or, refl, sym, ap, subst, ◌∙◌, inl, inr, append_assoc, arith}
 use Rattle.std.proofs.Math.Seq.{take-append-add}
 use Rattle.std.proofs.lemmas.Bool.{cases_lt}
 use Rattle.std.proofs.lemmas.Bool.Decides.{Decides-eqb}
-use Rattle.std.proofs.lemmas.List.{take-append-drop, take_all, take-take, take-append-le, length-append, length-take-le, append_cancel_left, get_or_append_left, get_or_at, drop_more, take_more}
+use Rattle.std.proofs.lemmas.List.{take-append-drop, take_all, take-take, take-append-le, length-append, length-take-le, append_cancel_left, get_or_append_left, drop_more}
 use Rattle.est_meaning.specs.declared.event.Event.{Event}
 use Rattle.est_meaning.specs.declared.run.Firing.{Firing}
 use Rattle.est_meaning.specs.Order.{IsAmong}
@@ -42,16 +42,22 @@ pub agrees_on : (trace outs : List Event) (so asked : ℕ) → so ≤ length tra
 agrees_on trace outs so asked within p =
     elim (cases_lt asked so) [
       | inl lt ↦ (drop asked trace, sym (take-append-drop asked trace) ∙ ap (λ w. w ++ drop asked trace) (sym (taken_short trace outs so asked within lt)))
-      | inr le ↦ (p.0, sym (take-append-drop so trace) ∙ ap (λ w. take so trace ++ w) p.1 ∙ sym (append_assoc (take so trace) (take (asked - so) outs) p.0)
-          ∙ ap (λ w. w ++ p.0) (sym (taken_over trace outs so asked within le)))
+      | inr le ↦ (
+        p.0,
+        sym (take-append-drop so trace) ∙ ap (λ w. take so trace ++ w) p.1 ∙ sym (append_assoc (take so trace) (take (asked - so) outs) p.0)
+            ∙ ap (λ w. w ++ p.0) (sym (taken_over trace outs so asked within le)),
+      )
     ]
 
 pub agrees_back : (trace outs : List Event) (so asked : ℕ) → so ≤ length trace → IsPrefix trace (take asked (take so trace ++ outs)) → IsPrefix (drop so trace) (take (asked - so) outs)
 agrees_back trace outs so asked within p =
     elim (cases_lt asked so) [
       | inl lt ↦ (let none : 0 ≡ asked - so = omega arith in subst (λ n. IsPrefix (drop so trace) (take n outs)) none (drop so trace, refl))
-      | inr le ↦ (p.0, append_cancel_left (take so trace) (drop so trace) (take (asked - so) outs ++ p.0)
-          (take-append-drop so trace ∙ p.1 ∙ ap (λ w. w ++ p.0) (taken_over trace outs so asked within le) ∙ append_assoc (take so trace) (take (asked - so) outs) p.0))
+      | inr le ↦ (
+        p.0,
+        append_cancel_left (take so trace) (drop so trace) (take (asked - so) outs ++ p.0)
+            (take-append-drop so trace ∙ p.1 ∙ ap (λ w. w ++ p.0) (taken_over trace outs so asked within le) ∙ append_assoc (take so trace) (take (asked - so) outs) p.0),
+      )
     ]
 
 -- the trace at a place

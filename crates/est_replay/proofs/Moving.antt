@@ -7,7 +7,6 @@ use Rattle.est_meaning.specs.declared.event.Event.{Event}
 use Rattle.est_meaning.specs.declared.event.Event.TheVariants.{Arrives, Passes}
 use Rattle.est_meaning.specs.declared.run.BlockFault.{BlockFault}
 use Rattle.est_meaning.specs.declared.run.Firing.{Firing}
-use Rattle.est_meaning.specs.declared.run.Fired.{Fired}
 use Rattle.est_meaning.specs.declared.run.Fired.TheVariants as fired
 use Rattle.est_meaning.specs.declared.run.Move.TheVariants.{Take, Fire}
 use Rattle.est_meaning.specs.declared.run.Offers.{Offers}
@@ -19,17 +18,16 @@ use Rattle.est_meaning.specs.Step.{outcome, after_event}
 use Rattle.est_meaning.specs.Stack.{Stack, pushed, OffersAre, FiredAs}
 use Rattle.est_meaning.specs.Allowed.{IsAllowed, IsArrival, units_of}
 use Rattle.est_meaning.specs.Order.{IsAmong}
-use Rattle.est_meaning.specs.Run.{Setup, Place, IsFromOutside, after_taking, after_firing, Takes, Fires, Follows, row_after}
+use Rattle.est_meaning.specs.Run.{Setup, IsFromOutside, after_taking, after_firing, Takes, Follows}
 use Rattle.est_meaning.proofs.StackLaws.{fired_done, fired_fault, fired_limit}
 use Rattle.est_meaning.proofs.RunLaws.{bounded_is_run}
 use Rattle.est_meaning.proofs.ClockLaws.{clock_bounded}
-use Rattle.est_replay.specs.declared.verdict.Why.{Why}
 use Rattle.est_replay.specs.declared.verdict.Why.TheVariants as why
 use Rattle.est_replay.specs.declared.replay.Standing.{Standing}
 use Rattle.est_replay.specs.declared.replay.Moved.{Moved}
 use Rattle.est_replay.specs.declared.replay.Moved.TheVariants.{On, Off}
 use Rattle.est_replay.specs.Replay.{IsPrefix, HasNoEvent, MoveFails}
-use Rattle.est_replay.specs.Standing.{Suits, IsReady, StandsAt, AgreesUpTo, HasMoved, HasLanded, place_of}
+use Rattle.est_replay.specs.Standing.{IsReady, AgreesUpTo, HasMoved, HasLanded, place_of}
 use Rattle.est_replay.proofs.Checks.{follows_agrees}
 use Rattle.est_replay.proofs.Events.{next_of}
 
@@ -63,12 +61,17 @@ module _ (c : Setup) (spec : Spec) (limit silent : ℕ) (trace : List Event) (st
       let rest = drop (at.events + 1) trace in
       let t = next_takes e lt is outside in
       let follows : Follows c q = (rest, t.next ∙ sym (append_assoc (take at.events trace) (e ∷ []) rest)) in
-      let many = length-take-le at.events trace (omega arith) in
-      (q, t, zero-le, follows_agrees c asked [] q follows, record {
-        situation_is = ap (λ x. after_event x stack.now e) r.suits.spec_is ∙ after;
-        many = length_push (take at.events trace) e ∙ ap (λ n. n + 1) many;
-        row_is = refl;
-      })
+      let many = length-take-le at.events trace (omega arith) in (
+        q,
+        t,
+        zero-le,
+        follows_agrees c asked [] q follows,
+        record {
+          situation_is = ap (λ x. after_event x stack.now e) r.suits.spec_is ∙ after;
+          many = length_push (take at.events trace) e ∙ ap (λ n. n + 1) many;
+          row_is = refl;
+        },
+      )
 
   pub next_allowed : (e : Event) → at.events < length trace → get_or trace at.events e ≡ e → IsAllowed spec e
   next_allowed e lt is =
@@ -124,27 +127,30 @@ module _ (c : Setup) (spec : Spec) (limit silent : ℕ) (trace : List Event) (st
           let q = after_firing p s outs in
           let many = length-take-le at.events trace within in
           let row : q.row ≡ next.row = sym l.2 in
-          let few : next.row ≤ silent = l.3 in
-          (q,
-           record { situation = s; outs = outs; step = record { possible = possible_of h among; done = outcome_is (Done s outs) limit' mid limit_same stack_same done }; leads = refl },
-           subst (λ n. q.row ≤ n) (sym r.suits.silent_is) (subst (λ n. n ≤ silent) (sym row) few),
-           subst (λ w. IsPrefix w (take asked q.events)) (sym r.suits.trace_is) l.0,
-           record {
-             situation_is = ap (λ (x : Stack). x.now) (sym new_is);
-             many = length-append (take at.events trace) outs ∙ ap (λ n. n + length outs) many ∙ sym l.1;
-             row_is = row;
-           })
+          let few : next.row ≤ silent = l.3 in (
+            q,
+            record { situation = s; outs = outs; step = record { possible = possible_of h among; done = outcome_is (Done s outs) limit' mid limit_same stack_same done }; leads = refl },
+            subst (λ n. q.row ≤ n) (sym r.suits.silent_is) (subst (λ n. n ≤ silent) (sym row) few),
+            subst (λ w. IsPrefix w (take asked q.events)) (sym r.suits.trace_is) l.0,
+            record {
+              situation_is = ap (λ (x : Stack). x.now) (sym new_is);
+              many = length-append (take at.events trace) outs ∙ ap (λ n. n + length outs) many ∙ sym l.1;
+              row_is = row;
+            },
+          )
       landed s done new_is within (Off why.WrongOutput) l =
-          let q = after_firing (place_of stack trace at) s outs in
-          (q,
-           record { situation = s; outs = outs; step = record { possible = possible_of h among; done = outcome_is (Done s outs) limit' mid limit_same stack_same done }; leads = refl },
-           λ a. l (subst (λ w. IsPrefix w (take asked q.events)) r.suits.trace_is a))
+          let q = after_firing (place_of stack trace at) s outs in (
+            q,
+            record { situation = s; outs = outs; step = record { possible = possible_of h among; done = outcome_is (Done s outs) limit' mid limit_same stack_same done }; leads = refl },
+            λ a. l (subst (λ w. IsPrefix w (take asked q.events)) r.suits.trace_is a),
+          )
       landed s done new_is within (Off why.TooSilent) l =
-          let q = after_firing (place_of stack trace at) s outs in
-          (q,
-           record { situation = s; outs = outs; step = record { possible = possible_of h among; done = outcome_is (Done s outs) limit' mid limit_same stack_same done }; leads = refl },
-           subst (λ w. IsPrefix w (take asked q.events)) (sym r.suits.trace_is) l.0,
-           subst (λ n. n < q.row) (sym r.suits.silent_is) l.1)
+          let q = after_firing (place_of stack trace at) s outs in (
+            q,
+            record { situation = s; outs = outs; step = record { possible = possible_of h among; done = outcome_is (Done s outs) limit' mid limit_same stack_same done }; leads = refl },
+            subst (λ w. IsPrefix w (take asked q.events)) (sym r.suits.trace_is) l.0,
+            subst (λ n. n < q.row) (sym r.suits.silent_is) l.1,
+          )
       landed s done new_is within (Off (why.NoStart g)) l = absurd l
       landed s done new_is within (Off why.Limit) l = absurd l
       landed s done new_is within (Off why.NoEvent) l = absurd l

@@ -7,7 +7,6 @@ use Rattle.est_meaning.specs.Situation.{Situation}
 use Rattle.est_meaning.specs.Stack.{Stack}
 use Rattle.est_meaning.specs.Allowed.{IsAllowedTrace}
 use Rattle.est_meaning.specs.Run.{Setup, Place, IsBegun, Moves, IsBoundedRun, row_after}
-use Rattle.est_replay.specs.declared.verdict.Why.{Why}
 use Rattle.est_replay.specs.declared.verdict.Why.TheVariants as why
 use Rattle.est_replay.specs.declared.replay.Standing.{Standing}
 use Rattle.est_replay.specs.declared.replay.Moved.{Moved}
