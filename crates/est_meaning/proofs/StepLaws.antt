@@ -16,9 +16,12 @@ use Rattle.est_meaning.specs.declared.event.Event.TheVariants as event
 use Rattle.est_meaning.specs.declared.run.Firing.{Firing}
 use Rattle.est_meaning.specs.declared.run.BlockFault.{BlockFault}
 use Rattle.est_meaning.specs.declared.run.BlockFault.TheVariants.{NoModule}
-use Rattle.est_meaning.specs.Text.{Declared, Carried, Awaited, body_named, ports_of, carried_at, when_of, to_of}
+use Rattle.est_syntax.specs.declared.ports.Port.{Port}
+use Rattle.est_syntax.specs.declared.ports.Signal.{Signal}
+use Rattle.est_syntax.specs.Ports.{ports_of}
+use Rattle.est_meaning.specs.Text.{Awaited, body_named, when_of, to_of}
 use Rattle.est_meaning.specs.Situation.{InteractionPoint, Situation}
-use Rattle.est_meaning.specs.Links.{Route, Within, Outside, Lost, routed, point_of}
+use Rattle.est_meaning.specs.Links.{Route, Within, Outside, Lost, routed, port_point}
 use Rattle.est_meaning.specs.Choices.{Choice, choice_of, IsSettled, IsPossible}
 use Rattle.est_meaning.specs.Blocks.{Outcome, Done, Fault, Limit, block_meaning, delivered, sent, all_sent, sending_at}
 use Rattle.est_meaning.specs.Step.{without_awaited, with_state, completed, fired_by, outcome, initialized, made, born, begun, start_of, arrived_as, arrived_at, after_event, later}
@@ -98,13 +101,13 @@ pub fire_keeps_clock : (limit : ℕ) (spec : Spec) (s t : Situation) (f : Firing
 unfolding outcome
 fire_keeps_clock limit spec s t f outs e = fired_clock limit spec s t f (choice_of spec s f) outs e
 
-arrived_clock : (spec : Spec) (s : Situation) (p : InteractionPoint) (values : List Value) (c : Option Carried) → (arrived_as spec s p values c).clock ≡ s.clock
+arrived_clock : (spec : Spec) (s : Situation) (p : InteractionPoint) (values : List Value) (c : Option Signal) → (arrived_as spec s p values c).clock ≡ s.clock
 arrived_clock spec s p values None = refl
 arrived_clock spec s p values (Some c) = refl
 
-arrival_clock : (spec : Spec) (s : Situation) (i : Interaction) (port : Option Declared) → (arrived_at spec s i port).clock ≡ s.clock
+arrival_clock : (spec : Spec) (s : Situation) (i : Interaction) (port : Option Port) → (arrived_at spec s i port).clock ≡ s.clock
 arrival_clock spec s i None = refl
-arrival_clock spec s i (Some port) = arrived_clock spec s (point_of 1 port) i.values (slice_get (carried_at spec port) i.signal)
+arrival_clock spec s i (Some port) = arrived_clock spec s (port_point port) i.values (slice_get port.signals i.signal)
 
 -- an event makes the clock later by its units
 pub event_adds_clock : (spec : Spec) (s : Situation) (e : Event) → (after_event spec s e).clock ≡ s.clock + units_of e

@@ -1,30 +1,32 @@
 -- The events that may stand in a trace of a specification.
 use Rattle.std.specs.Prelude.{◌≡◌, ◌≤◌, ℕ, List, [], Some, All, IsTrue, length, slice_get}
 use Rattle.est_syntax.specs.declared.kind.Value.{Value}
-use Rattle.est_syntax.specs.declared.expression.VarDef.{VarDef}
+use Rattle.est_syntax.specs.declared.kind.Kind.{Kind}
+use Rattle.est_syntax.specs.declared.ports.Port.{Port}
+use Rattle.est_syntax.specs.declared.ports.Signal.{Signal}
+use Rattle.est_syntax.specs.Ports.{ports_of}
 use Rattle.est_syntax.specs.declared.specification.Spec.{Spec}
 use Rattle.est_meaning.specs.declared.event.Interaction.{Interaction}
 use Rattle.est_meaning.specs.declared.event.Event.{Event}
 use Rattle.est_meaning.specs.declared.event.Event.TheVariants as event
-use Rattle.est_meaning.specs.Text.{Declared, Carried, ports_of, carried_at, receives, sends}
 
--- the values fit the parameters of an interaction; those of skeletons have none
-abbrev pub FitsParameters : List VarDef → List Value → Type 0
-FitsParameters params values = (params ≡ []) × (values ≡ [])
+-- the values fit the kinds of an interaction's parameters; those of skeletons have none
+abbrev pub FitsKinds : List Kind → List Value → Type 0
+FitsKinds kinds values = (kinds ≡ []) × (values ≡ [])
 
 -- port and signal are of the specification, and the values fit
-pub record IsOfPort (spec : Spec) (i : Interaction) (port : Declared) (carried : Carried) : Type 0 where
+pub record IsOfPort (spec : Spec) (i : Interaction) (port : Port) (signal : Signal) : Type 0 where
   pub port_is : slice_get (ports_of spec) i.port ≡ Some port
-  pub carried_is : slice_get (carried_at spec port) i.signal ≡ Some carried
-  pub fits : FitsParameters carried.interaction.params i.values
+  pub signal_is : slice_get port.signals i.signal ≡ Some signal
+  pub fits : FitsKinds signal.kinds i.values
 
 -- the port receives the interaction (ISO 9074, 7, channel definition)
 unfoldable pub IsReceivable : Spec → Interaction → Type 0
-IsReceivable spec i = (port : Declared) × (carried : Carried) × IsOfPort spec i port carried × IsTrue (receives port.point.role.name carried)
+IsReceivable spec i = (port : Port) × (signal : Signal) × IsOfPort spec i port signal × IsTrue signal.receives
 
 -- the port sends the interaction
 unfoldable pub IsSendable : Spec → Interaction → Type 0
-IsSendable spec i = (port : Declared) × (carried : Carried) × IsOfPort spec i port carried × IsTrue (sends port.point.role.name carried)
+IsSendable spec i = (port : Port) × (signal : Signal) × IsOfPort spec i port signal × IsTrue signal.sends
 
 -- an event may stand in a trace of the specification
 abbrev pub IsAllowed : Spec → Event → Type 0

@@ -1,5 +1,5 @@
 -- What a block does to a situation.
-use Rattle.std.specs.Prelude.{ℕ, zero, suc, List, [], ◌∷◌, ◌++◌, Option, Some, None, slice_get, option_and_then}
+use Rattle.std.specs.Prelude.{ℕ, Bool, zero, suc, List, [], ◌∷◌, ◌++◌, Option, Some, None, slice_get, option_and_then}
 use Rattle.std.specs.List.{position}
 use Rattle.est_syntax.specs.declared.name.Name.{Name}
 use Rattle.est_syntax.specs.declared.kind.Value.{Value}
@@ -10,7 +10,10 @@ use Rattle.est_syntax.specs.declared.specification.Spec.{Spec}
 use Rattle.est_meaning.specs.declared.event.Event.{Event}
 use Rattle.est_meaning.specs.declared.event.Event.TheVariants as event
 use Rattle.est_meaning.specs.declared.run.BlockFault.{BlockFault}
-use Rattle.est_meaning.specs.Text.{Declared, ports_of, carried_at, is_carried}
+use Rattle.est_syntax.specs.declared.ports.Port.{Port}
+use Rattle.est_syntax.specs.declared.ports.Signal.{Signal}
+use Rattle.est_syntax.specs.Ports.{ports_of}
+use Rattle.est_meaning.specs.Text.{is_name}
 use Rattle.est_meaning.specs.Situation.{InteractionPoint, Situation}
 use Rattle.est_meaning.specs.Links.{Route, Within, Outside, Lost, routed, put}
 
@@ -27,9 +30,12 @@ pub record Sent : Type 0 where
   pub situation : Situation
   pub outs : List Event
 
+abbrev pub is_signal : Name → Signal → Bool
+is_signal name signal = is_name name signal.name
+
 -- the number of an interaction at a port, from 0
-abbrev pub signal_number : Spec → Name → Declared → Option ℕ
-signal_number spec signal port = position (is_carried signal) (carried_at spec port)
+abbrev pub signal_number : Name → Port → Option ℕ
+signal_number name port = position (is_signal name) port.signals
 
 abbrev pub departing : ℕ → List Value → Option ℕ → List Event
 departing port values None = []
@@ -37,7 +43,7 @@ departing port values (Some k) = event.Leaves (record { port = port; signal = k;
 
 -- an interaction leaves at a port
 abbrev pub departure : Spec → ℕ → Name → List Value → List Event
-departure spec port signal values = departing port values (option_and_then (signal_number spec signal) (slice_get (ports_of spec) port))
+departure spec port signal values = departing port values (option_and_then (signal_number signal) (slice_get (ports_of spec) port))
 
 -- an output by its route: it waits in a queue, leaves, or is lost (ISO 9074, 7, output-statement)
 abbrev pub delivered : Spec → Situation → Name → List Value → Route → Sent

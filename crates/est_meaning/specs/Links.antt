@@ -5,7 +5,9 @@ use Rattle.std.specs.Option.{option_map_or}
 use Rattle.est_syntax.specs.declared.specification.Queue.{Queue}
 use Rattle.est_syntax.specs.declared.specification.Queue.TheVariants.{Individual, Common}
 use Rattle.est_syntax.specs.declared.specification.Spec.{Spec}
-use Rattle.est_meaning.specs.Text.{Declared, points_in, ports_of, is_declared, discipline, header_of}
+use Rattle.est_syntax.specs.declared.ports.Port.{Port}
+use Rattle.est_syntax.specs.Ports.{ports_of}
+use Rattle.est_meaning.specs.Text.{Declared, points_in, is_declared, discipline, header_of}
 use Rattle.est_meaning.specs.Situation.{InteractionPoint, is_point, QueueName, Own, Shared, Item, Row, Situation, row_of, with_queue}
 
 -- POINTS OF AN INSTANCE
@@ -21,9 +23,12 @@ declared_of spec row = points_in (header_of spec row.body)
 abbrev pub external_of : Spec → Row → List InteractionPoint
 external_of spec row = map (point_of row.number) (declared_of spec row)
 
--- the outside ports, which belong to instance 1
+-- an outside port is an external interaction point of instance 1
+abbrev pub port_point : Port → InteractionPoint
+port_point port = record { instance = 1; name = port.name; index = port.index }
+
 abbrev pub outside_points : Spec → List InteractionPoint
-outside_points spec = map (point_of 1) (ports_of spec)
+outside_points spec = map port_point (ports_of spec)
 
 -- the number of an outside port, from 0
 abbrev pub port_number : Spec → InteractionPoint → Option ℕ

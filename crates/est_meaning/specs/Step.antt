@@ -13,9 +13,12 @@ use Rattle.est_meaning.specs.declared.event.Event.{Event}
 use Rattle.est_meaning.specs.declared.event.Event.TheVariants as event
 use Rattle.est_meaning.specs.declared.run.Firing.{Firing}
 use Rattle.est_meaning.specs.declared.run.BlockFault.TheVariants.{NoModule}
-use Rattle.est_meaning.specs.Text.{Declared, Carried, Awaited, body_named, ports_of, carried_at, when_of, to_of}
+use Rattle.est_syntax.specs.declared.ports.Port.{Port}
+use Rattle.est_syntax.specs.declared.ports.Signal.{Signal}
+use Rattle.est_syntax.specs.Ports.{ports_of}
+use Rattle.est_meaning.specs.Text.{Awaited, body_named, when_of, to_of}
 use Rattle.est_meaning.specs.Situation.{nothing, InteractionPoint, Row, Situation, empty_situation, with_row, in_state}
-use Rattle.est_meaning.specs.Links.{point_of, bottom, put, taken}
+use Rattle.est_meaning.specs.Links.{port_point, bottom, put, taken}
 use Rattle.est_meaning.specs.Choices.{Choice, choice_of, awaited_at, restamped, IsPossible}
 use Rattle.est_meaning.specs.Blocks.{Outcome, Done, Fault, Limit, block_meaning}
 
@@ -83,13 +86,13 @@ start_of limit spec = begun limit spec limit spec.first
 
 -- THE OUTSIDE
 
-abbrev pub arrived_as : Spec → Situation → InteractionPoint → List Value → Option Carried → Situation
+abbrev pub arrived_as : Spec → Situation → InteractionPoint → List Value → Option Signal → Situation
 arrived_as spec s p values None = s
-arrived_as spec s p values (Some carried) = put spec s (record { at = bottom s p; signal = carried.interaction.name.name; values = values })
+arrived_as spec s p values (Some signal) = put spec s (record { at = bottom s p; signal = signal.name; values = values })
 
-abbrev pub arrived_at : Spec → Situation → Interaction → Option Declared → Situation
+abbrev pub arrived_at : Spec → Situation → Interaction → Option Port → Situation
 arrived_at spec s i None = s
-arrived_at spec s i (Some port) = arrived_as spec s (point_of 1 port) i.values (slice_get (carried_at spec port) i.signal)
+arrived_at spec s i (Some port) = arrived_as spec s (port_point port) i.values (slice_get port.signals i.signal)
 
 -- an interaction that arrives goes behind the queue of the innermost interaction point of its port
 abbrev pub arrived : Spec → Situation → Interaction → Situation

@@ -1,18 +1,15 @@
 -- What the text of a specification declares.
 --
 -- These definitions serve skeletons: no interaction point has subscripts, and each `trans` holds one transition.
-use Rattle.std.specs.Prelude.{ℕ, zero, suc, Bool, false, not, ◌==◌, List, [], ◌∷◌, map, find, Option, Some, None, option_and_then, unwrap_or, slice_get}
-use Rattle.std.specs.Cmp.Lexicographic.{pointwise}
-use Rattle.std.specs.List.{filter_map, flat_map, list_any}
-use Rattle.std.specs.Option.{option_map_or, option_or}
+use Rattle.std.specs.Prelude.{ℕ, zero, suc, Bool, false, List, [], ◌∷◌, map, find, Option, Some, None, unwrap_or, slice_get}
+use Rattle.std.specs.List.{filter_map, flat_map}
+use Rattle.std.specs.Option.{option_or}
+use Rattle.est_syntax.specs.Names as names
 use Rattle.est_syntax.specs.declared.name.Name.{Name}
 use Rattle.est_syntax.specs.declared.name.Used.{Used}
 use Rattle.est_syntax.specs.declared.expression.Access.{Access}
 use Rattle.est_syntax.specs.declared.specification.Queue.{Queue}
 use Rattle.est_syntax.specs.declared.specification.Queue.TheVariants.{Individual}
-use Rattle.est_syntax.specs.declared.specification.InteractionDef.{InteractionDef}
-use Rattle.est_syntax.specs.declared.specification.ByPart.{ByPart}
-use Rattle.est_syntax.specs.declared.specification.Channel.{Channel}
 use Rattle.est_syntax.specs.declared.specification.Point.{Point}
 use Rattle.est_syntax.specs.declared.specification.Header.{Header}
 use Rattle.est_syntax.specs.declared.specification.Statement.{Statement}
@@ -28,7 +25,7 @@ use Rattle.est_syntax.specs.declared.specification.Spec.{Spec}
 
 -- names are compared byte by byte, in lower case
 abbrev pub is_name : Name → Name → Bool
-is_name a b = pointwise ◌==◌ a.bytes b.bytes
+is_name a b = names.is_name a.bytes b.bytes
 
 abbrev pub uses_name : Name → Used → Bool
 uses_name name used = is_name name used.name
@@ -39,13 +36,6 @@ first_of_all f [] = None
 first_of_all f (x ∷ xs) = option_or (f x) (first_of_all f xs)
 
 -- PARTS
-
-abbrev pub channel_in : Part → Option Channel
-channel_in (part.Channel c) = Some c
-channel_in (part.Header h) = None
-channel_in (part.Body b) = None
-channel_in (part.Modvars m) = None
-channel_in (part.States s) = None
 
 abbrev pub header_in : Part → Option Header
 header_in (part.Channel c) = None
@@ -61,10 +51,6 @@ body_in (part.Body b) = Some b
 body_in (part.Modvars m) = None
 body_in (part.States s) = None
 
--- the channel of a name (ISO 9074, 7, channel definition)
-abbrev pub channel_named : Spec → Name → Option Channel
-channel_named spec name = find (λ (c : Channel). uses_name name c.name) (filter_map channel_in spec.parts)
-
 -- the module header of a name (ISO 9074, 7, module header definition)
 abbrev pub header_named : Spec → Name → Option Header
 header_named spec name = find (λ (h : Header). uses_name name h.name) (filter_map header_in spec.parts)
@@ -76,31 +62,6 @@ body_named spec name = find (λ (b : Body). uses_name name (out-Body b).name) (f
 -- the header that a body is for
 abbrev pub header_of : Spec → Body → Option Header
 header_of spec body = header_named spec (out-Body body).header.name
-
--- CHANNELS
-
--- an interaction of a channel, with the roles that may send it
-pub record Carried : Type 0 where
-  pub interaction : InteractionDef
-  pub roles : List Used
-
-abbrev pub carried_in : ByPart → List Carried
-carried_in part = map (λ (i : InteractionDef). record { interaction = i; roles = part.roles }) part.interactions
-
--- the interactions of a channel in the order of the text (ISO 9074, 7, channel definition)
-abbrev pub carried_by : Channel → List Carried
-carried_by channel = flat_map carried_in channel.by
-
-abbrev pub is_carried : Name → Carried → Bool
-is_carried name carried = uses_name name carried.interaction.name
-
--- the role may send the interaction
-abbrev pub sends : Name → Carried → Bool
-sends role carried = list_any (uses_name role) carried.roles
-
--- the other role of the channel may send it, so that this one receives it
-abbrev pub receives : Name → Carried → Bool
-receives role carried = list_any (λ (u : Used). not (uses_name role u)) carried.roles
 
 -- INTERACTION POINTS
 
@@ -135,14 +96,6 @@ root_in spec (statement.Output sendings place) = None
 
 abbrev pub root_of : Spec → Option Body
 root_of spec = root_in spec spec.first
-
--- the outside ports: the external interaction points of the root, in order
-abbrev pub ports_of : Spec → List Declared
-ports_of spec = points_in (option_and_then (header_of spec) (root_of spec))
-
--- the interactions that may pass a port, in the order of its channel
-abbrev pub carried_at : Spec → Declared → List Carried
-carried_at spec declared = option_map_or carried_by (channel_named spec declared.point.channel.name) []
 
 -- TRANSITIONS
 

@@ -7,4 +7,5 @@ pub mod kind;
 pub mod name;
 pub mod ports;
 pub mod rule;
+pub mod sort;
 pub mod specification;

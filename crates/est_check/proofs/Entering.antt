@@ -1,0 +1,136 @@
+-- What a table has after names were entered, and which of them were declared twice.
+use Rattle.std.specs.Prelude.{if◌then◌else◌, ◌||◌, is_some}
+use Rattle.std.specs.Cmp.Lexicographic.{same_text}
+use Rattle.std.proofs.Common.{◌≡◌, refl, sym, ap, ◌∙◌, ℕ, Bool, true, false, List, [], ◌∷◌, ◌++◌, Option, Some, None}
+use Rattle.est_syntax.specs.declared.name.Used.{Used}
+use Rattle.est_syntax.specs.declared.rule.Rule.TheVariants.{DeclaredTwice}
+use Rattle.est_syntax.specs.Least.{least_with}
+use Rattle.est_syntax.specs.Names.{is_name, spelled}
+use Rattle.est_syntax.specs.Faults.{broken_if, is_among, twice_faults}
+use Rattle.est_syntax.proofs.LeastLaws.{least_append}
+use Rattle.est_check.specs.declared.names.Entry.{Entry}
+use Rattle.est_check.specs.Entries.{Entries, State, entry_of, enter_by, behind_by, enter_behind}
+use Rattle.est_check.specs.Tables.{first_of}
+
+-- names entered one by one behind a region in front
+abbrev pub enter_list : Entries → State → List (Used × Entry) → State
+enter_list front s [] = s
+enter_list front s (d ∷ ds) = enter_list front (enter_behind front s d.0 d.1) ds
+
+-- the first entry that a name gets
+abbrev pub first : List (Used × Entry) → List ℕ → Option Entry
+first [] n = None
+first (d ∷ ds) n = if is_name n (spelled d.0) then Some d.1 else first ds n
+
+abbrev pub names_in : List (Used × Entry) → List Used
+names_in [] = []
+names_in (d ∷ ds) = d.0 ∷ names_in ds
+
+-- what the region in front and the table have together
+abbrev pub whole : Entries → Entries → List ℕ → Option Entry
+whole front es n = first_of (entry_of front n) (entry_of es n)
+
+pub enter_list-append : (front : Entries) (s : State) (xs ys : List (Used × Entry)) → enter_list front s (xs ++ ys) ≡ enter_list front (enter_list front s xs) ys
+enter_list-append front s [] ys = refl
+enter_list-append front s (x ∷ xs) ys = enter_list-append front (enter_behind front s x.0 x.1) xs ys
+
+pub first_of-none : (o : Option Entry) → first_of o None ≡ o
+first_of-none None = refl
+first_of-none (Some e) = refl
+
+pub first_of-assoc : (a b c : Option Entry) → first_of (first_of a b) c ≡ first_of a (first_of b c)
+first_of-assoc None b c = refl
+first_of-assoc (Some e) b c = refl
+
+pub first_of-if : (b : Bool) (v : Entry) (o y : Option Entry) → first_of (if b then Some v else o) y ≡ (if b then Some v else first_of o y)
+first_of-if true v o y = refl
+first_of-if false v o y = refl
+
+pub entry_of-push : (es : Entries) (name : List ℕ) (e : Entry) (n : List ℕ) → entry_of (es ++ (name, e) ∷ []) n ≡ first_of (entry_of es n) (if is_name n name then Some e else None)
+entry_of-push [] name e n = refl
+entry_of-push (x ∷ es) name e n =
+    ap (λ o. if is_name n x.0 then Some x.1 else o) (entry_of-push es name e n)
+    ∙ sym (first_of-if (is_name n x.0) x.1 (entry_of es n) (if is_name n name then Some e else None))
+
+-- a name that has an entry keeps it
+pub kept_by : (w : List ℕ → Option Entry) (u : List ℕ) (f e : Entry) (n : List ℕ) (b : Bool) → is_name n u ≡ b → w u ≡ Some f → w n ≡ first_of (w n) (if b then Some e else None)
+kept_by w u f e n true same h =
+    let is : w n ≡ Some f = ap w (same_text n u (sym same)) ∙ h
+    in is ∙ sym (ap (λ o. first_of o (Some e)) is)
+kept_by w u f e n false same h = sym (first_of-none (w n))
+
+pub kept : (w : List ℕ → Option Entry) (u : List ℕ) (f e : Entry) (n : List ℕ) → w u ≡ Some f → w n ≡ first_of (w n) (if is_name n u then Some e else None)
+kept w u f e n h = kept_by w u f e n (is_name n u) refl h
+
+-- one name more
+pub whole-enter : (front : Entries) (s : State) (u : Used) (e : Entry) (n : List ℕ) (o : Option Entry) → entry_of front (spelled u) ≡ None → entry_of s.0 (spelled u) ≡ o
+    → whole front (enter_by o s u e).0 n ≡ first_of (whole front s.0 n) (if is_name n (spelled u) then Some e else None)
+whole-enter front s u e n None h k =
+    ap (first_of (entry_of front n)) (entry_of-push s.0 (spelled u) e n)
+    ∙ sym (first_of-assoc (entry_of front n) (entry_of s.0 n) (if is_name n (spelled u) then Some e else None))
+whole-enter front s u e n (Some f) h k =
+    kept (whole front s.0) (spelled u) f e n (ap (λ o. first_of o (entry_of s.0 (spelled u))) h ∙ k)
+
+pub whole-behind : (front : Entries) (s : State) (u : Used) (e : Entry) (n : List ℕ) (o : Option Entry) → entry_of front (spelled u) ≡ o
+    → whole front (behind_by o s u e).0 n ≡ first_of (whole front s.0 n) (if is_name n (spelled u) then Some e else None)
+whole-behind front s u e n None h = whole-enter front s u e n (entry_of s.0 (spelled u)) h refl
+whole-behind front s u e n (Some f) h =
+    kept (whole front s.0) (spelled u) f e n (ap (λ o. first_of o (entry_of s.0 (spelled u))) h)
+
+pub whole-enter_list : (front : Entries) (s : State) (ds : List (Used × Entry)) (n : List ℕ) → whole front (enter_list front s ds).0 n ≡ first_of (whole front s.0 n) (first ds n)
+whole-enter_list front s [] n = sym (first_of-none (whole front s.0 n))
+whole-enter_list front s (d ∷ ds) n =
+    whole-enter_list front (enter_behind front s d.0 d.1) ds n
+    ∙ ap (λ o. first_of o (first ds n)) (whole-behind front s d.0 d.1 n (entry_of front (spelled d.0)) refl)
+    ∙ first_of-assoc (whole front s.0 n) (if is_name n (spelled d.0) then Some d.1 else None) (first ds n)
+    ∙ ap (first_of (whole front s.0 n)) (first_of-if (is_name n (spelled d.0)) d.1 None (first ds n))
+
+-- the names so far are those that have an entry
+abbrev pub Agree : List (List ℕ) → (List ℕ → Option Entry) → Type 0
+Agree names w = (n : List ℕ) → is_among n names ≡ is_some (w n)
+
+pub among-push : (n : List ℕ) (names : List (List ℕ)) (m : List ℕ) → is_among n (names ++ m ∷ []) ≡ (is_among n names || is_name n m)
+among-push n [] m = or_false (is_name n m)
+  where
+    or_false : (b : Bool) → (b || false) ≡ b
+    or_false true = refl
+    or_false false = refl
+among-push n (x ∷ names) m = ap (λ b. is_name n x || b) (among-push n names m) ∙ or_assoc (is_name n x) (is_among n names) (is_name n m)
+  where
+    or_assoc : (a b c : Bool) → (a || (b || c)) ≡ ((a || b) || c)
+    or_assoc true b c = refl
+    or_assoc false b c = refl
+
+pub some-first_of : (o : Option Entry) (b : Bool) (e : Entry) → (is_some o || b) ≡ is_some (first_of o (if b then Some e else None))
+some-first_of None true e = refl
+some-first_of None false e = refl
+some-first_of (Some f) b e = refl
+
+pub agree-push : (names : List (List ℕ)) (w v : List ℕ → Option Entry) (m : List ℕ) (e : Entry) → Agree names w
+    → ((n : List ℕ) → v n ≡ first_of (w n) (if is_name n m then Some e else None)) → Agree (names ++ m ∷ []) v
+agree-push names w v m e agree is n =
+    among-push n names m
+    ∙ ap (λ b. b || is_name n m) (agree n)
+    ∙ some-first_of (w n) (is_name n m) e
+    ∙ ap is_some (sym (is n))
+
+pub noted-enter : (s : State) (u : Used) (e : Entry) (o : Option Entry) (b : Bool) → b ≡ is_some o → (enter_by o s u e).1 ≡ least_with s.1 (broken_if b u.place DeclaredTwice)
+noted-enter s u e None b h = ap (λ x. least_with s.1 (broken_if x u.place DeclaredTwice)) (sym h)
+noted-enter s u e (Some f) b h = ap (λ x. least_with s.1 (broken_if x u.place DeclaredTwice)) (sym h)
+
+pub noted-behind : (front : Entries) (s : State) (u : Used) (e : Entry) (o : Option Entry) (b : Bool) → b ≡ is_some (first_of o (entry_of s.0 (spelled u)))
+    → (behind_by o s u e).1 ≡ least_with s.1 (broken_if b u.place DeclaredTwice)
+noted-behind front s u e None b h = noted-enter s u e (entry_of s.0 (spelled u)) b h
+noted-behind front s u e (Some f) b h = ap (λ x. least_with s.1 (broken_if x u.place DeclaredTwice)) (sym h)
+
+-- the names that were there already are those that are declared twice
+pub noted-enter_list : (front : Entries) (names : List (List ℕ)) (s : State) (ds : List (Used × Entry)) → Agree names (whole front s.0)
+    → (enter_list front s ds).1 ≡ least_with s.1 (twice_faults names (names_in ds))
+noted-enter_list front names s [] agree = refl
+noted-enter_list front names s (d ∷ ds) agree =
+    noted-enter_list front (names ++ spelled d.0 ∷ []) (enter_behind front s d.0 d.1) ds
+    (agree-push names (whole front s.0) (whole front (enter_behind front s d.0 d.1).0) (spelled d.0) d.1 agree
+    (λ n. whole-behind front s d.0 d.1 n (entry_of front (spelled d.0)) refl))
+    ∙ ap (λ l. least_with l (twice_faults (names ++ spelled d.0 ∷ []) (names_in ds)))
+    (noted-behind front s d.0 d.1 (entry_of front (spelled d.0)) (is_among (spelled d.0) names) (agree (spelled d.0)))
+    ∙ sym (least_append s.1 (broken_if (is_among (spelled d.0) names) d.0.place DeclaredTwice) (twice_faults (names ++ spelled d.0 ∷ []) (names_in ds)))

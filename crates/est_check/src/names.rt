@@ -1,0 +1,87 @@
+//! The names of one region, in order of declaration.
+
+ghost use Rattle.std.specs.Prelude.{◌≡◌, [], ◌∷◌, ◌++◌, OnOk, IfOk, None};
+ghost use Rattle.est_check.specs.Entries.{entry_of};
+
+use est_syntax::name::{Name, Used};
+use est_syntax::rule::Rule;
+use indexmap::IndexMap;
+use std::alloc::{AllocError, Global};
+use std::marker::Model;
+
+/// Which roles of its channel may send an interaction, where the names of its `by` part are all roles.
+#[derive(Clone, Copy, Debug, PartialEq, Eq)]
+pub struct Senders {
+    pub known: bool,
+    pub first: bool,
+    pub second: bool,
+}
+
+/// The channel of an interaction point, by the number of its part, and the role.
+#[derive(Clone, Copy, Debug, PartialEq, Eq)]
+pub struct PointSide {
+    pub channel: usize,
+    pub second: bool,
+}
+
+/// What a name stands for. Channels and headers go by the numbers of their parts.
+#[derive(Clone, Copy, Debug, PartialEq, Eq)]
+pub enum Standing {
+    Channel(usize),
+    Header(usize),
+    Body,
+    ModuleVariable,
+    Point(Option<PointSide>),
+    State,
+    Role(bool),
+    Interaction(Senders),
+}
+
+/// What a name stands for, and the last place where it is not yet in force.
+#[derive(Clone, Copy, Debug, PartialEq, Eq)]
+pub struct Entry {
+    pub last: u32,
+    pub stands: Standing,
+}
+
+/// The names of one region.
+#[derive(Drop)]
+pub struct Names {
+    under: IndexMap<Vec<u8>, Entry>,
+}
+
+impl Model for Names {
+    ghost use Rattle.std.specs.Prelude.{List, ℕ, map};
+    ghost use Rattle.est_check.specs.declared.names.Entry.{Entry};
+
+    ghost Value = { List (List ℕ × Entry) };
+
+    ghost view = { λ t. map (λ e. (e.0.items, e.1)) t.under.entries };
+}
+
+impl Names {
+    pub fn new(alloc: Global) -> Names
+        ensures { result ≡ [] }
+    {
+        Names {
+            under: IndexMap::new(alloc),
+        }
+    }
+
+    /// The entry of a name.
+    pub fn find(&self, name: &Name) -> Option<Entry>
+        ensures { result ≡ entry_of self.now name.now.bytes }
+    {
+        self.under.get(name.bytes.as_slice()).copied()
+    }
+
+    /// Adds an entry of a name that is not there.
+    pub fn add(&mut self, alloc: Global, name: &Name, entry: Entry) -> Result<(), AllocError>
+        requires { entry_of self.old name.now.bytes ≡ None }
+        ensures { OnOk result (self.new ≡ self.old ++ (name.now.bytes, entry) ∷ []) }
+    {
+        let key = Vec::from_slice(alloc, name.bytes.as_slice())?;
+        self.under.insert(key, entry)?;
+        Ok(())
+    }
+}

@@ -1,0 +1,157 @@
+//! The uses of names.
+#![tactic(auto, using(est_syntax::proofs::LeastLaws::least_append))]
+
+ghost use Rattle.std.specs.Prelude.{◌≡◌, Some, not};
+ghost use Rattle.est_syntax.specs.Least.{least_with};
+ghost use Rattle.est_syntax.specs.Faults.{takes, used_as, use_faults, uses_faults, direction_faults, passage_faults, interaction_faults, role_faults};
+ghost use Rattle.est_check.specs.Tables.{sort_found, may_send, passage_by, passage_in, passage_at, member_sort, member_sort_at, table_environment, members_environment, table_found, channel_number, side_found};
+
+use crate::least::Least;
+use crate::names::{Entry, Senders, Standing};
+use crate::table::{BodyNames, Found, Members, Table, member_of, name_sort};
+use est_syntax::name::Used;
+use est_syntax::rule::Rule;
+use est_syntax::sort::NameSort;
+
+fn takes(wanted: NameSort, sort: NameSort) -> bool
+    ensures { result ≡ takes wanted sort }
+{
+    match (wanted, sort) {
+        (NameSort::Channel, NameSort::Channel) => true,
+        (NameSort::Header, NameSort::Header) => true,
+        (NameSort::Body, NameSort::Body) => true,
+        (NameSort::ModuleVariable, NameSort::ModuleVariable) => true,
+        (NameSort::Point, NameSort::Point) => true,
+        (NameSort::State, NameSort::State) => true,
+        (NameSort::Role, NameSort::Role) => true,
+        (NameSort::Interaction, NameSort::Interaction) => true,
+        _ => false,
+    }
+}
+
+/// Checks that what was found for a name is of the wanted sort.
+fn check_found(wanted: NameSort, place: u32, found: Found, least: &mut Least)
+    ensures { least.new.at ≡ least_with least.old.at (used_as wanted place (sort_found found)) }
+{
+    match found {
+        Found::Nothing => least.note(place, Rule::UnknownName),
+        Found::Unseen => least.note(place, Rule::NotSeenHere),
+        Found::Seen(entry) => if !takes(wanted, name_sort(entry.stands)) {
+            least.note(place, Rule::WrongSort)
+        },
+    }
+}
+
+/// Checks the use of a name.
+pub fn check_use(table: &Table, body: &BodyNames, wanted: NameSort, used: &Used, least: &mut Least)
+    ensures { least.new.at ≡ least_with least.old.at (use_faults (table_environment table.now body.now) wanted used.now) }
+{
+    check_found(wanted, used.place, table.found(body, used), least);
+}
+
+/// Checks the uses of names.
+pub fn check_uses(
+    table: &Table,
+    body: &BodyNames,
+    wanted: NameSort,
+    list: &[Used],
+    least: &mut Least,
+)
+    ensures { least.new.at ≡ least_with least.old.at (uses_faults (table_environment table.now body.now) wanted list.now) }
+{
+    for used in list {
+        check_use(table, body, wanted, used, least);
+    }
+}
+
+fn check_member(members: &Members, wanted: NameSort, used: &Used, least: &mut Least)
+    ensures { least.new.at ≡ least_with least.old.at (use_faults (members_environment members.now) wanted used.now) }
+{
+    check_found(wanted, used.place, members.sort_of(used), least);
+}
+
+/// Checks the roles of a `by` part, which are looked up in their channel.
+pub fn check_roles(members: &Members, wanted: NameSort, list: &[Used], least: &mut Least)
+    ensures { least.new.at ≡ least_with least.old.at (uses_faults (members_environment members.now) wanted list.now) }
+{
+    for used in list {
+        check_member(members, wanted, used, least);
+    }
+}
+
+/// Checks the role of an interaction point, where its channel is one.
+pub fn check_point_role(table: &Table, channel: Option<usize>, used: &Used, least: &mut Least)
+    ensures { least.new.at ≡ least_with least.old.at (role_faults used.now.place (member_sort_at table.now channel used.now)) }
+{
+    if let Some(number) = channel {
+        match member_of(table.channels.as_slice(), number, &used.name) {
+            None => check_found(NameSort::Role, used.place, Found::Nothing, least),
+            Some(entry) => check_found(NameSort::Role, used.place, Found::Seen(entry), least),
+        }
+    }
+}
+
+pub fn may_send(second: bool, who: Senders) -> bool
+    ensures { result ≡ may_send second who }
+{
+    if second { who.second } else { who.first }
+}
+
+/// Checks that a point of this role sends or receives an interaction.
+fn check_direction(sending: bool, place: u32, second: bool, who: Senders, least: &mut Least)
+    ensures { least.new.at ≡ least_with least.old.at (direction_faults sending place (may_send second who) (may_send (not second) who)) }
+{
+    let passes = if sending {
+        may_send(second, who)
+    } else {
+        may_send(!second, who)
+    };
+    if !passes {
+        least.note(place, Rule::WrongDirection);
+    }
+}
+
+fn check_passage(sending: bool, place: u32, second: bool, entry: Option<Entry>, least: &mut Least)
+    ensures { least.new.at ≡ least_with least.old.at (passage_faults sending place (Some (passage_by second entry))) }
+{
+    match entry {
+        None => least.note(place, Rule::UnknownName),
+        Some(entry) => match entry.stands {
+            Standing::Interaction(who) => if who.known {
+                check_direction(sending, place, second, who, least)
+            },
+            _ => least.note(place, Rule::WrongSort),
+        },
+    }
+}
+
+fn check_passage_at(
+    table: &Table,
+    body: &BodyNames,
+    sending: bool,
+    at: &Used,
+    used: &Used,
+    least: &mut Least,
+)
+    ensures { least.new.at ≡ least_with least.old.at (passage_faults sending used.now.place (passage_at table.now (side_found (table_found table.now body.now at.now)) used.now)) }
+{
+    if let Some(side) = table.side_found(body, at) {
+        let entry = member_of(table.channels.as_slice(), side.channel, &used.name);
+        check_passage(sending, used.place, side.second, entry, least);
+    }
+}
+
+/// Checks an interaction that is sent or received at an interaction point.
+pub fn check_interaction(
+    table: &Table,
+    body: &BodyNames,
+    sending: bool,
+    at: &Used,
+    used: &Used,
+    least: &mut Least,
+)
+    ensures { least.new.at ≡ least_with least.old.at (interaction_faults (table_environment table.now body.now) sending at.now used.now) }
+{
+    check_use(table, body, NameSort::Point, at, least);
+    check_passage_at(table, body, sending, at, used, least);
+}

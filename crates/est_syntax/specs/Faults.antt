@@ -1,0 +1,198 @@
+-- The faults of each part of a specification in an environment (ISO 9074, constraints; ISO 7185, 6.2).
+use Rattle.std.specs.Prelude.{ℕ, Bool, true, false, ◌||◌, List, [], ◌∷◌, ◌++◌, Option, Some, None, if◌then◌else◌}
+use Rattle.est_syntax.specs.declared.name.Used.{Used}
+use Rattle.est_syntax.specs.declared.sort.NameSort.{NameSort}
+use Rattle.est_syntax.specs.declared.sort.NameSort.TheVariants as sort
+use Rattle.est_syntax.specs.declared.rule.Fault.{Fault}
+use Rattle.est_syntax.specs.declared.rule.Rule.{Rule}
+use Rattle.est_syntax.specs.declared.rule.Rule.TheVariants as rule
+use Rattle.est_syntax.specs.declared.specification.ByPart.{ByPart}
+use Rattle.est_syntax.specs.declared.specification.Channel.{Channel}
+use Rattle.est_syntax.specs.declared.specification.Point.{Point}
+use Rattle.est_syntax.specs.declared.specification.Header.{Header}
+use Rattle.est_syntax.specs.declared.specification.ModvarDef.{ModvarDef}
+use Rattle.est_syntax.specs.declared.specification.Sending.{Sending}
+use Rattle.est_syntax.specs.declared.specification.Statement.{Statement}
+use Rattle.est_syntax.specs.declared.specification.Statement.TheVariants as statement
+use Rattle.est_syntax.specs.declared.specification.Clause.{Clause}
+use Rattle.est_syntax.specs.declared.specification.Clause.TheVariants as clause
+use Rattle.est_syntax.specs.declared.specification.Transition.{Transition}
+use Rattle.est_syntax.specs.declared.specification.Group.{Group, out-Group}
+use Rattle.est_syntax.specs.declared.specification.FirstPart.{FirstPart}
+use Rattle.est_syntax.specs.declared.specification.Body.{Body, out-Body}
+use Rattle.est_syntax.specs.declared.specification.Part.{Part}
+use Rattle.est_syntax.specs.declared.specification.Part.TheVariants as part
+use Rattle.est_syntax.specs.declared.specification.Spec.{Spec}
+use Rattle.est_syntax.specs.Names.{Region, Scope, Meaning, nothing, unseen, seen, spelled, is_name, channel_region, points_region, parts_region, header_region, body_scope, spec_scope}
+use Rattle.est_syntax.specs.Environment.{Environment, Passage, missing, no_interaction, unclear, passes, environment, channel_environment}
+
+-- the fault that a rule is broken at a place
+abbrev pub broken : ℕ → Rule → List Fault
+broken place r = record { place = place; rule = r } ∷ []
+
+abbrev pub broken_if : Bool → ℕ → Rule → List Fault
+broken_if b place r = if b then broken place r else []
+
+-- whether a thing of this sort stands where that sort is wanted
+abbrev pub takes : NameSort → NameSort → Bool
+takes sort.Channel sort.Channel = true
+takes sort.Header sort.Header = true
+takes sort.Body sort.Body = true
+takes sort.ModuleVariable sort.ModuleVariable = true
+takes sort.Point sort.Point = true
+takes sort.State sort.State = true
+takes sort.Role sort.Role = true
+takes sort.Interaction sort.Interaction = true
+takes _ _ = false
+
+-- the use of a name where a sort is wanted: the name is unknown, not seen, or of another sort
+abbrev pub used_as : NameSort → ℕ → Meaning NameSort → List Fault
+used_as wanted place nothing = broken place rule.UnknownName
+used_as wanted place unseen = broken place rule.NotSeenHere
+used_as wanted place (seen s) = if takes wanted s then [] else broken place rule.WrongSort
+
+abbrev pub use_faults : Environment → NameSort → Used → List Fault
+use_faults env wanted u = used_as wanted u.place (env.sort_of u)
+
+abbrev pub uses_faults : Environment → NameSort → List Used → List Fault
+uses_faults env wanted [] = []
+uses_faults env wanted (u ∷ us) = use_faults env wanted u ++ uses_faults env wanted us
+
+-- names that are declared again, behind these
+abbrev pub is_among : List ℕ → List (List ℕ) → Bool
+is_among name [] = false
+is_among name (other ∷ names) = is_name name other || is_among name names
+
+abbrev pub twice_faults : List (List ℕ) → List Used → List Fault
+twice_faults before [] = []
+twice_faults before (u ∷ us) = broken_if (is_among (spelled u) before) u.place rule.DeclaredTwice ++ twice_faults (before ++ spelled u ∷ []) us
+
+-- the names of a region
+abbrev pub names_of : Region → List Used
+names_of [] = []
+names_of (d ∷ ds) = d.name ∷ names_of ds
+
+abbrev pub spellings_of : Region → List (List ℕ)
+spellings_of [] = []
+spellings_of (d ∷ ds) = spelled d.name ∷ spellings_of ds
+
+-- a channel: its names, and the roles of its `by` parts
+abbrev pub by_faults : Environment → List ByPart → List Fault
+by_faults env [] = []
+by_faults env (b ∷ bs) = uses_faults env sort.Role b.roles ++ by_faults env bs
+
+abbrev pub channel_faults : Channel → List Fault
+channel_faults c = twice_faults [] (names_of (channel_region c)) ++ by_faults (channel_environment c) c.by
+
+-- a header: its names, and the channels and roles of its interaction points; a role only where the channel is one
+abbrev pub role_faults : ℕ → Option (Meaning NameSort) → List Fault
+role_faults place None = []
+role_faults place (Some found) = used_as sort.Role place found
+
+abbrev pub point_faults : Environment → Point → List Fault
+point_faults env p = use_faults env sort.Channel p.channel ++ role_faults p.role.place (env.role_of p.channel p.role)
+
+abbrev pub points_faults : Environment → List Point → List Fault
+points_faults env [] = []
+points_faults env (p ∷ ps) = point_faults env p ++ points_faults env ps
+
+abbrev pub header_faults : Scope → Header → List Fault
+header_faults scope h = twice_faults [] (names_of (points_region scope h.points)) ++ points_faults (environment scope) h.points
+
+-- module variables
+abbrev pub modvars_faults : Environment → List ModvarDef → List Fault
+modvars_faults env [] = []
+modvars_faults env (m ∷ ms) = use_faults env sort.Header m.header ++ modvars_faults env ms
+
+-- an interaction that is sent or received at an interaction point; only where the point has a channel and a role
+abbrev pub direction_faults : Bool → ℕ → Bool → Bool → List Fault
+direction_faults true place sends receives = if sends then [] else broken place rule.WrongDirection
+direction_faults false place sends receives = if receives then [] else broken place rule.WrongDirection
+
+abbrev pub passage_faults : Bool → ℕ → Option Passage → List Fault
+passage_faults sending place None = []
+passage_faults sending place (Some missing) = broken place rule.UnknownName
+passage_faults sending place (Some no_interaction) = broken place rule.WrongSort
+passage_faults sending place (Some unclear) = []
+passage_faults sending place (Some (passes sends receives)) = direction_faults sending place sends receives
+
+abbrev pub interaction_faults : Environment → Bool → Used → Used → List Fault
+interaction_faults env sending at u = use_faults env sort.Point at ++ passage_faults sending u.place (env.passage_of at u)
+
+-- statements
+abbrev pub sendings_faults : Environment → List Sending → List Fault
+sendings_faults env [] = []
+sendings_faults env (o ∷ os) = interaction_faults env true o.at.name o.signal ++ sendings_faults env os
+
+abbrev pub statement_faults : Environment → Statement → List Fault
+statement_faults env (statement.Empty place) = []
+statement_faults env (statement.Output sendings place) = sendings_faults env sendings
+statement_faults env (statement.Init target body arguments place) =
+    use_faults env sort.ModuleVariable target.name ++ use_faults env sort.Body body
+
+abbrev pub statements_faults : Environment → List Statement → List Fault
+statements_faults env [] = []
+statements_faults env (st ∷ sts) = statement_faults env st ++ statements_faults env sts
+
+-- transitions
+abbrev pub state_faults : Environment → Option Used → List Fault
+state_faults env None = []
+state_faults env (Some u) = use_faults env sort.State u
+
+abbrev pub clause_faults : Environment → Clause → List Fault
+clause_faults env (clause.From states place) = uses_faults env sort.State states
+clause_faults env (clause.To state place) = state_faults env state
+clause_faults env (clause.When at signal place) = interaction_faults env false at.name signal
+
+abbrev pub clauses_faults : Environment → List Clause → List Fault
+clauses_faults env [] = []
+clauses_faults env (c ∷ cs) = clause_faults env c ++ clauses_faults env cs
+
+abbrev pub transition_faults : Environment → Transition → List Fault
+transition_faults env t = clauses_faults env t.clauses ++ statements_faults env t.block.statements
+
+abbrev pub transitions_faults : Environment → List Transition → List Fault
+transitions_faults env [] = []
+transitions_faults env (t ∷ ts) = transition_faults env t ++ transitions_faults env ts
+
+abbrev pub groups_faults : Environment → List Group → List Fault
+groups_faults env [] = []
+groups_faults env (g ∷ gs) = transitions_faults env (out-Group g).transitions ++ groups_faults env gs
+
+-- the initialize part of a body; a body that has states has a first one
+abbrev pub has_states : List Part → Bool
+has_states [] = false
+has_states (part.States us ∷ ps) = true
+has_states (_ ∷ ps) = has_states ps
+
+abbrev pub to_faults : Environment → ℕ → Bool → Option Used → List Fault
+to_faults env place states None = broken_if states place rule.NoFirstState
+to_faults env place states (Some u) = use_faults env sort.State u
+
+abbrev pub first_faults : Environment → ℕ → Bool → Option FirstPart → List Fault
+first_faults env place states None = broken_if states place rule.NoFirstState
+first_faults env place states (Some f) = to_faults env place states f.to ++ statements_faults env f.block.statements
+
+-- a body: its header, its names behind those of its header, its initialize part and its transitions
+abbrev pub text_faults : Environment → Body → List Fault
+text_faults env b =
+    first_faults env (out-Body b).name.place (has_states (out-Body b).parts) (out-Body b).first
+    ++ groups_faults env (out-Body b).groups
+
+abbrev pub body_faults : Scope → Body → List Fault
+body_faults scope b =
+    use_faults (environment scope) sort.Header (out-Body b).header
+    ++ twice_faults (spellings_of (header_region scope b)) (names_of (parts_region (out-Body b).parts))
+    ++ text_faults (environment (body_scope scope b)) b
+
+-- a part, but for the parts that stand in it and for its own name
+abbrev pub part_faults : Scope → Part → List Fault
+part_faults scope (part.Channel c) = channel_faults c
+part_faults scope (part.Header h) = header_faults scope h
+part_faults scope (part.Body b) = body_faults scope b
+part_faults scope (part.Modvars ms) = modvars_faults (environment scope) ms
+part_faults scope (part.States us) = []
+
+-- the names that a specification declares, and its one statement
+abbrev pub outer_faults : Spec → List Fault
+outer_faults s = twice_faults [] (names_of (parts_region s.parts)) ++ statement_faults (environment (spec_scope s)) s.first

@@ -1,0 +1,62 @@
+-- The outside interaction points of a specification (ISO 9074, interaction points and channels).
+use Rattle.std.specs.Prelude.{ℕ, Bool, true, false, not, List, [], ◌∷◌, ◌++◌, Option, Some, None}
+use Rattle.est_syntax.specs.declared.name.Used.{Used}
+use Rattle.est_syntax.specs.declared.ports.Port.{Port}
+use Rattle.est_syntax.specs.declared.ports.Signal.{Signal}
+use Rattle.est_syntax.specs.declared.specification.InteractionDef.{InteractionDef}
+use Rattle.est_syntax.specs.declared.specification.ByPart.{ByPart}
+use Rattle.est_syntax.specs.declared.specification.Point.{Point}
+use Rattle.est_syntax.specs.declared.specification.Header.{Header}
+use Rattle.est_syntax.specs.declared.specification.ModvarDef.{ModvarDef}
+use Rattle.est_syntax.specs.declared.specification.Statement.{Statement}
+use Rattle.est_syntax.specs.declared.specification.Statement.TheVariants.{Init}
+use Rattle.est_syntax.specs.declared.specification.Spec.{Spec}
+use Rattle.est_syntax.specs.Names.{Side, Scope, meaning, header_by, side_of, spec_scope}
+use Rattle.est_syntax.specs.Environment.{has_role}
+use Rattle.est_syntax.specs.Breaks.{modvar_by}
+
+-- the header of the module that a statement starts: that of its module variable
+abbrev pub header_of_variable : Scope → Option ModvarDef → Option Header
+header_of_variable scope None = None
+header_of_variable scope (Some m) = header_by (meaning scope m.header)
+
+abbrev pub header_started : Scope → Statement → Option Header
+header_started scope (Init target body arguments place) = header_of_variable scope (modvar_by (meaning scope target.name))
+header_started scope _ = None
+
+-- the interactions of a channel in order; an interaction point sends what its role may send, and receives what the other role may send
+abbrev pub interaction_signals : Side → ByPart → List InteractionDef → List Signal
+interaction_signals side b [] = []
+interaction_signals side b (i ∷ is) =
+    record {
+      name = i.name.name;
+      kinds = [];
+      sends = has_role side.channel side.is_second b.roles;
+      receives = has_role side.channel (not side.is_second) b.roles;
+    }
+    ∷ interaction_signals side b is
+
+abbrev pub by_signals : Side → List ByPart → List Signal
+by_signals side [] = []
+by_signals side (b ∷ bs) = interaction_signals side b b.interactions ++ by_signals side bs
+
+abbrev pub signals_of : Option Side → List Signal
+signals_of None = []
+signals_of (Some side) = by_signals side side.channel.by
+
+-- the interaction points of a header in order
+abbrev pub named_ports : List Signal → List Used → List Port
+named_ports signals [] = []
+named_ports signals (u ∷ us) = record { name = u.name; index_kinds = []; index = []; signals = signals } ∷ named_ports signals us
+
+abbrev pub point_ports : Scope → List Point → List Port
+point_ports scope [] = []
+point_ports scope (p ∷ ps) = named_ports (signals_of (side_of scope p)) p.names ++ point_ports scope ps
+
+abbrev pub header_ports : Scope → Option Header → List Port
+header_ports scope None = []
+header_ports scope (Some h) = point_ports scope h.points
+
+-- the ports of a specification are the interaction points of the one module that it starts
+abbrev pub ports_of : Spec → List Port
+ports_of s = header_ports (spec_scope s) (header_started (spec_scope s) s.first)
