@@ -4,3 +4,4 @@ pub mod Checks
 pub mod Events
 pub mod Moving
 pub mod Replaying
+pub mod FromStart

@@ -31,6 +31,9 @@ use Rattle.est_replay.specs.Standing.{IsReady, AgreesUpTo, HasMoved, HasLanded, 
 use Rattle.est_replay.proofs.Checks.{follows_agrees}
 use Rattle.est_replay.proofs.Events.{next_of}
 
+pub pushed_now : (new old : Stack) (s : Situation) → new ≡ pushed s old → new.now ≡ s
+pushed_now new old s e = ap (λ (x : Stack). x.now) e
+
 module _ (c : Setup) (spec : Spec) (limit silent : ℕ) (trace : List Event) (stack : Stack) (at : Standing) (r : IsReady c spec limit silent trace stack at) where
   -- TAKING
 
