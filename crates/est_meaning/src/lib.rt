@@ -4,4 +4,5 @@
 pub mod event;
 pub mod laws;
 pub mod run;
+pub mod same;
 pub mod world;
