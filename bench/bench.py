@@ -20,11 +20,11 @@ SEED = 20261127
 RUNS = 5
 
 
-def seconds(command):
+def seconds(command, folder):
     best = None
     for _ in range(RUNS):
         before = resource.getrusage(resource.RUSAGE_CHILDREN)
-        done = subprocess.run(command, stdout=subprocess.DEVNULL, stderr=subprocess.DEVNULL)
+        done = subprocess.run(command, cwd=folder, stdout=subprocess.DEVNULL, stderr=subprocess.DEVNULL)
         after = resource.getrusage(resource.RUSAGE_CHILDREN)
         taken = after.ru_utime + after.ru_stime - before.ru_utime - before.ru_stime
         if done.returncode != 0:
@@ -38,7 +38,7 @@ def rows(name, sizes, make, suffix, command, folder):
     for size in sizes:
         path = folder / f"{name.split()[0]}-{size}{suffix}"
         path.write_text(make(size, SEED))
-        taken = seconds(command(path))
+        taken = seconds(command(path), folder)
         length = path.stat().st_size
         ratio = "" if before is None else f"{taken / before:.2f}"
         print(f"| {name} | {length:,} | {taken * 1000:.1f} | {length / taken / 1e6:.1f} | {ratio} |", flush=True)
