@@ -5,4 +5,5 @@ pub mod Entries
 pub mod Passes
 pub mod PortPass
 pub mod Skeleton
+pub mod SkeletonRules
 pub mod Tables

@@ -17,3 +17,6 @@ pub mod uses;
 pub use checked::{Checked, check};
 pub use counts::Counts;
 pub use error::CheckError;
+
+#[cfg(test)]
+mod tests;

@@ -3,3 +3,4 @@ pub mod Skeleton
 pub mod Language
 pub mod Views
 pub mod Reading
+pub mod Answer

@@ -1,5 +1,5 @@
 -- The grammar of skeleton specifications: one process, states, plain transitions (ISO 9074, 7).
-use Rattle.std.specs.Prelude.{ℕ, Bool, true, false, List, [], ◌∷◌, ◌++◌}
+use Rattle.std.specs.Prelude.{false, List, [], ◌∷◌, ◌++◌}
 use Rattle.est_lexer.specs.declared.kind.ReservedWord.{ReservedWord}
 use Rattle.est_lexer.specs.declared.kind.ReservedWord.TheVariants as words
 use Rattle.est_lexer.specs.declared.kind.Symbol.{Symbol}
@@ -120,7 +120,7 @@ production transition = said words.Trans (seq clauses (seq block (sign Semicolon
 -- output = "output" ident "." ident { "," ident "." ident } .
 production output = said words.Output (listed dotted)
 
--- What can begin a tree of a production, what can go on behind one, and that none is empty.
+-- the kinds of token that can begin a tree of a production
 abbrev pub begins : Production → List TokenKind
 begins specification = Reserved words.Specification ∷ []
 begins channel = Reserved words.Channel ∷ []
@@ -131,12 +131,14 @@ begins body = Reserved words.Body ∷ []
 begins transition = Reserved words.Trans ∷ []
 begins output = Reserved words.Output ∷ []
 
+-- the kinds of token that can go on behind a tree of a production
 abbrev pub goes_on : Production → List TokenKind
 goes_on channel = Reserved words.By ∷ Identifier ∷ []
 goes_on by = Identifier ∷ []
 goes_on output = Special Comma ∷ []
 goes_on p = []
 
+-- the table of the productions, none of which can be empty
 abbrev pub marks : Marks TokenKind Production
 marks = record { starts = begins; goes_on = goes_on; is_empty = λ p. false }
 

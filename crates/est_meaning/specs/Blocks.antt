@@ -30,6 +30,7 @@ pub record Sent : Type 0 where
   pub situation : Situation
   pub outs : List Event
 
+-- a signal of a port has this name
 abbrev pub is_signal : Name → Signal → Bool
 is_signal name signal = is_name name signal.name
 
@@ -37,6 +38,7 @@ is_signal name signal = is_name name signal.name
 abbrev pub signal_number : Name → Port → Option ℕ
 signal_number name port = position (is_signal name) port.signals
 
+-- the event that an interaction leaves, where it has a number
 abbrev pub departing : ℕ → List Value → Option ℕ → List Event
 departing port values None = []
 departing port values (Some k) = event.Leaves (record { port = port; signal = k; values = values }) ∷ []
@@ -51,6 +53,7 @@ delivered spec s signal values (Within q) = record { situation = put spec s (rec
 delivered spec s signal values (Outside port) = record { situation = s; outs = departure spec port signal values }
 delivered spec s signal values Lost = record { situation = s; outs = [] }
 
+-- the interaction point at which an instance sends
 abbrev pub sending_at : ℕ → Sending → InteractionPoint
 sending_at number sending = record { instance = number; name = sending.at.name.name; index = [] }
 

@@ -18,6 +18,7 @@ pub record Choice : Type 0 where
   pub row : Row
   pub transition : Transition
 
+-- the transition of this number in the body of an instance
 abbrev pub choice_in : Spec → ℕ → Row → Option Choice
 choice_in spec number row = option_map (λ (t : Transition). record { row = row; transition = t }) (numbered (transitions_of row.body) number)
 
@@ -31,10 +32,12 @@ fits_state None state = true
 fits_state (Some states) None = false
 fits_state (Some states) (Some state) = list_any (uses_name state) states
 
+-- the first item of a queue, where there is one (ISO 9074, 5, queues)
 abbrev pub head_of : List Item → Option Item
 head_of [] = None
 head_of (item ∷ items) = Some item
 
+-- the item is an interaction of this name that came through the interaction point
 abbrev pub came_through : InteractionPoint → Name → Item → Bool
 came_through p signal item = is_point p item.at && is_name signal item.signal
 
@@ -47,6 +50,7 @@ abbrev pub has_arrived : Spec → Situation → ℕ → Option Awaited → Bool
 has_arrived spec s number None = true
 has_arrived spec s number (Some w) = let p = awaited_at number w in option_map_or (came_through p w.signal.name) (head_of (s.queues (queue_of spec s p))) false
 
+-- the from- and the when-clause of a choice hold
 abbrev pub is_enabled_choice : Spec → Situation → Choice → Bool
 is_enabled_choice spec s c = fits_state (from_of c.transition) c.row.state && has_arrived spec s c.row.number (when_of c.transition)
 
@@ -74,6 +78,7 @@ Outranks None other = ⊥
 Outranks (Some a) None = Unit {0}
 Outranks (Some a) (Some b) = a < b
 
+-- the priority number of a firing, where it has one
 abbrev pub priority_at : Spec → Situation → Firing → Option ℕ
 priority_at spec s f = option_and_then (λ (c : Choice). priority_of c.transition) (choice_of spec s f)
 
@@ -89,11 +94,13 @@ pub record CanFire (limit : ℕ) (spec : Spec) (s : Situation) (f : Firing) : Ty
   pub unranked : (g : Firing) → g.instance ≡ f.instance → IsTrue (is_due limit spec s g) → Outranks (priority_at spec s g) (priority_at spec s f) → ⊥
   pub unpreceded : (g : Firing) → IsAncestor s g.instance f.instance → IsTrue (is_due limit spec s g) → ⊥
 
+-- the firing may be tried
 unfoldable pub IsPossible : ℕ → Spec → Situation → Firing → Type 0
 IsPossible limit spec s f = CanFire limit spec s f
 
 -- STAMPS
 
+-- the one choice of a transition with a delay, which has no `any`
 abbrev pub first_choice : Clocked → Firing
 first_choice k = record { instance = k.instance; transition = k.transition; choice = 1 }
 
@@ -101,6 +108,7 @@ first_choice k = record { instance = k.instance; transition = k.transition; choi
 abbrev pub is_timed : ℕ → Spec → Situation → Clocked → Bool
 is_timed limit spec s k = option_map_or (λ (c : Choice). has_delay c.transition && is_enabled_choice spec s c) (choice_of spec s (first_choice k)) false
 
+-- this transition was just fired
 abbrev pub is_fired : Option Firing → Clocked → Bool
 is_fired None k = false
 is_fired (Some f) k = nat_eq f.instance k.instance && nat_eq f.transition k.transition
@@ -110,5 +118,6 @@ abbrev pub stamp_after : ℕ → Spec → Option Firing → Situation → Clocke
 stamp_after limit spec fired s k =
     if is_timed limit spec s k then Some (if is_fired fired k then s.clock else unwrap_or (s.stamps k) s.clock) else None
 
+-- the situation with its stamps brought up to date
 abbrev pub restamped : ℕ → Spec → Option Firing → Situation → Situation
 restamped limit spec fired s = record s { stamps = stamp_after limit spec fired s }

@@ -20,6 +20,7 @@ point_of number declared = record { instance = number; name = declared.name; ind
 abbrev pub declared_of : Spec → Row → List Declared
 declared_of spec row = points_in (header_of spec row.body)
 
+-- the external interaction points of an instance, in order
 abbrev pub external_of : Spec → Row → List InteractionPoint
 external_of spec row = map (point_of row.number) (declared_of spec row)
 
@@ -27,6 +28,7 @@ external_of spec row = map (point_of row.number) (declared_of spec row)
 abbrev pub port_point : Port → InteractionPoint
 port_point port = record { instance = 1; name = port.name; index = port.index }
 
+-- the outside ports as interaction points, in order
 abbrev pub outside_points : Spec → List InteractionPoint
 outside_points spec = map port_point (ports_of spec)
 
@@ -36,6 +38,7 @@ port_number spec p = position (is_point p) (outside_points spec)
 
 -- ATTACHMENTS
 
+-- an attachment leads to this interaction point
 abbrev pub is_at : InteractionPoint → Option InteractionPoint → Bool
 is_at p None = false
 is_at p (Some q) = is_point p q
@@ -44,6 +47,7 @@ is_at p (Some q) = is_point p q
 abbrev pub attached_in : Spec → Situation → InteractionPoint → Row → Option InteractionPoint
 attached_in spec s p parent = find (λ e. is_at p (s.down e)) (external_of spec parent)
 
+-- the interaction point of the parent to which this one is attached, where there is one (ISO 9074, 7, attach-statement)
 abbrev pub above : Spec → Situation → InteractionPoint → Option InteractionPoint
 above spec s p = option_and_then (attached_in spec s p) (option_and_then (λ (r : Row). row_of s r.parent) (row_of s p.instance))
 
@@ -68,10 +72,12 @@ pub data Route : Type 0 where
   Outside : ℕ → Route
   Lost : Route
 
+-- without a connection an output leaves at a port, or is lost
 abbrev pub outside : Option ℕ → Route
 outside None = Lost
 outside (Some port) = Outside port
 
+-- from the top of a climb an output crosses a connection, where there is one (ISO 9074, 7, connect-statement)
 abbrev pub crossed : Spec → Situation → InteractionPoint → Option InteractionPoint → Route
 crossed spec s q (Some other) = Within (bottom s other)
 crossed spec s q None = outside (port_number spec q)
@@ -82,6 +88,7 @@ routed spec s p = let q = up spec s p in crossed spec s q (s.peer q)
 
 -- QUEUES
 
+-- the queue of an interaction point of this discipline
 abbrev pub queue_by : InteractionPoint → Queue → QueueName
 queue_by p Individual = Own p
 queue_by p Common = Shared p.instance
@@ -91,9 +98,11 @@ abbrev pub queue_in : Spec → InteractionPoint → Option Declared → QueueNam
 queue_in spec p None = Own p
 queue_in spec p (Some declared) = queue_by p (discipline spec declared)
 
+-- where the header of an instance declares an interaction point
 abbrev pub declaration_of : Spec → Situation → InteractionPoint → Option Declared
 declaration_of spec s p = option_and_then (λ (r : Row). find (is_declared p.name) (declared_of spec r)) (row_of s p.instance)
 
+-- the queue of an interaction point in a situation
 abbrev pub queue_of : Spec → Situation → InteractionPoint → QueueName
 queue_of spec s p = queue_in spec p (declaration_of spec s p)
 
@@ -101,6 +110,7 @@ queue_of spec s p = queue_in spec p (declaration_of spec s p)
 abbrev pub put : Spec → Situation → Item → Situation
 put spec s item = let q = queue_of spec s item.at in with_queue s q (s.queues q ++ item ∷ [])
 
+-- the items behind the head
 abbrev pub rest_of : List Item → List Item
 rest_of [] = []
 rest_of (item ∷ items) = items

@@ -22,6 +22,7 @@ abbrev pub IsAscending : List Firing → Type 0
 IsAscending [] = Unit {0}
 IsAscending (f ∷ fs) = IsBeforeAll f fs × IsAscending fs
 
+-- a list has this item
 abbrev pub IsAmong : {X : Type 0} → X → List X → Type 0
 IsAmong x [] = ⊥
 IsAmong x (y ∷ ys) = (x ≡ y) ⊎ IsAmong x ys
@@ -46,6 +47,7 @@ MarkBefore (Trying f) Taking = ⊥
 MarkBefore (Trying f) Guarding = ⊥
 MarkBefore (Trying f) (Trying g) = FiringBefore f g
 
+-- the mark of a move
 abbrev pub mark_of : Move → Mark
 mark_of Take = Taking
 mark_of (Fire f) = Trying f
@@ -54,6 +56,7 @@ mark_of (Fire f) = Trying f
 abbrev pub marks_of : List Move → List Mark
 marks_of = map mark_of
 
+-- a list, read from its last item back, starts with another
 abbrev pub StartsWith : {X : Type 0} → List X → List X → Type 0
 StartsWith {X} run start = (later : List X) × (run ≡ later ++ start)
 
@@ -68,6 +71,7 @@ pub data Before (x y : List Mark) : Type 0 where
 abbrev pub RunBefore : List Move → List Move → Type 0
 RunBefore x y = Before (marks_of x) (marks_of y)
 
+-- a run is another or comes before it
 abbrev pub NotAfter : List Move → List Move → Type 0
 NotAfter x y = (x ≡ y) ⊎ RunBefore x y
 

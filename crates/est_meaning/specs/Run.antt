@@ -39,6 +39,7 @@ pub record Place : Type 0 where
   -- how many silent firings stand last, in a row
   pub row : ℕ
 
+-- where the run without moves stands
 abbrev pub first_place : Setup → Place
 first_place c = record { situation = c.start; events = c.start_outs; row = 0 }
 
@@ -50,6 +51,7 @@ IsFromOutside (event.Arrives i) = Unit {0}
 IsFromOutside (event.Leaves i) = ⊥
 IsFromOutside (event.Passes units) = Unit {0}
 
+-- where a run stands behind a taken event
 abbrev pub after_taking : Setup → Place → Event → Place
 after_taking c p e = record { situation = after_event c.spec p.situation e; events = p.events ++ e ∷ []; row = 0 }
 
@@ -66,6 +68,7 @@ abbrev pub row_after : ℕ → List Event → ℕ
 row_after row [] = row + 1
 row_after row (e ∷ es) = 0
 
+-- where a run stands behind a step
 abbrev pub after_firing : Place → Situation → List Event → Place
 after_firing p s outs = record { situation = s; events = p.events ++ outs; row = row_after p.row outs }
 
@@ -76,6 +79,7 @@ pub record Fires (c : Setup) (p : Place) (f : Firing) (q : Place) : Type 0 where
   pub step : IsStep c.limit c.spec p.situation f situation outs
   pub leads : q ≡ after_firing p situation outs
 
+-- a move leads from one place to another
 abbrev pub Moves : Setup → Place → Move → Place → Type 0
 Moves c p Take q = Takes c p q
 Moves c p (Fire f) q = Fires c p f q

@@ -13,6 +13,7 @@ use Rattle.est_meaning.specs.Text.{is_name}
 abbrev pub Map : Type 0 → Type 0 → Type 0
 Map Key Thing = Key → Option Thing
 
+-- the map that gives nothing
 abbrev pub nothing : {Key Thing : Type 0} → Map Key Thing
 nothing key = None
 
@@ -22,6 +23,7 @@ pub record InteractionPoint : Type 0 where
   pub name : Name
   pub index : List ℤ
 
+-- both are one interaction point
 abbrev pub is_point : InteractionPoint → InteractionPoint → Bool
 is_point a b = nat_eq a.instance b.instance && (is_name a.name b.name && pointwise int_eq a.index b.index)
 
@@ -30,6 +32,7 @@ pub data QueueName : Type 0 where
   Own : InteractionPoint → QueueName
   Shared : ℕ → QueueName
 
+-- both are one queue
 abbrev pub is_queue : QueueName → QueueName → Bool
 is_queue (Own a) (Own b) = is_point a b
 is_queue (Own a) (Shared n) = false
@@ -95,6 +98,7 @@ row_of s number = find (λ (r : Row). nat_eq number r.number) s.rows
 abbrev pub row_changed : ℕ → (Row → Row) → Row → Row
 row_changed number change row = if nat_eq number row.number then change row else row
 
+-- the situation in which one instance is changed so
 abbrev pub with_row : Situation → ℕ → (Row → Row) → Situation
 with_row s number change = record s { rows = map (row_changed number change) s.rows }
 

@@ -61,6 +61,7 @@ pub record IsStep (limit : ℕ) (spec : Spec) (s : Situation) (f : Firing) (next
 abbrev pub root_row : Body → Row
 root_row body = record { number = 1; parent = 0; body = body; state = None; variables = nothing; exported = nothing; children = nothing }
 
+-- the situation of the root alone, before its initialize part
 abbrev pub born : Body → Situation
 born body = record empty_situation { rows = root_row body ∷ []; next = 2 }
 
@@ -69,6 +70,7 @@ abbrev pub initialized : ℕ → Spec → ℕ → Situation → Option FirstPart
 initialized limit spec left s None = completed limit spec None 1 None (Done s [])
 initialized limit spec left s (Some part) = completed limit spec None 1 part.to (block_meaning spec 1 part.block.statements left s [])
 
+-- the root is born and initialized, where its body is there
 abbrev pub made : ℕ → Spec → ℕ → Option Body → Outcome
 made limit spec left None = Fault NoModule
 made limit spec left (Some body) = initialized limit spec left (born body) (out-Body body).first
@@ -86,10 +88,12 @@ start_of limit spec = begun limit spec limit spec.first
 
 -- THE OUTSIDE
 
+-- an interaction arrives at an interaction point, where its number is one of the port
 abbrev pub arrived_as : Spec → Situation → InteractionPoint → List Value → Option Signal → Situation
 arrived_as spec s p values None = s
 arrived_as spec s p values (Some signal) = put spec s (record { at = bottom s p; signal = signal.name; values = values })
 
+-- an interaction arrives, where its port is there
 abbrev pub arrived_at : Spec → Situation → Interaction → Option Port → Situation
 arrived_at spec s i None = s
 arrived_at spec s i (Some port) = arrived_as spec s (port_point port) i.values (slice_get port.signals i.signal)
@@ -98,6 +102,7 @@ arrived_at spec s i (Some port) = arrived_as spec s (port_point port) i.values (
 abbrev pub arrived : Spec → Situation → Interaction → Situation
 arrived spec s i = arrived_at spec s i (slice_get (ports_of spec) i.port)
 
+-- so many units later
 abbrev pub later : Situation → ℕ → Situation
 later s units = record s { clock = s.clock + units }
 

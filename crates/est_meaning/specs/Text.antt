@@ -27,6 +27,7 @@ use Rattle.est_syntax.specs.declared.specification.Spec.{Spec}
 abbrev pub is_name : Name → Name → Bool
 is_name a b = names.is_name a.bytes b.bytes
 
+-- a use is of this name
 abbrev pub uses_name : Name → Used → Bool
 uses_name name used = is_name name used.name
 
@@ -37,6 +38,7 @@ first_of_all f (x ∷ xs) = option_or (f x) (first_of_all f xs)
 
 -- PARTS
 
+-- the module header that a part is
 abbrev pub header_in : Part → Option Header
 header_in (part.Channel c) = None
 header_in (part.Header h) = Some h
@@ -44,6 +46,7 @@ header_in (part.Body b) = None
 header_in (part.Modvars m) = None
 header_in (part.States s) = None
 
+-- the module body that a part is
 abbrev pub body_in : Part → Option Body
 body_in (part.Channel c) = None
 body_in (part.Header h) = None
@@ -70,6 +73,7 @@ pub record Declared : Type 0 where
   pub name : Name
   pub point : Point
 
+-- the interaction points that are declared together
 abbrev pub declared_in : Point → List Declared
 declared_in point = map (λ (u : Used). record { name = u.name; point = point }) point.names
 
@@ -77,10 +81,12 @@ declared_in point = map (λ (u : Used). record { name = u.name; point = point })
 abbrev pub points_of : Header → List Declared
 points_of header = flat_map declared_in header.points
 
+-- the interaction points of a header, where there is one
 abbrev pub points_in : Option Header → List Declared
 points_in None = []
 points_in (Some header) = points_of header
 
+-- a declared interaction point has this name
 abbrev pub is_declared : Name → Declared → Bool
 is_declared name declared = is_name name declared.name
 
@@ -94,6 +100,7 @@ root_in spec (statement.Init target body arguments place) = body_named spec body
 root_in spec (statement.Empty place) = None
 root_in spec (statement.Output sendings place) = None
 
+-- the body of the root instance
 abbrev pub root_of : Spec → Option Body
 root_of spec = root_in spec spec.first
 
@@ -114,6 +121,7 @@ from_in (clause.From states place) = Some states
 from_in (clause.To state place) = None
 from_in (clause.When at signal place) = None
 
+-- the states that the from-clause of a transition names
 abbrev pub from_of : Transition → Option (List Used)
 from_of transition = first_of_all from_in transition.clauses
 
@@ -123,6 +131,7 @@ to_in (clause.From states place) = None
 to_in (clause.To state place) = state
 to_in (clause.When at signal place) = None
 
+-- the state that the to-clause of a transition names
 abbrev pub to_of : Transition → Option Used
 to_of transition = first_of_all to_in transition.clauses
 
@@ -137,6 +146,7 @@ when_in (clause.From states place) = None
 when_in (clause.To state place) = None
 when_in (clause.When at signal place) = Some (record { at = at; signal = signal })
 
+-- the interaction that the when-clause of a transition names
 abbrev pub when_of : Transition → Option Awaited
 when_of transition = first_of_all when_in transition.clauses
 

@@ -42,6 +42,7 @@ pub record SameFlat (a b : Flat) : Type 0 where
 
 -- THE TEXT AS LISTS
 
+-- the discipline is the common queue
 abbrev pub is_common : Queue → Bool
 is_common Individual = false
 is_common Common = true
@@ -54,9 +55,11 @@ queue_for spec d = record { name = d.name; is_shared = is_common (discipline spe
 abbrev pub queues_for : Spec → Body → List PointQueue
 queues_for spec body = map (queue_for spec) (points_in (header_of spec body))
 
+-- the transitions that references point to
 abbrev pub seen : List (Bor Transition) → List Transition
 seen xs = map (λ (x : Bor Transition). x.now) xs
 
+-- the awaited interaction that two references point to
 abbrev pub awaited_by : Bor Access × Bor Used → Awaited
 awaited_by p = record { at = p.0.now; signal = p.1.now }
 
@@ -67,6 +70,7 @@ pub record HasFew (ports : List Port) : Type 0 where
 
 -- QUEUES
 
+-- a flat interaction point has this name
 abbrev pub has_name : Name → PointQueue → Bool
 has_name name point = is_name name point.name
 
@@ -74,12 +78,15 @@ has_name name point = is_name name point.name
 abbrev pub shares : List PointQueue → Name → Bool
 shares points name = option_map_or (λ (p : PointQueue). p.is_shared) (find (has_name name) points) false
 
+-- the interaction point of the root with this name
 abbrev pub point_named : Name → InteractionPoint
 point_named name = record { instance = 1; name = name; index = [] }
 
+-- the queue of the interaction point with this name
 abbrev pub queue_named : List PointQueue → Name → QueueName
 queue_named points name = if shares points name then Shared 1 else Own (point_named name)
 
+-- what a flat item stands for
 abbrev pub item_of : Waiting → Item
 item_of w = record { at = point_named w.at; signal = w.signal; values = w.values }
 
@@ -109,17 +116,21 @@ situation_of points body flat = bare body flat.state (queued points flat.waiting
 
 -- CHOICES
 
+-- the head of a queue came through the interaction point and has the name
 abbrev pub head_matches : Name → Name → Option Waiting → Bool
 head_matches at signal None = false
 head_matches at signal (Some x) = is_name at x.at && is_name signal x.signal
 
+-- the awaited interaction stands at the head of its queue, or none is awaited
 abbrev pub arrived_in : List PointQueue → List Waiting → Option Awaited → Bool
 arrived_in points waiting None = true
 arrived_in points waiting (Some w) = head_matches w.at.name.name w.signal.name (find (waits_in points (queue_named points w.at.name.name)) waiting)
 
+-- the clauses of a transition hold in a flat situation
 abbrev pub is_enabled_in : List PointQueue → Flat → Transition → Bool
 is_enabled_in points flat t = fits_state (from_of t) flat.state && arrived_in points flat.waiting.items (when_of t)
 
+-- the transition of a firing of the root
 abbrev pub choice_in : List Transition → Firing → Option Transition
 choice_in transitions f = if nat_eq f.choice 1 then (if nat_eq f.instance 1 then numbered transitions f.transition else None) else None
 
@@ -134,13 +145,16 @@ abbrev pub signal_in : List Port → Name → ℕ → Option Port → Option (�
 signal_in ports signal k None = None
 signal_in ports signal k (Some port) = option_map_or (λ j. Some (k, j)) (position (is_signal signal) port.signals) None
 
+-- where an output of the root leaves, if it does
 abbrev pub leaving : List Port → Name → Name → Option (ℕ × ℕ)
 leaving ports at signal = option_map_or (λ k. signal_in ports signal k (slice_get ports k)) (position (is_port at) ports) None
 
+-- the event that an output makes, if it leaves
 abbrev pub departures : Option (ℕ × ℕ) → List Event
 departures None = []
 departures (Some n) = event.Leaves (record { port = n.0; signal = n.1; values = [] }) ∷ []
 
+-- the outside events behind an output
 abbrev pub sent_in : List Port → List Sending → List Event → List Event
 sent_in ports [] outs = outs
 sent_in ports (x ∷ xs) outs = sent_in ports xs (outs ++ departures (leaving ports x.at.name.name x.signal.name))
@@ -171,6 +185,7 @@ abbrev pub taken_in : List PointQueue → List Waiting → Option Awaited → Li
 taken_in points waiting None = waiting
 taken_in points waiting (Some w) = without_first (waits_in points (queue_named points w.at.name.name)) waiting
 
+-- the state behind a transition that names this one or none
 abbrev pub next_in : Option Name → Option Used → Option Name
 next_in state None = state
 next_in state (Some u) = Some u.name
@@ -191,10 +206,12 @@ abbrev pub arrival_as : Port → Interaction → Option Signal → List Waiting
 arrival_as port i None = []
 arrival_as port i (Some signal) = record { at = port.name; signal = signal.name; values = i.values } ∷ []
 
+-- what an arrival at a port adds to what waits
 abbrev pub arrival_at : Interaction → Option Port → List Waiting
 arrival_at i None = []
 arrival_at i (Some port) = arrival_as port i (slice_get port.signals i.signal)
 
+-- what an arrival adds to what waits, by its port
 abbrev pub arrival_in : List Port → Interaction → List Waiting
 arrival_in ports i = arrival_at i (slice_get ports i.port)
 
@@ -213,6 +230,7 @@ stack_of points body now below = record { now = situation_of points body now; be
 
 -- OPTIONS
 
+-- the firing of the transition at an index
 abbrev pub firing_at : ℕ → Firing
 firing_at k = record { instance = 1; transition = k + 1; choice = 1 }
 

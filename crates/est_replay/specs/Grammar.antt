@@ -8,12 +8,15 @@ use Rattle.est_texts.specs.Tests.{Test, said, number, language}
 -- The grammar has no named productions.
 pub data NoName : Type 0 where
 
+-- so there is nothing to say of them
 abbrev pub production : NoName → Grammar Test NoName
 production name = done
 
+-- nor of what they begin with
 abbrev pub marks : Marks Test NoName
 marks = record { starts = λ name. []; goes_on = λ name. []; is_empty = λ name. true }
 
+-- a right side of the grammar
 abbrev pub Rule : Type 0
 Rule = Grammar Test NoName
 

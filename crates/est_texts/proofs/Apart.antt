@@ -1,7 +1,7 @@
 -- Tests that are apart by computation are met by no token both.
-use Rattle.std.proofs.Common.{◌≡◌, ℕ, ◌≤◌, Bool, true, false, not, List, Option, Some, None, sym, ◌∙◌, arith, ltb-true, leb-true}
+use Rattle.std.proofs.Common.{◌≡◌, ℕ, ◌≤◌, Bool, true, false, not, List, Option, Some, None, sym, ◌∙◌, arith, ltb-true, leb-true, bytes_eq}
 use Rattle.std.specs.Prelude.{nat_le}
-use Rattle.std.specs.Str.{str_eq_ignore_ascii_case, str_to_ascii_lowercase}
+use Rattle.std.specs.Str.{str_to_ascii_lowercase}
 use Rattle.std.proofs.lemmas.Slice.Eq.{bytes_eq-Decides}
 use Rattle.est_lexer.specs.declared.kind.Token.{Token}
 use Rattle.est_lexer.specs.declared.kind.TokenKind.{TokenKind}
@@ -29,11 +29,11 @@ spelled_or_number Character h k = cc
 spelled_or_number Bad h k = cc
 
 -- two words that one text spells are one word
-pub words_equal : (word other bytes : List ℕ) → str_eq_ignore_ascii_case word bytes ≡ true → str_eq_ignore_ascii_case other bytes ≡ true → str_eq_ignore_ascii_case word other ≡ true
+pub words_equal : (word other bytes : List ℕ) → bytes_eq word bytes ≡ true → bytes_eq other bytes ≡ true → bytes_eq word other ≡ true
 words_equal word other bytes h k =
-    let p = (bytes_eq-Decides (str_to_ascii_lowercase word) (str_to_ascii_lowercase bytes)).0 h in
-    let q = (bytes_eq-Decides (str_to_ascii_lowercase other) (str_to_ascii_lowercase bytes)).0 k in
-    (bytes_eq-Decides (str_to_ascii_lowercase word) (str_to_ascii_lowercase other)).1 (p ∙ sym q)
+    let p = (bytes_eq-Decides word bytes).0 h in
+    let q = (bytes_eq-Decides other bytes).0 k in
+    (bytes_eq-Decides word other).1 (p ∙ sym q)
 
 within : (low high : ℕ) (text : List ℕ) (token : Token) → holds text (number low high) token ≡ true → (low ≤ value_in text token) × (value_in text token ≤ high)
 within low high text token h =
@@ -42,7 +42,7 @@ within low high text token h =
 
 -- no token meets two tests that are apart
 pub apart-holds : (text : List ℕ) (x y : Test) (token : Token) → apart x y ≡ true → holds text x token ≡ true → holds text y token ≡ true → ⊥
-apart-holds text (spelled word) (spelled other) token e h k = not_true _ e (words_equal word other (spelling text token) (and_right (is_spelled token.kind) _ h) (and_right (is_spelled token.kind) _ k))
+apart-holds text (spelled word) (spelled other) token e h k = not_true _ e (words_equal word other (str_to_ascii_lowercase (spelling text token)) (and_right (is_spelled token.kind) _ h) (and_right (is_spelled token.kind) _ k))
 apart-holds text (spelled word) (number low high) token e h k = spelled_or_number token.kind (and_left (is_spelled token.kind) _ h) (and_left (is_number token.kind) _ k)
 apart-holds text (number low high) (spelled word) token e h k = spelled_or_number token.kind (and_left (is_spelled token.kind) _ k) (and_left (is_number token.kind) _ h)
 apart-holds text (number low high) (number from to) token e h k =
@@ -56,6 +56,6 @@ pub far : {P : Type 0} (production : P → Grammar Test P) (text : List ℕ) (xs
 far production text xs ys e = clear (language production text) apart (apart-holds text) xs ys e
 
 -- a token that is spelled as two words shows that they are one
-pub one_word : (text word other : List ℕ) (o : Option Token) → meets (holds text) (spelled word) o ≡ true → meets (holds text) (spelled other) o ≡ true → str_eq_ignore_ascii_case word other ≡ true
+pub one_word : (text word other : List ℕ) (o : Option Token) → meets (holds text) (spelled word) o ≡ true → meets (holds text) (spelled other) o ≡ true → bytes_eq word other ≡ true
 one_word text word other None h k = cc
-one_word text word other (Some token) h k = words_equal word other (spelling text token) (and_right (is_spelled token.kind) _ h) (and_right (is_spelled token.kind) _ k)
+one_word text word other (Some token) h k = words_equal word other (str_to_ascii_lowercase (spelling text token)) (and_right (is_spelled token.kind) _ h) (and_right (is_spelled token.kind) _ k)

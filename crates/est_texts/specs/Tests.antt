@@ -1,13 +1,13 @@
 -- The tests of the tokens of a text, and languages over them.
-use Rattle.std.specs.Prelude.{ℕ, Bool, true, not, ◌+◌, ◌-◌, ◌*◌, ◌&&◌, nat_lt, nat_le, List, fold, codes}
-use Rattle.std.specs.Str.{str_eq_ignore_ascii_case}
+use Rattle.std.specs.Prelude.{ℕ, Bool, true, not, ◌+◌, ◌-◌, ◌*◌, ◌&&◌, nat_lt, nat_le, List, fold, codes, bytes_eq}
+use Rattle.std.specs.Str.{str_to_ascii_lowercase}
 use Prim.Native.String.{String}
 use Rattle.est_lexer.specs.declared.kind.Token.{Token}
 use Rattle.est_lexer.specs.Spans.{spelling}
 use Rattle.est_language.specs.Grammar.{Grammar, Language}
 use Rattle.est_texts.specs.Kinds.{is_spelled, is_number}
 
--- A test of one token: a word or a symbol by its spelling, in any letter case, or a number within bounds.
+-- A test of one token: a word or a symbol, which is spelled so in lower case and may be written in any letter case, or a number within bounds.
 pub data Test : Type 0 where
   spelled : List ℕ → Test
   number : (low high : ℕ) → Test
@@ -30,12 +30,12 @@ value_in text token = value_of (spelling text token)
 
 -- whether a token of the text meets a test
 abbrev pub holds : List ℕ → Test → Token → Bool
-holds text (spelled word) token = is_spelled token.kind && str_eq_ignore_ascii_case word (spelling text token)
+holds text (spelled word) token = is_spelled token.kind && bytes_eq word (str_to_ascii_lowercase (spelling text token))
 holds text (number low high) token = is_number token.kind && (nat_le low (value_in text token) && nat_le (value_in text token) high)
 
 -- whether no token meets both tests
 abbrev pub apart : Test → Test → Bool
-apart (spelled word) (spelled other) = not (str_eq_ignore_ascii_case word other)
+apart (spelled word) (spelled other) = not (bytes_eq word other)
 apart (spelled word) (number low high) = true
 apart (number low high) (spelled word) = true
 apart (number low high) (number from to) = nat_lt high from

@@ -1,13 +1,16 @@
 //! Words, symbols and numbers, taken one at a time.
 
-ghost use Rattle.std.specs.Prelude.{◌≡◌, ◌≤◌, ◌<◌, true, length, MatchOption};
+ghost use Rattle.std.specs.Prelude.{◌≡◌, ◌≤◌, ◌<◌, true, length, MatchOption, IfOk};
+ghost use Rattle.std.specs.Option.{option_map};
+ghost use Rattle.std.specs.Str.{str_to_ascii_lowercase};
 ghost use Rattle.est_lexer.specs.Places.{tokens_of};
 ghost use Rattle.est_texts.specs.Kinds.{is_spelled as has_spelling, is_number as is_numeric};
 ghost use Rattle.est_texts.specs.Tests.{spelled, number, value_of};
-ghost use Rattle.est_texts.specs.Takes.{stands, Takes, FindsNumber, TakesNumber};
+ghost use Rattle.est_texts.specs.Takes.{stands, IsSpelledAt, Takes, FindsNumber, TakesNumber};
 
 use est_lexer::kind::TokenKind;
 use est_lexer::tokens::Tokens;
+use std::alloc::{AllocError, Global};
 
 /// The token at a place is none that may stand there, or there is none.
 #[derive(Clone, Copy, Debug, PartialEq, Eq)]
@@ -54,8 +57,10 @@ fn value_up_to(digits: &[u8], high: u32) -> Option<u32>
     Some(value as u32)
 }
 
-/// Whether this word or symbol stands at the place, in any letter case.
+/// Whether this word or symbol, which is given in lower case, stands at the place in any letter
+/// case.
 pub fn word_is(tokens: &Tokens, at: u32, word: &[u8]) -> bool
+    requires { str_to_ascii_lowercase word.now ≡ word.now }
     ensures test { stands tokens.now at (spelled word.now) ≡ result }
     ensures inside { result ≡ true → at < length (tokens_of tokens.now) }
     ensures room { result ≡ true → at < 134217728 }
@@ -66,8 +71,22 @@ pub fn word_is(tokens: &Tokens, at: u32, word: &[u8]) -> bool
     }
 }
 
-/// Takes this word or symbol, in any letter case.
+/// The spelling in lower case of the word or symbol at the place, where one stands there.
+pub fn word_at(alloc: Global, tokens: &Tokens, at: u32) -> Result<Option<Vec<u8>>, AllocError>
+    ensures { IfOk result (λ found. IsSpelledAt tokens.now at (option_map (λ bytes. bytes.items) found)) }
+{
+    match tokens.token_at(at) {
+        Some(token) if is_spelled(token.kind) => {
+            let word = tokens.spelled(at).to_ascii_lowercase(alloc)?;
+            Ok(Some(word))
+        }
+        _ => Ok(None),
+    }
+}
+
+/// Takes this word or symbol, which is given in lower case, in any letter case.
 pub fn expect_word(tokens: &Tokens, at: u32, word: &[u8]) -> Result<u32, BadToken>
+    requires { str_to_ascii_lowercase word.now ≡ word.now }
     ensures { Takes (spelled word.now) tokens.now at result }
 {
     if word_is(tokens, at, word) {

@@ -1,4 +1,3 @@
-use Rattle.std.proofs.Common.{rules, refl}
 use Rattle.est_lexer.specs.declared.kind.TokenKind.TheVariants.{Identifier}
 use Rattle.est_grammar.specs.Views.{used_shape}
 use Rattle.est_grammar.proofs.Parsing.{exit, name_bad, name_found}
