@@ -16,20 +16,26 @@ use Rattle.est_replay.specs.declared.verdict.Replayed.TheVariants.{Confirmed}
 use Rattle.est_replay.specs.declared.replay.Standing.{Standing}
 use Rattle.est_replay.specs.declared.replay.Moved.{Moved}
 use Rattle.est_replay.specs.declared.replay.Moved.TheVariants.{On, Off}
-use Rattle.est_replay.specs.Replay.{IsPrefix, Agrees, FiringFails, MoveFails, IsPassed, IsRejected, IsAnswer}
+use Rattle.est_replay.specs.Replay.{IsPrefix, Agrees, FiringFails, MoveFails, IsPassed, IsRejected, IsAnswer, ClaimsBeyondAskAll}
 use Rattle.est_replay.specs.Standing.{Suits, IsSetup, IsReady, AgreesUpTo, HasMoved, IsStanding, IsMet, asked_of, place_of}
 use Rattle.est_replay.proofs.Checks.{Passes, follows_agrees, one_on}
 
 -- WHAT IS COMPARED
 
--- events that begin the trace up to one more than it has are no more than it has
-whole_prefix : (trace events : List Event) → IsPrefix trace (take (length trace + 1) events) → IsPrefix trace events
-whole_prefix trace events p =
-    let taken = take (length trace + 1) events in
+-- events that begin the trace up to more than it has are no more than it has
+prefix_of_all : (trace events : List Event) (claim : ℕ) → length trace < claim → IsPrefix trace (take claim events) → IsPrefix trace events
+prefix_of_all trace events claim lt p =
+    let taken = take claim events in
     let a : length trace ≡ length taken + length p.0 = ap length p.1 ∙ length-append taken p.0 in
-    let b : length taken ≡ min (length trace + 1) (length events) = length-take (length trace + 1) events in
-    let few : length events ≤ length trace + 1 = omega arith in
-    (p.0, p.1 ∙ ap (λ w. w ++ p.0) (take_all (length trace + 1) events few))
+    let b : length taken ≡ min claim (length events) = length-take claim events in
+    let few : length events ≤ claim = omega arith in
+    (p.0, p.1 ∙ ap (λ w. w ++ p.0) (take_all claim events few))
+
+whole_prefix : (trace events : List Event) → IsPrefix trace (take (length trace + 1) events) → IsPrefix trace events
+whole_prefix trace events p = (let lt : length trace < length trace + 1 = omega arith in prefix_of_all trace events (length trace + 1) lt p)
+
+pub beyond_asks_all : ClaimsBeyondAskAll
+beyond_asks_all c claim p lt a = prefix_of_all c.trace p.events claim lt a
 
 pub agrees_left : (c : Setup) (claim : ℕ) (left : List Move) (p : Place) → AgreesUpTo c (asked_of (length c.trace) claim left) p → Agrees c claim left p
 agrees_left c claim [] p a = a

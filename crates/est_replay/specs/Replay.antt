@@ -23,7 +23,7 @@ use Rattle.est_replay.specs.declared.verdict.Replayed.TheVariants.{Confirmed, Re
 abbrev pub IsPrefix : List Event → List Event → Type 0
 IsPrefix trace events = (rest : List Event) × (trace ≡ events ++ rest)
 
--- the events agree with the trace where these moves are left: all of them, and behind the last move those up to the claim, which are again all where the claim is above the number of the trace's events
+-- the events agree with the trace where these moves are left: all of them, and behind the last move those up to the claim (which asks again for all where the claim is above the number of the trace's events)
 abbrev pub Agrees : Setup → ℕ → List Move → Place → Type 0
 Agrees c claim [] p = IsPrefix c.trace (take claim p.events)
 Agrees c claim (m ∷ left) p = Follows c p
@@ -109,3 +109,7 @@ IsReplay limit silent spec trace moves claim answer = AnswersFrom limit silent s
 abbrev pub OneAnswer : Type 0
 OneAnswer = (limit silent : ℕ) (spec : Spec) (trace : List Event) (moves : List Move) (claim : ℕ) (a b : Replayed)
     → IsReplay limit silent spec trace moves claim a → IsReplay limit silent spec trace moves claim b → a ≡ b
+
+-- behind the last move a claim above the number of the trace's events asks for all events
+abbrev pub ClaimsBeyondAskAll : Type 0
+ClaimsBeyondAskAll = (c : Setup) (claim : ℕ) (p : Place) → length c.trace < claim → Agrees c claim [] p → Follows c p

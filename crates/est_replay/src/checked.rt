@@ -12,7 +12,8 @@ use est_meaning::run::{Limits, Started};
 use est_plain::world::PlainWorld;
 use std::alloc::{AllocError, Global};
 
-/// Replays an explanation of a trace from the start of a specification.
+/// Replays an explanation of a trace from the start of a specification. The answer is the only one
+/// that fits (`laws::one_answer`).
 pub fn replay(
     alloc: Global,
     checked: &Checked,

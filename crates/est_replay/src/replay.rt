@@ -19,14 +19,14 @@ use std::alloc::{AllocError, Global};
 
 /// How many events there are so far, and how many silent firings stand last in a row.
 #[derive(Clone, Copy, Debug)]
-pub struct Standing {
-    pub events: usize,
-    pub row: u32,
+struct Standing {
+    events: usize,
+    row: u32,
 }
 
 /// What came of a move: where the replay then stands, or the first check that fails.
 #[derive(Clone, Copy, Debug)]
-pub enum Moved {
+enum Moved {
     On(Standing),
     Off(Why),
 }
@@ -203,7 +203,7 @@ fn is_met(claim: u32, trace_len: usize, events: usize) -> bool
     }
 }
 
-/// Replays moves, each event of a run so far being compared with the trace.
+/// Replays moves one after the other until a check fails.
 fn replay_moves<W: World>(
     alloc: Global,
     world: &mut W,
@@ -256,7 +256,9 @@ fn replay_moves<W: World>(
 }
 
 /// Replays an explanation on a world that stands at the start of each specification of which it
-/// speaks. The world is left where the replay ends, with nothing to go back to.
+/// speaks, and leaves the world where the replay ends. The answer is the only one that fits
+/// (`laws::one_answer`). The work is linear in the moves, but for the list of possible firings that
+/// is made and read at each firing.
 pub fn replay_in<W: World>(
     alloc: Global,
     world: &mut W,
