@@ -35,7 +35,8 @@ words_equal word other bytes h k =
     let q = (bytes_eq-Decides other bytes).0 k in
     (bytes_eq-Decides word other).1 (p ∙ sym q)
 
-within : (low high : ℕ) (text : List ℕ) (token : Token) → holds text (number low high) token ≡ true → (low ≤ value_in text token) × (value_in text token ≤ high)
+-- a number within bounds
+pub within : (low high : ℕ) (text : List ℕ) (token : Token) → holds text (number low high) token ≡ true → (low ≤ value_in text token) × (value_in text token ≤ high)
 within low high text token h =
     let p = and_right (is_number token.kind) _ h in
     (leb-true low (value_in text token) (and_left (nat_le low (value_in text token)) _ p), leb-true (value_in text token) high (and_right (nat_le low (value_in text token)) _ p))

@@ -19,7 +19,7 @@ use Rattle.est_trace.specs.declared.error.TraceError.{TraceError}
 use Rattle.est_trace.specs.declared.error.TraceError.TheVariants.{BadToken, TooMany, Memory}
 use Rattle.est_trace.specs.Grammar.{Rule, tracing, marks, event, trace, event_starts}
 use Rattle.est_trace.specs.Shapes.{Shape, nested, trace_shape}
-use Rattle.est_trace.specs.Skeletons.{HaveNoValues}
+use Rattle.est_trace.proofs.Shapes.{HaveNoValues}
 use Rattle.est_trace.specs.Reading.{IsFull, IsFullAfter, CountsEvents, CountsTrace, ReadsTrace, cause}
 use Rattle.est_trace.proofs.TraceFits.{fits}
 use Rattle.est_trace.proofs.Parts.{Finds, Fails}

@@ -9,3 +9,4 @@ pub mod Tables
 pub mod Choices
 pub mod Directories
 pub mod GoodPorts
+pub mod AtPorts

@@ -8,6 +8,7 @@ use Rattle.est_language.specs.Marks.{MeetsOne}
 use Rattle.est_language.specs.Answers.{Refuses}
 use Rattle.est_language.proofs.Laws as laws
 use Rattle.est_language.proofs.Exits as exits
+use Rattle.est_syntax.specs.declared.ports.Signal.{Signal}
 use Rattle.est_syntax.specs.declared.ports.Port.{Port}
 use Rattle.est_texts.specs.declared.token.BadToken.{BadToken as NoSuchToken}
 use Rattle.est_texts.specs.Tests.{said, spelled, holds}
@@ -70,6 +71,10 @@ pub signal_found : (tokens : Tokens) (a : ℕ) (way : Way) (p : Port) → IsPlai
 signal_found tokens a way p g i r =
     let begun = laws.when_begins (holds (text_of tokens)) marks (passes way r.0) (word (spelled r.0.name.bytes) done) (slice_get (tokens_of tokens) a) r.2 in
     laws.one_of_found (fits (text_of tokens)) (signal way) (signal_solid way) p.signals i r.0 (signals_distinct (text_of tokens) way p g) r.1 (laws.when_found begun.0 (laws.word_end (fits (text_of tokens)) (only_one (text_of tokens) (spelled r.0.name.bytes) (slice_get (tokens_of tokens) a) begun.1)))
+
+-- a signal that a token begins passes this way
+pub signal_passes : (tokens : Tokens) (a : ℕ) (way : Way) (x : Signal) → Begins tokens a (signal way x) → passes way x ≡ true
+signal_passes tokens a way x h = (laws.when_begins (holds (text_of tokens)) marks (passes way x) (word (spelled x.name.bytes) done) (slice_get (tokens_of tokens) a) h).0
 
 -- no signal was chosen
 pub no_signal : (tokens : Tokens) (a : ℕ) (way : Way) (p : Port) → a ≤ length (tokens_of tokens) → IsChosen (signal way) p.signals tokens a None → Fails tokens (one_of (signal way) p.signals) 0 a a false

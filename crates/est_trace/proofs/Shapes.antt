@@ -1,5 +1,5 @@
 -- A trace without values is known by what its text keeps of it.
-use Rattle.std.proofs.Common.{◌≡◌, ℕ, zero, suc, List, [], ◌∷◌, refl, ap}
+use Rattle.std.proofs.Common.{All, ◌≡◌, ℕ, zero, suc, List, [], ◌∷◌, refl, ap}
 use Rattle.std.proofs.lemmas.List.Elements.{All-head, All-tail}
 use Rattle.est_language.specs.Grammar.{nothing, pick}
 use Rattle.est_syntax.specs.declared.kind.Value.{Value}
@@ -7,7 +7,16 @@ use Rattle.est_meaning.specs.declared.event.Interaction.{Interaction}
 use Rattle.est_meaning.specs.declared.event.Event.{Event}
 use Rattle.est_meaning.specs.declared.event.Event.TheVariants.{Arrives, Leaves, Passes}
 use Rattle.est_trace.specs.Shapes.{Shape, values_shape, interaction_shape, event_shape, events_shape, trace_shape}
-use Rattle.est_trace.specs.Skeletons.{HasNoValues, HaveNoValues}
+
+-- an event with no values
+abbrev pub HasNoValues : Event → Type 0
+HasNoValues (Arrives x) = x.values ≡ []
+HasNoValues (Leaves x) = x.values ≡ []
+HasNoValues (Passes units) = Unit {0}
+
+-- events that all have no values
+abbrev pub HaveNoValues : List Event → Type 0
+HaveNoValues events = All HasNoValues events
 
 one_pick : (i j : ℕ) (t u : Shape) → pick i t ≡ pick j u → (i ≡ j) × (t ≡ u)
 one_pick zero zero t u e = (refl, cc)

@@ -5,3 +5,4 @@ pub mod Lookups
 pub mod Reading
 pub mod Tables
 pub mod Directories
+pub mod AtPorts

@@ -1,9 +1,7 @@
--- The ports of skeletons, and events at them.
-use Rattle.std.specs.Prelude.{◌≡◌, ℕ, List, [], All, Some, slice_get}
+-- The ports of skeletons.
+use Rattle.std.specs.Prelude.{◌≡◌, ℕ, List, [], Some, slice_get}
 use Rattle.est_syntax.specs.declared.ports.Signal.{Signal}
 use Rattle.est_syntax.specs.declared.ports.Port.{Port}
-use Rattle.est_meaning.specs.declared.event.Event.{Event}
-use Rattle.est_meaning.specs.declared.event.Event.TheVariants.{Arrives, Leaves, Passes}
 
 -- no two items have one name
 abbrev pub HaveDifferentNames : {A : Type 0} → (A → List ℕ) → List A → Type 0
@@ -19,13 +17,3 @@ pub record IsPlainPort (p : Port) : Type 0 where
 pub record ArePlain (ports : List Port) : Type 0 where
   pub different : HaveDifferentNames (λ (p : Port). p.name.bytes) ports
   pub each : (i : ℕ) (p : Port) → slice_get ports i ≡ Some p → IsPlainPort p
-
--- an event with no values
-abbrev pub HasNoValues : Event → Type 0
-HasNoValues (Arrives x) = x.values ≡ []
-HasNoValues (Leaves x) = x.values ≡ []
-HasNoValues (Passes units) = Unit {0}
-
--- events that all have no values
-abbrev pub HaveNoValues : List Event → Type 0
-HaveNoValues events = All HasNoValues events

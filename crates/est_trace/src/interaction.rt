@@ -6,6 +6,7 @@ ghost use Rattle.est_language.specs.Grammar.{one_of};
 ghost use Rattle.est_trace.specs.Grammar.{port as a_port};
 ghost use Rattle.est_trace.specs.Shapes.{interaction_shape};
 ghost use Rattle.est_trace.specs.Directories.{IsDirectory};
+ghost use Rattle.est_trace.specs.AtPorts.{IsAtPort};
 ghost use Rattle.est_trace.specs.Reading.{Reads, Onward};
 
 use crate::error::TraceError;
@@ -29,7 +30,7 @@ pub fn interaction(
     requires directory { IsDirectory directory.now }
     ensures reads { Reads tokens.now (one_of (a_port way) directory.now.ports.now) 0 at interaction_shape result }
     ensures onward { Onward tokens.now at result }
-    ensures no_values { IfOk result (λ x. x.0.values ≡ []) }
+    ensures at_port { IfOk result (λ x. IsAtPort way directory.now.ports.now x.0) }
 {
     let Some(port) = find_port(alloc, directory, tokens, at, way)? else {
         return Err(TraceError::BadToken { place: at });

@@ -6,11 +6,13 @@ ghost use Rattle.est_lexer.specs.Places.{text_of, tokens_of};
 ghost use Rattle.est_language.specs.Grammar.{rule};
 ghost use Rattle.est_language.specs.Marks.{MeetsOne};
 ghost use Rattle.est_syntax.specs.Ports.{ports_of};
+ghost use Rattle.est_meaning.specs.Allowed.{IsAllowedTrace};
 ghost use Rattle.est_texts.specs.Tests.{holds};
 ghost use Rattle.est_trace.specs.Grammar.{event as an_event, trace as a_trace, event_starts};
 ghost use Rattle.est_trace.specs.Shapes.{event_shape, events_shape, trace_shape};
-ghost use Rattle.est_trace.specs.Skeletons.{ArePlain, HasNoValues, HaveNoValues};
+ghost use Rattle.est_trace.specs.Skeletons.{ArePlain};
 ghost use Rattle.est_trace.specs.Directories.{IsDirectory};
+ghost use Rattle.est_trace.specs.AtPorts.{IsAtPorts, AreAtPorts};
 ghost use Rattle.est_trace.specs.Reading.{Reads, Onward, CountsEvents, CountsTrace, ReadsTrace};
 
 use crate::error::TraceError;
@@ -29,7 +31,8 @@ pub const MOST_EVENTS: u32 = 200_000;
 
 /// The trace of a specification that the tokens are, or the first token that is refused.
 pub fn read_trace(alloc: Global, checked: &Checked, tokens: &Tokens) -> Result<Trace, TraceError>
-    ensures { ReadsTrace (ports_of checked.now) tokens.now result }
+    ensures reads { ReadsTrace (ports_of checked.now) tokens.now result }
+    ensures allowed { IfOk result (λ x. IsAllowedTrace checked.now x) }
 {
     let _spec = checked.spec();
     let ports = checked.ports();
@@ -44,7 +47,9 @@ pub(crate) fn read_events(
     tokens: &Tokens,
 ) -> Result<Trace, TraceError>
     requires { ArePlain ports.now }
-    ensures { ReadsTrace ports.now tokens.now result }
+    ensures reads { ReadsTrace ports.now tokens.now result }
+    ensures at_ports { IfOk result (λ x. AreAtPorts ports.now x) }
+    ensures few { IfOk result (λ x. length x ≤ MOST_EVENTS) }
 {
     let directory = directory_of(alloc, ports)?;
     let (found, end) = sentence(alloc, &directory, tokens, MOST_EVENTS)?;
@@ -66,7 +71,8 @@ fn sentence(
     ensures reads { Reads tokens.now (a_trace directory.now.ports.now) most 0 trace_shape result }
     ensures counts { CountsTrace directory.now.ports.now most tokens.now result }
     ensures onward { Onward tokens.now 0 result }
-    ensures no_values { IfOk result (λ x. HaveNoValues x.0) }
+    ensures at_ports { IfOk result (λ x. AreAtPorts directory.now.ports.now x.0) }
+    ensures few { IfOk result (λ x. length x.0 ≤ most) }
 {
     let at_version = expect_word(tokens, 0, b"trace")?;
     let (_, at_events) = expect_number(tokens, at_version, 1, 1)?;
@@ -88,7 +94,8 @@ fn events(
     ensures reads { Reads tokens.now (rule directory.now.ports.now) most at events_shape result }
     ensures counts { CountsEvents directory.now.ports.now most tokens.now at result }
     ensures onward { Onward tokens.now at result }
-    ensures no_values { IfOk result (λ x. HaveNoValues x.0) }
+    ensures at_ports { IfOk result (λ x. AreAtPorts directory.now.ports.now x.0) }
+    ensures few { IfOk result (λ x. length x.0 ≤ most) }
 {
     let mut found = Trace::new(alloc);
     let mut at = at;
@@ -123,7 +130,7 @@ fn event(
     requires directory { IsDirectory directory.now }
     ensures reads { Reads tokens.now (an_event directory.now.ports.now) 0 at event_shape result }
     ensures onward { Onward tokens.now at result }
-    ensures no_values { IfOk result (λ x. HasNoValues x.0) }
+    ensures at_ports { IfOk result (λ x. IsAtPorts directory.now.ports.now x.0) }
 {
     if word_is(tokens, at, b"in") {
         let (arrival, end) = interaction(alloc, directory, tokens, at + 1, Way::In)?;

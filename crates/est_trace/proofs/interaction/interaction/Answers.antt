@@ -6,7 +6,7 @@ use Rattle.est_trace.specs.Grammar.{signal, port}
 use Rattle.est_trace.specs.Lookups.{IsChosen}
 use Rattle.est_trace.specs.Shapes.{interaction_shape}
 use Rattle.est_trace.proofs.TraceFits.{fits}
-use Rattle.est_trace.proofs.Parts.{exit, chosen_inside, port_found, port_refused, no_port, signal_found, no_signal}
+use Rattle.est_trace.proofs.Parts.{exit, chosen_inside, port_found, port_refused, no_port, signal_found, no_signal, signal_passes}
 use Rattle.est_trace.proofs.interaction.interaction.Goals as goal
 
 pub returns-in_default-clause-reads : goal.returns-in_default-clause-reads
@@ -50,3 +50,20 @@ returns-clause-onward c =
     let q : IsChosen (signal c.args.way) r.0.signals tokens at (Some c.in-Some-2.signal) = subst (λ o. IsChosen (signal c.args.way) r.0.signals tokens at o) c.in-Some-2.is (c.in_ok-signal.ensures r.0 r.1) in
     let l = chosen_inside tokens at (signal c.args.way) q.0 q.2 in
     (omega (arith, c.in_ok-at_signal.ensures.1), omega (arith, l))
+
+pub returns-clause-at_port : goal.returns-clause-at_port
+returns-clause-at_port c =
+    let tokens = c.args.tokens.now in
+    let ports = c.args.directory.now.ports.now in
+    let at = c.in_ok-at_signal.at_signal in
+    let r : IsChosen (port c.args.way) ports tokens c.args.at (Some c.in-Some.port) = subst (λ o. IsChosen (port c.args.way) ports tokens c.args.at o) c.in-Some.is c.in_ok-port.ensures in
+    let q : IsChosen (signal c.args.way) r.0.signals tokens at (Some c.in-Some-2.signal) = subst (λ o. IsChosen (signal c.args.way) r.0.signals tokens at o) c.in-Some-2.is (c.in_ok-signal.ensures r.0 r.1) in
+    record {
+      port = r.0;
+      signal = q.0;
+      port_is = r.1;
+      signal_is = q.1;
+      way_is = signal_passes tokens at c.args.way q.0 q.2;
+      no_parameters = (c.requires.directory.plain.each c.in-Some.port r.0 r.1).no_parameters c.in-Some-2.signal q.0 q.1;
+      no_values = c.new-values.ensures;
+    }

@@ -1,5 +1,6 @@
 use Rattle.std.proofs.Common.{arith}
 use Rattle.est_lexer.specs.Places.{text_of}
+use Rattle.est_texts.proofs.Within.{number_within}
 use Rattle.est_texts.proofs.Taken.{take_found, take_refused, number_found, number_bad}
 use Rattle.est_trace.specs.Shapes.{event_shape}
 use Rattle.est_trace.proofs.TraceFits.{fits}
@@ -29,3 +30,6 @@ returns-in_ok-departure-clause-reads c = out_found c.args.tokens.now c.args.at c
 
 pub returns-in_ok-units-clause-reads : goal.returns-in_ok-units-clause-reads
 returns-in_ok-units-clause-reads c = time_found c.args.tokens.now c.args.at c.args.directory.now.ports.now _ _ (take_found c.args.tokens.now (fits (text_of c.args.tokens.now)) c.in_ok-at_units.ensures (number_found c.args.tokens.now (fits (text_of c.args.tokens.now)) c.in_ok-units.ensures))
+
+pub returns-in_ok-units-clause-at_ports : goal.returns-in_ok-units-clause-at_ports
+returns-in_ok-units-clause-at_ports c = number_within c.args.tokens.now 0 2147483647 c.in_ok-units.ensures

@@ -1,10 +1,10 @@
 use Rattle.std.proofs.Common.{ℕ, arith, ◌<◌, map, List}
-use Rattle.std.proofs.lemmas.List.{map-append}
+use Rattle.std.proofs.lemmas.List.{map-append, length-map}
 use Rattle.std.proofs.lemmas.List.Elements.{All-push}
 use Rattle.est_language.proofs.Exits.{not_met}
 use Rattle.est_meaning.specs.declared.event.Event.{Event}
 use Rattle.est_trace.specs.Shapes.{event_shape, events_shape}
-use Rattle.est_trace.specs.Skeletons.{HasNoValues}
+use Rattle.est_trace.specs.AtPorts.{IsAtPorts}
 use Rattle.est_trace.proofs.Parts.{exit}
 use Rattle.est_trace.proofs.Events.{events_none, events_more, events_refused, events_found, events_too_many}
 use Rattle.est_trace.proofs.Fullness.{trees_none, trees_more, trees_full, counts_exit, counts_none}
@@ -33,7 +33,7 @@ loop-alloc-preserved c =
       events_more tokens ports c.args.most c.args.at c.loop-alloc.left c.loop-alloc.at c.in_ok-next.end (map event_shape c.loop-alloc.found) (event_shape c.in_ok-next.next) l (c.begins.ensures.0 c.loop-alloc-test.true) c.loop-alloc.invariant.0 c.in_ok-next.ensures.reads,
       (
         trees_more tokens ports c.args.most c.args.at c.loop-alloc.left c.loop-alloc.at c.in_ok-next.end (map event_shape c.loop-alloc.found) (event_shape c.in_ok-next.next) l c.loop-alloc.invariant.1.0 c.in_ok-next.ensures.reads,
-        All-push HasNoValues c.loop-alloc.found c.in_ok-next.next c.loop-alloc.invariant.1.1 c.in_ok-next.ensures.no_values,
+        All-push (IsAtPorts c.args.directory.now.ports.now) c.loop-alloc.found c.in_ok-next.next c.loop-alloc.invariant.1.1 c.in_ok-next.ensures.at_ports,
       ),
     )
 
@@ -42,3 +42,6 @@ loop-alloc-init c = rw c.new-found.ensures (events_none c.args.tokens.now c.args
 
 pub returns-clause-reads : goal.returns-clause-reads
 returns-clause-reads c = events_found c.args.tokens.now c.args.directory.now.ports.now c.args.most c.args.at c.loop-alloc.left c.loop-alloc.at (map event_shape c.loop-alloc.found) (λ m. not_met c.loop-alloc-test.false (c.begins.ensures.1 m)) c.loop-alloc.invariant.0
+
+pub returns-clause-few : goal.returns-clause-few
+returns-clause-few c = omega (arith, c.loop-alloc.invariant.1.0.count, length-map c.loop-alloc.found event_shape)
