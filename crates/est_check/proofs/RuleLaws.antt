@@ -81,7 +81,7 @@ pub rules_twice : (before : List (List ℕ)) (us : List Used) → AllRules (twic
 rules_twice before [] = tt
 rules_twice before (u ∷ us) =
     rules-append (broken_if (is_among (spelled u) before) u.place rule.DeclaredTwice) (twice_faults (before ++ spelled u ∷ []) us)
-      (rules_if (is_among (spelled u) before) u.place rule.DeclaredTwice tt) (rules_twice (before ++ spelled u ∷ []) us)
+    (rules_if (is_among (spelled u) before) u.place rule.DeclaredTwice tt) (rules_twice (before ++ spelled u ∷ []) us)
 
 -- everything is seen outside bodies
 abbrev pub Anything : Used → Type 0
@@ -107,8 +107,8 @@ pub rules_by : (c : Channel) (bs : List ByPart) → AllRules (by_faults (channel
 rules_by c [] = tt
 rules_by c (b ∷ bs) =
     rules-append (uses_faults (channel_environment c) sort.Role b.roles) (by_faults (channel_environment c) bs)
-      (rules_uses Anything (channel_environment c) sort.Role b.roles (λ u h. declared_seen (declared_in (channel_region c) (spelled u))) (each_anything b.roles))
-      (rules_by c bs)
+    (rules_uses Anything (channel_environment c) sort.Role b.roles (λ u h. declared_seen (declared_in (channel_region c) (spelled u))) (each_anything b.roles))
+    (rules_by c bs)
 
 pub rules_channel : (c : Channel) → AllRules (channel_faults c)
 rules_channel c = rules-append (twice_faults [] (names_of (channel_region c))) (by_faults (channel_environment c) c.by) (rules_twice [] (names_of (channel_region c))) (rules_by c c.by)
@@ -121,16 +121,16 @@ pub rules_points : (r : Region) (ps : List Point) → AllRules (points_faults (e
 rules_points r [] = tt
 rules_points r (p ∷ ps) =
     rules-append (point_faults (environment (alone r)) p) (points_faults (environment (alone r)) ps)
-      (rules-append (use_faults (environment (alone r)) sort.Channel p.channel) (role_faults p.role.place ((environment (alone r)).role_of p.channel p.role))
-        (rules_used sort.Channel p.channel.place ((environment (alone r)).sort_of p.channel) (alone_sees r p.channel tt))
-        (rules_role p.role.place (names.channel_by (meaning (alone r) p.channel)) p.role))
-      (rules_points r ps)
+    (rules-append (use_faults (environment (alone r)) sort.Channel p.channel) (role_faults p.role.place ((environment (alone r)).role_of p.channel p.role))
+    (rules_used sort.Channel p.channel.place ((environment (alone r)).sort_of p.channel) (alone_sees r p.channel tt))
+    (rules_role p.role.place (names.channel_by (meaning (alone r) p.channel)) p.role))
+    (rules_points r ps)
 
 pub rules_modvars : (r : Region) (ms : List ModvarDef) → AllRules (modvars_faults (environment (alone r)) ms)
 rules_modvars r [] = tt
 rules_modvars r (m ∷ ms) =
     rules-append (use_faults (environment (alone r)) sort.Header m.header) (modvars_faults (environment (alone r)) ms)
-      (rules_used sort.Header m.header.place ((environment (alone r)).sort_of m.header) (alone_sees r m.header tt)) (rules_modvars r ms)
+    (rules_used sort.Header m.header.place ((environment (alone r)).sort_of m.header) (alone_sees r m.header tt)) (rules_modvars r ms)
 
 -- statements
 pub rules_direction : (sending : Bool) (place : ℕ) (sends receives : Bool) → AllRules (direction_faults sending place sends receives)
@@ -147,7 +147,7 @@ rules_passage sending place (Some (passes sends receives)) = rules_direction sen
 pub rules_interaction : (P : Used → Type 0) (env : Environment) (sending : Bool) (at u : Used) → Sees P env → P at → AllRules (interaction_faults env sending at u)
 rules_interaction P env sending at u sees h =
     rules-append (use_faults env sort.Point at) (passage_faults sending u.place (env.passage_of at u))
-      (rules_used sort.Point at.place (env.sort_of at) (sees at h)) (rules_passage sending u.place (env.passage_of at u))
+    (rules_used sort.Point at.place (env.sort_of at) (sees at h)) (rules_passage sending u.place (env.passage_of at u))
 
 pub rules_sendings : (P : Used → Type 0) (env : Environment) (os : List Sending) → Sees P env → EachSending P os → AllRules (sendings_faults env os)
 rules_sendings P env [] sees h = tt
@@ -159,8 +159,8 @@ rules_statement P env (statement.Empty place) sees h = tt
 rules_statement P env (statement.Output sendings place) sees h = rules_sendings P env sendings sees h
 rules_statement P env (statement.Init target body arguments place) sees h =
     rules-append (use_faults env sort.ModuleVariable target.name) (use_faults env sort.Body body)
-      (rules_used sort.ModuleVariable target.name.place (env.sort_of target.name) (sees target.name h.0))
-      (rules_used sort.Body body.place (env.sort_of body) (sees body h.1))
+    (rules_used sort.ModuleVariable target.name.place (env.sort_of target.name) (sees target.name h.0))
+    (rules_used sort.Body body.place (env.sort_of body) (sees body h.1))
 
 pub rules_statements : (P : Used → Type 0) (env : Environment) (sts : List Statement) → Sees P env → EachStatement P sts → AllRules (statements_faults env sts)
 rules_statements P env [] sees h = tt
@@ -184,8 +184,8 @@ pub rules_transitions : (P : Used → Type 0) (env : Environment) (ts : List Tra
 rules_transitions P env [] sees h = tt
 rules_transitions P env (t ∷ ts) sees h =
     rules-append (clauses_faults env t.clauses ++ statements_faults env t.block.statements) (transitions_faults env ts)
-      (rules-append (clauses_faults env t.clauses) (statements_faults env t.block.statements) (rules_clauses P env t.clauses sees h.0) (rules_statements P env t.block.statements sees h.1))
-      (rules_transitions P env ts sees h.2)
+    (rules-append (clauses_faults env t.clauses) (statements_faults env t.block.statements) (rules_clauses P env t.clauses sees h.0) (rules_statements P env t.block.statements sees h.1))
+    (rules_transitions P env ts sees h.2)
 
 pub rules_groups : (P : Used → Type 0) (env : Environment) (gs : List Group) → Sees P env → EachGroup P gs → AllRules (groups_faults env gs)
 rules_groups P env [] sees h = tt
@@ -204,7 +204,7 @@ rules_first P env place states (Some f) sees h =
 pub rules_text : (P : Used → Type 0) (env : Environment) (b : Body) → Sees P env → InFirst P (out-Body b).first → EachGroup P (out-Body b).groups → AllRules (text_faults env b)
 rules_text P env b sees h k =
     rules-append (first_faults env (out-Body b).name.place (has_states (out-Body b).parts) (out-Body b).first) (groups_faults env (out-Body b).groups)
-      (rules_first P env (out-Body b).name.place (has_states (out-Body b).parts) (out-Body b).first sees h) (rules_groups P env (out-Body b).groups sees k)
+    (rules_first P env (out-Body b).name.place (has_states (out-Body b).parts) (out-Body b).first sees h) (rules_groups P env (out-Body b).groups sees k)
 
 -- what a body does not see is declared behind it
 abbrev pub IsLate : ℕ → Declaration → Type 0
@@ -235,9 +235,14 @@ late_together [] m = tt
 late_together (u ∷ us) m = (inr (omega arith), late_together us m)
 
 pub late_parts : (cs : List Channel) (h : Header) (b : Body) (m : ModvarDef) → AreLate m.header.place (parts_region (channel_parts cs ++ part.Header h ∷ part.Body b ∷ part.Modvars (m ∷ []) ∷ []))
-late_parts [] h b m =
-    (inl refl, (inl refl, late-append m.header.place (declared_together m.names m.header.place (names.module_variable m) ++ []) []
-      (late-append m.header.place (declared_together m.names m.header.place (names.module_variable m)) [] (late_together m.names m) tt) tt))
+late_parts [] h b m = (
+  inl refl,
+  (
+    inl refl,
+    late-append m.header.place (declared_together m.names m.header.place (names.module_variable m) ++ []) []
+        (late-append m.header.place (declared_together m.names m.header.place (names.module_variable m)) [] (late_together m.names m) tt) tt,
+  ),
+)
 late_parts (c ∷ cs) h b m = (inl refl, late_parts cs h b m)
 
 abbrev pub IsOff : Bool → Type 0
@@ -267,7 +272,7 @@ own_sees (Some d) p h = tt
 pub body_sees : (limit : ℕ) (r : Region) (b : Body) → AreLate limit r → Sees (λ u. u.place < limit) (environment (body_scope (alone r) b))
 body_sees limit r b late u h =
     own_sees (in_force (declared_in (names.body_region (alone r) b) (spelled u)) u.place None) (in_force (declared_in r (spelled u)) u.place None)
-      (around_option limit (declared_in r (spelled u)) u.place h (late_declared limit r (spelled u) late))
+    (around_option limit (declared_in r (spelled u)) u.place h (late_declared limit r (spelled u) late))
 
 -- the parts of a skeleton
 pub rules_body : (limit : ℕ) (r : Region) (b : Body) → AreLate limit r → InFirst (λ u. u.place < limit) (out-Body b).first → EachGroup (λ u. u.place < limit) (out-Body b).groups → AllRules (body_faults (alone r) b)
@@ -275,14 +280,14 @@ rules_body limit r b late h k =
     let used : List Fault = use_faults (environment (alone r)) sort.Header (out-Body b).header in
     let twice : List Fault = twice_faults (spellings_of (header_region (alone r) b)) (names_of (parts_region (out-Body b).parts)) in
     rules-append (used ++ twice) (text_faults (environment (body_scope (alone r) b)) b)
-      (rules-append used twice (rules_used sort.Header (out-Body b).header.place ((environment (alone r)).sort_of (out-Body b).header) (alone_sees r (out-Body b).header tt))
-        (rules_twice (spellings_of (header_region (alone r) b)) (names_of (parts_region (out-Body b).parts))))
-      (rules_text (λ u. u.place < limit) (environment (body_scope (alone r) b)) b (body_sees limit r b late) h k)
+    (rules-append used twice (rules_used sort.Header (out-Body b).header.place ((environment (alone r)).sort_of (out-Body b).header) (alone_sees r (out-Body b).header tt))
+    (rules_twice (spellings_of (header_region (alone r) b)) (names_of (parts_region (out-Body b).parts))))
+    (rules_text (λ u. u.place < limit) (environment (body_scope (alone r) b)) b (body_sees limit r b late) h k)
 
 pub rules_header : (r : Region) (h : Header) → AllRules (header_faults (alone r) h)
 rules_header r h =
     rules-append (twice_faults [] (names_of (points_region (alone r) h.points))) (points_faults (environment (alone r)) h.points)
-      (rules_twice [] (names_of (points_region (alone r) h.points))) (rules_points r h.points)
+    (rules_twice [] (names_of (points_region (alone r) h.points))) (rules_points r h.points)
 
 pub rules_channels : (cs : List Channel) (h : Header) (b : Body) (m : ModvarDef) → AllRules (each of_channel (channel_parts cs ++ part.Header h ∷ part.Body b ∷ part.Modvars (m ∷ []) ∷ []))
 rules_channels [] h b m = tt
@@ -296,7 +301,7 @@ pub rules_rest : (r : Region) (cs : List Channel) (h : Header) (b : Body) (m : M
     → AllRules (each (of_rest (alone r)) (channel_parts cs ++ part.Header h ∷ part.Body b ∷ part.Modvars (m ∷ []) ∷ []))
 rules_rest r [] h b m k =
     rules-append (body_faults (alone r) b) (modvars_faults (environment (alone r)) (m ∷ []) ++ []) k
-      (rules-append (modvars_faults (environment (alone r)) (m ∷ [])) [] (rules_modvars r (m ∷ [])) tt)
+    (rules-append (modvars_faults (environment (alone r)) (m ∷ [])) [] (rules_modvars r (m ∷ [])) tt)
 rules_rest r (c ∷ cs) h b m k = rules_rest r cs h b m k
 
 pub init_anything : (st : Statement) → IsInit st → InStatement Anything st
@@ -308,19 +313,19 @@ pub rules_all : (s : Spec) (sk : IsSkeleton s) → IsInOrder sk → AllRules (al
 rules_all s sk order =
     let r : Region = parts_region s.parts in
     let late : AreLate sk.variable.header.place r =
-      subst (λ ps. AreLate sk.variable.header.place (parts_region ps)) (sym sk.parts) (late_parts sk.channels sk.header sk.body sk.variable) in
+    subst (λ ps. AreLate sk.variable.header.place (parts_region ps)) (sym sk.parts) (late_parts sk.channels sk.header sk.body sk.variable) in
     let a : List Fault = twice_faults [] (names_of r) in
     let x : List Fault = each of_channel s.parts in
     let y : List Fault = each (of_header (alone r)) s.parts in
     let z : List Fault = each (of_rest (alone r)) s.parts in
     let e : List Fault = statement_faults (environment (alone r)) s.first in
     rules-append a (x ++ (y ++ (z ++ e))) (rules_twice [] (names_of r))
-      (rules-append x (y ++ (z ++ e)) (subst (λ ps. AllRules (each of_channel ps)) (sym sk.parts) (rules_channels sk.channels sk.header sk.body sk.variable))
-        (rules-append y (z ++ e) (subst (λ ps. AllRules (each (of_header (alone r)) ps)) (sym sk.parts) (rules_headers r sk.channels sk.header sk.body sk.variable))
-          (rules-append z e
-            (subst (λ ps. AllRules (each (of_rest (alone r)) ps)) (sym sk.parts)
-              (rules_rest r sk.channels sk.header sk.body sk.variable (rules_body sk.variable.header.place r sk.body late order.0 order.1)))
-            (rules_statement Anything (environment (alone r)) s.first (alone_sees r) (init_anything s.first sk.init)))))
+    (rules-append x (y ++ (z ++ e)) (subst (λ ps. AllRules (each of_channel ps)) (sym sk.parts) (rules_channels sk.channels sk.header sk.body sk.variable))
+    (rules-append y (z ++ e) (subst (λ ps. AllRules (each (of_header (alone r)) ps)) (sym sk.parts) (rules_headers r sk.channels sk.header sk.body sk.variable))
+    (rules-append z e
+    (subst (λ ps. AllRules (each (of_rest (alone r)) ps)) (sym sk.parts)
+    (rules_rest r sk.channels sk.header sk.body sk.variable (rules_body sk.variable.header.place r sk.body late order.0 order.1)))
+    (rules_statement Anything (environment (alone r)) s.first (alone_sees r) (init_anything s.first sk.init)))))
 
 pub law : BreaksFew
 law s sk order place r b =

@@ -80,6 +80,10 @@ module _ {Token V T P : Type 0} {L : Language Token V T P} {S : Marks T P} (fits
   pub right_refused : {g h : Grammar T P} {d a i : ℕ} {w : Bool} → Apart L (can_begin S g) (can_begin S h) → can_be_empty S g ≡ false → MeetsOne L.holds (slice_get s a) (can_begin S h) → Refused L S s h d a i w → Refused L S s (alt g h) d a i w
   right_refused {g} {h} j f e x = Parts.right_refused L S fits s g j e f x
 
+  -- the token cannot begin the other alternative
+  pub left_refused_else : {g h : Grammar T P} {d a i : ℕ} {w : Bool} → (MeetsOne L.holds (slice_get s a) (can_begin S h) → ⊥) → can_be_empty S h ≡ false → Refused L S s g d a i w → Refused L S s (alt g h) d a i w
+  left_refused_else {g} {h} k f x = Parts.left_refused_else L S fits s h k f x
+
   pub opt_found : {g : Grammar T P} {d a b : ℕ} {t : Shape V} → can_be_empty S g ≡ false → Found L S s g d a b t → Found L S s (opt g) d a b (some t)
   opt_found e x = Parts.opt_in_found L S fits s e x
 

@@ -382,6 +382,20 @@ module _ {Token V T P : Type 0} (L : Language Token V T P) (S : Marks T P) (fits
       most e n z l m (p_right x') = x.most e n z l m x'
       most e n z l m (p_left x') = omega (arith, no_partial_left g (can_begin S h) e n a j k l x', refused_forward x)
 
+  -- the token cannot begin the other alternative
+  pub left_refused_else : {g : Grammar T P} (h : Grammar T P) {d a i : ℕ} {w : Bool} → (MeetsOne L.holds (slice_get s a) (can_begin S h) → ⊥) → can_be_empty S h ≡ false → Refused L S s g d a i w → Refused L S s (alt g h) d a i w
+  left_refused_else {g} h {d} {a} {i} {w} k f x = record { partial = p_left x.partial; inside = x.inside; only = only; most = most; more = λ z. ((x.more z).0, p_left (x.more z).1) }
+    where
+      only : (e n r : ℕ) (v : Shape V) → SpeaksOf w d e → a ≤ n → n ≤ length s → Tree L s n (alt g h) e a r v → (r ≤ i) × (r < n → MeetsOne L.holds (slice_get s r) (can_go_on S (alt g h))) × (r < length s)
+      only e n r v z l m (t_left x') = let o = x.only e n r _ z l m x' in (o.0, (λ y. In-left L.holds (slice_get s r) (can_go_on S g) _ (o.1 y)), o.2)
+      only e n r v z l m (t_right x') = absurd (k (Trees.tree_starts L s S fits n x' (Trees.tree_moves L s S fits n x' f)))
+
+      most : (e n : ℕ) → SpeaksOf w d e → a ≤ n → n ≤ length s → Partial L s n (alt g h) e a → n ≤ i
+      most e n z l m (p_none q) = omega (arith, refused_forward x)
+      most e n z l m (p_whole x' q) = omega (arith, (only e n _ _ z l m x').0)
+      most e n z l m (p_left x') = x.most e n z l m x'
+      most e n z l m (p_right x') = elim (step a n l) [ inl r ↦ absurd (k (Trees.partial_starts L s S fits n x' r)) | inr r ↦ omega (arith, r, refused_forward x) ]
+
   -- [ g ]
   pub opt_in_found : {g : Grammar T P} {d a b : ℕ} {t : Shape V} → can_be_empty S g ≡ false → Found L S s g d a b t → Found L S s (opt g) d a b (some t)
   opt_in_found {g} {d} {a} {b} {t} f x = record { tree = t_opt_in x.tree; inside = x.inside; only = only; most = most }

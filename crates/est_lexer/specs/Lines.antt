@@ -3,7 +3,7 @@ use Rattle.std.specs.List.{suffix_len}
 
 -- A line feed ends a line.
 abbrev pub is_line_feed : ℕ → Bool
-is_line_feed byte = byte == 10
+is_line_feed b = b == 10
 
 -- The line of an offset: one more than the line feeds before it.
 abbrev pub line_at : List ℕ → ℕ → ℕ
@@ -11,4 +11,4 @@ line_at text offset = 1 + count_by is_line_feed (take offset text)
 
 -- The column of an offset: one more than the bytes behind the last line feed before it.
 abbrev pub column_at : List ℕ → ℕ → ℕ
-column_at text offset = 1 + suffix_len (λ byte. not (is_line_feed byte)) (take offset text)
+column_at text offset = 1 + suffix_len (λ b. not (is_line_feed b)) (take offset text)

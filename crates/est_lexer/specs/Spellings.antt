@@ -1,7 +1,7 @@
 use Rattle.std.specs.Prelude.{ℕ, Bool, false, List, [], ◌∷◌, ◌==◌, ◌||◌, ◌&&◌, not, nat_lt, nat_le, length, if◌then◌else◌, Option, Some, find, map, flat_map, option_map, unwrap_or, bytes_eq}
 use Rattle.std.specs.List.{list_all}
 use Rattle.std.specs.Char.{is_ascii_alphabetic, is_ascii_alphanumeric, is_ascii_digit}
-use Rattle.std.specs.Str.{str_eq_ignore_ascii_case}
+use Rattle.std.specs.Str.{byte, str_eq_ignore_ascii_case}
 use Rattle.est_lexer.specs.declared.kind.TokenKind.{TokenKind}
 use Rattle.est_lexer.specs.declared.kind.TokenKind.TheVariants.{Identifier, Number, Character}
 use Rattle.est_lexer.specs.declared.table.TheConstants.{WORDS, SYMBOLS}
@@ -18,6 +18,10 @@ words = flat_map (λ group. map (λ w. (w.0.now, w.1)) group.now) WORDS
 unfoldable pub word_kind : List ℕ → Option TokenKind
 word_kind bytes = option_map (λ w. w.1) (find (λ w. str_eq_ignore_ascii_case w.0 bytes) words)
 
+-- The kind of a name: a word, or else an identifier.
+abbrev pub name_kind : List ℕ → TokenKind
+name_kind bytes = unwrap_or (word_kind bytes) Identifier
+
 -- The symbols and the left-out symbols.
 unfoldable pub symbols : List Word
 symbols = map (λ w. (w.0.now, w.1)) SYMBOLS
@@ -28,7 +32,7 @@ symbol_kind bytes = option_map (λ w. w.1) (find (λ w. bytes_eq w.0 bytes) symb
 
 -- Letters, digits and `_` may follow the first letter of an identifier.
 abbrev pub is_identifier_part : ℕ → Bool
-is_identifier_part byte = is_ascii_alphanumeric byte || (byte == 95)
+is_identifier_part b = is_ascii_alphanumeric b || (b == byte "_")
 
 -- An identifier is a letter followed by letters, digits and `_` (ISO 7185, 6.1.3).
 abbrev pub is_identifier : List ℕ → Bool
@@ -40,20 +44,20 @@ abbrev pub is_number : List ℕ → Bool
 is_number [] = false
 is_number (first ∷ rest) = is_ascii_digit first && list_all is_ascii_digit rest && nat_lt (length rest) 18
 
--- A character constant holds one printable byte other than the quote, 39.
+-- A character constant holds one printable byte other than the quote.
 abbrev pub is_plain_character : ℕ → Bool
-is_plain_character byte = nat_le 32 byte && nat_le byte 126 && not (byte == 39)
+is_plain_character b = nat_le 32 b && nat_le b 126 && not (b == byte "'")
 
 -- A character constant is a quote, one byte and a quote; the quote itself is written as four quotes (ISO 7185, 6.1.7).
 abbrev pub is_character : List ℕ → Bool
-is_character (first ∷ byte ∷ last ∷ []) = (first == 39) && is_plain_character byte && (last == 39)
-is_character (first ∷ second ∷ third ∷ last ∷ []) = (first == 39) && (second == 39) && (third == 39) && (last == 39)
+is_character (first ∷ held ∷ last ∷ []) = (first == byte "'") && is_plain_character held && (last == byte "'")
+is_character (first ∷ second ∷ third ∷ last ∷ []) = (first == byte "'") && (second == byte "'") && (third == byte "'") && (last == byte "'")
 is_character _ = false
 
 -- The kind of the token that the bytes are, if they are one.
 unfoldable pub kind_of : List ℕ → Option TokenKind
 kind_of bytes =
-    if is_identifier bytes then Some (unwrap_or (word_kind bytes) Identifier)
+    if is_identifier bytes then Some (name_kind bytes)
     else if is_number bytes then Some Number
     else if is_character bytes then Some Character
     else symbol_kind bytes

@@ -1,9 +1,9 @@
-use Rattle.std.specs.Prelude.{◌≡◌, ℕ, false, List, [], ◌∷◌, ◌+◌, ◌-◌, ◌<◌, ◌≤◌, length, drop, slice_index, slice_range, Some, None}
+use Rattle.std.specs.Prelude.{◌≡◌, ℕ, false, List, [], ◌∷◌, ◌-◌, ◌<◌, ◌≤◌, length, drop, slice_index, slice_range, Some, None}
 use Rattle.std.specs.List.{prefix_len}
 use Rattle.std.specs.Char.{is_ascii_digit}
 use Rattle.est_lexer.specs.declared.kind.Token.{Token}
 use Rattle.est_lexer.specs.declared.kind.TokenKind.TheVariants.{Bad}
-use Rattle.est_lexer.specs.Between.{is_blank, opening, closing, IsBetween}
+use Rattle.est_lexer.specs.Between.{is_blank, opening, IsOpenComment, IsBetween}
 use Rattle.est_lexer.specs.Spellings.{kind_of}
 use Rattle.est_lexer.specs.Spans.{end_of, spelling}
 
@@ -29,11 +29,6 @@ pub record NoneBegins (text : List ℕ) (place : ℕ) : Type 0 where
   pub no_blank : is_blank (slice_index text place) ≡ false
   pub may_begin : MayBegin text place
   pub no_token : (end : ℕ) → end ≤ length text → kind_of (slice_range text place end) ≡ None
-
--- A comment begins at a place, and nothing behind its mark ends it.
-pub record IsOpenComment (text : List ℕ) (place : ℕ) : Type 0 where
-  pub begins : 0 < opening text place
-  pub unended : (mark : ℕ) → place + opening text place ≤ mark → closing text mark ≡ 0
 
 -- The span of a bad token: one byte where nothing begins, the rest of the text for an open comment, the whole run of 19 or more digits.
 pub data IsBadSpan (text : List ℕ) (place : ℕ) : ℕ → Type 0 where

@@ -1,7 +1,12 @@
 //! Tokens of Estelle texts: specifications, traces and explanations.
 #![tactic(auto)]
 
+mod between;
 pub mod kind;
+pub mod laws;
 pub mod lex;
+mod scan;
 pub mod table;
+#[cfg(test)]
+mod tests;
 pub mod tokens;

@@ -1,5 +1,12 @@
 //! The words and symbols of the profile with their spellings.
 
+ghost use Rattle.std.specs.Prelude.{◌≡◌, ◌<◌, true, length, slice_index, option_map, find, nat_eq, IsTrue};
+ghost use Rattle.std.specs.Char.{is_ascii_alphabetic};
+ghost use Rattle.std.specs.List.{starts_with};
+ghost use Rattle.std.specs.Str.{str_eq_ignore_ascii_case};
+ghost use Rattle.est_lexer.specs.Scanning.{rows, groups, all_of, is_by_letter};
+ghost use Rattle.est_lexer.specs.Spellings.{name_kind, symbols};
+
 use crate::kind::TokenKind::{LeftOut, Reserved};
 use crate::kind::{LeftOutToken, ReservedWord, Symbol, TokenKind};
 
@@ -155,3 +162,59 @@ pub static SYMBOLS: [Word; 25] = [
     (b"@", LeftOut(LeftOutToken::At)),
     (b"/", LeftOut(LeftOutToken::Slash)),
 ];
+
+/// The kind of an identifier or a word with these bytes.
+#[tactic(auto, unfolding(crate::specs::Spellings::word_kind, crate::specs::Spellings::words))]
+pub(crate) fn word_or_identifier(bytes: &[u8]) -> TokenKind
+    requires some { 0 < length bytes.now }
+    requires letter { is_ascii_alphabetic (slice_index bytes.now 0) ≡ true }
+    ensures { result ≡ name_kind bytes.now }
+{
+    find_by_letter(&WORDS, bytes).unwrap_or(TokenKind::Identifier)
+}
+
+// The kind of the word that has these bytes, in any letter case.
+fn find_by_letter(table: &[&[Word]], bytes: &[u8]) -> Option<TokenKind>
+    requires full { length table.now ≡ 26 }
+    requires by_letter { IsTrue (is_by_letter 97 (groups table.now)) }
+    requires some { 0 < length bytes.now }
+    requires letter { is_ascii_alphabetic (slice_index bytes.now 0) ≡ true }
+    ensures { result ≡ option_map (λ w. w.1) (find (λ w. str_eq_ignore_ascii_case w.0 bytes.now) (all_of (groups table.now))) }
+{
+    find_word(
+        table[(bytes[0].to_ascii_lowercase() - b'a') as usize],
+        bytes,
+    )
+}
+
+// The kind of the first of these words that has these bytes, in any letter case.
+fn find_word(words: &[Word], bytes: &[u8]) -> Option<TokenKind>
+    ensures { result ≡ option_map (λ w. w.1) (find (λ w. str_eq_ignore_ascii_case w.0 bytes.now) (rows words.now)) }
+{
+    for word in words {
+        if word.0.eq_ignore_ascii_case(bytes) {
+            return Some(word.1);
+        }
+    }
+    None
+}
+
+/// The length and the kind of the longest symbol that these bytes begin with.
+#[tactic(auto, unfolding(crate::specs::Spellings::symbols))]
+pub(crate) fn symbol_before(rest: &[u8]) -> Option<(usize, TokenKind)>
+    ensures { result ≡ option_map (λ w. (length w.0, w.1)) (find (λ w. starts_with nat_eq rest.now w.0) symbols) }
+{
+    find_prefix(&SYMBOLS, rest)
+}
+
+// The length and the kind of the first of these symbols that the bytes begin with.
+fn find_prefix(symbols: &[Word], rest: &[u8]) -> Option<(usize, TokenKind)>
+    ensures { result ≡ option_map (λ w. (length w.0, w.1)) (find (λ w. starts_with nat_eq rest.now w.0) (rows symbols.now)) }
+{
+    for symbol in symbols {
+        if rest.starts_with(symbol.0) {
+            return Some((symbol.0.len(), symbol.1));
+        }
+    }
+    None
+}

@@ -4,6 +4,7 @@ ghost use Rattle.std.specs.Prelude.{◌≡◌, ◌≤◌, ◌<◌, ◌+◌, ℕ,
 ghost use Rattle.std.specs.List.{suffix_len};
 ghost use Rattle.est_lexer.specs.Lines.{is_line_feed};
 ghost use Rattle.est_lexer.specs.declared.kind.Token.{Token};
+ghost use Rattle.est_lexer.specs.declared.tokens.TheConstants.{MOST_BYTES};
 
 use crate::kind::Token;
 
@@ -12,12 +13,14 @@ const LINE_FEED: u8 = b'\n';
 /// The most bytes that a text may have.
 pub const MOST_BYTES: usize = 134_217_728;
 
+const _: () = prove!(size_of::<Token>() <= 24);
+
 /// A text with its tokens. The text is borrowed.
 #[derive(Drop)]
 pub struct Tokens<'t> {
     pub(crate) text: &'t [u8],
     pub(crate) list: Vec<Token>,
-    ghost short: { length text.now ≤ 134217728 },
+    ghost short: { length text.now ≤ MOST_BYTES },
     ghost few: { length list.items ≤ length text.now },
     ghost inside: { (place : ℕ) (token : Token) → slice_get list.items place ≡ Some token → token.start + token.length ≤ length text.now },
 }

@@ -1,6 +1,7 @@
 //! The syntax tree of Estelle specifications (ISO 9074), with the places of its tokens.
 #![tactic(auto)]
 
+pub mod copy;
 pub mod expression;
 pub mod kind;
 pub mod name;

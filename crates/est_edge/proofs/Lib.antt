@@ -1,0 +1,4 @@
+pub mod CountLaws
+pub mod PieceLaws
+pub mod PlaceLaws
+pub mod SetLaws

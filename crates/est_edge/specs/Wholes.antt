@@ -1,0 +1,19 @@
+-- What reading a whole file answers.
+use Rattle.std.specs.Prelude.{◌≡◌, ℕ, ◌+◌, ◌<◌, ◌≤◌, List, Bool, true, length, Result, Ok, Err}
+use Rattle.std.specs.Global.{Vec}
+use Rattle.est_edge.specs.declared.whole.ReadError.{ReadError}
+use Rattle.est_edge.specs.declared.whole.ReadError.TheVariants.{Failed, TooLong, Memory}
+
+-- the answer for a file of these bytes: they all, or that they are too many
+abbrev pub IsWhole : ℕ → List ℕ → Result (Vec ℕ) ReadError → Type 0
+IsWhole limit bytes (Ok read) = (read.items ≡ bytes) × (length bytes ≤ limit)
+IsWhole limit bytes (Err TooLong) = limit < length bytes
+IsWhole limit bytes (Err Failed) = Unit {0}
+IsWhole limit bytes (Err (Memory _)) = Unit {0}
+
+-- the answer for a file that is untold, by the number of bytes taken and whether the end was seen
+abbrev pub IsTakenWhole : ℕ → ℕ → Bool → Result (Vec ℕ) ReadError → Type 0
+IsTakenWhole limit taken ended (Ok read) = (length read.items ≡ taken) × (taken ≤ limit) × (ended ≡ true)
+IsTakenWhole limit taken ended (Err TooLong) = taken ≡ limit + 1
+IsTakenWhole limit taken ended (Err Failed) = Unit {0}
+IsTakenWhole limit taken ended (Err (Memory _)) = Unit {0}

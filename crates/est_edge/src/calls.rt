@@ -1,0 +1,35 @@
+ghost use Rattle.std.specs.Prelude.{◌≡◌, ◌+◌, min, IsTrue, IfOk};
+ghost use Rattle.est_edge.specs.Counts.{last_count};
+ghost use Rattle.est_edge.specs.Calls.{is_listed, next_number};
+
+use std::alloc::{AllocError, Global};
+
+/// The number of the last call, and the numbers of the calls that fail.
+#[derive(Debug, Drop)]
+pub struct Calls {
+    made: u64,
+    failing: Vec<u64>,
+}
+
+impl Calls {
+    /// No call yet.
+    pub fn new(alloc: Global, failing: &[u64]) -> Result<Calls, AllocError>
+        ensures made { IfOk result (λ calls. calls.made ≡ 0) }
+        ensures failing { IfOk result (λ calls. calls.failing.items ≡ failing.now) }
+    {
+        Ok(Calls {
+            made: 0,
+            failing: Vec::from_slice(alloc, failing)?,
+        })
+    }
+
+    /// Numbers one more call, and answers whether it is listed.
+    pub fn next_fails(&mut self) -> bool
+        ensures made { self.new.made ≡ next_number self.old.made }
+        ensures failing { self.new.failing ≡ self.old.failing }
+        ensures listed { result ≡ is_listed self.old.failing.items (next_number self.old.made) }
+    {
+        self.made = self.made.saturating_add(1);
+        self.failing.contains(&self.made)
+    }
+}

@@ -1,0 +1,5 @@
+pub mod KindsApart
+pub mod SkeletonFits
+pub mod Parsing
+pub mod Made
+pub mod Top

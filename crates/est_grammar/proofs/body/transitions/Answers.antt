@@ -1,0 +1,23 @@
+use Rattle.std.proofs.Common.{arith, refl}
+use Rattle.std.proofs.lemmas.List.{map-append}
+use Rattle.est_lexer.specs.declared.kind.ReservedWord.TheVariants as words
+use Rattle.est_lexer.specs.declared.kind.TokenKind.TheVariants.{Reserved}
+use Rattle.est_grammar.specs.Views.{groups_shape}
+use Rattle.est_grammar.proofs.Made.{group_made}
+use Rattle.est_grammar.proofs.Parsing.{exit, rep_out, rep_refused, turns_none, turns_more, moves}
+use Rattle.est_grammar.proofs.body.transitions.Goals as goal
+
+pub loop-alloc-init : goal.loop-alloc-init
+loop-alloc-init c = rw c.new-items.ensures (turns_none c.args.tokens.now c.requires)
+
+pub returns-in_err-next-clause-reads : goal.returns-in_err-next-clause-reads
+returns-in_err-next-clause-reads c = exit c.args.tokens.now groups_shape _ _ c.from_residual.ensures (λ i z f. c.loop-alloc.invariant.off i z (rep_refused c.args.tokens.now (Reserved words.Trans) refl refl c.loop-alloc-test.ensures.test f)) c.in_err-next.ensures.reads
+
+pub loop-alloc-preserved : goal.loop-alloc-preserved
+loop-alloc-preserved c = rw (c.in_ok-push.ensures.ok, map-append, group_made, c.in_ok-transitions.ensures) (turns_more c.args.tokens.now refl refl c.loop-alloc.invariant c.in_ok-next.ensures.reads)
+
+pub loop-alloc-smaller : goal.loop-alloc-smaller
+loop-alloc-smaller c = let m = moves c.args.tokens.now refl c.in_ok-next.ensures.reads in omega (arith, m, c.in_ok-next.ensures.onward.1, c.in_ok-next.ensures.onward.0)
+
+pub returns-clause-reads : goal.returns-clause-reads
+returns-clause-reads c = let i = c.loop-alloc.invariant in i.on _ _ (rep_out c.args.tokens.now (Reserved words.Trans) refl refl i.inside c.loop-alloc-test.ensures.test)

@@ -1,0 +1,13 @@
+use Rattle.std.proofs.Common.{length, ◌-◌, map}
+use Rattle.est_lexer.specs.Places.{tokens_of}
+use Rattle.est_language.specs.Grammar.{rep}
+use Rattle.est_grammar.specs.Skeleton.{several, interaction}
+use Rattle.est_grammar.specs.Views.{interaction_shape}
+use Rattle.est_grammar.proofs.Parsing.{Turns}
+use Rattle.est_grammar.proofs.channel.interactions.Given as goal
+
+abbrev pub invariant-loop-alloc : goal.invariant-loop-alloc
+invariant-loop-alloc l = Turns l.tokens (several interaction) (rep (interaction)) l.fn.at l.at (map interaction_shape l.items)
+
+abbrev pub decreases-loop-alloc : goal.decreases-loop-alloc
+decreases-loop-alloc l = length (tokens_of l.tokens) - l.at

@@ -1,0 +1,17 @@
+//! The parser of specifications.
+#![tactic(auto)]
+
+mod body;
+mod channel;
+mod error;
+mod header;
+mod lists;
+mod parser;
+mod specification;
+#[cfg(test)]
+mod tests;
+mod token;
+mod transition;
+
+pub use error::ParseError;
+pub use parser::parse;

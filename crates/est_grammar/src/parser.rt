@@ -1,0 +1,94 @@
+//! The parser of a whole specification.
+
+ghost use Rattle.std.specs.Prelude.{◌≡◌, IfOk, IfErr};
+ghost use Rattle.est_lexer.specs.Places.{text_of, tokens_of};
+ghost use Rattle.est_grammar.specs.Answer.{HasOneTree, IsRefusal, IsReason, is_not_yet as kind_is_not_yet};
+
+use crate::error::{ParseError, Refusal};
+use crate::specification::specification;
+use est_lexer::kind::{ReservedWord, Symbol, TokenKind};
+use est_lexer::tokens::Tokens;
+use est_syntax::specification::Spec;
+use std::alloc::Global;
+
+/// The words of skeleton specifications.
+const WORDS: [ReservedWord; 21] = [
+    ReservedWord::Begin,
+    ReservedWord::Body,
+    ReservedWord::By,
+    ReservedWord::Channel,
+    ReservedWord::End,
+    ReservedWord::For,
+    ReservedWord::From,
+    ReservedWord::Init,
+    ReservedWord::Initialize,
+    ReservedWord::Ip,
+    ReservedWord::Module,
+    ReservedWord::Modvar,
+    ReservedWord::Output,
+    ReservedWord::Same,
+    ReservedWord::Specification,
+    ReservedWord::State,
+    ReservedWord::Systemactivity,
+    ReservedWord::To,
+    ReservedWord::Trans,
+    ReservedWord::When,
+    ReservedWord::With,
+];
+
+/// The symbols of skeleton specifications but `(`.
+const SYMBOLS: [Symbol; 5] = [
+    Symbol::RightParenthesis,
+    Symbol::Comma,
+    Symbol::Semicolon,
+    Symbol::Colon,
+    Symbol::Period,
+];
+
+/// The specification that the tokens are, or why they are none.
+pub fn parse(alloc: Global, tokens: &Tokens) -> Result<Spec, ParseError>
+    ensures tree { IfOk result (HasOneTree (text_of tokens.now) (tokens_of tokens.now)) }
+    ensures refused { IfErr result (IsRefusal (text_of tokens.now) (tokens_of tokens.now)) }
+{
+    match specification(alloc, tokens, 0) {
+        Ok((spec, end)) => {
+            if end == tokens.count() {
+                Ok(spec)
+            } else {
+                Err(refusal(tokens, end))
+            }
+        }
+        Err(Refusal::Wrong(place)) => Err(refusal(tokens, place)),
+        Err(Refusal::Memory(error)) => Err(ParseError::Memory(error)),
+    }
+}
+
+// Why the token of a place, or the end of the list, is refused there.
+fn refusal(tokens: &Tokens, place: u32) -> ParseError
+    ensures { IsReason (tokens_of tokens.now) place result }
+{
+    match tokens.token_at(place) {
+        None => ParseError::BadToken { place },
+        Some(token) => match token.kind {
+            TokenKind::LeftOut(_) => ParseError::LeftOut { place },
+            kind => {
+                if is_not_yet(kind) {
+                    ParseError::NotYet { place }
+                } else {
+                    ParseError::BadToken { place }
+                }
+            }
+        },
+    }
+}
+
+// Whether a kind of token stands in the whole grammar alone, or is `(`.
+fn is_not_yet(kind: TokenKind) -> bool
+    ensures { result ≡ kind_is_not_yet kind }
+{
+    match kind {
+        TokenKind::Reserved(word) => !WORDS.contains(&word),
+        TokenKind::Symbol(symbol) => !SYMBOLS.contains(&symbol),
+        _ => false,
+    }
+}

@@ -1,0 +1,95 @@
+//! Blanks and comments, which lie between tokens.
+
+ghost use Rattle.std.specs.Prelude.{◌≡◌, ◌≤◌, ◌<◌, ◌+◌, ℕ, length, slice_index, MatchOption, IfNone, IfSome};
+ghost use Rattle.est_lexer.specs.Scanning.{IsBegin};
+ghost use Rattle.est_lexer.specs.Between.{is_blank, opening, closing, IsBetween, IsFirstEnd, IsUnended};
+
+// The byte at a place, and 0 behind the text.
+pub(crate) fn byte_at(text: &[u8], place: usize) -> u8
+    ensures { result ≡ slice_index text.now place }
+{
+    text.get(place).copied().unwrap_or(0)
+}
+
+// How many bytes the mark has that begins a comment at a place.
+#[tactic(auto, unfolding(crate::specs::Between::opening))]
+pub(crate) fn opening_at(text: &[u8], place: usize) -> usize
+    requires { place ≤ length text.now }
+    ensures { result ≡ opening text.now place }
+{
+    if byte_at(text, place) == b'{' {
+        1
+    } else if byte_at(text, place) == b'(' && byte_at(text, place + 1) == b'*' {
+        2
+    } else {
+        0
+    }
+}
+
+// How many bytes the mark has that ends a comment at a place.
+#[tactic(auto, unfolding(crate::specs::Between::closing))]
+fn closing_at(text: &[u8], place: usize) -> usize
+    requires { place ≤ length text.now }
+    ensures { result ≡ closing text.now place }
+{
+    if byte_at(text, place) == b'}' {
+        1
+    } else if byte_at(text, place) == b'*' && byte_at(text, place + 1) == b')' {
+        2
+    } else {
+        0
+    }
+}
+
+// The end of the first mark from a place on that ends a comment.
+fn first_end(text: &[u8], from: usize) -> Option<usize>
+    ensures { MatchOption result (IsUnended text.now from) (IsFirstEnd text.now from) }
+{
+    for mark in from..text.len() {
+        let size = closing_at(text, mark);
+        if size > 0 {
+            return Some(mark + size);
+        }
+    }
+    None
+}
+
+// The end of the blank or the comment that begins at a place.
+fn piece_end(text: &[u8], place: usize) -> Option<usize>
+    requires { place ≤ length text.now }
+    ensures between { IfSome result (λ end. IsBetween text.now place end) }
+    ensures onward { IfSome result (λ end. place < end) }
+    ensures inside { IfSome result (λ end. end ≤ length text.now) }
+    ensures begin { IfNone result (IsBegin text.now place) }
+{
+    if is_blank_byte(byte_at(text, place)) {
+        return Some(place + 1);
+    }
+    let mark = opening_at(text, place);
+    if mark == 0 {
+        None
+    } else {
+        first_end(text, place + mark)
+    }
+}
+
+// Whether the byte is a blank.
+fn is_blank_byte(byte: u8) -> bool
+    ensures { result ≡ is_blank byte }
+{
+    matches!(byte, b'\t' | b'\n' | b'\x0c' | b'\r' | b' ')
+}
+
+/// The first place from `from` on at which neither a blank nor a comment that has an end begins.
+pub(crate) fn begin_from(text: &[u8], from: usize) -> usize
+    requires { from ≤ length text.now }
+    ensures between { IsBetween text.now from result }
+    ensures inside { result ≤ length text.now }
+    ensures begin { IsBegin text.now result }
+{
+    let mut place = from;
+    while let Some(end) = piece_end(text, place) {
+        place = end;
+    }
+    place
+}

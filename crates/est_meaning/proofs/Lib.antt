@@ -1,0 +1,5 @@
+pub mod StepLaws
+pub mod OrderLaws
+pub mod RunLaws
+pub mod ClockLaws
+pub mod StackLaws

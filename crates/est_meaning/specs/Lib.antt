@@ -1,0 +1,11 @@
+pub mod Text
+pub mod Situation
+pub mod Links
+pub mod Choices
+pub mod Blocks
+pub mod Step
+pub mod Allowed
+pub mod Order
+pub mod Stack
+pub mod Run
+pub mod Laws

@@ -1,0 +1,104 @@
+-- The order of firings and of runs.
+--
+-- Runs are read from their last move back to the first, so that `m ∷ earlier` is the run `earlier` with one more move m.
+use Rattle.std.specs.Prelude.{◌≡◌, ◌<◌, ◌≤◌, ◌⊎◌, ℕ, List, [], ◌∷◌, ◌++◌, map, length}
+use Rattle.est_meaning.specs.declared.run.Firing.{Firing}
+use Rattle.est_meaning.specs.declared.run.Move.{Move}
+use Rattle.est_meaning.specs.declared.run.Move.TheVariants.{Take, Fire}
+
+-- FIRINGS
+
+-- by instance, transition and choice
+unfoldable pub FiringBefore : Firing → Firing → Type 0
+FiringBefore f g = (f.instance < g.instance) ⊎ ((f.instance ≡ g.instance) × ((f.transition < g.transition) ⊎ ((f.transition ≡ g.transition) × (f.choice < g.choice))))
+
+-- a firing comes before each of these
+abbrev pub IsBeforeAll : Firing → List Firing → Type 0
+IsBeforeAll f [] = Unit {0}
+IsBeforeAll f (g ∷ gs) = FiringBefore f g × IsBeforeAll f gs
+
+-- each firing comes before those behind it
+abbrev pub IsAscending : List Firing → Type 0
+IsAscending [] = Unit {0}
+IsAscending (f ∷ fs) = IsBeforeAll f fs × IsAscending fs
+
+-- a list has this item
+abbrev pub IsAmong : {X : Type 0} → X → List X → Type 0
+IsAmong x [] = ⊥
+IsAmong x (y ∷ ys) = (x ≡ y) ⊎ IsAmong x ys
+
+-- MARKS
+
+-- what is done after a run: the next event is taken, the guards are evaluated, and firings are tried
+pub data Mark : Type 0 where
+  Taking : Mark
+  Guarding : Mark
+  Trying : Firing → Mark
+
+-- in this order
+abbrev pub MarkBefore : Mark → Mark → Type 0
+MarkBefore Taking Taking = ⊥
+MarkBefore Taking Guarding = Unit {0}
+MarkBefore Taking (Trying g) = Unit {0}
+MarkBefore Guarding Taking = ⊥
+MarkBefore Guarding Guarding = ⊥
+MarkBefore Guarding (Trying g) = Unit {0}
+MarkBefore (Trying f) Taking = ⊥
+MarkBefore (Trying f) Guarding = ⊥
+MarkBefore (Trying f) (Trying g) = FiringBefore f g
+
+-- the mark of a move
+abbrev pub mark_of : Move → Mark
+mark_of Take = Taking
+mark_of (Fire f) = Trying f
+
+-- a run as a list of marks: one without `Guarding`
+abbrev pub marks_of : List Move → List Mark
+marks_of = map mark_of
+
+-- a list, read from its last item back, starts with another
+abbrev pub StartsWith : {X : Type 0} → List X → List X → Type 0
+StartsWith {X} run start = (later : List X) × (run ≡ later ++ start)
+
+-- two lists of marks are compared at their first difference, and one comes before its extensions
+pub data Before (x y : List Mark) : Type 0 where
+  longer : (m : Mark) → StartsWith y (m ∷ x) → Before x y
+  differs : (common : List Mark) (m n : Mark) → MarkBefore m n → StartsWith x (m ∷ common) → StartsWith y (n ∷ common) → Before x y
+
+-- RUNS
+
+-- a run comes before its extensions, Take before Fire, and firings go by instance, transition and choice
+abbrev pub RunBefore : List Move → List Move → Type 0
+RunBefore x y = Before (marks_of x) (marks_of y)
+
+-- a run is another or comes before it
+abbrev pub NotAfter : List Move → List Move → Type 0
+NotAfter x y = (x ≡ y) ⊎ RunBefore x y
+
+-- the first run in order that has P
+pub record IsFirst (P : List Move → Type 0) (run : List Move) : Type 0 where
+  pub has : P run
+  pub least : (y : List Move) → P y → NotAfter run y
+
+-- COUNTS
+
+-- runs in descending order, so that no two are the same
+abbrev pub IsDescending : List (List Move) → Type 0
+IsDescending [] = Unit {0}
+IsDescending (x ∷ xs) = ((y : List Move) → IsAmong y xs → RunBefore y x) × IsDescending xs
+
+-- n of the runs that have P
+pub record HasMany (P : List Move → Type 0) (n : ℕ) : Type 0 where
+  pub runs : List (List Move)
+  pub count : length runs ≡ n
+  pub distinct : IsDescending runs
+  pub each : (x : List Move) → IsAmong x runs → P x
+
+-- exactly n runs have P
+pub record HasExactly (P : List Move → Type 0) (n : ℕ) : Type 0 where
+  pub many : HasMany P n
+  pub all : (x : List Move) → P x → IsAmong x many.runs
+
+-- at most n
+abbrev pub HasAtMost : (List Move → Type 0) → ℕ → Type 0
+HasAtMost P n = (k : ℕ) × (k ≤ n) × HasExactly P k

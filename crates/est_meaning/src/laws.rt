@@ -1,0 +1,32 @@
+//! Laws of steps and runs. Each function does nothing; its clause is the law.
+ghost use Rattle.est_meaning.specs.Laws.{StepsAreUnique, RunsAreUnique, BoundedRunsBeginBounded, YieldsAllBelow, RunOrderIsStrictTotal, ClockStaysBounded};
+
+/// A firing is a step in one way at most.
+pub fn steps_are_unique()
+    ensures { StepsAreUnique }
+{}
+
+/// A run leads to one situation and one list of events.
+pub fn runs_are_unique()
+    ensures { RunsAreUnique }
+{}
+
+/// What a bounded run begins with is a bounded run.
+pub fn bounded_runs_begin_bounded()
+    ensures { BoundedRunsBeginBounded }
+{}
+
+/// A run yields each number below one that it yields.
+pub fn yields_all_below()
+    ensures { YieldsAllBelow }
+{}
+
+/// Of two different runs one comes before the other.
+pub fn run_order_is_strict_total()
+    ensures { RunOrderIsStrictTotal }
+{}
+
+/// No trace within its limits breaks the bound of the clock.
+pub fn clock_stays_bounded()
+    ensures { ClockStaysBounded }
+{}

@@ -1,0 +1,67 @@
+//! Firings, runs and their limits.
+
+use crate::event::Events;
+use est_items::Items;
+
+/// A choice of a transition of an instance. The numbers begin at 1.
+#[derive(Clone, Copy, Debug, PartialEq, Eq)]
+pub struct Firing {
+    pub instance: u32,
+    pub transition: u32,
+    pub choice: u32,
+}
+
+/// A move of a run: the next event of the trace happens, or a transition fires.
+#[derive(Clone, Copy, Debug, PartialEq, Eq)]
+pub enum Move {
+    Take,
+    Fire(Firing),
+}
+
+/// A list of moves.
+pub type Run = Items<Move>;
+
+/// How many firings may be silent in a row, how many may be tried, and how many statements a
+/// block or guard may enter.
+#[derive(Clone, Copy, Debug)]
+pub struct Limits {
+    pub silent: u32,
+    pub budget: u32,
+    pub statements: u32,
+}
+
+/// What can go wrong in a block.
+#[derive(Clone, Copy, Debug, PartialEq, Eq)]
+pub enum BlockFault {
+    Range,
+    Divide,
+    Undefined,
+    NoCase,
+    NoModule,
+    LinkTaken,
+    SelfLink,
+    TooMany,
+}
+
+/// What came of a firing.
+#[derive(Clone, Copy, Debug, PartialEq, Eq)]
+pub enum Fired {
+    Done,
+    Fault(BlockFault),
+    Limit,
+}
+
+/// Whether a guard passed its limit.
+#[derive(Clone, Copy, Debug, PartialEq, Eq)]
+pub enum Offers {
+    Settled,
+    Unsettled,
+}
+
+/// What came of a start: a world and the outside events so far, or a fault or a passed limit.
+#[derive(Debug, Drop)]
+pub enum Started<W> {
+    Ready { world: W, outs: Events },
+    Fault(BlockFault),
+    Limit,
+}

@@ -1,0 +1,5 @@
+pub mod ListLaws
+pub mod ChoiceLaws
+pub mod SituationLaws
+pub mod BlockLaws
+pub mod WorldLaws

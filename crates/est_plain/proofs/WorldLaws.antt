@@ -1,0 +1,275 @@
+-- What a plain world answers.
+use Rattle.std.proofs.Common.{◌≡◌, ◌≤◌, ◌+◌, ◌-◌, ◌++◌, ℕ, zero, suc, Bool, true, false, if◌then◌else◌, nat_eq, List, [], ◌∷◌, map, reverse, length, Option, Some, None, slice_get, refl, sym, ap, subst, ◌∙◌, arith}
+use Rattle.std.specs.Borrow.{Bor}
+use Rattle.std.specs.Option.{option_map, option_map_or}
+use Rattle.std.proofs.lemmas.Bool.{eqb-true}
+use Rattle.std.proofs.lemmas.List.{reverse-append}
+use Rattle.std.proofs.lemmas.Option.{slice_get_within}
+use Rattle.est_syntax.specs.declared.name.Name.{Name}
+use Rattle.est_syntax.specs.declared.name.Used.{Used}
+use Rattle.est_syntax.specs.declared.specification.Statement.{Statement}
+use Rattle.est_syntax.specs.declared.specification.Statement.TheVariants as statement
+use Rattle.est_syntax.specs.declared.specification.Transition.{Transition}
+use Rattle.est_syntax.specs.declared.specification.FirstPart.{FirstPart}
+use Rattle.est_syntax.specs.declared.specification.Body.{Body, out-Body}
+use Rattle.est_syntax.specs.declared.specification.Spec.{Spec}
+use Rattle.est_meaning.specs.declared.event.Event.{Event}
+use Rattle.est_meaning.specs.declared.event.Event.TheVariants as event
+use Rattle.est_meaning.specs.declared.event.Interaction.{Interaction}
+use Rattle.est_meaning.specs.declared.run.Firing.{Firing}
+use Rattle.est_meaning.specs.declared.run.Fired.TheVariants as fired
+use Rattle.est_meaning.specs.declared.run.BlockFault.TheVariants.{NoModule}
+use Rattle.est_meaning.specs.declared.run.Offers.TheVariants.{Settled}
+use Rattle.est_meaning.specs.Text.{root_in, root_of, transitions_of, numbered, when_of, to_of}
+use Rattle.est_meaning.specs.Situation.{QueueName, Item}
+use Rattle.est_meaning.specs.Choices.{IsSettled, restamped}
+use Rattle.est_meaning.specs.Blocks.{Outcome, Done, Fault, Limit, block_meaning}
+use Rattle.est_meaning.specs.Step.{with_state, completed, fired_by, outcome, initialized, made, begun, start_of, after_event, later}
+use Rattle.est_meaning.specs.Order.{IsAmong}
+use Rattle.est_meaning.specs.Stack.{Stack, pushed, OffersAre, FiredAs}
+use Rattle.est_plain.specs.declared.situation.Flat.{Flat}
+use Rattle.est_plain.specs.declared.situation.PointQueue.{PointQueue}
+use Rattle.est_syntax.specs.declared.ports.Port.{Port}
+use Rattle.est_syntax.specs.Ports.{ports_of}
+use Rattle.est_plain.specs.declared.situation.Waiting.{Waiting}
+use Rattle.est_plain.specs.Flat.{SameFlat, seen, queues_for, queued, bare, situation_of, is_enabled_in, choice_in, block_in, taken_in, next_in, IsAfter, AttemptIs, arrival_in, FirstIs, stack_of, firing_at, ListsFirst}
+use Rattle.est_plain.proofs.SituationLaws.{choice_is, chosen, possible_of, enabled_of, restamped_is}
+use Rattle.est_plain.proofs.BlockLaws.{length_by, ended, block_is, taken_is, arrival_is}
+
+-- OPTIONS
+
+next_number : (ts : List Transition) (k : ℕ) → numbered ts (k + 1) ≡ slice_get ts k
+next_number ts k = (let e : k + 1 ≡ suc k = omega arith in ap (numbered ts) e)
+
+-- a transition that passes a test, with its firing
+record Passing (test : Transition → Bool) (ts : List Transition) (f : Firing) : Type 0 where
+  at : ℕ
+  transition : Transition
+  is : f ≡ firing_at at
+  got : slice_get ts at ≡ Some transition
+  passes : test transition ≡ true
+
+same_firing : (f : Firing) (k : ℕ) → f.instance ≡ 1 → f.transition ≡ suc k → f.choice ≡ 1 → f ≡ firing_at k
+same_firing f k a b c =
+    let d : f.transition ≡ k + 1 = omega arith in
+    ap (λ n. let w : Firing = record { instance = n; transition = f.transition; choice = f.choice } in w) a
+    ∙ ap (λ n. let w : Firing = record { instance = 1; transition = n; choice = f.choice } in w) d
+    ∙ ap (λ n. let w : Firing = record { instance = 1; transition = k + 1; choice = n } in w) c
+
+false_true : false ≡ true → ⊥
+false_true e = cc
+
+passing_at : (test : Transition → Bool) (ts : List Transition) (f : Firing) (k : ℕ) (o : Option Transition) → f ≡ firing_at k → slice_get ts k ≡ o → option_map_or test o false ≡ true → Passing test ts f
+passing_at test ts f k None is got e = absurd (false_true e)
+passing_at test ts f k (Some t) is got e = record { at = k; transition = t; is = is; got = got; passes = e }
+
+passing_by : (test : Transition → Bool) (ts : List Transition) (f : Firing) (a b : Bool) (n : ℕ) → nat_eq f.choice 1 ≡ a → nat_eq f.instance 1 ≡ b → f.transition ≡ n → option_map_or test (if a then (if b then numbered ts n else None) else None) false ≡ true → Passing test ts f
+passing_by test ts f true true zero c i t e = absurd (false_true e)
+passing_by test ts f true true (suc k) c i t e = passing_at test ts f k (slice_get ts k) (same_firing f k (eqb-true f.instance 1 i) t (eqb-true f.choice 1 c)) refl e
+passing_by test ts f true false n c i t e = absurd (false_true e)
+passing_by test ts f false b n c i t e = absurd (false_true e)
+
+passing : (test : Transition → Bool) (ts : List Transition) (f : Firing) → option_map_or test (choice_in ts f) false ≡ true → Passing test ts f
+passing test ts f e = passing_by test ts f (nat_eq f.choice 1) (nat_eq f.instance 1) f.transition refl refl refl e
+
+passes_at : (test : Transition → Bool) (ts : List Transition) (f : Firing) (k : ℕ) (t : Transition) → f ≡ firing_at k → slice_get ts k ≡ Some t → test t ≡ true → option_map_or test (choice_in ts f) false ≡ true
+passes_at test ts f k t is got e =
+    ap (λ w. option_map_or test (choice_in ts w) false) is ∙ ap (λ o. option_map_or test o false) (next_number ts k ∙ got) ∙ e
+
+-- the list of a plain world is that of the possible firings
+pub offers_own : (limit : ℕ) (spec : Spec) (body : Body) (flat : Flat) (fs : List Firing) → ListsFirst (is_enabled_in (queues_for spec body) flat) (transitions_of body) (length (transitions_of body)) fs → OffersAre limit spec (situation_of (queues_for spec body) body flat) Settled fs
+unfolding IsSettled
+offers_own limit spec body flat fs l =
+    let test = is_enabled_in (queues_for spec body) flat in
+    let ts = transitions_of body in (
+      tt,
+      record {
+        ascending = l.ascending;
+        sound = λ f a. (let s = l.sound f a in possible_of limit spec body flat f (passes_at test ts f s.0 s.3.0 s.2 s.3.1 s.3.2));
+        complete = λ f p. (let c = passing test ts f (enabled_of limit spec body flat f p) in
+            subst (λ w. IsAmong w fs) (sym c.is) (l.complete c.at c.transition (slice_get_within ts c.at c.transition c.got) c.got c.passes));
+      },
+    )
+
+pub offers_are : (limit : ℕ) (own spec : Spec) (body : Body) (points : List PointQueue) (ts : List Transition) (n : ℕ) (flat : Flat) (fs : List Firing) → own ≡ spec → points ≡ queues_for own body → ts ≡ transitions_of body → n ≡ length ts
+    → ListsFirst (is_enabled_in points flat) ts n fs → OffersAre limit spec (situation_of points body flat) Settled fs
+offers_are limit own spec body points ts n flat fs same are ts_are all l =
+    let l2 = subst (λ m. ListsFirst (is_enabled_in points flat) ts m fs) all l in
+    let l3 = subst (λ us. ListsFirst (is_enabled_in points flat) us (length us) fs) ts_are l2 in
+    let l4 = subst (λ ps. ListsFirst (is_enabled_in ps flat) (transitions_of body) (length (transitions_of body)) fs) are l3 in
+    subst (λ s. OffersAre limit s (situation_of points body flat) Settled fs) same
+    (subst (λ ps. OffersAre limit own (situation_of ps body flat) Settled fs) (sym are) (offers_own limit own body flat fs l4))
+
+-- STACKS
+
+pub pushed_is : (points : List PointQueue) (body : Body) (now next : Flat) (below after : List Flat) → after ≡ below ++ now ∷ [] → stack_of points body next after ≡ pushed (situation_of points body next) (stack_of points body now below)
+pushed_is points body now next below after e =
+    ap (λ xs. let w : Stack = record { now = situation_of points body next; below = map (situation_of points body) (reverse xs) } in w) e
+    ∙ ap (λ xs. let w : Stack = record { now = situation_of points body next; below = map (situation_of points body) xs } in w) (reverse-append below (now ∷ []))
+
+-- FIRING
+
+module _ (limit : ℕ) (spec : Spec) (body : Body) (flat : Flat) (f : Firing) where
+  outcome_at : (o : Option Transition) → choice_in (transitions_of body) f ≡ o → outcome limit spec (situation_of (queues_for spec body) body flat) f ≡ option_map_or (fired_by limit spec (situation_of (queues_for spec body) body flat) f) (option_map (chosen body flat.state) o) (Fault NoModule)
+  unfolding outcome
+  outcome_at o e =
+      let s = situation_of (queues_for spec body) body flat in
+      ap (λ c. option_map_or (fired_by limit spec s f) c (Fault NoModule)) (choice_is spec body flat.state (queued (queues_for spec body) flat.waiting.items) flat.clock f ∙ ap (option_map (chosen body flat.state)) e)
+
+  abbrev taken_queues : Transition → (QueueName → List Item)
+  taken_queues t = queued (queues_for spec body) (taken_in (queues_for spec body) flat.waiting.items (when_of t))
+
+  fired_is : (t : Transition) → fired_by limit spec (situation_of (queues_for spec body) body flat) f (chosen body flat.state t)
+      ≡ completed limit spec (Some f) 1 (to_of t) (ended spec body flat.state (taken_queues t) flat.clock (block_in (ports_of spec) t.block.statements limit []))
+  fired_is t =
+      ap (λ s. completed limit spec (Some f) 1 (to_of t) (block_meaning spec 1 t.block.statements limit s [])) (taken_is spec body flat.state flat.clock flat.waiting.items (when_of t))
+      ∙ ap (completed limit spec (Some f) 1 (to_of t)) (block_is spec body flat.state (taken_queues t) flat.clock t.block.statements limit [])
+
+  pub outcome_none : choice_in (transitions_of body) f ≡ None → outcome limit spec (situation_of (queues_for spec body) body flat) f ≡ Fault NoModule
+  outcome_none e = outcome_at None e
+
+  pub outcome_limit : (t : Transition) → choice_in (transitions_of body) f ≡ Some t → block_in (ports_of spec) t.block.statements limit [] ≡ None → outcome limit spec (situation_of (queues_for spec body) body flat) f ≡ Limit
+  outcome_limit t e b = outcome_at (Some t) e ∙ fired_is t ∙ ap (λ o. completed limit spec (Some f) 1 (to_of t) (ended spec body flat.state (taken_queues t) flat.clock o)) b
+
+  state_set : (queues : QueueName → List Item) (to : Option Used) → with_state (bare body flat.state queues flat.clock) 1 to ≡ bare body (next_in flat.state to) queues flat.clock
+  state_set queues None = refl
+  state_set queues (Some u) = refl
+
+  pub outcome_done : (t : Transition) (outs : List Event) → choice_in (transitions_of body) f ≡ Some t → block_in (ports_of spec) t.block.statements limit [] ≡ Some outs
+      → outcome limit spec (situation_of (queues_for spec body) body flat) f ≡ Done (bare body (next_in flat.state (to_of t)) (taken_queues t) flat.clock) outs
+  outcome_done t outs e b =
+      outcome_at (Some t) e ∙ fired_is t
+      ∙ ap (λ o. completed limit spec (Some f) 1 (to_of t) (ended spec body flat.state (taken_queues t) flat.clock o)) b
+      ∙ ap (λ s. Done (restamped limit spec (Some f) s) outs) (state_set (taken_queues t) (to_of t))
+      ∙ ap (λ s. Done s outs) (restamped_is limit spec (Some f) body (next_in flat.state (to_of t)) (taken_queues t) flat.clock)
+
+after_is : (points : List PointQueue) (body : Body) (flat next : Flat) (t : Transition) → IsAfter points flat t next → situation_of points body next ≡ bare body (next_in flat.state (to_of t)) (queued points (taken_in points flat.waiting.items (when_of t))) flat.clock
+after_is points body flat next t a =
+    ap (λ st. bare body st (queued points next.waiting.items) next.clock) a.state_is
+    ∙ ap (λ ws. bare body (next_in flat.state (to_of t)) (queued points ws) next.clock) a.waiting_is
+    ∙ ap (bare body (next_in flat.state (to_of t)) (queued points (taken_in points flat.waiting.items (when_of t)))) a.clock_is
+
+-- what a plain world answers to a firing
+module _ (limit : ℕ) (own spec : Spec) (body : Body) (points : List PointQueue) (ports : List Port) (ts : List Transition) (same : own ≡ spec) (are : points ≡ queues_for own body) (ports_are : ports ≡ ports_of own) (ts_are : ts ≡ transitions_of body) (flat : Flat) (f : Firing) where
+  to_own : (o : Outcome) → outcome limit own (situation_of (queues_for own body) body flat) f ≡ o → outcome limit spec (situation_of points body flat) f ≡ o
+  to_own o e = subst (λ s. outcome limit s (situation_of points body flat) f ≡ o) same (subst (λ ps. outcome limit own (situation_of ps body flat) f ≡ o) (sym are) e)
+
+  pub answers_none : (events : List Event) (old new : Stack) → None ≡ choice_in ts f → events ≡ [] → new ≡ old → FiredAs (outcome limit spec (situation_of points body flat) f) (fired.Fault NoModule) events old new
+  answers_none events old new c none stays =
+      subst (λ o. FiredAs o (fired.Fault NoModule) events old new) (sym (to_own (Fault NoModule) (outcome_none limit own body flat f (sym (ap (λ us. choice_in us f) ts_are) ∙ sym c)))) (refl, none, stays)
+
+  pub answers_limit : (t : Transition) (events : List Event) (old new : Stack) → Some t ≡ choice_in ts f → block_in ports t.block.statements limit [] ≡ None → events ≡ [] → new ≡ old → FiredAs (outcome limit spec (situation_of points body flat) f) fired.Limit events old new
+  answers_limit t events old new c b none stays =
+      subst (λ o. FiredAs o fired.Limit events old new)
+      (sym (to_own Limit (outcome_limit limit own body flat f t (sym (ap (λ us. choice_in us f) ts_are) ∙ sym c) (subst (λ ps. block_in ps t.block.statements limit [] ≡ None) ports_are b)))) (none, stays)
+
+  pub answers_done : (t : Transition) (next : Flat) (events : List Event) (below after : List Flat) → Some t ≡ choice_in ts f → AttemptIs points ports limit flat t (Some next) events → after ≡ below ++ flat ∷ []
+      → FiredAs (outcome limit spec (situation_of points body flat) f) fired.Done events (stack_of points body flat below) (stack_of points body next after)
+  answers_done t next events below after c a e =
+      let s = bare body (next_in flat.state (to_of t)) (queued points (taken_in points flat.waiting.items (when_of t))) flat.clock in
+      let done : outcome limit spec (situation_of points body flat) f ≡ Done s events =
+      to_own (Done s events)
+      (outcome_done limit own body flat f t events (sym (ap (λ us. choice_in us f) ts_are) ∙ sym c) (subst (λ ps. block_in ps t.block.statements limit [] ≡ Some events) ports_are a.1)
+      ∙ ap (λ ps. Done (bare body (next_in flat.state (to_of t)) (queued ps (taken_in ps flat.waiting.items (when_of t))) flat.clock) events) (sym are)) in
+      subst (λ o. FiredAs o fired.Done events (stack_of points body flat below) (stack_of points body next after)) (sym done)
+      (refl, pushed_is points body flat next below after e ∙ ap (λ w. pushed w (stack_of points body flat below)) (after_is points body flat next t a.0))
+
+-- THE OUTSIDE
+
+-- what a plain world is behind an arrival
+pub arrival_pushed : (own spec : Spec) (body : Body) (points : List PointQueue) (ports : List Port) (flat copied next : Flat) (i : Interaction) (below after : List Flat) → own ≡ spec → points ≡ queues_for own body → ports ≡ ports_of own
+    → SameFlat copied flat → next.state ≡ copied.state → next.waiting.items ≡ copied.waiting.items ++ arrival_in ports i → next.clock ≡ copied.clock → after ≡ below ++ flat ∷ []
+    → stack_of points body next after ≡ pushed (after_event spec (situation_of points body flat) (event.Arrives i)) (stack_of points body flat below)
+unfolding after_event
+arrival_pushed own spec body points ports flat copied next i below after same are ports_are c state waiting clock e =
+    let waiting_after : List Waiting = flat.waiting.items ++ arrival_in ports i in
+    let own_is : after_event own (situation_of (queues_for own body) body flat) (event.Arrives i) ≡ bare body flat.state (queued (queues_for own body) waiting_after) flat.clock =
+    arrival_is own body flat.state flat.clock flat.waiting.items i ∙ ap (λ ps. bare body flat.state (queued (queues_for own body) (flat.waiting.items ++ arrival_in ps i)) flat.clock) (sym ports_are) in
+    let is = subst (λ s. after_event s (situation_of points body flat) (event.Arrives i) ≡ bare body flat.state (queued points waiting_after) flat.clock) same
+    (subst (λ ps. after_event own (situation_of ps body flat) (event.Arrives i) ≡ bare body flat.state (queued ps waiting_after) flat.clock) (sym are) own_is) in
+    let next_is : situation_of points body next ≡ bare body flat.state (queued points (flat.waiting.items ++ arrival_in ports i)) flat.clock =
+    ap (λ st. bare body st (queued points next.waiting.items) next.clock) (state ∙ c.state_is)
+    ∙ ap (λ ws. bare body flat.state (queued points ws) next.clock) (waiting ∙ ap (λ ws. ws ++ arrival_in ports i) c.waiting_is)
+    ∙ ap (bare body flat.state (queued points (flat.waiting.items ++ arrival_in ports i))) (clock ∙ c.clock_is) in
+    pushed_is points body flat next below after e ∙ ap (λ w. pushed w (stack_of points body flat below)) (next_is ∙ sym is)
+
+-- what a plain world is behind passing time
+pub passing_pushed : (body : Body) (points : List PointQueue) (flat copied next : Flat) (units : ℕ) (below after : List Flat)
+    → SameFlat copied flat → next.state ≡ copied.state → next.waiting.items ≡ copied.waiting.items → next.clock ≡ flat.clock + units → after ≡ below ++ flat ∷ []
+    → stack_of points body next after ≡ pushed (later (situation_of points body flat) units) (stack_of points body flat below)
+passing_pushed body points flat copied next units below after c state waiting clock e =
+    let next_is : situation_of points body next ≡ bare body flat.state (queued points flat.waiting.items) (flat.clock + units) =
+    ap (λ st. bare body st (queued points next.waiting.items) next.clock) (state ∙ c.state_is)
+    ∙ ap (λ ws. bare body flat.state (queued points ws) next.clock) (waiting ∙ c.waiting_is)
+    ∙ ap (bare body flat.state (queued points flat.waiting.items)) clock in
+    pushed_is points body flat next below after e ∙ ap (λ w. pushed w (stack_of points body flat below)) next_is
+
+-- START
+
+begun_is : (limit : ℕ) (spec : Spec) (left : ℕ) (first : Statement) → begun limit spec (suc left) first ≡ made limit spec left (root_in spec first)
+begun_is limit spec left (statement.Init target body arguments place) = refl
+begun_is limit spec left (statement.Empty place) = refl
+begun_is limit spec left (statement.Output sendings place) = refl
+
+pub start_limit : (limit : ℕ) (spec : Spec) → limit ≡ 0 → start_of limit spec ≡ Limit
+unfolding start_of
+start_limit limit spec e = ap (λ n. begun limit spec n spec.first) e
+
+start_made : (limit : ℕ) (spec : Spec) (left : ℕ) (o : Option Body) → limit ≡ left + 1 → root_of spec ≡ o → start_of limit spec ≡ made limit spec left o
+unfolding start_of
+start_made limit spec left o e root =
+    let f : limit ≡ suc left = omega arith in
+    ap (λ n. begun limit spec n spec.first) f ∙ begun_is limit spec left spec.first ∙ ap (made limit spec left) root
+
+pub start_none : (limit : ℕ) (spec : Spec) → 1 ≤ limit → None ≡ root_of spec → start_of limit spec ≡ Fault NoModule
+start_none limit spec le root = start_made limit spec (limit - 1) None (omega arith) (sym root)
+
+module _ (limit : ℕ) (spec : Spec) (body : Body) (root : root_of spec ≡ Some body) where
+  first_set : (to : Option Used) (queues : QueueName → List Item) → with_state (bare body None queues 0) 1 to ≡ bare body (next_in None to) queues 0
+  first_set None queues = refl
+  first_set (Some u) queues = refl
+
+  first_limit : (left : ℕ) (first : Option FirstPart) (outs : List Event) → FirstIs (ports_of spec) left first None outs → initialized limit spec left (bare body None (queued (queues_for spec body) []) 0) first ≡ Limit
+  first_limit left None outs a = absurd a
+  first_limit left (Some part) outs a =
+      let queues = queued (queues_for spec body) [] in
+      ap (completed limit spec None 1 part.to) (block_is spec body None queues 0 part.block.statements left [])
+      ∙ ap (λ o. completed limit spec None 1 part.to (ended spec body None queues 0 o)) a
+
+  first_done : (left : ℕ) (first : Option FirstPart) (state : Option Name) (outs : List Event) → FirstIs (ports_of spec) left first (Some state) outs
+      → initialized limit spec left (bare body None (queued (queues_for spec body) []) 0) first ≡ Done (bare body state (queued (queues_for spec body) []) 0) outs
+  first_done left None state outs a =
+      let queues = queued (queues_for spec body) [] in
+      ap (λ s. Done s []) (restamped_is limit spec None body None queues 0) ∙ ap (λ st. Done (bare body st queues 0) []) (sym a.0) ∙ ap (Done (bare body state queues 0)) (sym a.1)
+  first_done left (Some part) state outs a =
+      let queues = queued (queues_for spec body) [] in
+      ap (completed limit spec None 1 part.to) (block_is spec body None queues 0 part.block.statements left [])
+      ∙ ap (λ o. completed limit spec None 1 part.to (ended spec body None queues 0 o)) a.1
+      ∙ ap (λ s. Done (restamped limit spec None s) outs) (first_set part.to queues)
+      ∙ ap (λ s. Done s outs) (restamped_is limit spec None body (next_in None part.to) queues 0)
+      ∙ ap (λ st. Done (bare body st queues 0) outs) (sym a.0)
+
+  pub start_limited : (left : ℕ) (outs : List Event) → limit ≡ left + 1 → FirstIs (ports_of spec) left (out-Body body).first None outs → start_of limit spec ≡ Limit
+  start_limited left outs e a = start_made limit spec left (Some body) e root ∙ first_limit left (out-Body body).first outs a
+
+  pub start_done : (left : ℕ) (state : Option Name) (outs : List Event) → limit ≡ left + 1 → FirstIs (ports_of spec) left (out-Body body).first (Some state) outs → start_of limit spec ≡ Done (bare body state (queued (queues_for spec body) []) 0) outs
+  start_done left state outs e a = start_made limit spec left (Some body) e root ∙ first_done left (out-Body body).first state outs a
+
+-- the start of a plain world, for each specification of which it speaks
+pub started_limit : (limit left : ℕ) (spec : Spec) (body : Body) (ports : List Port) (o : Option (Option Name)) (outs : List Event) → root_of spec ≡ Some body → ports ≡ ports_of spec → limit ≡ left + 1 → o ≡ None
+    → FirstIs ports left (out-Body body).first o outs → start_of limit spec ≡ Limit
+started_limit limit left spec body ports o outs root are e none a =
+    start_limited limit spec body root left outs e (subst (λ ps. FirstIs ps left (out-Body body).first None outs) are (subst (λ w. FirstIs ports left (out-Body body).first w outs) none a))
+
+pub started_done : (limit left : ℕ) (own spec : Spec) (body : Body) (points : List PointQueue) (ports : List Port) (o : Option (Option Name)) (state : Option Name) (outs : List Event) (waiting : List Waiting)
+    → own ≡ spec → root_of own ≡ Some body → points ≡ queues_for own body → ports ≡ ports_of own → waiting ≡ [] → limit ≡ left + 1 → o ≡ Some state → FirstIs ports left (out-Body body).first o outs → start_of limit spec ≡ Done (bare body state (queued points waiting) 0) outs
+started_done limit left own spec body points ports o state outs waiting same root are ports_are none e is a =
+    let first = subst (λ ps. FirstIs ps left (out-Body body).first (Some state) outs) ports_are (subst (λ w. FirstIs ports left (out-Body body).first w outs) is a) in
+    subst (λ s. start_of limit s ≡ Done (bare body state (queued points waiting) 0) outs) same
+    (start_done limit own body root left state outs e first ∙ ap (λ ps. Done (bare body state (queued ps []) 0) outs) (sym are) ∙ ap (λ ws. Done (bare body state (queued points ws) 0) outs) (sym none))
+
+pub nothing_below : (points : List PointQueue) (body : Body) (now : Flat) (below : List Flat) → below ≡ [] → (stack_of points body now below).below ≡ []
+nothing_below points body now below e = ap (λ xs. map (situation_of points body) (reverse xs)) e
+
+pub as_many : (xs : List (Bor Transition)) → length xs ≡ length (seen xs)
+as_many xs = sym (length_by (λ (x : Bor Transition). x.now) xs)

@@ -1,0 +1,241 @@
+-- Flat lists, and what they stand for.
+use Rattle.std.specs.Prelude.{◌≡◌, ◌<◌, ◌^◌, ◌+◌, ◌&&◌, ℕ, zero, suc, Bool, true, false, List, [], ◌∷◌, ◌++◌, map, filter, find, length, Option, Some, None, nat_eq, reverse, slice_get, if◌then◌else◌}
+use Rattle.std.specs.Borrow.{Bor}
+use Rattle.std.specs.List.{position}
+use Rattle.std.specs.Option.{option_map_or}
+use Rattle.est_syntax.specs.declared.name.Name.{Name}
+use Rattle.est_syntax.specs.declared.expression.Access.{Access}
+use Rattle.est_syntax.specs.declared.name.Used.{Used}
+use Rattle.est_syntax.specs.declared.specification.Queue.{Queue}
+use Rattle.est_syntax.specs.declared.specification.Queue.TheVariants.{Individual, Common}
+use Rattle.est_syntax.specs.declared.specification.Sending.{Sending}
+use Rattle.est_syntax.specs.declared.specification.Statement.{Statement}
+use Rattle.est_syntax.specs.declared.specification.Statement.TheVariants as statement
+use Rattle.est_syntax.specs.declared.specification.Transition.{Transition}
+use Rattle.est_syntax.specs.declared.specification.Body.{Body}
+use Rattle.est_syntax.specs.declared.specification.Spec.{Spec}
+use Rattle.est_meaning.specs.declared.event.Event.{Event}
+use Rattle.est_meaning.specs.declared.event.Event.TheVariants as event
+use Rattle.est_meaning.specs.declared.run.Firing.{Firing}
+use Rattle.est_meaning.specs.Text.{Declared, Awaited, is_name, discipline, points_in, header_of, numbered, from_of, to_of, when_of}
+use Rattle.est_meaning.specs.Situation.{nothing, InteractionPoint, QueueName, Own, Shared, is_queue, Item, Situation}
+use Rattle.est_meaning.specs.Order.{IsAscending, IsAmong}
+use Rattle.est_meaning.specs.Stack.{Stack}
+use Rattle.est_meaning.specs.declared.event.Interaction.{Interaction}
+use Rattle.est_syntax.specs.declared.specification.FirstPart.{FirstPart}
+use Rattle.est_meaning.specs.Choices.{fits_state}
+use Rattle.est_meaning.specs.Step.{root_row}
+use Rattle.est_plain.specs.declared.situation.Flat.{Flat}
+use Rattle.est_plain.specs.declared.situation.PointQueue.{PointQueue}
+use Rattle.est_syntax.specs.declared.ports.Port.{Port}
+use Rattle.est_syntax.specs.declared.ports.Signal.{Signal}
+use Rattle.est_meaning.specs.Situation.{is_point}
+use Rattle.est_meaning.specs.Links.{port_point}
+use Rattle.est_meaning.specs.Blocks.{is_signal}
+use Rattle.est_plain.specs.declared.situation.Waiting.{Waiting}
+
+-- both hold the same
+pub record SameFlat (a b : Flat) : Type 0 where
+  pub state_is : a.state ≡ b.state
+  pub waiting_is : a.waiting.items ≡ b.waiting.items
+  pub clock_is : a.clock ≡ b.clock
+
+-- THE TEXT AS LISTS
+
+-- the discipline is the common queue
+abbrev pub is_common : Queue → Bool
+is_common Individual = false
+is_common Common = true
+
+-- how the text queues what comes through an interaction point
+abbrev pub queue_for : Spec → Declared → PointQueue
+queue_for spec d = record { name = d.name; is_shared = is_common (discipline spec d) }
+
+-- the external interaction points of a root with this body
+abbrev pub queues_for : Spec → Body → List PointQueue
+queues_for spec body = map (queue_for spec) (points_in (header_of spec body))
+
+-- the transitions that references point to
+abbrev pub seen : List (Bor Transition) → List Transition
+seen xs = map (λ (x : Bor Transition). x.now) xs
+
+-- the awaited interaction that two references point to
+abbrev pub awaited_by : Bor Access × Bor Used → Awaited
+awaited_by p = record { at = p.0.now; signal = p.1.now }
+
+-- ports and interactions have numbers of 32 bits
+pub record HasFew (ports : List Port) : Type 0 where
+  pub ports_few : length ports < 2 ^ 32
+  pub signals_few : (k : ℕ) (port : Port) → slice_get ports k ≡ Some port → length port.signals < 2 ^ 32
+
+-- QUEUES
+
+-- a flat interaction point has this name
+abbrev pub has_name : Name → PointQueue → Bool
+has_name name point = is_name name point.name
+
+-- the interaction point shares the common queue
+abbrev pub shares : List PointQueue → Name → Bool
+shares points name = option_map_or (λ (p : PointQueue). p.is_shared) (find (has_name name) points) false
+
+-- the interaction point of the root with this name
+abbrev pub point_named : Name → InteractionPoint
+point_named name = record { instance = 1; name = name; index = [] }
+
+-- the queue of the interaction point with this name
+abbrev pub queue_named : List PointQueue → Name → QueueName
+queue_named points name = if shares points name then Shared 1 else Own (point_named name)
+
+-- what a flat item stands for
+abbrev pub item_of : Waiting → Item
+item_of w = record { at = point_named w.at; signal = w.signal; values = w.values }
+
+-- an item waits in this queue
+abbrev pub waits_in : List PointQueue → QueueName → Waiting → Bool
+waits_in points queue w = is_queue queue (queue_named points w.at)
+
+-- a queue is what waits in it, in order of arrival
+abbrev pub queued : List PointQueue → List Waiting → QueueName → List Item
+queued points waiting queue = map item_of (filter (waits_in points queue) waiting)
+
+-- the items without the first that passes a test
+abbrev pub without_first : (Waiting → Bool) → List Waiting → List Waiting
+without_first test [] = []
+without_first test (w ∷ ws) = if test w then ws else w ∷ without_first test ws
+
+-- SITUATIONS
+
+-- a situation of the root alone, without links and stamps
+abbrev pub bare : Body → Option Name → (QueueName → List Item) → ℕ → Situation
+bare body state queues clock =
+    record { rows = record (root_row body) { state = state } ∷ []; peer = nothing; down = nothing; queues = queues; stamps = nothing; clock = clock; next = 2 }
+
+-- what a flat situation stands for
+abbrev pub situation_of : List PointQueue → Body → Flat → Situation
+situation_of points body flat = bare body flat.state (queued points flat.waiting.items) flat.clock
+
+-- CHOICES
+
+-- the head of a queue came through the interaction point and has the name
+abbrev pub head_matches : Name → Name → Option Waiting → Bool
+head_matches at signal None = false
+head_matches at signal (Some x) = is_name at x.at && is_name signal x.signal
+
+-- the awaited interaction stands at the head of its queue, or none is awaited
+abbrev pub arrived_in : List PointQueue → List Waiting → Option Awaited → Bool
+arrived_in points waiting None = true
+arrived_in points waiting (Some w) = head_matches w.at.name.name w.signal.name (find (waits_in points (queue_named points w.at.name.name)) waiting)
+
+-- the clauses of a transition hold in a flat situation
+abbrev pub is_enabled_in : List PointQueue → Flat → Transition → Bool
+is_enabled_in points flat t = fits_state (from_of t) flat.state && arrived_in points flat.waiting.items (when_of t)
+
+-- the transition of a firing of the root
+abbrev pub choice_in : List Transition → Firing → Option Transition
+choice_in transitions f = if nat_eq f.choice 1 then (if nat_eq f.instance 1 then numbered transitions f.transition else None) else None
+
+-- BLOCKS
+
+-- the outside port of an interaction point's name
+abbrev pub is_port : Name → Port → Bool
+is_port name port = is_point (point_named name) (port_point port)
+
+-- port and number of an interaction that leaves
+abbrev pub signal_in : List Port → Name → ℕ → Option Port → Option (ℕ × ℕ)
+signal_in ports signal k None = None
+signal_in ports signal k (Some port) = option_map_or (λ j. Some (k, j)) (position (is_signal signal) port.signals) None
+
+-- where an output of the root leaves, if it does
+abbrev pub leaving : List Port → Name → Name → Option (ℕ × ℕ)
+leaving ports at signal = option_map_or (λ k. signal_in ports signal k (slice_get ports k)) (position (is_port at) ports) None
+
+-- the event that an output makes, if it leaves
+abbrev pub departures : Option (ℕ × ℕ) → List Event
+departures None = []
+departures (Some n) = event.Leaves (record { port = n.0; signal = n.1; values = [] }) ∷ []
+
+-- the outside events behind an output
+abbrev pub sent_in : List Port → List Sending → List Event → List Event
+sent_in ports [] outs = outs
+sent_in ports (x ∷ xs) outs = sent_in ports xs (outs ++ departures (leaving ports x.at.name.name x.signal.name))
+
+-- the outside events behind a statement
+abbrev pub entered_in : List Port → Statement → List Event → List Event
+entered_in ports (statement.Empty place) outs = outs
+entered_in ports (statement.Output sendings place) outs = sent_in ports sendings outs
+entered_in ports (statement.Init target body arguments place) outs = outs
+
+-- the outside events of a block, or none where it passes its limit
+abbrev pub block_in : List Port → List Statement → ℕ → List Event → Option (List Event)
+block_in ports [] left outs = Some outs
+block_in ports (x ∷ xs) zero outs = None
+block_in ports (x ∷ xs) (suc left) outs = block_in ports xs left (entered_in ports x outs)
+
+-- a block is done with these events, or passes its limit
+abbrev pub EndsAs : Option (List Event) → Bool → List Event → Type 0
+EndsAs (Some events) true outs = outs ≡ events
+EndsAs (Some events) false outs = ⊥
+EndsAs None true outs = ⊥
+EndsAs None false outs = Unit {0}
+
+-- STEPS
+
+-- what waits behind a transition that took the interaction that it awaits
+abbrev pub taken_in : List PointQueue → List Waiting → Option Awaited → List Waiting
+taken_in points waiting None = waiting
+taken_in points waiting (Some w) = without_first (waits_in points (queue_named points w.at.name.name)) waiting
+
+-- the state behind a transition that names this one or none
+abbrev pub next_in : Option Name → Option Used → Option Name
+next_in state None = state
+next_in state (Some u) = Some u.name
+
+-- the situation after a transition whose block is done
+pub record IsAfter (points : List PointQueue) (flat : Flat) (t : Transition) (next : Flat) : Type 0 where
+  pub state_is : next.state ≡ next_in flat.state (to_of t)
+  pub waiting_is : next.waiting.items ≡ taken_in points flat.waiting.items (when_of t)
+  pub clock_is : next.clock ≡ flat.clock
+
+-- what comes of a transition: the next situation with its outside events, or none where the block passes its limit
+abbrev pub AttemptIs : List PointQueue → List Port → ℕ → Flat → Transition → Option Flat → List Event → Type 0
+AttemptIs points ports limit flat t None outs = block_in ports t.block.statements limit [] ≡ None
+AttemptIs points ports limit flat t (Some next) outs = IsAfter points flat t next × (block_in ports t.block.statements limit [] ≡ Some outs)
+
+-- what an arrival adds to what waits
+abbrev pub arrival_as : Port → Interaction → Option Signal → List Waiting
+arrival_as port i None = []
+arrival_as port i (Some signal) = record { at = port.name; signal = signal.name; values = i.values } ∷ []
+
+-- what an arrival at a port adds to what waits
+abbrev pub arrival_at : Interaction → Option Port → List Waiting
+arrival_at i None = []
+arrival_at i (Some port) = arrival_as port i (slice_get port.signals i.signal)
+
+-- what an arrival adds to what waits, by its port
+abbrev pub arrival_in : List Port → Interaction → List Waiting
+arrival_in ports i = arrival_at i (slice_get ports i.port)
+
+-- the first state and the outside events of an initialize part, or none where it passes its limit
+abbrev pub FirstIs : List Port → ℕ → Option FirstPart → Option (Option Name) → List Event → Type 0
+FirstIs ports left None None outs = ⊥
+FirstIs ports left None (Some state) outs = (state ≡ None) × (outs ≡ [])
+FirstIs ports left (Some part) None outs = block_in ports part.block.statements left [] ≡ None
+FirstIs ports left (Some part) (Some state) outs = (state ≡ next_in None part.to) × (block_in ports part.block.statements left [] ≡ Some outs)
+
+-- STACKS
+
+-- what a current situation and those below it, the latest last, stand for
+abbrev pub stack_of : List PointQueue → Body → Flat → List Flat → Stack
+stack_of points body now below = record { now = situation_of points body now; below = map (situation_of points body) (reverse below) }
+
+-- OPTIONS
+
+-- the firing of the transition at an index
+abbrev pub firing_at : ℕ → Firing
+firing_at k = record { instance = 1; transition = k + 1; choice = 1 }
+
+-- the firings of the first n transitions that pass a test, in order
+pub record ListsFirst (test : Transition → Bool) (transitions : List Transition) (n : ℕ) (firings : List Firing) : Type 0 where
+  pub ascending : IsAscending firings
+  pub sound : (f : Firing) → IsAmong f firings → (k : ℕ) × (k < n) × (f ≡ firing_at k) × ((t : Transition) × (slice_get transitions k ≡ Some t) × (test t ≡ true))
+  pub complete : (k : ℕ) (t : Transition) → k < n → slice_get transitions k ≡ Some t → test t ≡ true → IsAmong (firing_at k) firings

@@ -1,0 +1,339 @@
+//! Choices and blocks of the one instance.
+
+ghost use Rattle.std.specs.Prelude.{◌≡◌, ◌<◌, ◌^◌, ◌++◌, [], length, slice_get, IsTrue, IfOk, OnOk, option_copied};
+ghost use Rattle.std.specs.List.{position};
+ghost use Rattle.est_meaning.specs.Text.{when_of};
+ghost use Rattle.est_meaning.specs.Blocks.{is_signal};
+ghost use Rattle.est_plain.specs.Flat.{HasFew, is_port, leaving, sent_in, entered_in, block_in, EndsAs, arrived_in, is_enabled_in, head_matches, taken_in, next_in, AttemptIs, arrival_in, FirstIs, ListsFirst, choice_in, seen};
+
+use crate::clauses::{awaited, fits_state, next_state};
+use crate::queue::{head, take_head};
+use crate::situation::{Flat, PointQueue, Waiting};
+use crate::text::same_name;
+use est_meaning::event::{Event, Interaction};
+use est_meaning::run::Firing;
+use est_syntax::copy::copy_values;
+use est_syntax::kind::Values;
+use est_syntax::name::{Name, Used};
+use est_syntax::ports::{Port, Signal, Signals};
+use est_syntax::specification::{FirstPart, Sendings, Statement, Statements, Transition};
+use std::alloc::{AllocError, Global};
+
+/// The greatest number of 32 bits.
+const MOST: usize = 4_294_967_295;
+
+/// Whether an item came through an interaction point and is of a name.
+fn matches(item: Option<&Waiting>, at: &Name, signal: &Name) -> bool
+    ensures { result ≡ head_matches at.now signal.now (option_copied item.entry) }
+{
+    match item {
+        None => false,
+        Some(item) => same_name(at, &item.at) && same_name(signal, &item.signal),
+    }
+}
+
+/// Whether the interaction that a transition awaits has arrived.
+fn has_arrived(points: &[PointQueue], waiting: &[Waiting], transition: &Transition) -> bool
+    ensures { result ≡ arrived_in points.now waiting.now (when_of transition.now) }
+{
+    match awaited(transition) {
+        None => true,
+        Some((at, signal)) => {
+            matches(
+                head(points, waiting, &at.name.name),
+                &at.name.name,
+                &signal.name,
+            )
+        }
+    }
+}
+
+/// Whether all clauses of a transition hold.
+pub fn is_enabled(points: &[PointQueue], flat: &Flat, transition: &Transition) -> bool
+    ensures { result ≡ is_enabled_in points.now flat.now transition.now }
+{
+    if fits_state(transition, &flat.state) {
+        has_arrived(points, flat.waiting.as_slice(), transition)
+    } else {
+        false
+    }
+}
+
+/// Whether a port is the interaction point of a name.
+fn is_port(at: &Name, port: &Port) -> bool
+    ensures { result ≡ is_port at.now port.now }
+{
+    if same_name(at, &port.name) {
+        port.index.len() == 0
+    } else {
+        false
+    }
+}
+
+/// The number of a port.
+fn port_number(ports: &[Port], at: &Name) -> Option<usize>
+    ensures { result ≡ position (is_port at.now) ports.now }
+{
+    ports.iter().position(|port| is_port(at, port))
+}
+
+/// The number of an interaction at a port.
+fn signal_number(signals: &Signals, name: &Name) -> Option<usize>
+    ensures { result ≡ position (is_signal name.now) signals.now }
+{
+    signals
+        .as_slice()
+        .iter()
+        .position(|signal| same_name(name, &signal.name))
+}
+
+/// Port and number of an interaction that leaves there.
+fn leaving(ports: &[Port], at: &Name, signal: &Name) -> Option<(u32, u32)>
+    requires { HasFew ports.now }
+    ensures { result ≡ leaving ports.now at.now signal.now }
+{
+    match port_number(ports, at) {
+        None => None,
+        Some(number) => match ports.get(number) {
+            None => None,
+            Some(port) => match signal_number(&port.signals, signal) {
+                None => None,
+                Some(index) => Some((number as u32, index as u32)),
+            },
+        },
+    }
+}
+
+/// Sends the interactions of an output.
+fn send(
+    alloc: Global,
+    ports: &[Port],
+    sendings: &Sendings,
+    outs: &mut Vec<Event>,
+) -> Result<(), AllocError>
+    requires { HasFew ports.now }
+    ensures { OnOk result (outs.new.items ≡ sent_in ports.now sendings.now outs.old.items) }
+{
+    for sending in sendings.as_slice() {
+        match leaving(ports, &sending.at.name.name, &sending.signal.name) {
+            None => {}
+            Some((port, signal)) => {
+                let values = Values::new(alloc);
+                outs.push(Event::Leaves(Interaction {
+                    port,
+                    signal,
+                    values,
+                }))?;
+            }
+        }
+    }
+    Ok(())
+}
+
+/// Enters one statement.
+fn enter(
+    alloc: Global,
+    ports: &[Port],
+    statement: &Statement,
+    outs: &mut Vec<Event>,
+) -> Result<(), AllocError>
+    requires { HasFew ports.now }
+    ensures { OnOk result (outs.new.items ≡ entered_in ports.now statement.now outs.old.items) }
+{
+    match statement {
+        Statement::Empty { .. } => Ok(()),
+        Statement::Output { sendings, .. } => send(alloc, ports, sendings, outs),
+        Statement::Init { .. } => Ok(()),
+    }
+}
+
+/// Runs a block. Answers false where it passes the limit.
+pub fn run_block(
+    alloc: Global,
+    ports: &[Port],
+    statements: &Statements,
+    limit: u32,
+    outs: &mut Vec<Event>,
+) -> Result<bool, AllocError>
+    requires { HasFew ports.now }
+    ensures { IfOk result (λ is_done. EndsAs (block_in ports.now statements.now limit outs.old.items) is_done outs.new.items) }
+{
+    let mut left = limit;
+    for statement in statements.as_slice() {
+        if left == 0 {
+            return Ok(false);
+        }
+        left -= 1;
+        enter(alloc, ports, statement, outs)?;
+    }
+    Ok(true)
+}
+
+/// Takes the interaction that a transition awaits, where it awaits one.
+fn take_awaited(points: &[PointQueue], transition: &Transition, waiting: &mut Vec<Waiting>)
+    ensures { waiting.new.items ≡ taken_in points.now waiting.old.items (when_of transition.now) }
+{
+    match awaited(transition) {
+        None => {}
+        Some((at, _)) => take_head(points, waiting, &at.name.name),
+    }
+}
+
+/// Sets the next state, where the transition names one.
+fn set_state(alloc: Global, state: Option<&Used>, flat: &mut Flat) -> Result<(), AllocError>
+    ensures { OnOk result (flat.new ≡ record flat.old { state = next_in flat.old.state (option_copied state.entry) }) }
+{
+    match state {
+        None => {}
+        Some(used) => flat.state = Some(used.name.copy(alloc)?),
+    }
+    Ok(())
+}
+
+/// Tries a transition on a copy of a situation. Answers none where its block passes the limit.
+pub fn attempt(
+    alloc: Global,
+    points: &[PointQueue],
+    ports: &[Port],
+    limit: u32,
+    flat: &Flat,
+    transition: &Transition,
+    outs: &mut Vec<Event>,
+) -> Result<Option<Flat>, AllocError>
+    requires few { HasFew ports.now }
+    requires empty { outs.old.items ≡ [] }
+    ensures { IfOk result (λ next. AttemptIs points.now ports.now limit flat.now transition.now next outs.new.items) }
+{
+    let mut next = flat.copy(alloc)?;
+    take_awaited(points, transition, &mut next.waiting);
+    if run_block(alloc, ports, &transition.block.statements, limit, outs)? {
+        set_state(alloc, next_state(transition), &mut next)?;
+        Ok(Some(next))
+    } else {
+        Ok(None)
+    }
+}
+
+/// The port of a number.
+fn port_at(ports: &[Port], number: u32) -> Option<&Port>
+    ensures { option_copied result ≡ slice_get ports.now number }
+{
+    ports.get(number as usize)
+}
+
+/// The interaction of a number.
+fn signal_at(signals: &Signals, number: u32) -> Option<&Signal>
+    ensures { option_copied result ≡ slice_get signals.now number }
+{
+    signals.as_slice().get(number as usize)
+}
+
+/// Puts an interaction that arrives behind all that waits.
+pub fn add_arrival(
+    alloc: Global,
+    ports: &[Port],
+    interaction: &Interaction,
+    waiting: &mut Vec<Waiting>,
+) -> Result<(), AllocError>
+    ensures { OnOk result (waiting.new.items ≡ waiting.old.items ++ arrival_in ports.now interaction.now) }
+{
+    match port_at(ports, interaction.port) {
+        None => Ok(()),
+        Some(port) => match signal_at(&port.signals, interaction.signal) {
+            None => Ok(()),
+            Some(signal) => {
+                waiting.push(Waiting {
+                    at: port.name.copy(alloc)?,
+                    signal: signal.name.copy(alloc)?,
+                    values: copy_values(alloc, &interaction.values)?,
+                })?;
+                Ok(())
+            }
+        },
+    }
+}
+
+/// The first state behind an initialize part. Answers none where it passes the limit.
+pub fn run_first(
+    alloc: Global,
+    ports: &[Port],
+    left: u32,
+    first: &Option<FirstPart>,
+    outs: &mut Vec<Event>,
+) -> Result<Option<Option<Name>>, AllocError>
+    requires few { HasFew ports.now }
+    requires empty { outs.old.items ≡ [] }
+    ensures { IfOk result (λ state. FirstIs ports.now left first.now state outs.new.items) }
+{
+    match first {
+        None => Ok(Some(None)),
+        Some(part) => {
+            if run_block(alloc, ports, &part.block.statements, left, outs)? {
+                match &part.to {
+                    None => Ok(Some(None)),
+                    Some(used) => Ok(Some(Some(used.name.copy(alloc)?))),
+                }
+            } else {
+                Ok(None)
+            }
+        }
+    }
+}
+
+/// Lists the firings of the transitions whose clauses hold.
+pub fn list_enabled(
+    points: &[PointQueue],
+    transitions: &[&Transition],
+    flat: &Flat,
+    into: &mut Vec<Firing>,
+) -> Result<(), AllocError>
+    requires few { length transitions.now < 2 ^ 32 }
+    requires empty { into.old.items ≡ [] }
+    ensures { OnOk result (ListsFirst (is_enabled_in points.now flat.now) (seen transitions.now) (length transitions.now) into.new.items) }
+{
+    for (index, transition) in transitions.iter().enumerate() {
+        if is_enabled(points, flat, transition) {
+            into.push(Firing {
+                instance: 1,
+                transition: index as u32 + 1,
+                choice: 1,
+            })?;
+        }
+    }
+    Ok(())
+}
+
+/// The transition at an index.
+fn transition_at<'c>(transitions: &[&'c Transition], index: usize) -> Option<&'c Transition>
+    ensures { option_copied result ≡ slice_get (seen transitions.now) index }
+{
+    transitions.get(index).copied()
+}
+
+/// The transition of a firing.
+pub fn choice<'c>(transitions: &[&'c Transition], what: &Firing) -> Option<&'c Transition>
+    ensures { option_copied result ≡ choice_in (seen transitions.now) what.now }
+{
+    if what.choice == 1 && what.instance == 1 && 1 <= what.transition {
+        transition_at(transitions, what.transition as usize - 1)
+    } else {
+        None
+    }
+}
+
+/// Whether ports, interactions and transitions have numbers of 32 bits.
+pub fn has_few(ports: &[Port], transitions: &[&Transition]) -> bool
+    ensures few { IsTrue result → HasFew ports.now }
+    ensures transitions { IsTrue result → length transitions.now < 2 ^ 32 }
+    ensures only { HasFew ports.now → length transitions.now < 2 ^ 32 → IsTrue result }
+{
+    if ports.len() > MOST || transitions.len() > MOST {
+        return false;
+    }
+    for port in ports {
+        if port.signals.len() > MOST {
+            return false;
+        }
+    }
+    true
+}

@@ -1,0 +1,71 @@
+//! What waits at the interaction points of the one instance.
+
+ghost use Rattle.std.specs.Prelude.{◌≡◌, find};
+ghost use Rattle.std.specs.List.{position};
+ghost use Rattle.std.specs.Option.{option_copied};
+ghost use Rattle.est_meaning.specs.Situation.{is_queue};
+ghost use Rattle.est_plain.specs.Flat.{has_name, shares, queue_named, waits_in, without_first};
+
+use crate::situation::{PointQueue, Waiting};
+use crate::text::same_name;
+use est_syntax::name::Name;
+
+/// The first interaction point of a name.
+fn point_named<'p>(points: &'p [PointQueue], name: &Name) -> Option<&'p PointQueue>
+    ensures { option_copied result ≡ find (has_name name.now) points.now }
+{
+    points.iter().find(|point| same_name(name, &point.name))
+}
+
+/// Whether an interaction point shares the common queue.
+fn shares(points: &[PointQueue], name: &Name) -> bool
+    ensures { result ≡ shares points.now name.now }
+{
+    match point_named(points, name) {
+        None => false,
+        Some(point) => point.is_shared,
+    }
+}
+
+/// Whether two interaction points have one queue.
+fn same_queue(points: &[PointQueue], a: &Name, b: &Name) -> bool
+    ensures { result ≡ is_queue (queue_named points.now a.now) (queue_named points.now b.now) }
+{
+    if shares(points, a) {
+        shares(points, b)
+    } else if shares(points, b) {
+        false
+    } else {
+        same_name(a, b)
+    }
+}
+
+/// The head of the queue of an interaction point.
+pub fn head<'w>(points: &[PointQueue], waiting: &'w [Waiting], name: &Name) -> Option<&'w Waiting>
+    ensures { option_copied result ≡ find (waits_in points.now (queue_named points.now name.now)) waiting.now }
+{
+    waiting
+        .iter()
+        .find(|item| same_queue(points, name, &item.at))
+}
+
+/// Where the head of the queue of an interaction point stands.
+fn head_index(points: &[PointQueue], waiting: &[Waiting], name: &Name) -> Option<usize>
+    ensures { result ≡ position (waits_in points.now (queue_named points.now name.now)) waiting.now }
+{
+    waiting
+        .iter()
+        .position(|item| same_queue(points, name, &item.at))
+}
+
+/// Takes the head of the queue of an interaction point.
+pub fn take_head(points: &[PointQueue], waiting: &mut Vec<Waiting>, name: &Name)
+    ensures { waiting.new.items ≡ without_first (waits_in points.now (queue_named points.now name.now)) waiting.old.items }
+{
+    match head_index(points, waiting.as_slice(), name) {
+        None => {}
+        Some(index) => {
+            waiting.remove(index);
+        }
+    }
+}

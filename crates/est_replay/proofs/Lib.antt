@@ -1,0 +1,7 @@
+pub mod Parts
+pub mod Shapes
+pub mod Checks
+pub mod Events
+pub mod Moving
+pub mod Replaying
+pub mod FromStart

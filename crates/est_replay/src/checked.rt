@@ -1,0 +1,50 @@
+//! Replays of explanations of checked specifications.
+ghost use Rattle.std.specs.Prelude.{◌-◌, ◌<◌, ◌^◌, length, IfOk};
+ghost use Rattle.est_meaning.specs.Allowed.{IsAllowedTrace};
+ghost use Rattle.est_replay.specs.Replay.{IsReplay};
+
+use crate::explanation::Explanation;
+use crate::replay::replay_in;
+use crate::verdict::{Replayed, Why};
+use est_check::Checked;
+use est_meaning::event::Trace;
+use est_meaning::run::{Limits, Started};
+use est_plain::world::PlainWorld;
+use std::alloc::{AllocError, Global};
+
+/// Replays an explanation of a trace from the start of a specification. The answer is the only one
+/// that fits (`laws::one_answer`).
+pub fn replay(
+    alloc: Global,
+    checked: &Checked,
+    trace: &Trace,
+    explanation: &Explanation,
+    limits: &Limits,
+) -> Result<Replayed, AllocError>
+    requires allowed { IsAllowedTrace checked.now trace.now }
+    requires few { length explanation.now.moves < 2 ^ 32 - 1 }
+    ensures { IfOk result (λ answer. IsReplay limits.now.statements limits.now.silent checked.now trace.now explanation.now.moves explanation.now.claim answer) }
+{
+    let started = PlainWorld::start(alloc, checked, limits.statements)?;
+    match started {
+        Started::Fault(fault) => Ok(Replayed::Rejected {
+            at: 0,
+            why: Why::NoStart(fault),
+        }),
+        Started::Limit => Ok(Replayed::Rejected {
+            at: 0,
+            why: Why::Limit,
+        }),
+        Started::Ready { world, outs } => {
+            let mut world = world;
+            replay_in(
+                alloc,
+                &mut world,
+                outs.as_slice(),
+                trace,
+                explanation,
+                limits.silent,
+            )
+        }
+    }
+}

@@ -1,0 +1,52 @@
+//! Equal copies of names and values.
+ghost use Rattle.std.specs.Prelude.{◌≡◌, IfOk};
+
+use crate::kind::{Ordinals, Value, Values};
+use crate::name::{Bytes, Name};
+use std::alloc::{AllocError, Global};
+
+impl Name {
+    /// An equal name.
+    pub fn copy(&self, alloc: Global) -> Result<Name, AllocError>
+        ensures { IfOk result (λ name. name ≡ self.now) }
+    {
+        Ok(Name {
+            bytes: Bytes {
+                items: Vec::from_slice(alloc, self.bytes.as_slice())?,
+            },
+        })
+    }
+}
+
+impl Value {
+    /// An equal value.
+    pub fn copy(&self, alloc: Global) -> Result<Value, AllocError>
+        ensures { IfOk result (λ value. value ≡ self.now) }
+    {
+        match self {
+            Value::Undefined => Ok(Value::Undefined),
+            Value::Ordinal(ordinal) => Ok(Value::Ordinal(*ordinal)),
+            Value::Set(members) => Ok(Value::Set(Ordinals {
+                items: Vec::from_slice(alloc, members.as_slice())?,
+            })),
+            Value::Group(parts) => {
+                let mut items = Vec::new(alloc);
+                for part in &parts.items {
+                    items.push(part.copy(alloc)?)?;
+                }
+                Ok(Value::Group(Values { items }))
+            }
+        }
+    }
+}
+
+/// Equal values in the same order.
+pub fn copy_values(alloc: Global, values: &Values) -> Result<Values, AllocError>
+    ensures { IfOk result (λ copies. copies ≡ values.now) }
+{
+    let mut items = Vec::new(alloc);
+    for value in &values.items {
+        items.push(value.copy(alloc)?)?;
+    }
+    Ok(Values { items })
+}

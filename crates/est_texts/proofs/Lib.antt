@@ -1,0 +1,4 @@
+pub mod Values
+pub mod Apart
+pub mod Taken
+pub mod Within

@@ -1,0 +1,4 @@
+//! Single tokens of trace and explanation texts: words, symbols and numbers.
+#![tactic(auto)]
+
+pub mod token;

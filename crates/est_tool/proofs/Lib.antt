@@ -1,0 +1,5 @@
+pub mod CheckLaws
+pub mod CountLaws
+pub mod PortBounds
+pub mod ResultLaws
+pub mod SkeletonLaws

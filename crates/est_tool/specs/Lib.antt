@@ -1,0 +1,5 @@
+pub mod Check
+pub mod Reports
+pub mod Result
+pub mod Statuses
+pub mod Words

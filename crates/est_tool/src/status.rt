@@ -1,0 +1,32 @@
+//! How a call ended.
+ghost use Rattle.std.specs.Prelude.{◌≡◌};
+ghost use Rattle.est_tool.specs.Statuses.{code_of};
+
+/// How a call ended. Its number is the exit status of the program.
+#[derive(Clone, Copy, Debug, PartialEq, Eq)]
+pub enum Status {
+    /// The specification is good.
+    Fine = 0,
+    /// The specification's text has a fault.
+    BadSpec = 2,
+    /// A file is longer than its limit.
+    TooLong = 6,
+    /// The words are none that the program takes.
+    Usage = 7,
+    /// A file could not be read.
+    ReadFault = 8,
+    /// The report could not be written.
+    WriteFault = 9,
+    /// Memory was wanting.
+    OutOfMemory = 10,
+    /// The specification has a form that is not built yet.
+    NotBuilt = 12,
+}
+
+impl Status {
+    pub fn code(self) -> u8
+        ensures { result ≡ code_of self }
+    {
+        self as u8
+    }
+}

@@ -1,0 +1,12 @@
+pub mod Closed
+pub mod TraceFits
+pub mod Names
+pub mod Parts
+pub mod Events
+pub mod Fullness
+pub mod Shapes
+pub mod Tables
+pub mod Choices
+pub mod Directories
+pub mod GoodPorts
+pub mod AtPorts

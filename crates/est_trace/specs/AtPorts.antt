@@ -1,0 +1,30 @@
+-- Events at the ports of a skeleton.
+use Rattle.std.specs.Prelude.{◌≡◌, ◌≤◌, true, List, [], All, Some, slice_get}
+use Rattle.est_syntax.specs.declared.ports.Signal.{Signal}
+use Rattle.est_syntax.specs.declared.ports.Port.{Port}
+use Rattle.est_meaning.specs.declared.event.Interaction.{Interaction}
+use Rattle.est_meaning.specs.declared.event.Event.{Event}
+use Rattle.est_meaning.specs.declared.event.Event.TheVariants.{Arrives, Leaves, Passes}
+use Rattle.est_trace.specs.declared.way.Way.{Way}
+use Rattle.est_trace.specs.declared.way.Way.TheVariants.{In, Out}
+use Rattle.est_trace.specs.Grammar.{passes}
+
+-- the interaction is of one of the ports and of one of its signals, which passes it this way and has no parameters, and it has no values
+pub record IsAtPort (way : Way) (ports : List Port) (interaction : Interaction) : Type 0 where
+  pub port : Port
+  pub signal : Signal
+  pub port_is : slice_get ports interaction.port ≡ Some port
+  pub signal_is : slice_get port.signals interaction.signal ≡ Some signal
+  pub way_is : passes way signal ≡ true
+  pub no_parameters : signal.kinds ≡ []
+  pub no_values : interaction.values ≡ []
+
+-- the event is an arrival or a departure at one of the ports, or time that passes
+abbrev pub IsAtPorts : List Port → Event → Type 0
+IsAtPorts ports (Arrives interaction) = IsAtPort In ports interaction
+IsAtPorts ports (Leaves interaction) = IsAtPort Out ports interaction
+IsAtPorts ports (Passes units) = units ≤ 2147483647
+
+-- each of the events is
+abbrev pub AreAtPorts : List Port → List Event → Type 0
+AreAtPorts ports events = All (IsAtPorts ports) events

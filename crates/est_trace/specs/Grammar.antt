@@ -1,0 +1,64 @@
+-- The grammar of traces, for the ports of one specification.
+use Rattle.std.specs.Prelude.{ℕ, Bool, true, List, [], ◌∷◌}
+use Rattle.std.specs.List.{list_any}
+use Rattle.est_lexer.specs.declared.kind.Token.{Token}
+use Rattle.est_language.specs.Grammar.{Grammar, Language, done, word, token, seq, alt, opt, deeper, rule, when, one_of}
+use Rattle.est_language.specs.Marks.{Marks}
+use Rattle.est_syntax.specs.declared.ports.Signal.{Signal}
+use Rattle.est_syntax.specs.declared.ports.Port.{Port}
+use Rattle.est_texts.specs.Tests.{Test, said, spelled, number, language}
+use Rattle.est_trace.specs.declared.way.Way.{Way}
+use Rattle.est_trace.specs.declared.way.Way.TheVariants.{In, Out}
+
+-- The productions are named by lists of ports.
+abbrev pub Rule : Type 0
+Rule = Grammar Test (List Port)
+
+-- whether a signal passes its port this way: the port receives it, or sends it
+abbrev pub passes : Way → Signal → Bool
+passes In signal = signal.receives
+passes Out signal = signal.sends
+
+-- whether some signal passes its port this way
+abbrev pub some_pass : Way → List Signal → Bool
+some_pass way signals = list_any (passes way) signals
+
+-- a signal that passes this way: its name. The ports of skeletons have no parameters, so no value stands behind it.
+abbrev pub signal : Way → Signal → Rule
+signal way x = when (passes way x) (word (spelled x.name.bytes) done)
+
+-- the signal of a port, behind "."
+abbrev pub port_signal : Way → Port → Rule
+port_signal way p = word (said ".") (one_of (signal way) p.signals)
+
+-- a port that some signal passes this way, "." and such a signal. The ports of skeletons are elements of no array, so no subscript stands behind the name.
+abbrev pub port : Way → Port → Rule
+port way p = when (some_pass way p.signals) (word (spelled p.name.bytes) (port_signal way p))
+
+-- "time" number
+abbrev pub time : Rule
+time = word (said "time") (token (number 0 2147483647))
+
+-- event = ( "in" | "out" ) port "." signal | "time" number .
+abbrev pub event : List Port → Rule
+event ports = alt (word (said "in") (one_of (port In) ports)) (alt (word (said "out") (one_of (port Out) ports)) time)
+
+-- { event }, each event within a level of its own: the levels count the events.
+abbrev pub events : List Port → Rule
+events ports = opt (deeper (seq (event ports) (rule ports)))
+
+-- trace = "trace" "1" { event } "end" .
+abbrev pub trace : List Port → Rule
+trace ports = word (said "trace") (word (number 1 1) (seq (rule ports) (word (said "end") done)))
+
+-- traces over the tokens of a text
+abbrev pub tracing : List ℕ → Language Token ℕ Test (List Port)
+tracing text = language events text
+
+-- the words that an event begins with
+abbrev pub event_starts : List Port → List Test
+event_starts ports = said "in" ∷ said "out" ∷ said "time" ∷ []
+
+-- only an event goes on behind events
+abbrev pub marks : Marks Test (List Port)
+marks = record { starts = event_starts; goes_on = event_starts; is_empty = λ ports. true }

@@ -1,0 +1,11 @@
+//! Traces: what happens at the outside ports of a specification.
+#![tactic(auto)]
+
+pub mod error;
+mod interaction;
+mod lookup;
+mod table;
+#[cfg(test)]
+mod tests;
+pub mod trace;
+mod way;
