@@ -11,7 +11,7 @@ use Rattle.est_syntax.specs.declared.specification.Clause.TheVariants as clause
 use Rattle.est_syntax.specs.declared.specification.Transition.{Transition}
 use Rattle.est_syntax.specs.declared.specification.Group.{Group, out-Group}
 use Rattle.est_syntax.specs.declared.specification.FirstPart.{FirstPart}
-use Rattle.est_syntax.specs.declared.specification.Body.{Body, out-Body}
+use Rattle.est_syntax.specs.declared.specification.Body.{out-Body}
 use Rattle.est_syntax.specs.declared.specification.Spec.{Spec}
 use Rattle.est_syntax.specs.Breaks.{Breaks}
 use Rattle.est_check.specs.Skeleton.{IsSkeleton}
