@@ -1,6 +1,6 @@
 -- A skeleton breaks no rules but those on names, directions and first states.
 use Rattle.std.specs.Prelude.{if◌then◌else◌, nat_lt, ◌⊎◌}
-use Rattle.std.proofs.Common.{◌≡◌, refl, sym, ap, ◌∙◌, subst, ℕ, ◌<◌, ◌≤◌, Bool, true, false, List, [], ◌∷◌, ◌++◌, Option, Some, None, inl, inr, arith}
+use Rattle.std.proofs.Common.{◌≡◌, refl, sym, subst, ℕ, ◌<◌, ◌≤◌, Bool, true, false, List, [], ◌∷◌, ◌++◌, Option, Some, None, inl, inr, arith}
 use Rattle.est_syntax.specs.declared.name.Used.{Used}
 use Rattle.est_syntax.specs.declared.sort.NameSort.{NameSort}
 use Rattle.est_syntax.specs.declared.sort.NameSort.TheVariants as sort
@@ -21,7 +21,6 @@ use Rattle.est_syntax.specs.declared.specification.Transition.{Transition}
 use Rattle.est_syntax.specs.declared.specification.Group.{Group, out-Group}
 use Rattle.est_syntax.specs.declared.specification.FirstPart.{FirstPart}
 use Rattle.est_syntax.specs.declared.specification.Body.{Body, out-Body}
-use Rattle.est_syntax.specs.declared.specification.Part.{Part}
 use Rattle.est_syntax.specs.declared.specification.Part.TheVariants as part
 use Rattle.est_syntax.specs.declared.specification.Spec.{Spec}
 use Rattle.est_syntax.specs.Least.{IsIn}
@@ -30,7 +29,6 @@ use Rattle.est_syntax.specs.Names as names
 use Rattle.est_syntax.specs.Environment.{Environment, Passage, missing, no_interaction, unclear, passes, environment, channel_environment, sort_by, sort_declared, role_sort, name_sort}
 use Rattle.est_syntax.specs.Environment as environments
 use Rattle.est_syntax.specs.Faults.{broken, broken_if, takes, used_as, use_faults, uses_faults, is_among, twice_faults, names_of, spellings_of, by_faults, channel_faults, role_faults, point_faults, points_faults, header_faults, modvars_faults, direction_faults, passage_faults, interaction_faults, sendings_faults, statement_faults, statements_faults, state_faults, clause_faults, clauses_faults, transitions_faults, groups_faults, has_states, to_faults, first_faults, text_faults, body_faults}
-use Rattle.est_syntax.specs.Breaks.{Breaks}
 use Rattle.est_check.specs.Skeleton.{IsInit, IsSkeleton, channel_parts}
 use Rattle.est_check.specs.SkeletonRules.{IsSkeletonRule, EachUsed, EachState, EachSending, InStatement, EachStatement, InClause, EachClause, EachTransition, EachGroup, InFirst, IsInOrder, BreaksFew}
 use Rattle.est_check.proofs.Environments.{alone}

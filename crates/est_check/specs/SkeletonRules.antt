@@ -11,7 +11,7 @@ use Rattle.est_syntax.specs.declared.specification.Clause.TheVariants as clause
 use Rattle.est_syntax.specs.declared.specification.Transition.{Transition}
 use Rattle.est_syntax.specs.declared.specification.Group.{Group, out-Group}
 use Rattle.est_syntax.specs.declared.specification.FirstPart.{FirstPart}
-use Rattle.est_syntax.specs.declared.specification.Body.{Body, out-Body}
+use Rattle.est_syntax.specs.declared.specification.Body.{out-Body}
 use Rattle.est_syntax.specs.declared.specification.Spec.{Spec}
 use Rattle.est_syntax.specs.Breaks.{Breaks}
 use Rattle.est_check.specs.Skeleton.{IsSkeleton}
@@ -74,6 +74,7 @@ IsInOrder sk =
     InFirst (λ u. u.place < sk.variable.header.place) (out-Body sk.body).first
     × EachGroup (λ u. u.place < sk.variable.header.place) (out-Body sk.body).groups
 
--- a skeleton whose body stands before its module variable breaks no other rule
+-- A skeleton whose body stands before its module variable breaks no other rule. The rules on numbers, ranges, sizes, kinds,
+-- counts of arguments and subscripts, writing, functions, delays, links and cases speak of parts that no skeleton has.
 abbrev pub BreaksFew : Type 0
 BreaksFew = (s : Spec) (sk : IsSkeleton s) → IsInOrder sk → (place : ℕ) (r : Rule) → Breaks s place r → IsSkeletonRule r
