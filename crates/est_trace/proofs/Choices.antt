@@ -1,10 +1,9 @@
 -- From the number of a name to the alternative that its token begins.
-use Rattle.std.proofs.Common.{inl, length-take, get_or-take, ◌≡◌, ℕ, ◌+◌, ◌<◌, Bool, true, false, List, [], ◌∷◌, ◌++◌, length, get_or, take, map, refl, sym, ap, ◌∙◌, subst, arith, Option, Some, None, slice_get, bytes_eq}
+use Rattle.std.proofs.Common.{inl, length-take, get_or-take, ◌≡◌, ℕ, ◌+◌, ◌<◌, Bool, true, false, List, [], ◌∷◌, ◌++◌, length, get_or, take, map, refl, sym, ap, ◌∙◌, subst, arith, Some, None, slice_get, bytes_eq}
 use Rattle.std.specs.List.{list_any}
-use Rattle.std.specs.Option.{option_map}
 use Rattle.std.proofs.lemmas.List.{length-map, get_or-map, map-append, take_more}
 use Rattle.std.proofs.lemmas.List.Folds.{list_any_none}
-use Rattle.std.proofs.lemmas.Option.{slice_get-map, slice_get-get_or, slice_get_within, get_or_from_slice_get}
+use Rattle.std.proofs.lemmas.Option.{slice_get-get_or, slice_get_within, get_or_from_slice_get}
 use Rattle.std.proofs.lemmas.Slice.Eq.{bytes_eq-Decides}
 use Rattle.est_lexer.specs.declared.tokens.Tokens.{Tokens}
 use Rattle.est_lexer.specs.Places.{text_of, tokens_of}
@@ -17,26 +16,8 @@ use Rattle.est_trace.specs.Grammar.{Rule, tracing, marks}
 use Rattle.est_trace.specs.Skeletons.{HaveDifferentNames}
 use Rattle.est_trace.specs.Tables.{IsNumberOf}
 use Rattle.est_trace.specs.Lookups.{IsChosen}
+use Rattle.est_trace.proofs.Lists.{some_same, image_at}
 use Rattle.est_trace.proofs.Names.{only_one}
-
-pub some_same : {A : Type 0} {x y : A} → Some x ≡ Some y → x ≡ y
-some_same p = cc
-
--- where a list is the image of another, so are its items
-module _ {A B : Type 0} (f : A → B) (xs : List A) where
-  pub mapped_at : (i : ℕ) (b : B) → slice_get (map f xs) i ≡ Some b → (x : A) × (slice_get xs i ≡ Some x) × (f x ≡ b)
-  mapped_at i b e = from (slice_get xs i) refl
-    where
-      from : (o : Option A) → slice_get xs i ≡ o → (x : A) × (slice_get xs i ≡ Some x) × (f x ≡ b)
-      from None h = let q : None ≡ Some b = sym (ap (option_map f) h) ∙ (sym (slice_get-map f xs i) ∙ e) in absurd cc
-      from (Some x) h = let q : Some (f x) ≡ Some b = sym (ap (option_map f) h) ∙ (sym (slice_get-map f xs i) ∙ e) in (x, h, some_same q)
-
-  pub image_at : (i : ℕ) (x : A) → slice_get xs i ≡ Some x → slice_get (map f xs) i ≡ Some (f x)
-  image_at i x e = slice_get-map f xs i ∙ ap (option_map f) e
-
--- items at one place of two lists with one image
-pub same_image : {A B C : Type 0} (f : A → C) (g : B → C) (xs : List A) (ys : List B) (i : ℕ) (x : A) (y : B) → map f xs ≡ map g ys → slice_get xs i ≡ Some x → slice_get ys i ≡ Some y → f x ≡ g y
-same_image f g xs ys i x y e p q = some_same (sym (image_at f xs i x p) ∙ (ap (λ v. slice_get v i) e ∙ image_at g ys i y q))
 
 -- items whose names differ
 module _ {A : Type 0} (name : A → List ℕ) (xs : List A) (d : HaveDifferentNames name xs) where

@@ -11,7 +11,7 @@ use Rattle.est_trace.specs.declared.way.Way.TheVariants.{In, Out}
 use Rattle.est_trace.specs.Grammar.{some_pass}
 use Rattle.est_trace.specs.Tables.{names_in}
 use Rattle.est_trace.specs.Directories.{port_name, signal_name, kept_of, told_by, passed_by, IsDirectory}
-use Rattle.est_trace.proofs.Choices.{mapped_at, same_image, some_same}
+use Rattle.est_trace.proofs.Lists.{mapped_at, same_image, some_same}
 
 -- what a row tells of a port
 pub told_passes : (way : Way) (row : Row) (p : Port) → told_by row ≡ kept_of p → passed_by way row ≡ some_pass way p.signals

@@ -27,7 +27,7 @@ use Rattle.est_check.specs.Skeleton.{IsSkeleton, channel_parts}
 use Rattle.est_check.proofs.PortLaws.{NoFault, started}
 use Rattle.est_trace.specs.Skeletons.{HaveDifferentNames, IsPlainPort, ArePlain}
 use Rattle.est_trace.specs.Directories.{signal_name, port_name}
-use Rattle.est_trace.proofs.Choices.{some_same, image_at}
+use Rattle.est_trace.proofs.Lists.{some_same, image_at}
 
 -- each of the names is new behind those before it
 abbrev AreNew : List (List ℕ) → List (List ℕ) → Type 0

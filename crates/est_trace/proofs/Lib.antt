@@ -1,3 +1,4 @@
+pub mod Lists
 pub mod Closed
 pub mod TraceFits
 pub mod Names

@@ -22,6 +22,7 @@ use Rattle.est_trace.specs.Shapes.{Shape}
 use Rattle.est_trace.specs.Skeletons.{IsPlainPort, ArePlain}
 use Rattle.est_trace.specs.Lookups.{Begins, IsChosen}
 use Rattle.est_trace.specs.Reading.{Reads, cause}
+use Rattle.est_trace.proofs.Lists.{some_same}
 use Rattle.est_trace.proofs.TraceFits.{fits, far}
 use Rattle.est_trace.proofs.Names.{only_one, signals_distinct, ports_distinct, signal_solid, port_solid}
 
@@ -39,9 +40,6 @@ pub exit : {B : Type 0} {g h : Rule} {d d' a a' : ℕ} (tokens : Tokens) (w : B 
     → ((i : ℕ) (z : Bool) → Fails tokens h d' a' i z → Fails tokens g d a i z)
     → Refuses (tracing (text_of tokens)) marks h (tokens_of tokens) d' a' (cause e) → Reads {A = B} tokens g d a w r
 exit tokens w r e is f h = exits.exit cause w r e is f h
-
-some_same : {A : Type 0} {x y : A} → Some x ≡ Some y → x ≡ y
-some_same p = cc
 
 -- the alternative that was chosen
 chosen_at : {A : Type 0} (f : A → Rule) (xs : List A) (tokens : Tokens) (at i : ℕ) (q : A) → slice_get xs i ≡ Some q → IsChosen f xs tokens at (Some i) → Begins tokens at (f q)

@@ -9,6 +9,7 @@ use Rattle.std.proofs.lemmas.Map.Keys.{any_passes_from_place}
 use Rattle.std.proofs.lemmas.Slice.Eq.{bytes_eq-Decides}
 use Rattle.indexmap.specs.IndexSet.{insert_key}
 use Rattle.est_trace.specs.Tables.{IsNumberOf}
+use Rattle.est_trace.proofs.Lists.{mapped_at}
 
 -- the bytes of a key
 abbrev pub key_name : Vec ℕ Global → List ℕ
@@ -29,13 +30,6 @@ first_passes : {A : Type 0} (p : A → Bool) (xs : List A) (i : ℕ) → positio
 first_passes p [] i e = cc
 first_passes p (y ∷ ys) i e = let q = position-Some p (y ∷ ys) i y e in (get_or (y ∷ ys) i y, slice_get-get_or (y ∷ ys) i y q.0, q.1)
 
-key_at : (keys : List (Vec ℕ Global)) (name : List ℕ) (j : ℕ) → slice_get (map key_name keys) j ≡ Some name → (key : Vec ℕ Global) × (slice_get keys j ≡ Some key) × (key.items ≡ name)
-key_at keys name j e = from (slice_get keys j) refl
-  where
-    from : (o : Option (Vec ℕ Global)) → slice_get keys j ≡ o → (key : Vec ℕ Global) × (slice_get keys j ≡ Some key) × (key.items ≡ name)
-    from None h = let q : None ≡ Some name = sym (ap (option_map key_name) h) ∙ (sym (slice_get-map key_name keys j) ∙ e) in absurd cc
-    from (Some key) h = let q : Some key.items ≡ Some name = sym (ap (option_map key_name) h) ∙ (sym (slice_get-map key_name keys j) ∙ e) in (key, h, cc)
-
 -- what a look-up by bytes finds is the number of the name
 pub key_found : (keys : List (Vec ℕ Global)) (name : List ℕ) (r : Option ℕ) → r ≡ position (λ key. bytes_eq name key.items) keys → is_some r ≡ list_any (λ key. bytes_eq name key.items) keys → IsNumberOf name (map key_name keys) r
 key_found keys name (Some i) e h =
@@ -43,7 +37,7 @@ key_found keys name (Some i) e h =
     let p : name ≡ q.0.items = (bytes_eq-Decides name q.0.items).0 q.2 in
     slice_get-map key_name keys i ∙ (ap (option_map key_name) q.1 ∙ ap Some (sym p))
 key_found keys name None e h = λ j z.
-    let q = key_at keys name j z in
+    let q = mapped_at key_name keys j name z in
     let p : bytes_eq name q.0.items ≡ true = (bytes_eq-Decides name q.0.items).1 (sym q.2) in
     let w = any_passes_from_place (λ key. bytes_eq name key.items) keys j q.0 q.1 p in
     let u : false ≡ true = h ∙ w in
