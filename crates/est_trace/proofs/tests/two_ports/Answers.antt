@@ -1,6 +1,7 @@
 use Rattle.std.proofs.Common.{rules, ◌≡◌, ℕ, zero, suc, ◌≤◌, ◌^◌, Bool, true, false, List, [], ◌∷◌, ◌++◌, length, refl, sym, ap, ◌∙◌, subst, arith, Some, slice_get}
-use Rattle.std.specs.Prelude.{codes}
-use Rattle.std.specs.Str.{str_eq_ignore_ascii_case, str_to_ascii_lowercase}
+use Rattle.std.specs.Prelude.{codes, bytes_eq}
+use Rattle.std.proofs.lemmas.Slice.Eq.{bytes_eq-Decides}
+use Rattle.est_language.proofs.Exits.{not_met}
 use Rattle.est_syntax.specs.declared.ports.Signal.{Signal}
 use Rattle.est_syntax.specs.declared.ports.Port.{Port}
 use Rattle.est_trace.specs.Skeletons.{HaveDifferentNames, IsPlainPort, ArePlain}
@@ -30,6 +31,9 @@ two_each P x y h k zero a e = let p : x ≡ a = cc in subst P p h
 two_each P x y h k (suc zero) a e = let p : y ≡ a = cc in subst P p k
 two_each P x y h k (suc (suc i)) a e = cc
 
+texts_differ : (a b : List ℕ) → bytes_eq a b ≡ false → a ≡ b → ⊥
+texts_differ a b f e = not_met f ((bytes_eq-Decides a b).1 e)
+
 names_differ : {A : Type 0} (name : A → List ℕ) (x y : A) (a b : List ℕ) → name x ≡ a → name y ≡ b → (a ≡ b → ⊥) → name x ≡ name y → ⊥
 names_differ name x y a b p q h k = h (sym p ∙ (k ∙ q))
 
@@ -50,7 +54,7 @@ returns c =
     let ports : c.push-5.new.self ≡ p ∷ q ∷ [] = two_pushed p q c.new-ports.result c.push-4.new.self c.push-5.new.self c.new-ports.ensures c.in_ok-push-4.ensures.ok c.in_ok-push-5.ensures.ok in
     let plain_p : IsPlainPort p = record {
       no_subscripts = pp.1;
-      different = subst (λ v. HaveDifferentNames signal_name v) (sym both) (two_differ signal_name go left (names_differ signal_name go left (codes "go") (codes "left") c.in_ok-go.ensures.0 c.in_ok-left.ensures.0 (λ e. cc)));
+      different = subst (λ v. HaveDifferentNames signal_name v) (sym both) (two_differ signal_name go left (names_differ signal_name go left (codes "go") (codes "left") c.in_ok-go.ensures.0 c.in_ok-left.ensures.0 (texts_differ (codes "go") (codes "left") refl)));
       no_parameters = subst (λ v. (i : ℕ) (x : Signal) → slice_get v i ≡ Some x → x.kinds ≡ []) (sym both) (two_each (λ x. x.kinds ≡ []) go left c.in_ok-go.ensures.1 c.in_ok-left.ensures.1);
     } in
     let plain_q : IsPlainPort q = record {
@@ -59,6 +63,6 @@ returns c =
       no_parameters = subst (λ v. (i : ℕ) (x : Signal) → slice_get v i ≡ Some x → x.kinds ≡ []) (sym one) (one_each (λ x. x.kinds ≡ []) up c.in_ok-up.ensures.1);
     } in
     subst ArePlain (sym ports) (record {
-      different = two_differ port_name p q (names_differ port_name p q (codes "p") (codes "q") pp.0 qq.0 (λ e. cc));
+      different = two_differ port_name p q (names_differ port_name p q (codes "p") (codes "q") pp.0 qq.0 (texts_differ (codes "p") (codes "q") refl));
       each = two_each IsPlainPort p q plain_p plain_q;
     })
