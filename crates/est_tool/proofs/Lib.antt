@@ -3,3 +3,4 @@ pub mod CountLaws
 pub mod PortBounds
 pub mod ResultLaws
 pub mod SkeletonLaws
+pub mod OrderLaws

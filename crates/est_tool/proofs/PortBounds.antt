@@ -13,7 +13,7 @@ use Rattle.est_syntax.specs.declared.specification.Statement.TheVariants as stat
 use Rattle.est_syntax.specs.declared.specification.Part.{Part}
 use Rattle.est_syntax.specs.declared.specification.Part.TheVariants as part
 use Rattle.est_syntax.specs.declared.specification.Spec.{Spec}
-use Rattle.est_syntax.specs.Names.{Sort, module_variable, Declaration, Region, Scope, declared_in, in_force, meaning, meaning_by, side_of, header_in, header_by, declared_together, states_region, modvars_region, part_region, parts_region, spec_scope, spelled, is_name}
+use Rattle.est_syntax.specs.Names.{module_variable, Declaration, Region, Scope, declared_in, in_force, meaning, meaning_by, side_of, header_in, header_by, declared_together, states_region, modvars_region, part_region, parts_region, spec_scope, spelled, is_name}
 use Rattle.est_syntax.specs.Ports.{header_of_variable, header_started, named_ports, point_ports, header_ports, ports_of, signals_of}
 use Rattle.est_syntax.specs.Breaks.{modvar_by}
 use Rattle.est_tool.proofs.CountLaws.{points_of, port_sum}

@@ -1,14 +1,13 @@
 -- The tree of a skeleton sentence is that of a skeleton.
-use Rattle.std.proofs.Common.{◌≡◌, ◌≤◌, ◌+◌, ◌⊎◌, ℕ, suc, Bool, true, false, List, [], ◌∷◌, ◌++◌, Option, Some, None, length, map, arith, refl, sym, ap, subst, inl, inr}
+use Rattle.std.proofs.Common.{◌≡◌, ◌≤◌, ℕ, suc, Bool, true, false, List, [], ◌∷◌, ◌++◌, Option, Some, None, length, arith, refl, sym, ap, subst, inl, inr}
 use Rattle.est_lexer.specs.declared.kind.Token.{Token}
 use Rattle.est_lexer.specs.declared.kind.Symbol.TheVariants.{Semicolon}
 use Rattle.est_lexer.specs.declared.kind.ReservedWord.TheVariants.{Modvar}
-use Rattle.est_language.specs.Grammar.{Grammar, word, token, here, skip, seq, opt, rep, rule, chain, nothing, placed, some, left, both, Tree, t_word, t_here, t_seq, t_rule, t_rep_out, t_rep_in, t_token, t_opt_in, t_opt_out, t_done}
-use Rattle.est_grammar.specs.Skeleton.{Rule, specification, header, body, transition, channel, several, sign, said, states, first_part, empty_block, block, statement as a_statement, module_variable, init as an_init, initialization}
+use Rattle.est_language.specs.Grammar.{Grammar, here, seq, rep, rule, nothing, placed, some, left, both, Tree, t_word, t_here, t_seq, t_rule, t_rep_in, t_opt_in}
+use Rattle.est_grammar.specs.Skeleton.{Rule, specification, header, body, transition, sign, said, states, first_part, empty_block, block, statement as a_statement, module_variable, initialization}
 use Rattle.est_grammar.specs.Language.{skeleton}
-use Rattle.est_grammar.specs.Views.{Shape, used_shape, header_shape, points_shape, group_shape, groups_shape, transition_shape, block_shape, statement_shape, body_shape, modvar_shape, one_transition, one_statement, last_parts, behind_channels, channels_shape, spec_shape, without, without_some, where_true, states_shape, first_shape, first_state, init_shape, initialization_shape, clauses_shape}
+use Rattle.est_grammar.specs.Views.{Shape, used_shape, header_shape, groups_shape, transition_shape, block_shape, statement_shape, body_shape, modvar_shape, one_transition, one_statement, last_parts, behind_channels, channels_shape, spec_shape, without, without_some, where_true, states_shape, first_shape, first_state, initialization_shape, clauses_shape}
 use Rattle.est_syntax.specs.declared.name.Used.{Used}
-use Rattle.est_syntax.specs.declared.expression.VarDef.{VarDef}
 use Rattle.est_syntax.specs.declared.specification.Channel.{Channel}
 use Rattle.est_syntax.specs.declared.specification.Header.{Header}
 use Rattle.est_syntax.specs.declared.specification.ModvarDef.{ModvarDef}
@@ -24,7 +23,6 @@ use Rattle.est_syntax.specs.declared.specification.Part.{Part}
 use Rattle.est_syntax.specs.declared.specification.Part.TheVariants as part
 use Rattle.est_syntax.specs.declared.specification.Spec.{Spec}
 use Rattle.est_syntax.specs.Least.{IsIn}
-use Rattle.est_syntax.specs.Ports.{ports_of}
 use Rattle.est_check.specs.Skeleton.{channel_parts, AreStates, IsPlain, IsInit, IsPlainBody, IsSkeleton}
 use Rattle.est_check.specs.Counts.{group_count, transition_count}
 use Rattle.est_grammar.specs.Answer.{HasOneTree}

@@ -3,3 +3,4 @@ pub mod Reports
 pub mod Result
 pub mod Statuses
 pub mod Words
+pub mod SentenceRules

@@ -2,6 +2,7 @@
 #![tactic(auto)]
 
 mod check;
+pub mod laws;
 mod report;
 pub mod status;
 #[cfg(test)]
