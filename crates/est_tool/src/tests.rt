@@ -101,6 +101,58 @@ fn reports_of_texts(rt: HostRuntime) -> Result<(), Fail> {
 }
 
 #[test]
+fn broken_rules(rt: HostRuntime) -> Result<(), Fail> {
+    let alloc = rt.alloc();
+    let skeleton = skeleton(alloc)?;
+    // what is written in place of what, and the least of the rules that are broken then
+    let cases = [
+        (
+            "output P.Left",
+            "output P.Lift",
+            "9:48: rule 1: unknown name",
+        ),
+        ("S0, S1;", "S0, S1, S1;", "7:17: rule 2: declared twice"),
+        ("from S0", "from P", "9:14: rule 4: wrong sort"),
+        (
+            "output P.Right",
+            "output P.Go",
+            "10:40: rule 12: wrong direction",
+        ),
+        (
+            "  initialize to S0 begin end;\n",
+            "",
+            "6:6: rule 14: no first state",
+        ),
+        // with another broken rule behind it
+        ("S0, S1;", "S0;", "9:20: rule 1: unknown name"),
+        ("S0, S1;", "S0, S0;", "7:13: rule 2: declared twice"),
+        (
+            "to S1 when P.Go",
+            "to P when S0.Go",
+            "9:20: rule 4: wrong sort",
+        ),
+        (
+            "P.Go begin output P.Left",
+            "P.Left begin output P.Go",
+            "9:30: rule 12: wrong direction",
+        ),
+        (
+            "  initialize to S0 begin end;\n  trans from S0",
+            "  trans from S9",
+            "6:6: rule 14: no first state",
+        ),
+    ];
+    for (from, to, fault) in cases {
+        let text = skeleton.replace(alloc, from, to)?;
+        let report = format!(in alloc; "specification:{fault}\n")?;
+        let (status, written) = checked(alloc, text.as_str())?;
+        assert_eq!(rt; status.code(), 2, "{to}");
+        assert_eq!(rt; written.as_slice(), report.as_bytes(), "{to}");
+    }
+    Ok(())
+}
+
+#[test]
 fn a_text_over_its_limit(rt: HostRuntime) -> Result<(), Fail> {
     let alloc = rt.alloc();
     let blanks = vec![in alloc; b' '; 1_048_577]?;
