@@ -3,3 +3,4 @@ pub mod OrderLaws
 pub mod RunLaws
 pub mod ClockLaws
 pub mod StackLaws
+pub mod FaultLaws

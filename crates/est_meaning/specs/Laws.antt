@@ -1,11 +1,16 @@
 -- What holds of steps, runs and their order.
-use Rattle.std.specs.Prelude.{◌≡◌, ◌≤◌, ◌+◌, ◌^◌, ◌⊎◌, ℕ, List, [], ◌++◌}
+use Rattle.std.specs.Prelude.{◌≡◌, ◌≢◌, ◌≤◌, ◌+◌, ◌^◌, ◌⊎◌, ℕ, List, [], ◌++◌, Some}
+use Rattle.est_syntax.specs.declared.specification.Body.{Body}
 use Rattle.est_syntax.specs.declared.specification.Spec.{Spec}
 use Rattle.est_meaning.specs.declared.event.Event.{Event}
 use Rattle.est_meaning.specs.declared.run.Firing.{Firing}
+use Rattle.est_meaning.specs.declared.run.BlockFault.{BlockFault}
 use Rattle.est_meaning.specs.declared.run.Move.{Move}
+use Rattle.est_meaning.specs.Text.{root_of}
 use Rattle.est_meaning.specs.Situation.{Situation}
-use Rattle.est_meaning.specs.Step.{IsStep}
+use Rattle.est_meaning.specs.Choices.{IsPossible}
+use Rattle.est_meaning.specs.Blocks.{Fault}
+use Rattle.est_meaning.specs.Step.{IsStep, outcome, start_of}
 use Rattle.est_meaning.specs.Allowed.{IsAllowedTrace, units_of}
 use Rattle.est_meaning.specs.Order.{RunBefore}
 use Rattle.est_meaning.specs.Run.{Setup, Place, IsBegun, IsRun, IsBoundedRun, Takes, Yields}
@@ -37,3 +42,8 @@ pub record RunOrderIsStrictTotal : Type 0 where
 abbrev pub ClockStaysBounded : Type 0
 ClockStaysBounded = (c : Setup) (run : List Move) (p : Place) → IsBegun c → IsAllowedTrace c.spec c.trace → IsRun c run p
     → (p.situation.clock ≤ 10 ^ 15) × ((q : Place) (taken : Takes c p q) → p.situation.clock + units_of taken.event ≤ 10 ^ 15)
+
+-- no possible firing faults, nor does the start of a specification whose root has a body
+pub record BlocksDoNotFault : Type 0 where
+  pub firings : (limit : ℕ) (spec : Spec) (s : Situation) (f : Firing) (fault : BlockFault) → IsPossible limit spec s f → outcome limit spec s f ≢ Fault fault
+  pub starts : (limit : ℕ) (spec : Spec) (body : Body) (fault : BlockFault) → root_of spec ≡ Some body → start_of limit spec ≢ Fault fault

@@ -1,5 +1,5 @@
 //! Laws of steps and runs. Each function does nothing; its clause is the law.
-ghost use Rattle.est_meaning.specs.Laws.{StepsAreUnique, RunsAreUnique, BoundedRunsBeginBounded, YieldsAllBelow, RunOrderIsStrictTotal, ClockStaysBounded};
+ghost use Rattle.est_meaning.specs.Laws.{StepsAreUnique, RunsAreUnique, BoundedRunsBeginBounded, YieldsAllBelow, RunOrderIsStrictTotal, ClockStaysBounded, BlocksDoNotFault};
 
 /// A firing is a step in one way at most.
 pub fn steps_are_unique()
@@ -29,4 +29,9 @@ pub fn run_order_is_strict_total()
 /// No trace within its limits breaks the bound of the clock.
 pub fn clock_stays_bounded()
     ensures { ClockStaysBounded }
+{}
+
+/// A block is done or passes its limit, and so does a start whose root has a body.
+pub fn blocks_do_not_fault()
+    ensures { BlocksDoNotFault }
 {}

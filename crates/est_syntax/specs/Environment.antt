@@ -4,7 +4,7 @@ use Rattle.est_syntax.specs.declared.name.Used.{Used}
 use Rattle.est_syntax.specs.declared.sort.NameSort.{NameSort}
 use Rattle.est_syntax.specs.declared.sort.NameSort.TheVariants as sort
 use Rattle.est_syntax.specs.declared.specification.Channel.{Channel}
-use Rattle.est_syntax.specs.Names.{Sort, channel, header, body, module_variable, point, state, role, interaction, Side, Declaration, Scope, Meaning, nothing, unseen, seen, meaning, declared_in, spelled, channel_region, channel_by, role_named}
+use Rattle.est_syntax.specs.Names.{Sort, channel, header, body, module_variable, point, state, role, interaction, Side, Declaration, Scope, Meaning, nothing, unseen, predeclared, seen, meaning, declared_in, spelled, channel_region, channel_by, role_named}
 
 -- an interaction named at an interaction point: its channel has no such name, has it as something else,
 -- does not say who sends it, or lets the point send and receive it so
@@ -35,6 +35,7 @@ name_sort (interaction part i) = sort.Interaction
 abbrev pub sort_by : Meaning Declaration → Meaning NameSort
 sort_by nothing = nothing
 sort_by unseen = unseen
+sort_by predeclared = predeclared
 sort_by (seen d) = seen (name_sort d.sort)
 
 -- a name that is looked up in one region has the sort of its declaration there

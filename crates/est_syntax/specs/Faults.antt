@@ -23,7 +23,7 @@ use Rattle.est_syntax.specs.declared.specification.Body.{Body, out-Body}
 use Rattle.est_syntax.specs.declared.specification.Part.{Part}
 use Rattle.est_syntax.specs.declared.specification.Part.TheVariants as part
 use Rattle.est_syntax.specs.declared.specification.Spec.{Spec}
-use Rattle.est_syntax.specs.Names.{Region, Scope, Meaning, nothing, unseen, seen, spelled, is_name, channel_region, points_region, parts_region, header_region, body_scope, spec_scope}
+use Rattle.est_syntax.specs.Names.{Region, Scope, Meaning, nothing, unseen, predeclared, seen, spelled, is_name, channel_region, points_region, parts_region, header_region, body_scope, spec_scope}
 use Rattle.est_syntax.specs.Environment.{Environment, Passage, missing, no_interaction, unclear, passes, environment, channel_environment}
 
 -- the fault that a rule is broken at a place
@@ -45,10 +45,11 @@ takes sort.Role sort.Role = true
 takes sort.Interaction sort.Interaction = true
 takes _ _ = false
 
--- the use of a name where a sort is wanted: the name is unknown, not seen, or of another sort
+-- the use of a name where a sort is wanted: the name is unknown, not seen, or of another sort; what is predeclared is of no such sort
 abbrev pub used_as : NameSort → ℕ → Meaning NameSort → List Fault
 used_as wanted place nothing = broken place rule.UnknownName
 used_as wanted place unseen = broken place rule.NotSeenHere
+used_as wanted place predeclared = broken place rule.WrongSort
 used_as wanted place (seen s) = if takes wanted s then [] else broken place rule.WrongSort
 
 abbrev pub use_faults : Environment → NameSort → Used → List Fault

@@ -1,5 +1,6 @@
 -- What the parts of a specification declare, and what a name means at a place (ISO 9074, scope of identifiers; ISO 7185, 6.2.2).
-use Rattle.std.specs.Prelude.{ℕ, ◌==◌, Bool, true, false, nat_lt, List, [], ◌∷◌, ◌++◌, Option, Some, None, if◌then◌else◌}
+use Rattle.std.specs.Prelude.{ℕ, ◌==◌, Bool, true, false, nat_lt, List, [], ◌∷◌, ◌++◌, Option, Some, None, if◌then◌else◌, codes}
+use Rattle.std.specs.List.{list_any}
 use Rattle.std.specs.Cmp.Lexicographic.{pointwise}
 use Rattle.est_syntax.specs.declared.name.Used.{Used}
 use Rattle.est_syntax.specs.declared.expression.TypeText.{TypeText}
@@ -72,10 +73,20 @@ pub record Scope : Type 0 where
   pub around : List Region
   pub bodies : List Body
 
--- what a name means: nothing, something of a body around that the own body does not see, or this
+-- the predeclared names, whose region lies around every specification (ISO 7185, 6.2.2.10)
+unfoldable pub predeclared_names : List (List ℕ)
+predeclared_names =
+    codes "integer" ∷ codes "boolean" ∷ codes "char" ∷ codes "false" ∷ codes "true" ∷ codes "maxint" ∷ codes "ord" ∷ codes "chr" ∷ codes "succ" ∷ codes "pred" ∷ codes "abs"
+    ∷ codes "odd" ∷ codes "sqr" ∷ []
+
+abbrev pub is_predeclared : List ℕ → Bool
+is_predeclared name = list_any (λ word. is_name word name) predeclared_names
+
+-- what a name means: nothing, something of a body around that the own body does not see, a predeclared thing, or this
 pub data Meaning (D : Type 0) : Type 0 where
   nothing : Meaning D
   unseen : Meaning D
+  predeclared : Meaning D
   seen : D → Meaning D
 
 -- what a nested body sees of the bodies around it
@@ -85,15 +96,15 @@ is_shared (header h) = true
 is_shared (body b) = true
 is_shared _ = false
 
--- the meaning of a name with this declaration in the own body, and this one around it
-abbrev pub meaning_by : Option Declaration → Option Declaration → Meaning Declaration
-meaning_by (Some d) other = seen d
-meaning_by None None = nothing
-meaning_by None (Some d) = if is_shared d.sort then seen d else unseen
+-- the meaning of a name, predeclared or not, with this declaration in the own body, and this one around it
+abbrev pub meaning_by : Bool → Option Declaration → Option Declaration → Meaning Declaration
+meaning_by known (Some d) other = seen d
+meaning_by known None (Some d) = if is_shared d.sort then seen d else unseen
+meaning_by known None None = if known then predeclared else nothing
 
 -- what a name means at its place
 abbrev pub meaning : Scope → Used → Meaning Declaration
-meaning scope u = meaning_by (found scope.own (spelled u) u.place) (found scope.around (spelled u) u.place)
+meaning scope u = meaning_by (is_predeclared (spelled u)) (found scope.own (spelled u) u.place) (found scope.around (spelled u) u.place)
 
 -- a declaration of this name
 abbrev pub declaration : Used → ℕ → Sort → Declaration
