@@ -2,12 +2,13 @@
 """Times the program on inputs that it makes itself, and prints one table.
 
 Each row is the best of some runs of one command on one input, in processor time (user and system),
-so that other work on the machine changes it little. The last column is the time over that of the
-row above, whose input is half as large: near 2 where the work is linear.
+so that other work on the machine changes it little, with the most memory that a run held. The last
+column is the time over that of the row above, whose input is half as large: near 2 where the work is
+linear.
 """
 
+import os
 import pathlib
-import resource
 import shutil
 import subprocess
 import sys
@@ -16,54 +17,108 @@ import tempfile
 import inputs
 
 TOP = pathlib.Path(__file__).resolve().parent.parent
+PROGRAM = TOP / "crates" / "hawkopal" / "out" / "hawkopal"
 SEED = 20261127
 RUNS = 5
+KIB, MIB = 1 << 10, 1 << 20
 
 
-def seconds(command, folder):
-    best = None
+def measured(command, folder, status):
+    """The least processor time of some runs, in seconds, and the most memory, in bytes."""
+    best, most = None, 0
     for _ in range(RUNS):
-        before = resource.getrusage(resource.RUSAGE_CHILDREN)
-        done = subprocess.run(command, cwd=folder, stdout=subprocess.DEVNULL, stderr=subprocess.DEVNULL)
-        after = resource.getrusage(resource.RUSAGE_CHILDREN)
-        taken = after.ru_utime + after.ru_stime - before.ru_utime - before.ru_stime
-        if done.returncode != 0:
-            sys.exit(f"{command} ended with status {done.returncode}")
+        run = subprocess.Popen(command, cwd=folder, stdout=subprocess.DEVNULL, stderr=subprocess.DEVNULL)
+        _, ended, used = os.wait4(run.pid, 0)
+        run.returncode = os.waitstatus_to_exitcode(ended)
+        if run.returncode != status:
+            sys.exit(f"{command} ended with status {run.returncode}")
+        taken = used.ru_utime + used.ru_stime
         best = taken if best is None else min(best, taken)
-    return best
+        most = max(most, used.ru_maxrss * 1024)
+    return best, most
 
 
-def rows(name, sizes, make, suffix, command, folder):
+def rows(what, sizes, unit, made, status, folder):
+    """A row for each size. `made` writes the inputs of a size, and answers the command and how many
+    of the unit there are."""
     before = None
     for size in sizes:
-        path = folder / f"{name.split()[0]}-{size}{suffix}"
-        path.write_text(make(size, SEED))
-        taken = seconds(command(path), folder)
-        length = path.stat().st_size
+        command, count = made(size)
+        taken, most = measured(command, folder, status)
         ratio = "" if before is None else f"{taken / before:.2f}"
-        print(f"| {name} | {length:,} | {taken * 1000:.1f} | {length / taken / 1e6:.1f} | {ratio} |", flush=True)
+        rate = f"{count / taken / 1e6:.2f} M {unit}/s"
+        print(f"| {what} | {count:,} {unit} | {taken * 1000:.1f} | {rate} | {most / MIB:.0f} | {ratio} |", flush=True)
         before = taken
 
 
+def written(folder, name, text):
+    path = folder / name
+    path.write_text(text)
+    return path, path.stat().st_size
+
+
+def checks(folder, make):
+    def made(size):
+        path, length = written(folder, "large.est", make(size, SEED))
+        return [PROGRAM, "check", path], length
+
+    return made
+
+
+def compiles(folder):
+    def made(size):
+        path, length = written(folder, "large.pas", inputs.pascal(size, SEED))
+        return ["fpc", "-Cn", path], length
+
+    return made
+
+
+def reads_trace(folder):
+    def made(events):
+        specification, _ = written(folder, "echo.est", inputs.ECHO)
+        trace, _ = written(folder, "long.trace", inputs.echo_trace(events))
+        explanation, _ = written(folder, "short.explanation", "explanation 1 yields 0\n")
+        return [PROGRAM, "replay", specification, trace, explanation], events
+
+    return made
+
+
+def reads_explanation(folder):
+    def made(size):
+        specification, _ = written(folder, "echo.est", inputs.ECHO)
+        trace, _ = written(folder, "short.trace", "trace 1 end\n")
+        explanation, length = written(folder, "long.explanation", inputs.explanation(size, SEED))
+        return [PROGRAM, "replay", specification, trace, explanation], length
+
+    return made
+
+
+def replays(folder, inputs_of):
+    def made(moves):
+        specification, _ = written(folder, "echo.est", inputs.ECHO)
+        texts = inputs_of(moves)
+        trace, _ = written(folder, "long.trace", texts[0])
+        explanation, _ = written(folder, "long.explanation", texts[1])
+        return [PROGRAM, "replay", specification, trace, explanation, "20", "2"], moves
+
+    return made
+
+
 def main():
-    program = TOP / "crates" / "hawkopal" / "out" / "hawkopal"
     subprocess.run([TOP / "hawkopal", "check", TOP / "examples" / "skel.est"], check=True, stdout=subprocess.DEVNULL)
-    tokens = TOP / "crates" / "token_bench" / "out" / "token_bench"
-    if not tokens.exists():
-        subprocess.run(["rt", "run"], cwd=tokens.parent.parent, stdout=subprocess.DEVNULL, stderr=subprocess.DEVNULL)
-    kib, mib = 1 << 10, 1 << 20
-    print("| what | bytes | ms | MB/s | ratio |")
-    print("|---|---|---|---|---|")
+    print("| what | size | ms | rate | peak MiB | ratio |")
+    print("|---|---|---|---|---|---|")
     with tempfile.TemporaryDirectory() as name:
         folder = pathlib.Path(name)
-        sizes = [256 * kib, 512 * kib, mib]
-        check = lambda path: [program, "check", path]
-        rows("check of transitions", sizes, inputs.skeleton, ".est", check, folder)
-        rows("check of states", sizes, inputs.states, ".states", check, folder)
+        sizes = [256 * KIB, 512 * KIB, MIB]
+        rows("check of transitions", sizes, "bytes", checks(folder, inputs.skeleton), 0, folder)
+        rows("check of states", sizes, "bytes", checks(folder, inputs.states), 0, folder)
         if shutil.which("fpc"):
-            rows("fpc -Cn of Pascal", sizes, inputs.pascal, ".pas", lambda p: ["fpc", "-Cn", p], folder)
-        rows("tokens of a specification", sizes, inputs.skeleton, ".tok", lambda p: [tokens, p], folder)
-        rows("tokens of explanations", [16 * mib, 32 * mib, 64 * mib], inputs.explanation, ".exp", lambda p: [tokens, p], folder)
+            rows("fpc -Cn of Pascal", sizes, "bytes", compiles(folder), 0, folder)
+        rows("a trace is read", [50_000, 100_000, 200_000], "events", reads_trace(folder), 0, folder)
+        rows("an explanation is read", [32 * MIB, 64 * MIB, 128 * MIB], "bytes", reads_explanation(folder), 1, folder)
+        rows("takes and firings", [50_000, 100_000, 200_000], "moves", replays(folder, inputs.echoes), 0, folder)
+        rows("silent firings", [1_050_000, 2_100_000, 4_200_000], "moves", replays(folder, inputs.silences), 0, folder)
 
 
 main()

@@ -51,9 +51,8 @@ def states(size, seed):
 
 
 def explanation(size, seed):
-    """The text of an explanation of about `size` bytes."""
+    """The text of an explanation of at most `size` bytes, whose first firing is not possible."""
     draw = random.Random(seed)
-    lines = ["explanation 1\n"]
     block = []
     for _ in range(4096):
         if draw.random() < 0.3:
@@ -61,9 +60,45 @@ def explanation(size, seed):
         else:
             block.append(f"fire {draw.randint(1, 999)} {draw.randint(1, 99)} {draw.randint(1, 9)}\n")
     block = "".join(block)
-    lines.append(block * max(1, (size - 32) // len(block)))
-    lines.append("yields 1\n")
-    return "".join(lines)
+    head, tail = "explanation 1\nfire 9 9 9\n", "yields 1\n"
+    return head + block * ((size - len(head) - len(tail)) // len(block)) + tail
+
+
+# A skeleton that answers each Go with Left, and can fire without an outside event at any time.
+ECHO = """specification Echo;
+channel C(A, B);
+  by A: Go;
+  by B: Left;
+module M systemactivity; ip P: C(B); end;
+body MB for M;
+  state S;
+  initialize to S begin end;
+  trans from S to same when P.Go begin output P.Left end;
+  trans from S to same begin end;
+end;
+modvar X: M;
+initialize begin init X with MB end;
+end.
+"""
+
+
+def echo_trace(events):
+    """So many events, each second one an answer to the one before."""
+    return "trace 1\n" + "in p.go\nout p.left\n" * (events // 2) + "end\n"
+
+
+def echoes(moves):
+    """A trace and its explanation of so many moves: each second one a firing."""
+    explained = "explanation 1\n" + "take\nfire 1 1 1\n" * (moves // 2) + f"yields {moves + 1}\n"
+    return echo_trace(moves), explained
+
+
+def silences(moves):
+    """A trace of passing time and its explanation of so many moves: behind each take 20 silent firings."""
+    takes = moves // 21
+    traced = "trace 1\n" + "time 1\n" * takes + "end\n"
+    explained = "explanation 1\n" + ("take\n" + "fire 1 2 1\n" * 20) * takes + f"yields {takes + 1}\n"
+    return traced, explained
 
 
 def pascal(size, seed):

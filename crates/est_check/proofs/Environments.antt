@@ -6,7 +6,7 @@ use Rattle.est_syntax.specs.declared.specification.Channel.{Channel}
 use Rattle.est_syntax.specs.declared.specification.Header.{Header}
 use Rattle.est_syntax.specs.declared.specification.Point.{Point}
 use Rattle.est_syntax.specs.declared.specification.Part.{Part}
-use Rattle.est_syntax.specs.Names.{spelled, Side, Sort, role, interaction, Declaration, Region, Scope, Meaning, declared_in, declaration, declared_together, channel_region, role_named, side_of, meaning, points_region, header_names, header_region, header_by, channel_by, found, in_force}
+use Rattle.est_syntax.specs.Names.{spelled, Side, Sort, role, interaction, Declaration, Region, Scope, Meaning, is_predeclared, declared_in, declaration, declared_together, channel_region, role_named, side_of, meaning, points_region, header_names, header_region, header_by, channel_by, found, in_force}
 use Rattle.est_syntax.specs.Names as names
 use Rattle.est_syntax.specs.Environment.{Environment, are_roles, has_role, environment}
 use Rattle.est_syntax.specs.Environment as environments
@@ -80,7 +80,7 @@ abbrev pub alone : Region → Scope
 alone r = record { own = r ∷ []; around = []; bodies = [] }
 
 pub means_outside : (all : List Part) (r : Region) (t : Table) → OuterFor all r t → (u : Used) → FoundFor all (table_found t outside u) (meaning (alone r) u)
-means_outside all r t outer u = found_outside all (entry_of t.outer (spelled u)) (declared_in r (spelled u)) u.place (outer (spelled u))
+means_outside all r t outer u = found_outside all (is_predeclared (spelled u)) (entry_of t.outer (spelled u)) (declared_in r (spelled u)) u.place (outer (spelled u))
 
 pub environment_outside : (all : List Part) (r : Region) (t : Table) → OuterFor all r t → ChannelsFor all t → table_environment t outside ≡ environment (alone r)
 environment_outside all r t outer channels = environment_is all t outside (alone r) channels (means_outside all r t outer)

@@ -14,7 +14,7 @@ use Rattle.est_syntax.specs.declared.specification.Body.{Body, out-Body}
 use Rattle.est_syntax.specs.declared.specification.Part.{Part}
 use Rattle.est_syntax.specs.declared.specification.Part.TheVariants as part
 use Rattle.est_syntax.specs.Least.{least_with}
-use Rattle.est_syntax.specs.Names.{spelled, Region, Scope, declared_in, declared_together, module_variable, modvars_region, part_region, parts_region, states_region, points_region, header_region, header_by, meaning, found, body_region, body_scope}
+use Rattle.est_syntax.specs.Names.{spelled, Region, Scope, is_predeclared, declared_in, declared_together, module_variable, modvars_region, part_region, parts_region, states_region, points_region, header_region, header_by, meaning, found, body_region, body_scope}
 use Rattle.est_syntax.specs.Environment.{environment}
 use Rattle.est_syntax.specs.Faults.{names_of, spellings_of, twice_faults, channel_faults, points_faults, header_faults, use_faults, modvars_faults, text_faults, body_faults}
 use Rattle.est_syntax.proofs.LeastLaws.{least_append}
@@ -238,12 +238,12 @@ pub means_inside : (all : List Part) (r : Region) (t : Table) → TableFor all r
     → Both (HeaderFor all) number (header_by (meaning (alone r) (out-Body b).header)) → (u : Used)
     → FoundFor all (table_found t record { within = true; header = number; own = (enter_state_parts (front_of t number) ([], least) (out-Body b).parts).0 } u) (meaning (body_scope (alone r) b) u)
 means_inside all r t for number least b f h u =
-    found_inside all
+    found_inside all (is_predeclared (spelled u))
     (own_entry t record { within = true; header = number; own = (enter_state_parts (front_of t number) ([], least) (out-Body b).parts).0 } (spelled u))
     (declared_in (body_region (alone r) b) (spelled u)) u.place
-    (outer_found true (entry_of t.outer (spelled u)) u.place) (found (r ∷ []) (spelled u) u.place)
+    (outer_found (is_predeclared (spelled u)) true (entry_of t.outer (spelled u)) u.place) (found (r ∷ []) (spelled u) u.place)
     (own_both all r t for number least b f h (spelled u))
-    (found_around all (entry_of t.outer (spelled u)) (declared_in r (spelled u)) u.place (for.outer (spelled u)))
+    (found_around all (is_predeclared (spelled u)) (entry_of t.outer (spelled u)) (declared_in r (spelled u)) u.place (for.outer (spelled u)))
 
 -- the faults of a body
 pub noted_inside : (all : List Part) (r : Region) (t : Table) → TableFor all r t → (number : Option ℕ) (least : Option Fault) (b : Body) → AreStates (out-Body b).parts

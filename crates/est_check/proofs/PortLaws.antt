@@ -22,7 +22,7 @@ use Rattle.est_syntax.specs.declared.specification.Part.{Part}
 use Rattle.est_syntax.specs.declared.specification.Part.TheVariants as part
 use Rattle.est_syntax.specs.declared.specification.Spec.{Spec}
 use Rattle.est_syntax.specs.Least.{IsIn}
-use Rattle.est_syntax.specs.Names.{Side, Sort, Declaration, Region, Scope, Meaning, nothing, unseen, seen, meaning, header_by, header_in, side_of, parts_region, spec_scope}
+use Rattle.est_syntax.specs.Names.{Side, Sort, Declaration, Region, Scope, Meaning, nothing, unseen, predeclared, seen, meaning, header_by, header_in, side_of, parts_region, spec_scope}
 use Rattle.est_syntax.specs.Names as names
 use Rattle.est_syntax.specs.Environment.{environment, sort_by, name_sort, has_role}
 use Rattle.est_syntax.specs.Faults.{takes, used_as, use_faults, modvars_faults, statement_faults, names_of, twice_faults, part_faults}
@@ -118,6 +118,7 @@ NoFault fs = (f : Fault) → IsIn f fs → ⊥
 abbrev pub Takes : NameSort → Meaning NameSort → Type 0
 Takes wanted nothing = ⊥
 Takes wanted unseen = ⊥
+Takes wanted predeclared = ⊥
 Takes wanted (seen s) = takes wanted s ≡ true
 
 pub takes_by : (wanted s : NameSort) (place : ℕ) (b : Bool) → takes wanted s ≡ b → NoFault (if b then [] else Rattle.est_syntax.specs.Faults.broken place Rattle.est_syntax.specs.declared.rule.Rule.TheVariants.WrongSort) → takes wanted s ≡ true
@@ -127,6 +128,7 @@ takes_by wanted s place false e h = absurd (h record { place = place; rule = Rat
 pub takes_fine : (wanted : NameSort) (place : ℕ) (m : Meaning NameSort) → NoFault (used_as wanted place m) → Takes wanted m
 takes_fine wanted place nothing h = h record { place = place; rule = Rattle.est_syntax.specs.declared.rule.Rule.TheVariants.UnknownName } (inl refl)
 takes_fine wanted place unseen h = h record { place = place; rule = Rattle.est_syntax.specs.declared.rule.Rule.TheVariants.NotSeenHere } (inl refl)
+takes_fine wanted place predeclared h = h record { place = place; rule = Rattle.est_syntax.specs.declared.rule.Rule.TheVariants.WrongSort } (inl refl)
 takes_fine wanted place (seen s) h = takes_by wanted s place (takes wanted s) refl h
 
 pub variable_sort_is : {s : Spec} (sk : IsSkeleton s) (t : Sort) → Known sk t → takes sort.ModuleVariable (name_sort t) ≡ true → modvar_in t ≡ Some sk.variable
@@ -142,6 +144,7 @@ variable_sort_is sk (names.interaction b i) k h = absurd (subst IsYes (sym h) tt
 pub variable_meaning_is : {s : Spec} (sk : IsSkeleton s) (m : Meaning Declaration) → KnownMeaning sk m → Takes sort.ModuleVariable (sort_by m) → modvar_by m ≡ Some sk.variable
 variable_meaning_is sk nothing k h = absurd h
 variable_meaning_is sk unseen k h = absurd h
+variable_meaning_is sk predeclared k h = absurd h
 variable_meaning_is sk (seen d) k h = variable_sort_is sk d.sort k h
 
 pub header_sort_known : {s : Spec} (sk : IsSkeleton s) (t : Sort) → Known sk t → takes sort.Header (name_sort t) ≡ true → header_in t ≡ Some sk.header
@@ -157,6 +160,7 @@ header_sort_known sk (names.interaction b i) k h = absurd (subst IsYes (sym h) t
 pub header_meaning_known : {s : Spec} (sk : IsSkeleton s) (m : Meaning Declaration) → KnownMeaning sk m → Takes sort.Header (sort_by m) → header_by m ≡ Some sk.header
 header_meaning_known sk nothing k h = absurd h
 header_meaning_known sk unseen k h = absurd h
+header_meaning_known sk predeclared k h = absurd h
 header_meaning_known sk (seen d) k h = header_sort_known sk d.sort k h
 
 -- the module variable of a good skeleton has its header

@@ -24,7 +24,7 @@ use Rattle.est_syntax.specs.declared.specification.Body.{Body, out-Body}
 use Rattle.est_syntax.specs.declared.specification.Part.TheVariants as part
 use Rattle.est_syntax.specs.declared.specification.Spec.{Spec}
 use Rattle.est_syntax.specs.Least.{IsIn}
-use Rattle.est_syntax.specs.Names.{Declaration, Region, Scope, Meaning, nothing, unseen, seen, meaning, meaning_by, in_force, declared_in, is_name, spelled, is_shared, declared_together, channel_region, header_region, parts_region, points_region, body_scope, spec_scope}
+use Rattle.est_syntax.specs.Names.{Declaration, Region, Scope, is_predeclared, Meaning, nothing, unseen, predeclared, seen, meaning, meaning_by, in_force, declared_in, is_name, spelled, is_shared, declared_together, channel_region, header_region, parts_region, points_region, body_scope, spec_scope}
 use Rattle.est_syntax.specs.Names as names
 use Rattle.est_syntax.specs.Environment.{Environment, Passage, missing, no_interaction, unclear, passes, environment, channel_environment, sort_by, sort_declared, role_sort, name_sort}
 use Rattle.est_syntax.specs.Environment as environments
@@ -60,6 +60,7 @@ rules_unless false place r h = (h, tt)
 abbrev pub IsNotUnseen : Meaning NameSort → Type 0
 IsNotUnseen nothing = Unit {0}
 IsNotUnseen unseen = ⊥
+IsNotUnseen predeclared = Unit {0}
 IsNotUnseen (seen s) = Unit {0}
 
 abbrev pub Sees : (Used → Type 0) → Environment → Type 0
@@ -68,6 +69,7 @@ Sees P env = (u : Used) → P u → IsNotUnseen (env.sort_of u)
 pub rules_used : (wanted : NameSort) (place : ℕ) (m : Meaning NameSort) → IsNotUnseen m → AllRules (used_as wanted place m)
 rules_used wanted place nothing h = (tt, tt)
 rules_used wanted place unseen h = absurd h
+rules_used wanted place predeclared h = (tt, tt)
 rules_used wanted place (seen s) h = rules_unless (takes wanted s) place rule.WrongSort tt
 
 pub rules_uses : (P : Used → Type 0) (env : Environment) (wanted : NameSort) (us : List Used) → Sees P env → EachUsed P us → AllRules (uses_faults env wanted us)
@@ -93,12 +95,16 @@ pub declared_seen : (o : Option Declaration) → IsNotUnseen (sort_declared o)
 declared_seen None = tt
 declared_seen (Some d) = tt
 
-pub alone_by : (o : Option Declaration) → IsNotUnseen (sort_by (meaning_by o None))
-alone_by None = tt
-alone_by (Some d) = tt
+pub undeclared_sees : (known : Bool) → IsNotUnseen (sort_by (meaning_by known None None))
+undeclared_sees true = tt
+undeclared_sees false = tt
+
+pub alone_by : (known : Bool) (o : Option Declaration) → IsNotUnseen (sort_by (meaning_by known o None))
+alone_by known None = undeclared_sees known
+alone_by known (Some d) = tt
 
 pub alone_sees : (r : Region) → Sees Anything (environment (alone r))
-alone_sees r u h = alone_by (in_force (declared_in r (spelled u)) u.place None)
+alone_sees r u h = alone_by (is_predeclared (spelled u)) (in_force (declared_in r (spelled u)) u.place None)
 
 -- channels and headers
 pub rules_by : (c : Channel) (bs : List ByPart) → AllRules (by_faults (channel_environment c) bs)
@@ -254,23 +260,24 @@ seen_if d false e h = absurd (subst IsOff h tt)
 pub beyond : (a b c : ℕ) → nat_lt a b ≡ true → b < c → c ≤ a → ⊥
 beyond a b c h k l = grind arith
 
-pub around_sees : (limit : ℕ) (d : Declaration) (place : ℕ) (b : Bool) → nat_lt d.last place ≡ b → place < limit → IsLate limit d → IsNotUnseen (sort_by (meaning_by None (if b then Some d else None)))
-around_sees limit d place true e h (inl shared) = seen_if d (is_shared d.sort) refl shared
-around_sees limit d place true e h (inr late) = absurd (beyond d.last place limit e h late)
-around_sees limit d place false e h late = tt
+pub around_sees : (limit : ℕ) (known : Bool) (d : Declaration) (place : ℕ) (b : Bool) → nat_lt d.last place ≡ b → place < limit → IsLate limit d
+    → IsNotUnseen (sort_by (meaning_by known None (if b then Some d else None)))
+around_sees limit known d place true e h (inl shared) = seen_if d (is_shared d.sort) refl shared
+around_sees limit known d place true e h (inr late) = absurd (beyond d.last place limit e h late)
+around_sees limit known d place false e h late = undeclared_sees known
 
-pub around_option : (limit : ℕ) (o : Option Declaration) (place : ℕ) → place < limit → LateOption limit o → IsNotUnseen (sort_by (meaning_by None (in_force o place None)))
-around_option limit None place h late = tt
-around_option limit (Some d) place h late = around_sees limit d place (nat_lt d.last place) refl h late
+pub around_option : (limit : ℕ) (known : Bool) (o : Option Declaration) (place : ℕ) → place < limit → LateOption limit o → IsNotUnseen (sort_by (meaning_by known None (in_force o place None)))
+around_option limit known None place h late = undeclared_sees known
+around_option limit known (Some d) place h late = around_sees limit known d place (nat_lt d.last place) refl h late
 
-pub own_sees : (o p : Option Declaration) → IsNotUnseen (sort_by (meaning_by None p)) → IsNotUnseen (sort_by (meaning_by o p))
-own_sees None p h = h
-own_sees (Some d) p h = tt
+pub own_sees : (known : Bool) (o p : Option Declaration) → IsNotUnseen (sort_by (meaning_by known None p)) → IsNotUnseen (sort_by (meaning_by known o p))
+own_sees known None p h = h
+own_sees known (Some d) p h = tt
 
 pub body_sees : (limit : ℕ) (r : Region) (b : Body) → AreLate limit r → Sees (λ u. u.place < limit) (environment (body_scope (alone r) b))
 body_sees limit r b late u h =
-    own_sees (in_force (declared_in (names.body_region (alone r) b) (spelled u)) u.place None) (in_force (declared_in r (spelled u)) u.place None)
-    (around_option limit (declared_in r (spelled u)) u.place h (late_declared limit r (spelled u) late))
+    own_sees (is_predeclared (spelled u)) (in_force (declared_in (names.body_region (alone r) b) (spelled u)) u.place None) (in_force (declared_in r (spelled u)) u.place None)
+    (around_option limit (is_predeclared (spelled u)) (declared_in r (spelled u)) u.place h (late_declared limit r (spelled u) late))
 
 -- the parts of a skeleton
 pub rules_body : (limit : ℕ) (r : Region) (b : Body) → AreLate limit r → InFirst (λ u. u.place < limit) (out-Body b).first → EachGroup (λ u. u.place < limit) (out-Body b).groups → AllRules (body_faults (alone r) b)

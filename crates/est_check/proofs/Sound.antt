@@ -17,7 +17,7 @@ use Rattle.est_syntax.specs.declared.specification.Part.{Part}
 use Rattle.est_syntax.specs.declared.specification.Part.TheVariants as part
 use Rattle.est_syntax.specs.declared.specification.Spec.{Spec}
 use Rattle.est_syntax.specs.Least.{least_with, IsIn, IsLeast}
-use Rattle.est_syntax.specs.Names.{Sort, Declaration, Region, Scope, Meaning, nothing, unseen, seen, meaning, meaning_by, in_force, declared_in, spelled, is_name, header_in, header_by, parts_region, spec_scope}
+use Rattle.est_syntax.specs.Names.{Sort, Declaration, Region, Scope, is_predeclared, Meaning, nothing, unseen, predeclared, seen, meaning, meaning_by, in_force, declared_in, spelled, is_name, header_in, header_by, parts_region, spec_scope}
 use Rattle.est_syntax.specs.Names as names
 use Rattle.est_syntax.specs.Environment.{environment}
 use Rattle.est_syntax.specs.Faults.{names_of, twice_faults, statement_faults, part_faults}
@@ -203,6 +203,7 @@ KnownOption sk (Some d) = Known sk d.sort
 abbrev pub KnownMeaning : {s : Spec} → IsSkeleton s → Meaning Declaration → Type 0
 KnownMeaning sk nothing = Unit {0}
 KnownMeaning sk unseen = Unit {0}
+KnownMeaning sk predeclared = Unit {0}
 KnownMeaning sk (seen d) = Known sk d.sort
 
 pub known-append : {s : Spec} (sk : IsSkeleton s) (xs ys : Region) → AllKnown sk xs → AllKnown sk ys → AllKnown sk (xs ++ ys)
@@ -217,16 +218,17 @@ pub known_declared : {s : Spec} (sk : IsSkeleton s) (ds : Region) (n : List ℕ)
 known_declared sk [] n h = tt
 known_declared sk (d ∷ ds) n h = known_if sk (is_name n (spelled d.name)) d (declared_in ds n) h.0 (known_declared sk ds n h.1)
 
-pub known_seen : {s : Spec} (sk : IsSkeleton s) (o : Option Declaration) → KnownOption sk o → KnownMeaning sk (meaning_by o None)
-known_seen sk None h = tt
-known_seen sk (Some d) h = h
+pub known_seen : {s : Spec} (sk : IsSkeleton s) (known : Bool) (o : Option Declaration) → KnownOption sk o → KnownMeaning sk (meaning_by known o None)
+known_seen sk true None h = tt
+known_seen sk false None h = tt
+known_seen sk known (Some d) h = h
 
 pub known_force : {s : Spec} (sk : IsSkeleton s) (o : Option Declaration) (place : ℕ) → KnownOption sk o → KnownOption sk (in_force o place None)
 known_force sk None place h = tt
 known_force sk (Some d) place h = known_if sk (nat_lt d.last place) d None h tt
 
 pub known_meaning : {s : Spec} (sk : IsSkeleton s) (r : Region) (u : Used) → AllKnown sk r → KnownMeaning sk (meaning (alone r) u)
-known_meaning sk r u h = known_seen sk (in_force (declared_in r (spelled u)) u.place None) (known_force sk (declared_in r (spelled u)) u.place (known_declared sk r (spelled u) h))
+known_meaning sk r u h = known_seen sk (is_predeclared (spelled u)) (in_force (declared_in r (spelled u)) u.place None) (known_force sk (declared_in r (spelled u)) u.place (known_declared sk r (spelled u) h))
 
 pub known_together : {s : Spec} (sk : IsSkeleton s) (us : List Used) (last : ℕ) (m : ModvarDef) → m ≡ sk.variable → AllKnown sk (names.declared_together us last (names.module_variable m))
 known_together sk [] last m h = tt
@@ -264,6 +266,7 @@ header_sort_is sk (names.interaction b i) h k is = absurd (none-some h is)
 pub header_meaning_is : {s : Spec} (sk : IsSkeleton s) (m : Meaning Declaration) (h : Header) → KnownMeaning sk m → header_by m ≡ Some h → h ≡ sk.header
 header_meaning_is sk nothing h k is = absurd (none-some h is)
 header_meaning_is sk unseen h k is = absurd (none-some h is)
+header_meaning_is sk predeclared h k is = absurd (none-some h is)
 header_meaning_is sk (seen d) h k is = header_sort_is sk d.sort h k is
 
 pub header_is : {s : Spec} (sk : IsSkeleton s) (u : Used) (h : Header) → header_by (meaning (spec_scope s) u) ≡ Some h → h ≡ sk.header

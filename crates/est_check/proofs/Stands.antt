@@ -6,7 +6,7 @@ use Rattle.est_syntax.specs.declared.specification.Channel.{Channel}
 use Rattle.est_syntax.specs.declared.specification.Header.{Header}
 use Rattle.est_syntax.specs.declared.specification.Part.{Part}
 use Rattle.est_syntax.specs.declared.specification.Part.TheVariants as part
-use Rattle.est_syntax.specs.Names.{is_name, spelled, Side, Sort, channel, header, body, module_variable, point, state, role, interaction, Declaration, Region, declared_in, in_force, Meaning, nothing, unseen, seen, meaning_by, role_named}
+use Rattle.est_syntax.specs.Names.{is_name, spelled, Side, Sort, channel, header, body, module_variable, point, state, role, interaction, Declaration, Region, declared_in, in_force, Meaning, nothing, unseen, predeclared, seen, meaning_by, role_named}
 use Rattle.est_syntax.specs.Names as names
 use Rattle.est_syntax.specs.Environment as environment
 use Rattle.est_syntax.specs.Environment.{are_roles, has_role}
@@ -18,7 +18,7 @@ use Rattle.est_check.specs.declared.names.Standing.TheVariants as stands
 use Rattle.est_check.specs.declared.table.Found.{Found}
 use Rattle.est_check.specs.declared.table.Found.TheVariants as found
 use Rattle.est_check.specs.Tables as tables
-use Rattle.est_check.specs.Tables.{first_of, found_by, outer_found, sort_found, channel_number, side_found}
+use Rattle.est_check.specs.Tables.{first_of, found_by, undeclared, outer_found, sort_found, channel_number, side_found}
 use Rattle.est_check.specs.Passes as passes
 use Rattle.est_check.specs.Passes.{header_number}
 use Rattle.est_check.proofs.Entering.{first, names_in}
@@ -104,6 +104,7 @@ EntryFor all e d = (e.last ≡ d.last) × StandsFor all e.stands d.sort
 abbrev pub FoundFor : List Part → Found → Meaning Declaration → Type 0
 FoundFor all found.Nothing nothing = Unit {0}
 FoundFor all found.Unseen unseen = Unit {0}
+FoundFor all found.Predeclared predeclared = Unit {0}
 FoundFor all (found.Seen e) (seen d) = EntryFor all e d
 FoundFor all _ _ = ⊥
 
@@ -121,47 +122,51 @@ shared_for all _ _ h = absurd h
 abbrev pub force : Option Declaration → ℕ → Option Declaration
 force o place = in_force o place None
 
-pub seen_by : (all : List Part) (e : Entry) (d : Declaration) (b : Bool) → EntryFor all e d
-    → FoundFor all (if b then found.Seen e else found.Nothing) (meaning_by (if b then Some d else None) None)
-seen_by all e d true h = h
-seen_by all e d false h = tt
+pub undeclared_for : (all : List Part) (known : Bool) → FoundFor all (undeclared known) (meaning_by known None None)
+undeclared_for all true = tt
+undeclared_for all false = tt
 
-pub found_outside : (all : List Part) (o : Option Entry) (p : Option Declaration) (place : ℕ) → Both (EntryFor all) o p → FoundFor all (outer_found false o place) (meaning_by (force p place) None)
-found_outside all None None place h = tt
-found_outside all None (Some d) place h = absurd h
-found_outside all (Some e) None place h = absurd h
-found_outside all (Some e) (Some d) place h =
-    subst (λ n. FoundFor all (if nat_lt e.last place then found.Seen e else found.Nothing) (meaning_by (if nat_lt n place then Some d else None) None)) h.0
-    (seen_by all e d (nat_lt e.last place) h)
+pub seen_by : (all : List Part) (known : Bool) (e : Entry) (d : Declaration) (b : Bool) → EntryFor all e d
+    → FoundFor all (if b then found.Seen e else undeclared known) (meaning_by known (if b then Some d else None) None)
+seen_by all known e d true h = h
+seen_by all known e d false h = undeclared_for all known
+
+pub found_outside : (all : List Part) (known : Bool) (o : Option Entry) (p : Option Declaration) (place : ℕ) → Both (EntryFor all) o p → FoundFor all (outer_found known false o place) (meaning_by known (force p place) None)
+found_outside all known None None place h = undeclared_for all known
+found_outside all known None (Some d) place h = absurd h
+found_outside all known (Some e) None place h = absurd h
+found_outside all known (Some e) (Some d) place h =
+    subst (λ n. FoundFor all (if nat_lt e.last place then found.Seen e else undeclared known) (meaning_by known (if nat_lt n place then Some d else None) None)) h.0
+    (seen_by all known e d (nat_lt e.last place) h)
 
 -- what is found within a body
-pub around_by : (all : List Part) (e : Entry) (d : Declaration) (b c : Bool) → EntryFor all e d → c ≡ names.is_shared d.sort
-    → FoundFor all (if b then (if not c then found.Unseen else found.Seen e) else found.Nothing) (meaning_by None (if b then Some d else None))
-around_by all e d true true h k = subst (λ x. FoundFor all (found.Seen e) (if x then seen d else unseen)) k h
-around_by all e d true false h k = subst (λ x. FoundFor all found.Unseen (if x then seen d else unseen)) k tt
-around_by all e d false c h k = tt
+pub around_by : (all : List Part) (known : Bool) (e : Entry) (d : Declaration) (b c : Bool) → EntryFor all e d → c ≡ names.is_shared d.sort
+    → FoundFor all (if b then (if not c then found.Unseen else found.Seen e) else undeclared known) (meaning_by known None (if b then Some d else None))
+around_by all known e d true true h k = subst (λ x. FoundFor all (found.Seen e) (if x then seen d else unseen)) k h
+around_by all known e d true false h k = subst (λ x. FoundFor all found.Unseen (if x then seen d else unseen)) k tt
+around_by all known e d false c h k = undeclared_for all known
 
-pub found_around : (all : List Part) (o : Option Entry) (p : Option Declaration) (place : ℕ) → Both (EntryFor all) o p → FoundFor all (outer_found true o place) (meaning_by None (force p place))
-found_around all None None place h = tt
-found_around all None (Some d) place h = absurd h
-found_around all (Some e) None place h = absurd h
-found_around all (Some e) (Some d) place h =
-    subst (λ n. FoundFor all (outer_found true (Some e) place) (meaning_by None (if nat_lt n place then Some d else None))) h.0
-    (around_by all e d (nat_lt e.last place) (tables.is_shared e.stands) h (shared_for all e.stands d.sort h.1))
+pub found_around : (all : List Part) (known : Bool) (o : Option Entry) (p : Option Declaration) (place : ℕ) → Both (EntryFor all) o p → FoundFor all (outer_found known true o place) (meaning_by known None (force p place))
+found_around all known None None place h = undeclared_for all known
+found_around all known None (Some d) place h = absurd h
+found_around all known (Some e) None place h = absurd h
+found_around all known (Some e) (Some d) place h =
+    subst (λ n. FoundFor all (outer_found known true (Some e) place) (meaning_by known None (if nat_lt n place then Some d else None))) h.0
+    (around_by all known e d (nat_lt e.last place) (tables.is_shared e.stands) h (shared_for all e.stands d.sort h.1))
 
-pub own_by : (all : List Part) (e : Entry) (d : Declaration) (b : Bool) (outer : Found) (around : Option Declaration) → EntryFor all e d → FoundFor all outer (meaning_by None around)
-    → FoundFor all (if b then found.Seen e else outer) (meaning_by (if b then Some d else None) around)
-own_by all e d true outer around h k = h
-own_by all e d false outer around h k = k
+pub own_by : (all : List Part) (known : Bool) (e : Entry) (d : Declaration) (b : Bool) (outer : Found) (around : Option Declaration) → EntryFor all e d → FoundFor all outer (meaning_by known None around)
+    → FoundFor all (if b then found.Seen e else outer) (meaning_by known (if b then Some d else None) around)
+own_by all known e d true outer around h k = h
+own_by all known e d false outer around h k = k
 
-pub found_inside : (all : List Part) (o : Option Entry) (p : Option Declaration) (place : ℕ) (outer : Found) (around : Option Declaration) → Both (EntryFor all) o p → FoundFor all outer (meaning_by None around)
-    → FoundFor all (found_by o place outer) (meaning_by (force p place) around)
-found_inside all None None place outer around h k = k
-found_inside all None (Some d) place outer around h k = absurd h
-found_inside all (Some e) None place outer around h k = absurd h
-found_inside all (Some e) (Some d) place outer around h k =
-    subst (λ n. FoundFor all (found_by (Some e) place outer) (meaning_by (if nat_lt n place then Some d else None) around)) h.0
-    (own_by all e d (nat_lt e.last place) outer around h k)
+pub found_inside : (all : List Part) (known : Bool) (o : Option Entry) (p : Option Declaration) (place : ℕ) (outer : Found) (around : Option Declaration) → Both (EntryFor all) o p
+    → FoundFor all outer (meaning_by known None around) → FoundFor all (found_by o place outer) (meaning_by known (force p place) around)
+found_inside all known None None place outer around h k = k
+found_inside all known None (Some d) place outer around h k = absurd h
+found_inside all known (Some e) None place outer around h k = absurd h
+found_inside all known (Some e) (Some d) place outer around h k =
+    subst (λ n. FoundFor all (found_by (Some e) place outer) (meaning_by known (if nat_lt n place then Some d else None) around)) h.0
+    (own_by all known e d (nat_lt e.last place) outer around h k)
 
 -- the sort, the channel, the header and the side of what is found
 pub sort_for : (all : List Part) (s : Standing) (t : Sort) → StandsFor all s t → tables.name_sort s ≡ environment.name_sort t
@@ -176,6 +181,7 @@ sort_for all _ _ h = absurd h
 pub sort_found_for : (all : List Part) (f : Found) (m : Meaning Declaration) → FoundFor all f m → sort_found f ≡ environment.sort_by m
 sort_found_for all found.Nothing nothing h = refl
 sort_found_for all found.Unseen unseen h = refl
+sort_found_for all found.Predeclared predeclared h = refl
 sort_found_for all (found.Seen e) (seen d) h = ap seen (sort_for all e.stands d.sort h.1)
 sort_found_for all _ _ h = absurd h
 
@@ -194,6 +200,7 @@ channel_in_for all _ _ h = absurd h
 pub channel_for : (all : List Part) (f : Found) (m : Meaning Declaration) → FoundFor all f m → Both (ChannelFor all) (channel_number f) (names.channel_by m)
 channel_for all found.Nothing nothing h = tt
 channel_for all found.Unseen unseen h = tt
+channel_for all found.Predeclared predeclared h = tt
 channel_for all (found.Seen e) (seen d) h = channel_in_for all e.stands d.sort h.1
 channel_for all _ _ h = absurd h
 
@@ -212,6 +219,7 @@ header_in_for all _ _ h = absurd h
 pub header_for : (all : List Part) (f : Found) (m : Meaning Declaration) → FoundFor all f m → Both (HeaderFor all) (header_number f) (names.header_by m)
 header_for all found.Nothing nothing h = tt
 header_for all found.Unseen unseen h = tt
+header_for all found.Predeclared predeclared h = tt
 header_for all (found.Seen e) (seen d) h = header_in_for all e.stands d.sort h.1
 header_for all _ _ h = absurd h
 
@@ -227,5 +235,6 @@ side_in_for all _ _ h = absurd h
 pub side_for : (all : List Part) (f : Found) (m : Meaning Declaration) → FoundFor all f m → SideFor all (side_found f) (environment.side_meant m)
 side_for all found.Nothing nothing h = tt
 side_for all found.Unseen unseen h = tt
+side_for all found.Predeclared predeclared h = tt
 side_for all (found.Seen e) (seen d) h = side_in_for all e.stands d.sort h.1
 side_for all _ _ h = absurd h

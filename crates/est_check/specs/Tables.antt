@@ -3,7 +3,7 @@ use Rattle.std.specs.Prelude.{ℕ, Bool, true, false, not, ◌&&◌, nat_lt, Lis
 use Rattle.est_syntax.specs.declared.name.Used.{Used}
 use Rattle.est_syntax.specs.declared.sort.NameSort.{NameSort}
 use Rattle.est_syntax.specs.declared.sort.NameSort.TheVariants as sort
-use Rattle.est_syntax.specs.Names.{Meaning, nothing, unseen, seen, spelled}
+use Rattle.est_syntax.specs.Names.{Meaning, nothing, unseen, predeclared, seen, spelled, is_predeclared}
 use Rattle.est_syntax.specs.Environment.{Environment, Passage, missing, no_interaction, passage_with}
 use Rattle.est_check.specs.declared.names.Entry.{Entry}
 use Rattle.est_check.specs.declared.names.Senders.{Senders}
@@ -55,10 +55,14 @@ is_shared (stands.Header number) = true
 is_shared stands.Body = true
 is_shared _ = false
 
-abbrev pub outer_found : Bool → Option Entry → ℕ → Found
-outer_found within None place = found.Nothing
-outer_found within (Some e) place =
-    if nat_lt e.last place then (if within && not (is_shared e.stands) then found.Unseen else found.Seen e) else found.Nothing
+-- a name that nothing in force declares, predeclared or not
+abbrev pub undeclared : Bool → Found
+undeclared known = if known then found.Predeclared else found.Nothing
+
+abbrev pub outer_found : Bool → Bool → Option Entry → ℕ → Found
+outer_found known within None place = undeclared known
+outer_found known within (Some e) place =
+    if nat_lt e.last place then (if within && not (is_shared e.stands) then found.Unseen else found.Seen e) else undeclared known
 
 abbrev pub found_by : Option Entry → ℕ → Found → Found
 found_by None place outer = outer
@@ -66,7 +70,7 @@ found_by (Some e) place outer = if nat_lt e.last place then found.Seen e else ou
 
 abbrev pub table_found : Table → BodyNames → Used → Found
 table_found t b u =
-    found_by (own_entry t b (spelled u)) u.place (outer_found b.within (entry_of t.outer (spelled u)) u.place)
+    found_by (own_entry t b (spelled u)) u.place (outer_found (is_predeclared (spelled u)) b.within (entry_of t.outer (spelled u)) u.place)
 
 -- the sort of what was found
 abbrev pub name_sort : Standing → NameSort
@@ -82,6 +86,7 @@ name_sort (stands.Interaction senders) = sort.Interaction
 abbrev pub sort_found : Found → Meaning NameSort
 sort_found found.Nothing = nothing
 sort_found found.Unseen = unseen
+sort_found found.Predeclared = predeclared
 sort_found (found.Seen e) = seen (name_sort e.stands)
 
 abbrev pub found_among : Option Entry → Found

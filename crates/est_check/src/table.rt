@@ -1,8 +1,9 @@
 //! The names of a specification, region by region, and what a name means.
 
 ghost use Rattle.std.specs.Prelude.{◌≡◌};
+ghost use Rattle.est_syntax.specs.Names.{is_predeclared};
 ghost use Rattle.est_check.specs.Entries.{entry_of};
-ghost use Rattle.est_check.specs.Tables.{member_entry, members_at, names_at, header_entry, own_entry, is_shared, outer_found, found_by, table_found, name_sort, member_sort, channel_number, side_found, member_sort_at};
+ghost use Rattle.est_check.specs.Tables.{member_entry, members_at, names_at, header_entry, own_entry, is_shared, undeclared, outer_found, found_by, table_found, name_sort, member_sort, channel_number, side_found, member_sort_at};
 
 use crate::names::{Entry, Names, PointSide, Standing};
 use est_items::Items;
@@ -37,6 +38,7 @@ pub struct BodyNames {
 pub enum Found {
     Nothing,
     Unseen,
+    Predeclared,
     Seen(Entry),
 }
 
@@ -90,15 +92,26 @@ fn is_shared(standing: Standing) -> bool
     }
 }
 
-/// What a name means that only the specification has.
-fn outer_found(within: bool, entry: Option<Entry>, place: u32) -> Found
-    ensures { result ≡ outer_found within entry place }
+/// What a name means that nothing in force declares.
+fn undeclared(name: &Name) -> Found
+    ensures { result ≡ undeclared (is_predeclared name.now.bytes) }
+{
+    if name.is_predeclared() {
+        Found::Predeclared
+    } else {
+        Found::Nothing
+    }
+}
+
+/// What a name means that no body around it declares.
+fn outer_found(within: bool, entry: Option<Entry>, used: &Used) -> Found
+    ensures { result ≡ outer_found (is_predeclared used.now.name.bytes) within entry used.now.place }
 {
     match entry {
-        None => Found::Nothing,
+        None => undeclared(&used.name),
         Some(entry) => {
-            if entry.last >= place {
-                return Found::Nothing;
+            if entry.last >= used.place {
+                return undeclared(&used.name);
             }
             if within && !is_shared(entry.stands) {
                 return Found::Unseen;
@@ -141,7 +154,7 @@ impl Table {
                 return Found::Seen(entry);
             }
         }
-        outer_found(body.within, self.outer.find(&used.name), used.place)
+        outer_found(body.within, self.outer.find(&used.name), used)
     }
 
     /// The number of the channel that a name means, where it means one.

@@ -63,11 +63,11 @@ fn channel(alloc: Global) -> Result<Channel, AllocError> {
     })
 }
 
-fn header(alloc: Global) -> Result<Header, AllocError> {
+fn header(alloc: Global, channel: &[u8]) -> Result<Header, AllocError> {
     let point = Point {
         names: one(alloc, used(alloc, b"p", 28)?)?,
         dims: Items::new(alloc),
-        channel: used(alloc, b"c", 30)?,
+        channel: used(alloc, channel, 30)?,
         role: used(alloc, b"b", 32)?,
         queue: None,
         place: 28,
@@ -184,8 +184,13 @@ fn body(alloc: Global, state: &[u8], signal: &[u8]) -> Result<Body, AllocError> 
     })
 }
 
-/// A specification whose second state and whose first output have these names.
-fn spec(alloc: Global, state: &[u8], signal: &[u8]) -> Result<Spec, AllocError> {
+/// A specification whose interaction point has this channel, and whose second state and first output have these names.
+fn spec(
+    alloc: Global,
+    channel_name: &[u8],
+    state: &[u8],
+    signal: &[u8],
+) -> Result<Spec, AllocError> {
     let variable = ModvarDef {
         names: one(alloc, used(alloc, b"x", 84)?)?,
         dims: Items::new(alloc),
@@ -194,7 +199,7 @@ fn spec(alloc: Global, state: &[u8], signal: &[u8]) -> Result<Spec, AllocError> 
     };
     let mut parts = Items::new(alloc);
     parts.push(Part::Channel(channel(alloc)?))?;
-    parts.push(Part::Header(header(alloc)?))?;
+    parts.push(Part::Header(header(alloc, channel_name)?))?;
     parts.push(Part::Body(body(alloc, state, signal)?))?;
     parts.push(Part::Modvars(one(alloc, variable)?))?;
     Ok(Spec {
@@ -213,7 +218,7 @@ fn spec(alloc: Global, state: &[u8], signal: &[u8]) -> Result<Spec, AllocError> 
 
 #[test]
 fn good_text_has_no_fault(rt: HostRuntime) -> Result<(), Fail> {
-    let tree = spec(rt.alloc(), b"s1", b"left")?;
+    let tree = spec(rt.alloc(), b"c", b"s1", b"left")?;
     let outcome = outcome_of(rt.alloc(), &tree)?;
     assert_eq!(rt; outcome.least, None);
     Ok(())
@@ -221,7 +226,7 @@ fn good_text_has_no_fault(rt: HostRuntime) -> Result<(), Fail> {
 
 #[test]
 fn wrong_direction_is_at_the_interaction(rt: HostRuntime) -> Result<(), Fail> {
-    let tree = spec(rt.alloc(), b"s1", b"go")?;
+    let tree = spec(rt.alloc(), b"c", b"s1", b"go")?;
     let outcome = outcome_of(rt.alloc(), &tree)?;
     assert_eq!(rt;
         outcome.least,
@@ -235,13 +240,41 @@ fn wrong_direction_is_at_the_interaction(rt: HostRuntime) -> Result<(), Fail> {
 
 #[test]
 fn doubled_state_comes_before_its_uses(rt: HostRuntime) -> Result<(), Fail> {
-    let tree = spec(rt.alloc(), b"s0", b"left")?;
+    let tree = spec(rt.alloc(), b"c", b"s0", b"left")?;
     let outcome = outcome_of(rt.alloc(), &tree)?;
     assert_eq!(rt;
         outcome.least,
         Some(Fault {
             place: 45,
             rule: Rule::DeclaredTwice,
+        })
+    );
+    Ok(())
+}
+
+#[test]
+fn predeclared_name_is_no_channel(rt: HostRuntime) -> Result<(), Fail> {
+    let tree = spec(rt.alloc(), b"integer", b"s1", b"left")?;
+    let outcome = outcome_of(rt.alloc(), &tree)?;
+    assert_eq!(rt;
+        outcome.least,
+        Some(Fault {
+            place: 30,
+            rule: Rule::WrongSort,
+        })
+    );
+    Ok(())
+}
+
+#[test]
+fn predeclared_name_is_unknown_in_a_channel(rt: HostRuntime) -> Result<(), Fail> {
+    let tree = spec(rt.alloc(), b"c", b"s1", b"sqr")?;
+    let outcome = outcome_of(rt.alloc(), &tree)?;
+    assert_eq!(rt;
+        outcome.least,
+        Some(Fault {
+            place: 66,
+            rule: Rule::UnknownName,
         })
     );
     Ok(())

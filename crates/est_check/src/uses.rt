@@ -36,6 +36,7 @@ fn check_found(wanted: NameSort, place: u32, found: Found, least: &mut Least)
     match found {
         Found::Nothing => least.note(place, Rule::UnknownName),
         Found::Unseen => least.note(place, Rule::NotSeenHere),
+        Found::Predeclared => least.note(place, Rule::WrongSort),
         Found::Seen(entry) => if !takes(wanted, name_sort(entry.stands)) {
             least.note(place, Rule::WrongSort)
         },

@@ -1,5 +1,5 @@
 //! A system that can be run and undone step by step.
-ghost use Rattle.std.specs.Prelude.{◌≡◌, ℕ, ◌+◌, ◌-◌, ◌^◌, ◌<◌, ◌≤◌, length, IfOk, OnErr, OnOk};
+ghost use Rattle.std.specs.Prelude.{◌≡◌, [], ℕ, ◌+◌, ◌-◌, ◌^◌, ◌<◌, ◌≤◌, length, IfOk, OnErr, OnOk};
 ghost use Rattle.est_syntax.specs.declared.specification.Spec.{Spec};
 ghost use Rattle.est_meaning.specs.Choices.{IsPossible};
 ghost use Rattle.est_meaning.specs.Step.{outcome, after_event, later};
@@ -44,7 +44,7 @@ pub trait World {
         ensures keeps { Keeps speaks limit self.old self.new }
         ensures fired { fired self.new ≡ fired self.old + 1 }
         ensures answer { IfOk result (λ answer. (spec : Spec) → speaks self.old spec → FiredAs (outcome (limit self.old) spec (stack self.old spec).now what.now) answer outs.new.items (stack self.old spec) (stack self.new spec)) }
-        ensures err { OnErr result (SameStack speaks stack self.old self.new) };
+        ensures err { OnErr result (SameStack speaks stack self.old self.new × (outs.new.items ≡ [])) };
 
     /// Lets an interaction arrive that its port can receive.
     fn arrive(&mut self, alloc: Global, event: &Event) -> Result<(), AllocError>

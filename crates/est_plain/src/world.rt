@@ -82,20 +82,19 @@ impl<'c> World for PlainWorld<'c> {
     ) -> Result<Fired, AllocError> {
         self.fired += 1;
         outs.clear();
+        let mut sent = Vec::new(alloc);
         match choice(self.transitions.as_slice(), what) {
             None => Ok(Fired::Fault(BlockFault::NoModule)),
             Some(transition) => {
                 let points = self.points.as_slice();
                 let ports = self.ports.as_slice();
                 match attempt(
-                    alloc, points, ports, self.limit, &self.now, transition, outs,
+                    alloc, points, ports, self.limit, &self.now, transition, &mut sent,
                 )? {
-                    None => {
-                        outs.clear();
-                        Ok(Fired::Limit)
-                    }
+                    None => Ok(Fired::Limit),
                     Some(next) => {
                         push(&mut self.now, &mut self.below, next)?;
+                        *outs = sent;
                         Ok(Fired::Done)
                     }
                 }

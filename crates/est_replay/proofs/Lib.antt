@@ -5,3 +5,5 @@ pub mod Events
 pub mod Moving
 pub mod Replaying
 pub mod FromStart
+pub mod Roots
+pub mod Faultless

@@ -56,14 +56,14 @@ module _ (tokens : Tokens) where
   fire_refused e h = laws.right_refused (fits (text_of tokens)) (far (text_of tokens) refl) refl (inl e) (laws.word_refused (fits (text_of tokens)) e h)
 
   -- From what is found of the whole to the answer.
-  pub whole_found : (x : Explanation) (b : ℕ) → b ≡ length (tokens_of tokens) → Finds explanation 0 b (explanation_shape x) → ReadsExplanation tokens (Ok x)
+  pub whole_found : (x : Explanation) (b : ℕ) → b ≡ length (tokens_of tokens) → Finds explanation 0 b (explanation_shape x) → ReadsExplanation (text_of tokens) (tokens_of tokens) (Ok x)
   whole_found x b e h =
       let w = exits.whole_tree (fits (text_of tokens)) explanation 0 (tokens_of tokens) (explanation_shape x) b e h in
       (w.0, λ y z. same_explanation y x (w.1 (explanation_shape y) z))
 
-  pub whole_then_more : (b : ℕ) (t : Shape ℕ) → (b ≡ length (tokens_of tokens) → ⊥) → Finds explanation 0 b t → ReadsExplanation tokens (Err (BadToken b))
+  pub whole_then_more : (b : ℕ) (t : Shape ℕ) → (b ≡ length (tokens_of tokens) → ⊥) → Finds explanation 0 b t → ReadsExplanation (text_of tokens) (tokens_of tokens) (Err (BadToken b))
   whole_then_more b t n h = (exits.tokens_behind (fits (text_of tokens)) explanation 0 (tokens_of tokens) b t n h).0
 
-  pub whole_refused : (e : ExplanationError) → Refuses (explaining (text_of tokens)) marks explanation (tokens_of tokens) 0 0 (cause e) → ReadsExplanation tokens (Err e)
+  pub whole_refused : (e : ExplanationError) → Refuses (explaining (text_of tokens)) marks explanation (tokens_of tokens) 0 0 (cause e) → ReadsExplanation (text_of tokens) (tokens_of tokens) (Err e)
   whole_refused (BadToken place) h = (exits.explained (fits (text_of tokens)) explanation 0 (tokens_of tokens) (wrong_at place) h).0
   whole_refused (Memory error) h = tt

@@ -1,5 +1,6 @@
 -- Which tokens are the text of an explanation, and what its readers answer.
-use Rattle.std.specs.Prelude.{◌≡◌, ℕ, Result, Ok, Err}
+use Rattle.std.specs.Prelude.{◌≡◌, ℕ, List, Result, Ok, Err}
+use Rattle.est_lexer.specs.declared.kind.Token.{Token}
 use Rattle.est_lexer.specs.declared.tokens.Tokens.{Tokens}
 use Rattle.est_lexer.specs.Places.{text_of, tokens_of}
 use Rattle.est_language.specs.Places.{HasTree, IsFirstBadPlace}
@@ -11,15 +12,23 @@ use Rattle.est_replay.specs.declared.explanation.Explanation.{Explanation}
 use Rattle.est_replay.specs.Grammar.{Rule, explaining, marks, explanation}
 use Rattle.est_replay.specs.Shapes.{Shape, explanation_shape}
 
--- the tokens are a text of the explanation: they have a tree that keeps its moves and its claim
-abbrev pub IsExplanationText : Tokens → Explanation → Type 0
-IsExplanationText tokens x = HasTree (explaining (text_of tokens)) explanation 0 (tokens_of tokens) (explanation_shape x)
+-- the tokens of the text are a text of the explanation: they have a tree that keeps its moves and its claim
+abbrev pub IsExplanationText : List ℕ → List Token → Explanation → Type 0
+IsExplanationText text tokens x = HasTree (explaining text) explanation 0 tokens (explanation_shape x)
 
--- what read_explanation answers: the one explanation whose text the tokens are, or their first bad place
-abbrev pub ReadsExplanation : Tokens → Result Explanation ExplanationError → Type 0
-ReadsExplanation tokens (Ok x) = IsExplanationText tokens x × ((y : Explanation) → IsExplanationText tokens y → y ≡ x)
-ReadsExplanation tokens (Err (BadToken place)) = IsFirstBadPlace (explaining (text_of tokens)) explanation 0 (tokens_of tokens) place
-ReadsExplanation tokens (Err (Memory error)) = Unit {0}
+-- the tokens of the text are a text of the explanation, and of no other
+abbrev pub IsOnlyExplanationText : List ℕ → List Token → Explanation → Type 0
+IsOnlyExplanationText text tokens x = IsExplanationText text tokens x × ((other : Explanation) → IsExplanationText text tokens other → other ≡ x)
+
+-- what an error says of the tokens: their first bad place; want of memory says nothing
+abbrev pub IsExplanationRefusal : List ℕ → List Token → ExplanationError → Type 0
+IsExplanationRefusal text tokens (BadToken place) = IsFirstBadPlace (explaining text) explanation 0 tokens place
+IsExplanationRefusal text tokens (Memory error) = Unit {0}
+
+-- what a reader of explanations answers: the one explanation whose text the tokens are, or why they are none
+abbrev pub ReadsExplanation : List ℕ → List Token → Result Explanation ExplanationError → Type 0
+ReadsExplanation text tokens (Ok x) = IsOnlyExplanationText text tokens x
+ReadsExplanation text tokens (Err error) = IsExplanationRefusal text tokens error
 
 -- what an error says of the text
 abbrev pub cause : ExplanationError → Cause

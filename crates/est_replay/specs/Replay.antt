@@ -1,9 +1,12 @@
 -- What a replay answers of an explanation.
 --
 -- Moves stand in the order in which they are made. Runs are read from their last move back, so that `reverse moves` is the run of these moves.
-use Rattle.std.specs.Prelude.{◌≡◌, ℕ, ◌+◌, ◌<◌, ◌⊎◌, List, [], ◌∷◌, ◌++◌, length, take, reverse}
+use Rattle.std.specs.Prelude.{◌≡◌, ◌≢◌, ℕ, ◌+◌, ◌<◌, ◌⊎◌, List, [], ◌∷◌, ◌++◌, length, take, reverse}
 use Rattle.est_syntax.specs.declared.specification.Spec.{Spec}
+use Rattle.est_syntax.specs.Breaks.{IsGood}
+use Rattle.est_check.specs.Skeleton.{IsSkeleton}
 use Rattle.est_meaning.specs.declared.event.Event.{Event}
+use Rattle.est_meaning.specs.declared.run.BlockFault.{BlockFault}
 use Rattle.est_meaning.specs.declared.run.Firing.{Firing}
 use Rattle.est_meaning.specs.declared.run.Move.{Move}
 use Rattle.est_meaning.specs.declared.run.Move.TheVariants.{Take, Fire}
@@ -113,3 +116,9 @@ OneAnswer = (limit silent : ℕ) (spec : Spec) (trace : List Event) (moves : Lis
 -- behind the last move a claim above the number of the trace's events asks for all events
 abbrev pub ClaimsBeyondAskAll : Type 0
 ClaimsBeyondAskAll = (c : Setup) (claim : ℕ) (p : Place) → length c.trace < claim → Agrees c claim [] p → Follows c p
+
+-- no answer for a skeleton that breaks no rule speaks of a fault, of the start or of a block
+abbrev pub SkeletonsDoNotFault : Type 0
+SkeletonsDoNotFault = (limit silent : ℕ) (spec : Spec) (trace : List Event) (moves : List Move) (claim : ℕ) (answer : Replayed)
+    → IsSkeleton spec → IsGood spec → IsReplay limit silent spec trace moves claim answer
+    → (at : ℕ) (fault : BlockFault) → (answer ≢ Rejected at (why.NoStart fault)) × (answer ≢ Rejected at (why.Fault fault))

@@ -1,7 +1,7 @@
 //! Explanation texts.
 
-ghost use Rattle.std.specs.Prelude.{◌≡◌, ◌≤◌, ◌<◌, length, true};
-ghost use Rattle.est_lexer.specs.Places.{tokens_of};
+ghost use Rattle.std.specs.Prelude.{◌≡◌, ◌+◌, ◌≤◌, ◌<◌, length, true, IfOk};
+ghost use Rattle.est_lexer.specs.Places.{text_of, tokens_of};
 ghost use Rattle.est_language.specs.Grammar.{rep};
 ghost use Rattle.est_texts.specs.Tests.{said};
 ghost use Rattle.est_texts.specs.Takes.{stands};
@@ -25,7 +25,8 @@ pub struct Explanation {
 
 /// The explanation that the tokens are, or the first bad one.
 pub fn read_explanation(alloc: Global, tokens: &Tokens) -> Result<Explanation, ExplanationError>
-    ensures { ReadsExplanation tokens.now result }
+    ensures reads { ReadsExplanation (text_of tokens.now) (tokens_of tokens.now) result }
+    ensures few { IfOk result (λ x. length x.moves ≤ length (tokens_of tokens.now)) }
 {
     let (found, end) = sentence(alloc, tokens)?;
     if end == tokens.count() {
@@ -39,6 +40,7 @@ pub fn read_explanation(alloc: Global, tokens: &Tokens) -> Result<Explanation, E
 fn sentence(alloc: Global, tokens: &Tokens) -> Result<(Explanation, u32), ExplanationError>
     ensures reads { Reads tokens.now an_explanation 0 explanation_shape result }
     ensures onward { Onward tokens.now 0 result }
+    ensures few { IfOk result (λ x. length x.0.moves ≤ x.1) }
 {
     let at_version = expect_word(tokens, 0, b"explanation")?;
     let (_, at_moves) = expect_number(tokens, at_version, 1, 1)?;
@@ -53,6 +55,7 @@ fn moves(alloc: Global, tokens: &Tokens, at: u32) -> Result<(Run, u32), Explanat
     requires { at ≤ length (tokens_of tokens.now) }
     ensures reads { Reads tokens.now (rep a_move) at moves_shape result }
     ensures onward { Onward tokens.now at result }
+    ensures few { IfOk result (λ x. length x.0 + at ≤ x.1) }
 {
     let mut moves = Run::new(alloc);
     let mut at = at;

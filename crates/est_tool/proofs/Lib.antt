@@ -1,6 +1,4 @@
-pub mod CheckLaws
-pub mod CountLaws
-pub mod PortBounds
+pub mod CommandLaws
+pub mod EndLaws
 pub mod ResultLaws
-pub mod SkeletonLaws
-pub mod OrderLaws
+pub mod WordLaws

@@ -1,64 +1,89 @@
 -- What a call writes, from what its steps answered.
-use Rattle.std.proofs.Common.{◌≡◌, ◌⊎◌, inl, inr, ◌∙◌, ◌≤◌, ◌<◌, ℕ, List, Option, Some, None, length, replicate, sym, subst, refl, Result, Ok, Err, IfOk, IfSome, ◌+◌, arith}
-use Rattle.std.proofs.lemmas.List.{length-replicate}
+use Rattle.std.proofs.Common.{◌≡◌, ◌⊎◌, inl, inr, ◌∙◌, ℕ, List, Option, Some, None, sym, subst, refl, Result, Ok, Err}
 use Rattle.std.specs.Prelude.{String, string_bytes}
 use Rattle.std.specs.Global.{Global}
-use Rattle.std.specs.declared.alloc.AllocError.{AllocError}
 use Rattle.est_lexer.specs.declared.kind.Token.{Token}
-use Rattle.est_edge.specs.Wholes.{IsWhole}
-use Rattle.est_edge.specs.declared.whole.ReadError.{ReadError}
-use Rattle.est_edge.specs.declared.whole.ReadError.TheVariants.{TooLong as ReadTooLong}
-use Rattle.est_edge.specs.Pieces.{appended}
-use Rattle.est_grammar.specs.declared.error.ParseError.{ParseError}
-use Rattle.est_grammar.specs.declared.error.ParseError.TheVariants.{BadToken, LeftOut, NotYet, Memory}
-use Rattle.est_tool.specs.declared.status.Status.{Status}
-use Rattle.est_tool.specs.declared.status.Status.TheVariants.{Fine, BadSpec, TooLong, Usage, ReadFault, WriteFault, OutOfMemory, NotBuilt}
-use Rattle.est_tool.specs.Check.{most_bytes, CheckGives, longer, sentence, refused, IsJudgement, good, broken, IsRefusalReport}
+use Rattle.est_edge.specs.Pieces.{appended, IsPrefix}
 use Rattle.est_syntax.specs.declared.specification.Spec.{Spec}
-use Rattle.est_tool.specs.Result.{GivenFor, Writes, HasReport, IsSent, whole, broken_off, IsDelivered}
-use Rattle.est_tool.specs.Reports.{too_long_line}
+use Rattle.est_replay.specs.declared.verdict.Replayed.{Replayed}
+use Rattle.est_replay.specs.declared.verdict.Replayed.TheVariants.{Confirmed, Rejected}
+use Rattle.est_specification.specs.declared.error.SpecificationError.{SpecificationError}
+use Rattle.est_specification.specs.declared.error.SpecificationError.TheVariants as specification
+use Rattle.est_trace.specs.declared.error.TraceError.{TraceError}
+use Rattle.est_trace.specs.declared.error.TraceError.TheVariants as trace
+use Rattle.est_replay.specs.declared.error.ExplanationError.{ExplanationError}
+use Rattle.est_replay.specs.declared.error.ExplanationError.TheVariants as explanation
+use Rattle.est_tool.specs.declared.ending.Ending.{Ending}
+use Rattle.est_tool.specs.declared.ending.Ending.TheVariants as ending
+use Rattle.est_tool.specs.declared.file.File.{File}
+use Rattle.est_tool.specs.declared.status.Status.{Status}
+use Rattle.est_tool.specs.declared.status.Status.TheVariants.{Fine, Refused, BadSpec, BadTrace, BadExplanation, TooLong, Usage, ReadFault, WriteFault, OutOfMemory, NotBuilt}
+use Rattle.est_tool.specs.Statuses.{replay_status}
+use Rattle.est_tool.specs.Texts.{SomeText, Holds, IsText, Refusals, RefusesSpecification, RefusesTrace, RefusesExplanation, SaysOfSpecification, SaysOfTrace, SaysOfExplanation, IsReported}
+use Rattle.est_tool.specs.Words.{Request, check, replay}
+use Rattle.est_tool.specs.Ends.{Seen, End, reported, unread, EndsAt, longer, refused, failed, at_its_file, good, at_specification, at_trace, at_explanation, replayed, Ends, IsEnding, IsMade}
+use Rattle.est_tool.specs.Result.{Asked, Writes, HasReport, IsReportable, IsSent, whole, broken_off, IsDelivered}
+use Rattle.est_tool.proofs.EndLaws.{ending_then}
 
--- what holds of a value that was made holds in a weaker form too
-pub if_ok_then : {A E : Type 0} {P Q : A → Type 0} (r : Result A E) → ((x : A) → P x → Q x) → IfOk r P → IfOk r Q
-if_ok_then (Ok x) weaker holds = weaker x holds
-if_ok_then (Err e) weaker holds = tt
+-- STATUSES WITH REPORTS
 
--- what holds of a value that is there holds in a weaker form too
-pub if_some_then : {A : Type 0} {P Q : A → Type 0} (o : Option A) → ((x : A) → P x → Q x) → IfSome o P → IfSome o Q
-if_some_then (Some x) weaker holds = weaker x holds
-if_some_then None weaker holds = tt
+-- each refusal has a status with a report
+abbrev AreReportable : Refusals → Type 0
+AreReportable Refuses = (text : List ℕ) (tokens : List Token) (status : Status) (place : ℕ) (why : List ℕ) → Refuses text tokens status place why → HasReport status
 
--- the status of a refusal by the grammar comes with a report
-refusal_has_report : (text : List ℕ) (tokens : List Token) (error : ParseError) (status : Status) (report : List ℕ) → IsRefusalReport text tokens error status report → HasReport status
-refusal_has_report text tokens (BadToken place) status report is = subst HasReport (sym is.0) tt
-refusal_has_report text tokens (LeftOut place) status report is = subst HasReport (sym is.0) tt
-refusal_has_report text tokens (NotYet place) status report is = subst HasReport (sym is.0) tt
-refusal_has_report text tokens (Memory e) status report is = absurd is
+of_specification : (error : SpecificationError) (status : Status) (place : ℕ) (why : List ℕ) → SaysOfSpecification error status place why → HasReport status
+of_specification (specification.BadToken at) status place why said = subst HasReport (sym said.0) tt
+of_specification (specification.LeftOut at) status place why said = subst HasReport (sym said.0) tt
+of_specification (specification.NotYet at) status place why said = subst HasReport (sym said.0) tt
+of_specification (specification.BrokenRule at rule) status place why said = subst HasReport (sym said.0) tt
+of_specification (specification.Memory error) status place why said = absurd said
 
--- and so does that of a sentence
-judgement_has_report : (text : List ℕ) (tokens : List Token) (spec : Spec) (report : List ℕ) (status : Status) → IsJudgement text tokens spec report status → HasReport status
-judgement_has_report text tokens spec report status (good fine is) = tt
-judgement_has_report text tokens spec report status (broken place rule least is) = tt
+of_trace : (error : TraceError) (status : Status) (place : ℕ) (why : List ℕ) → SaysOfTrace error status place why → HasReport status
+of_trace (trace.BadToken at) status place why said = subst HasReport (sym said.0) tt
+of_trace (trace.TooMany at) status place why said = subst HasReport (sym said.0) tt
+of_trace (trace.Memory error) status place why said = absurd said
 
--- what `check` gives comes with a report
-pub check_has_report : {text : List ℕ} (status : Status) (report : List ℕ) → CheckGives text status report → HasReport status
-check_has_report status report (longer long) = tt
-check_has_report {text} status report (sentence tokens spec status' report' short list tree is) = judgement_has_report text tokens spec report' status' is
-check_has_report {text} status report (refused tokens error status' report' short list place is) = refusal_has_report text tokens error status' report' is
+of_explanation : (error : ExplanationError) (status : Status) (place : ℕ) (why : List ℕ) → SaysOfExplanation error status place why → HasReport status
+of_explanation (explanation.BadToken at) status place why said = subst HasReport (sym said.0) tt
+of_explanation (explanation.Memory error) status place why said = absurd said
 
-gives_longer : (text : List ℕ) (status : Status) (report : List ℕ) → most_bytes < length text → status ≡ TooLong → report ≡ too_long_line → CheckGives text status report
-gives_longer text status report long is line = subst (λ s. CheckGives text s report) (sym is) (subst (CheckGives text TooLong) (sym line) (longer long))
+of_answer : (answer : Replayed) → HasReport (replay_status answer)
+of_answer (Confirmed events) = tt
+of_answer (Rejected at why) = tt
 
--- what is given for a text that was read is given for the told one
-pub given_for_read : (told : Option (List ℕ)) (text : List ℕ) (status : Status) (report : List ℕ) → IfSome told (λ bytes. text ≡ bytes) → CheckGives text status report → GivenFor CheckGives told status report
-given_for_read None text status report same given = (text, given)
-given_for_read (Some bytes) text status report same given = subst (λ t. CheckGives t status report) same given
+of_refused : (file : File) (Refuses : Refusals) (told : Option (List ℕ)) (status : Status) (report : List ℕ) → AreReportable Refuses → Holds file told (IsReported file Refuses status report) → HasReport status
+of_refused file Refuses None status report are holds = let is : _ = holds.1.is in are holds.0 holds.1.tokens status is.place is.why is.refused
+of_refused file Refuses (Some text) status report are holds = let is : _ = holds.is in are text holds.tokens status is.place is.why is.refused
+
+at_file : {shelf : Seen} {file : File} {name : List ℕ} (Refuses : Refusals) (end : End) → AreReportable Refuses → EndsAt shelf file name Refuses end → IsReportable end
+at_file Refuses _ are (longer status report long) = subst HasReport (sym long.status_is) tt
+at_file {shelf} {file} {name} Refuses _ are (refused status report holds) = of_refused file Refuses (shelf.told name) status report are holds
+at_file Refuses _ are (failed rose) = tt
+
+-- how what the words ask for ends, a report has such a status
+pub ends_reportable : (shelf : Seen) (request : Request) (end : End) → Ends shelf request end → IsReportable end
+ends_reportable shelf (check name) _ (at_its_file end is) = at_file RefusesSpecification end (λ text tokens status place why refuses. of_specification refuses.0 status place why refuses.2) is
+ends_reportable shelf (check name) _ (good spec holds) = tt
+ends_reportable shelf (replay s t e silent statements) _ (at_specification end is) = at_file RefusesSpecification end (λ text tokens status place why refuses. of_specification refuses.0 status place why refuses.2) is
+ends_reportable shelf (replay s t e silent statements) _ (at_trace spec end holds is) = at_file (RefusesTrace spec) end (λ text tokens status place why refuses. of_trace refuses.0 status place why refuses.2) is
+ends_reportable shelf (replay s t e silent statements) _ (at_explanation spec events end holds traced is) = at_file RefusesExplanation end (λ text tokens status place why refuses. of_explanation refuses.0 status place why refuses.2) is
+ends_reportable shelf (replay s t e silent statements) _ (replayed spec events read answer holds traced explained is) = of_answer answer
+
+-- what holds of the end of a command holds in a weaker form too
+pub made_then : {P Q : End → Type 0} (made : Result (Status × String Global) Ending) → ((end : End) → P end → Q end) → IsMade P made → IsMade Q made
+made_then (Ok made) weaker holds = weaker _ holds
+made_then (Err e) weaker holds = ending_then e weaker holds
+
+-- WRITTEN REPORTS
 
 -- a written report is what the call writes
 module _ (Gives : Status → List ℕ → Type 0) where
   writes_whole : (status : Status) (report : List ℕ) (before after : Option (List ℕ)) → HasReport status → Gives status report → after ≡ appended before report → Writes Gives status before after
   writes_whole Fine report before after has given is = (report, given, is)
+  writes_whole Refused report before after has given is = (report, given, is)
   writes_whole BadSpec report before after has given is = (report, given, is)
+  writes_whole BadTrace report before after has given is = (report, given, is)
+  writes_whole BadExplanation report before after has given is = (report, given, is)
   writes_whole TooLong report before after has given is = (report, given, is)
   writes_whole NotBuilt report before after has given is = (report, given, is)
   writes_whole Usage report before after has given is = absurd has
@@ -66,57 +91,48 @@ module _ (Gives : Status → List ℕ → Type 0) where
   writes_whole WriteFault report before after has given is = absurd has
   writes_whole OutOfMemory report before after has given is = absurd has
 
-  pub writes_sent : (status : Status) (report : List ℕ) (answer : Status) (before after : Option (List ℕ)) → HasReport status → Gives status report → IsSent status report answer before after → Writes Gives answer before after
+  writes_sent : (status : Status) (report : List ℕ) (answer : Status) (before after : Option (List ℕ)) → HasReport status → Gives status report → IsSent status report answer before after → Writes Gives answer before after
   writes_sent status report answer before after has given (whole _ _ is) = writes_whole status report _ _ has given is
   writes_sent status report answer before after has given (broken_off _ _ part front is) = (status, report, given, part, front, is)
 
   -- and so where it may be that no report was made
-  pub writes_delivered : (made : Result (Status × String Global) AllocError) (answer : Status) (before after : Option (List ℕ)) → ((status : Status) (report : List ℕ) → Gives status report → HasReport status)
-      → IfOk made (λ m. Gives m.0 (string_bytes m.1)) → IsDelivered made answer before after → Writes Gives answer before after
-  writes_delivered (Ok made) answer before after reports given sent = writes_sent made.0 (string_bytes made.1) answer before after (reports made.0 (string_bytes made.1) given) given sent
-  writes_delivered (Err e) answer before after reports given none = subst (λ a. Writes Gives a before after) (sym none.0) none.1
+  pub writes_delivered : (P : End → Type 0) (made : Result (Status × String Global) Ending) (answer : Status) (before after : Option (List ℕ)) → ((status : Status) (report : List ℕ) → P (reported status report) → Gives status report)
+      → IsMade IsReportable made → IsMade P made → IsDelivered made answer before after → Writes Gives answer before after
+  writes_delivered P (Ok made) answer before after gives has is sent = writes_sent made.0 (string_bytes made.1) answer before after has (gives made.0 (string_bytes made.1) is) sent
+  writes_delivered P (Err (ending.Report status report)) answer before after gives has is sent = writes_sent status (string_bytes report) answer before after has (gives status (string_bytes report) is) sent
+  writes_delivered P (Err ending.ReadFault) answer before after gives has is none = subst (λ a. Writes Gives a before after) (sym none.0) none.1
+  writes_delivered P (Err ending.OutOfMemory) answer before after gives has is none = subst (λ a. Writes Gives a before after) (sym none.0) none.1
 
--- what is given for a told or an untold text comes with a report
-pub given_has_report : (told : Option (List ℕ)) (status : Status) (report : List ℕ) → GivenFor CheckGives told status report → HasReport status
-given_has_report None status report given = check_has_report status report given.1
-given_has_report (Some text) status report given = check_has_report status report given
+-- FAULTS OF READS
 
--- there are texts of more bytes than any number
-some_longer : (n : ℕ) → (text : List ℕ) × (n < length text)
-some_longer n = (replicate (n + 1) 0, rw length-replicate (omega arith))
+sent_no_read_fault : (status : Status) (report : List ℕ) (answer : Status) (before after : Option (List ℕ)) → HasReport status → IsSent status report answer before after → answer ≡ ReadFault → ⊥
+sent_no_read_fault status report answer before after has (whole _ _ is) fault = let no : HasReport ReadFault = subst HasReport fault has in no
+sent_no_read_fault status report answer before after has (broken_off _ _ part front is) fault = cc
 
--- a told file that is longer than its limit is so refused; where it is untold, some text is
-pub given_for_longer : (told : Option (List ℕ)) (status : Status) (report : List ℕ) → IfSome told (λ bytes. most_bytes < length bytes) → status ≡ TooLong → report ≡ too_long_line → GivenFor CheckGives told status report
-given_for_longer None status report long is line = let text : _ = some_longer most_bytes in (text.0, gives_longer text.0 status report text.1 is line)
-given_for_longer (Some text) status report long is line = gives_longer text status report long is line
+-- the answer is a fault of a read only where a file could not be read
+pub delivered_unread : (P : End → Type 0) (made : Result (Status × String Global) Ending) (answer : Status) (before after : Option (List ℕ))
+    → IsMade IsReportable made → IsMade P made → IsDelivered made answer before after → answer ≡ ReadFault → P unread
+delivered_unread P (Ok made) answer before after has is sent fault = absurd (sent_no_read_fault made.0 (string_bytes made.1) answer before after has sent fault)
+delivered_unread P (Err (ending.Report status report)) answer before after has is sent fault = absurd (sent_no_read_fault status (string_bytes report) answer before after has sent fault)
+delivered_unread P (Err ending.ReadFault) answer before after has is none fault = is
+delivered_unread P (Err ending.OutOfMemory) answer before after has is none fault = let f : OutOfMemory ≡ ReadFault = sym none.0 ∙ fault in cc
 
--- a file that was refused as too long is so where it is told
-pub told_too_long : (told : Option (List ℕ)) (error : ReadError) → error ≡ ReadTooLong → IfSome told (λ bytes. IsWhole most_bytes bytes (Err error)) → IfSome told (λ bytes. most_bytes < length bytes)
-told_too_long told error is held = let P : ReadError → Type 0 = λ e. IfSome told (λ bytes. IsWhole most_bytes bytes (Err e)) in subst P is held
+-- WHAT THE WORDS ASK FOR
 
--- `check` gives the status of a text that is too long to such a text alone
-refusal_not_too_long : (text : List ℕ) (tokens : List Token) (error : ParseError) (status : Status) (report : List ℕ) → IsRefusalReport text tokens error status report → status ≡ TooLong → ⊥
-refusal_not_too_long text tokens (BadToken place) status report is long = let e : BadSpec ≡ TooLong = sym is.0 ∙ long in cc
-refusal_not_too_long text tokens (LeftOut place) status report is long = let e : BadSpec ≡ TooLong = sym is.0 ∙ long in cc
-refusal_not_too_long text tokens (NotYet place) status report is long = let e : NotBuilt ≡ TooLong = sym is.0 ∙ long in cc
-refusal_not_too_long text tokens (Memory e) status report is long = is
+-- the report of what the words ask for has such a status
+pub asked_reportable : (words : List (String Global)) (shelf : Seen) (made : Result (Status × String Global) Ending) → Asked words (λ request. IsMade (Ends shelf request) made) → IsMade IsReportable made
+asked_reportable words shelf made asked = made_then made (ends_reportable shelf asked.0) asked.2
 
-judgement_not_too_long : (text : List ℕ) (tokens : List Token) (spec : Spec) (report : List ℕ) (status : Status) → IsJudgement text tokens spec report status → status ≡ TooLong → ⊥
-judgement_not_too_long text tokens spec report status (good fine is) long = cc
-judgement_not_too_long text tokens spec report status (broken place rule least is) long = cc
+-- a fault of a read is that of what the words ask for
+pub asked_unread : (words : List (String Global)) (shelf : Seen) (made : Result (Status × String Global) Ending) (answer : Status) (before after : Option (List ℕ))
+    → Asked words (λ request. IsMade (Ends shelf request) made) → IsDelivered made answer before after → answer ≡ ReadFault → Asked words (λ request. Ends shelf request unread)
+asked_unread words shelf made answer before after asked delivered fault =
+    (asked.0, asked.1, delivered_unread (Ends shelf asked.0) made answer before after (asked_reportable words shelf made asked) asked.2 delivered fault)
 
-check_too_long : {text : List ℕ} (status : Status) (report : List ℕ) → CheckGives text status report → length text ≤ most_bytes → status ≡ TooLong → ⊥
-check_too_long status report (longer long) short is = omega (arith, long, short)
-check_too_long {text} status report (sentence tokens spec status' report' within list tree why) short is = judgement_not_too_long text tokens spec report' status' why is
-check_too_long {text} status report (refused tokens error status' report' within list place why) short is = refusal_not_too_long text tokens error status' report' why is
-
-sent_status : (status : Status) (report : List ℕ) (answer : Status) (before after : Option (List ℕ)) → IsSent status report answer before after → (answer ≡ status) ⊎ (answer ≡ WriteFault)
-sent_status status report answer before after (whole _ _ is) = inl refl
-sent_status status report answer before after (broken_off _ _ part front is) = inr refl
-
-pub delivered_not_too_long : (text : List ℕ) (made : Result (Status × String Global) AllocError) (answer : Status) (before after : Option (List ℕ))
-    → IfOk made (λ m. CheckGives text m.0 (string_bytes m.1)) → length text ≤ most_bytes → IsDelivered made answer before after → answer ≡ TooLong → ⊥
-delivered_not_too_long text (Ok made) answer before after given short sent long =
-    elim (sent_status made.0 (string_bytes made.1) answer before after sent)
-    [ inl e ↦ check_too_long made.0 (string_bytes made.1) given short (sym e ∙ long) | inr e ↦ (let f : WriteFault ≡ TooLong = sym e ∙ long in cc) ]
-delivered_not_too_long text (Err e) answer before after given short none long = let f : OutOfMemory ≡ TooLong = sym none.0 ∙ long in cc
+-- and so is what is written
+pub asked_written : (words : List (String Global)) (shelf : Seen) (made : Result (Status × String Global) Ending) (answer : Status) (before after : Option (List ℕ))
+    → Asked words (λ request. IsMade (Ends shelf request) made) → IsDelivered made answer before after
+    → Writes (λ status report. Asked words (λ request. Ends shelf request (reported status report))) answer before after
+asked_written words shelf made answer before after asked delivered =
+    writes_delivered (λ status report. Asked words (λ request. Ends shelf request (reported status report))) (Ends shelf asked.0) made answer before after (λ status report is. (asked.0, asked.1, is))
+    (asked_reportable words shelf made asked) asked.2 delivered

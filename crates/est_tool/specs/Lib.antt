@@ -1,6 +1,7 @@
-pub mod Check
+pub mod Ends
+pub mod Files
 pub mod Reports
 pub mod Result
 pub mod Statuses
+pub mod Texts
 pub mod Words
-pub mod SentenceRules

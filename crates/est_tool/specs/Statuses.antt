@@ -1,15 +1,25 @@
 -- The statuses of a call.
 use Rattle.std.specs.Prelude.{ℕ}
+use Rattle.est_replay.specs.declared.verdict.Replayed.{Replayed}
+use Rattle.est_replay.specs.declared.verdict.Replayed.TheVariants.{Confirmed, Rejected}
 use Rattle.est_tool.specs.declared.status.Status.{Status}
-use Rattle.est_tool.specs.declared.status.Status.TheVariants.{Fine, BadSpec, TooLong, Usage, ReadFault, WriteFault, OutOfMemory, NotBuilt}
+use Rattle.est_tool.specs.declared.status.Status.TheVariants.{Fine, Refused, BadSpec, BadTrace, BadExplanation, TooLong, Usage, ReadFault, WriteFault, OutOfMemory, NotBuilt}
 
 -- the exit status of the program
 abbrev pub code_of : Status → ℕ
 code_of Fine = 0
+code_of Refused = 1
 code_of BadSpec = 2
+code_of BadTrace = 3
+code_of BadExplanation = 4
 code_of TooLong = 6
 code_of Usage = 7
 code_of ReadFault = 8
 code_of WriteFault = 9
 code_of OutOfMemory = 10
 code_of NotBuilt = 12
+
+-- the status of a replay
+abbrev pub replay_status : Replayed → Status
+replay_status (Confirmed claim) = Fine
+replay_status (Rejected at why) = Refused

@@ -1,11 +1,21 @@
 //! The commands of the program: words, reports and the top call.
 #![tactic(auto)]
 
-mod check;
-pub mod laws;
+#[cfg(test)]
+mod answer_tests;
+mod commands;
+mod ending;
+mod explanation;
+pub mod file;
+mod reading;
+mod refusal;
+#[cfg(test)]
+mod replay_tests;
 mod report;
+mod specification;
 pub mod status;
 #[cfg(test)]
 mod tests;
 pub mod top;
+mod trace;
 pub mod words;

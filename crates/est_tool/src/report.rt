@@ -1,8 +1,13 @@
 //! The lines of reports.
-ghost use Rattle.std.specs.Prelude.{◌≡◌, IfOk, string_bytes};
-ghost use Rattle.est_tool.specs.Reports.{ok_line, refusal_line, rule_text, too_long_line};
+ghost use Rattle.std.specs.Prelude.{◌≡◌, ◌++◌, IfOk, codes, string_bytes};
+ghost use Rattle.est_tool.specs.Reports.{all_line, fault_text, first_line, ok_line, refusal_line, rejected_line, replay_line, rule_text, too_long_line, why_text};
+ghost use Rattle.est_tool.specs.Statuses.{replay_status};
 
+use crate::file::File;
+use crate::status::Status;
 use est_check::Counts;
+use est_meaning::run::BlockFault;
+use est_replay::verdict::{Replayed, Why};
 use est_syntax::rule::Rule;
 use std::alloc::{AllocError, Global};
 
@@ -44,21 +49,115 @@ pub(crate) fn rule_text(rule: Rule) -> &'static str
     }
 }
 
-/// The report of a specification that is refused at a line and a column.
+/// The report of a file that is refused at a line and a column.
 pub(crate) fn refusal_report(
     alloc: Global,
+    file: File,
     line: u32,
     column: u32,
     why: &str,
 ) -> Result<String, AllocError>
-    ensures { IfOk result (λ report. string_bytes report ≡ refusal_line line column why.now) }
+    ensures { IfOk result (λ report. string_bytes report ≡ refusal_line file line column why.now) }
 {
-    format!(in alloc; "specification:{line}:{column}: {why}\n")
+    let word = file.word();
+    format!(in alloc; "{word}:{line}:{column}: {why}\n")
 }
 
-/// The report of a specification that is longer than its limit.
-pub(crate) fn too_long_report(alloc: Global) -> Result<String, AllocError>
-    ensures { IfOk result (λ report. string_bytes report ≡ too_long_line) }
+/// The report of a file that is longer than its limit.
+pub(crate) fn too_long_report(alloc: Global, file: File) -> Result<String, AllocError>
+    ensures { IfOk result (λ report. string_bytes report ≡ too_long_line file) }
 {
-    String::from_str(alloc, "specification: too long\n")
+    let word = file.word();
+    format!(in alloc; "{word}: too long\n")
+}
+
+/// The report of a replay on a trace of so many events.
+pub(crate) fn replay_report(
+    alloc: Global,
+    answer: Replayed,
+    events: u32,
+) -> Result<String, AllocError>
+    ensures { IfOk result (λ report. string_bytes report ≡ replay_line events answer) }
+{
+    match answer {
+        Replayed::Confirmed { events: claim } if claim <= events => {
+            first_report(alloc, claim, events)
+        }
+        Replayed::Confirmed { .. } => all_report(alloc, events),
+        Replayed::Rejected { at, why } => {
+            let why = why_text(alloc, why)?;
+            rejected_report(alloc, at, why.as_str())
+        }
+    }
+}
+
+/// The status of a replay.
+pub(crate) fn replay_status(answer: Replayed) -> Status
+    ensures { result ≡ replay_status answer }
+{
+    match answer {
+        Replayed::Confirmed { .. } => Status::Fine,
+        Replayed::Rejected { .. } => Status::Refused,
+    }
+}
+
+// The report of an explanation of the first events of a trace.
+fn first_report(alloc: Global, claim: u32, events: u32) -> Result<String, AllocError>
+    ensures { IfOk result (λ report. string_bytes report ≡ first_line claim events) }
+{
+    format!(in alloc; "confirmed: first {claim} of {events} events\n")
+}
+
+// The report of an explanation of a whole trace.
+fn all_report(alloc: Global, events: u32) -> Result<String, AllocError>
+    ensures { IfOk result (λ report. string_bytes report ≡ all_line events) }
+{
+    format!(in alloc; "confirmed: all {events} events\n")
+}
+
+// The report of an explanation that is rejected for this cause.
+fn rejected_report(alloc: Global, at: u32, why: &str) -> Result<String, AllocError>
+    ensures { IfOk result (λ report. string_bytes report ≡ rejected_line at why.now) }
+{
+    format!(in alloc; "rejected at move {at}: {why}\n")
+}
+
+// Why an explanation is rejected.
+fn why_text(alloc: Global, why: Why) -> Result<String, AllocError>
+    ensures { IfOk result (λ text. string_bytes text ≡ why_text why) }
+{
+    match why {
+        Why::NoStart(fault) => with_fault(alloc, "no start", fault),
+        Why::Limit => String::from_str(alloc, "limit"),
+        Why::WrongOutput => String::from_str(alloc, "wrong output"),
+        Why::NoEvent => String::from_str(alloc, "no event"),
+        Why::NotOffered => String::from_str(alloc, "not offered"),
+        Why::Fault(fault) => with_fault(alloc, "fault", fault),
+        Why::TooSilent => String::from_str(alloc, "too silent"),
+        Why::NotAll => String::from_str(alloc, "not all"),
+    }
+}
+
+// A cause, and the fault that it comes from.
+fn with_fault(alloc: Global, why: &str, fault: BlockFault) -> Result<String, AllocError>
+    ensures { IfOk result (λ text. string_bytes text ≡ why.now ++ codes " " ++ fault_text fault) }
+{
+    let fault = fault_text(fault);
+    format!(in alloc; "{why} {fault}")
+}
+
+// What goes wrong in a block.
+fn fault_text(fault: BlockFault) -> &'static str
+    ensures { result.now ≡ fault_text fault }
+{
+    match fault {
+        BlockFault::Range => "range",
+        BlockFault::Divide => "divide",
+        BlockFault::Undefined => "undefined",
+        BlockFault::NoCase => "no case",
+        BlockFault::NoModule => "no module",
+        BlockFault::LinkTaken => "link taken",
+        BlockFault::SelfLink => "self link",
+        BlockFault::TooMany => "too many",
+    }
 }

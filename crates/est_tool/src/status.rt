@@ -5,10 +5,16 @@ ghost use Rattle.est_tool.specs.Statuses.{code_of};
 /// How a call ended. Its number is the exit status of the program.
 #[derive(Clone, Copy, Debug, PartialEq, Eq)]
 pub enum Status {
-    /// The specification is good.
+    /// The specification is good, or the explanation is confirmed.
     Fine = 0,
+    /// The explanation is rejected.
+    Refused = 1,
     /// The specification's text has a fault.
     BadSpec = 2,
+    /// The trace's text has a fault.
+    BadTrace = 3,
+    /// The explanation's text has a fault.
+    BadExplanation = 4,
     /// A file is longer than its limit.
     TooLong = 6,
     /// The words are none that the program takes.

@@ -25,7 +25,7 @@ end.
 ";
 
 // The words, each as a text of its own.
-fn words(alloc: Global, texts: &[&str]) -> Result<Vec<String>, AllocError> {
+pub(crate) fn words(alloc: Global, texts: &[&str]) -> Result<Vec<String>, AllocError> {
     let mut words = Vec::new(alloc);
     for text in texts {
         words.push(String::from_str(alloc, text)?)?;
@@ -34,7 +34,7 @@ fn words(alloc: Global, texts: &[&str]) -> Result<Vec<String>, AllocError> {
 }
 
 // The skeleton, put together of its two parts.
-fn skeleton(alloc: Global) -> Result<String, AllocError> {
+pub(crate) fn skeleton(alloc: Global) -> Result<String, AllocError> {
     let mut text = String::from_str(alloc, HEAD)?;
     text.push_str(STATES)?;
     Ok(text)
@@ -191,13 +191,27 @@ fn faults_in_mid_stream(rt: HostRuntime) -> Result<(), Fail> {
 #[test]
 fn words_that_ask_for_nothing(rt: HostRuntime) -> Result<(), Fail> {
     let alloc = rt.alloc();
-    let cases: [&[&str]; 6] = [
+    let cases: [&[&str]; 20] = [
         &[],
         &["check"],
         &["check", ""],
         &["Check", "a.est"],
         &["check", "a.est", "b.est"],
         &["explain", "a.est"],
+        &["replay", "a.est", "b"],
+        &["replay", "a.est", "", "c"],
+        &["REPLAY", "a.est", "b", "c"],
+        &["replay", "a.est", "b", "c", "8"],
+        &["replay", "a.est", "b", "c", "8", "1", "1"],
+        &["replay", "a.est", "b", "c", "1001", "1"],
+        &["replay", "a.est", "b", "c", "8", "0"],
+        &["replay", "a.est", "b", "c", "8", "1000001"],
+        &["replay", "a.est", "b", "c", "+8", "1"],
+        &["replay", "a.est", "b", "c", " 8", "1"],
+        &["replay", "a.est", "b", "c", "8", ""],
+        &["replay", "a.est", "b", "c", "8", "1 "],
+        &["replay", "a.est", "b", "c", "-0", "1"],
+        &["replay", "a.est", "b", "c", "000000000000000000008", "1"],
     ];
     for texts in cases {
         let words = words(alloc, texts)?;

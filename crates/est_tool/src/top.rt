@@ -1,21 +1,17 @@
 //! The top call.
-ghost use Rattle.std.specs.Prelude.{◌≡◌, ◌≢◌, ◌↔◌, ◌+◌, IfOk, string_bytes};
+ghost use Rattle.std.specs.Prelude.{◌≡◌, ◌≢◌, ◌↔◌};
 ghost use Rattle.est_edge.specs.Counts.{Rose};
 ghost use Rattle.est_edge.specs.Pieces.{SameTold};
-ghost use Rattle.est_tool.specs.Words.{AsksNothing};
-ghost use Rattle.est_tool.specs.Result.{OfFileAsked, GivenFor, Writes, HasReport, IsSent, IsDelivered};
-ghost use Rattle.est_tool.specs.Check.{CheckGives};
-ghost use Rattle.est_tool.specs.Reports.{too_long_line};
+ghost use Rattle.est_tool.specs.Ends.{seen, reported, unread, Ends, IsMade};
+ghost use Rattle.est_tool.specs.Result.{Asked, Writes, HasReport, IsReportable, IsSent, IsDelivered};
+ghost use Rattle.est_tool.specs.Words.{AsksNothing, IsCommand};
 
-use crate::check::check_text;
-use crate::report::too_long_report;
+use crate::commands::{ReplayFiles, check_file, replay_files};
+use crate::ending::Ending;
 use crate::status::Status;
 use crate::words::{BadUsage, Command, read_words};
-use est_edge::{ReadError, Shelf, Sink, read_whole, write_whole};
-use std::alloc::{AllocError, Global};
-
-/// The most bytes that a specification may have.
-pub const SPECIFICATION_LIMIT: u32 = 1_048_576;
+use est_edge::{Shelf, Sink, write_whole};
+use std::alloc::Global;
 
 /// Does what the words ask for: reads the files that they name, and writes one report. The report
 /// is made whole before its first byte is written.
@@ -28,61 +24,61 @@ pub fn run<S: Shelf, K: Sink>(
     // The words are none that the program takes, and nothing else is.
     ensures usage { (result ≡ Status.Usage) ↔ AsksNothing words.now }
 
-    ensures read_fault { result ≡ Status.ReadFault → OfFileAsked words.now (λ file. Rose (S.faults shelf.old file) (S.faults shelf.new file)) }
+    // No refusal comes before the file that could not be read.
+    ensures read_fault { result ≡ Status.ReadFault → Asked words.now (λ request. Ends (seen (S.told shelf.old) (S.faults shelf.old) (S.faults shelf.new) (S.taken shelf.new)) request unread) }
     ensures write_fault { result ≡ Status.WriteFault → Rose (K.faults sink.old) (K.faults sink.new) }
-    // Where the file is untold, a byte more than the limit was taken.
-    ensures too_long { result ≡ Status.TooLong → S.taken shelf.new ≡ SPECIFICATION_LIMIT + 1 }
     ensures told { SameTold (S.told shelf.old) (S.told shelf.new) }
-    ensures written { Writes (λ status report. OfFileAsked words.now (λ file. GivenFor CheckGives (S.told shelf.old file) status report)) result (K.written sink.old) (K.written sink.new) }
+    ensures written { Writes (λ status report. Asked words.now (λ request. Ends (seen (S.told shelf.old) (S.faults shelf.old) (S.faults shelf.new) (S.taken shelf.new)) request (reported status report))) result (K.written sink.old) (K.written sink.new) }
 {
     match read_words(words) {
-        Ok(Command::Check) => check_file(alloc, words[1].as_str(), shelf, sink),
+        Ok(command) => deliver(obey(alloc, words, command, shelf), sink),
         Err(BadUsage) => Status::Usage,
     }
 }
 
-// Checks the specification in a file.
-fn check_file<S: Shelf, K: Sink>(alloc: Global, file: &str, shelf: &mut S, sink: &mut K) -> Status
-    ensures asked { result ≢ Status.Usage }
-    ensures read_fault { result ≡ Status.ReadFault → Rose (S.faults shelf.old file.now) (S.faults shelf.new file.now) }
-    ensures write_fault { result ≡ Status.WriteFault → Rose (K.faults sink.old) (K.faults sink.new) }
-    ensures too_long { result ≡ Status.TooLong → S.taken shelf.new ≡ SPECIFICATION_LIMIT + 1 }
+// Makes the report of what the words ask for.
+fn obey<S: Shelf>(
+    alloc: Global,
+    words: &[String],
+    command: Command,
+    shelf: &mut S,
+) -> Result<(Status, String), Ending>
+    requires { IsCommand words.now command }
     ensures told { SameTold (S.told shelf.old) (S.told shelf.new) }
-    ensures written { Writes (GivenFor CheckGives (S.told shelf.old file.now)) result (K.written sink.old) (K.written sink.new) }
+    ensures ends { Asked words.now (λ request. IsMade (Ends (seen (S.told shelf.old) (S.faults shelf.old) (S.faults shelf.new) (S.taken shelf.new)) request) result) }
 {
-    match read_whole(alloc, shelf, file, SPECIFICATION_LIMIT) {
-        Ok(text) => deliver(check_text(alloc, text.as_slice()), sink),
-        Err(ReadError::TooLong) => deliver(too_long(alloc), sink),
-        Err(ReadError::Failed) => Status::ReadFault,
-        Err(ReadError::Memory(_)) => Status::OutOfMemory,
+    match command {
+        Command::Check => check_file(alloc, shelf, words[1].as_str()),
+        Command::Replay { limits } => {
+            let files = ReplayFiles {
+                specification: words[1].as_str(),
+                trace: words[2].as_str(),
+                explanation: words[3].as_str(),
+            };
+            replay_files(alloc, shelf, &files, &limits)
+        }
     }
 }
 
-// The status and the report of a specification that is longer than its limit.
-fn too_long(alloc: Global) -> Result<(Status, String), AllocError>
-    ensures { IfOk result (λ made. (made.0 ≡ Status.TooLong) × (string_bytes made.1 ≡ too_long_line)) }
-{
-    let report = too_long_report(alloc)?;
-    Ok((Status::TooLong, report))
-}
-
 // Writes a report that was made, and answers its status where that went well.
-fn deliver<K: Sink>(made: Result<(Status, String), AllocError>, sink: &mut K) -> Status
-    requires { IfOk made (λ m. HasReport m.0) }
-    ensures asked { (result ≢ Status.Usage) × (result ≢ Status.ReadFault) }
+fn deliver<K: Sink>(made: Result<(Status, String), Ending>, sink: &mut K) -> Status
+    requires { IsMade IsReportable made }
+    ensures asked { result ≢ Status.Usage }
     ensures delivered { IsDelivered made result (K.written sink.old) (K.written sink.new) }
     ensures failed { result ≡ Status.WriteFault → Rose (K.faults sink.old) (K.faults sink.new) }
 {
     match made {
         Ok((status, report)) => send(status, report.as_bytes(), sink),
-        Err(AllocError) => Status::OutOfMemory,
+        Err(Ending::Report(status, report)) => send(status, report.as_bytes(), sink),
+        Err(Ending::ReadFault) => Status::ReadFault,
+        Err(Ending::OutOfMemory) => Status::OutOfMemory,
     }
 }
 
 // Writes a report, and answers its status where that went well.
 fn send<K: Sink>(status: Status, report: &[u8], sink: &mut K) -> Status
     requires { HasReport status }
-    ensures asked { (result ≢ Status.Usage) × (result ≢ Status.ReadFault) }
+    ensures asked { result ≢ Status.Usage }
     ensures sent { IsSent status report.now result (K.written sink.old) (K.written sink.new) }
     ensures failed { result ≡ Status.WriteFault → Rose (K.faults sink.old) (K.faults sink.new) }
 {

@@ -55,7 +55,7 @@ module _ (tokens : Tokens) (ports : List Port) where
           let q : suc (e - 1) ≡ e = omega arith in
           subst (λ o. EventsTree d a c' o) (sym (nested-append ts t u)) (x.tree c' (some (both t u)) (t_rule (t_opt_in (subst (λ v. Tree (tracing (text_of tokens)) (tokens_of tokens) (length (tokens_of tokens)) (deeper (seq (event ports) (rule ports))) v b c' (both t u)) q (t_deeper (t_seq (tree_any (tracing (text_of tokens)) (tokens_of tokens) (length (tokens_of tokens)) (e - 1) (event_flat ports) y.tree) z))))))
 
-  pub trees_full : (d a e b : ℕ) (ts : List Shape) → e ≡ 0 → BeginsEvent tokens ports b → TreesSoFar tokens ports d a e b ts → IsFullAfter ports d tokens a b
+  pub trees_full : (d a e b : ℕ) (ts : List Shape) → e ≡ 0 → BeginsEvent tokens ports b → TreesSoFar tokens ports d a e b ts → IsFullAfter ports d (text_of tokens) (tokens_of tokens) a b
   trees_full d a e b ts z m x = (ts, (omega (arith, x.count, z), (x.tree b nothing (t_rule t_opt_out), m)))
 
   -- the tokens up to a full place and one more have a partial tree with one more level
@@ -65,7 +65,7 @@ module _ (tokens : Tokens) (ports : List Port) where
       p_rule (p_opt (p_deeper (p_second (tree_any (tracing (text_of tokens)) (tokens_of tokens) (suc i) (suc d) (event_flat ports) (trees.tree_of_fewer (tracing (text_of tokens)) (tokens_of tokens) (length (tokens_of tokens)) (suc i) x (omega (arith, trees.tree_forward (tracing (text_of tokens)) (tokens_of tokens) (length (tokens_of tokens)) y)) (omega arith))) (full_goes_on d _ i ts y (omega arith) l m))))
 
   -- a full place goes on with one more event
-  full_trace_goes_on : (d i : ℕ) → IsFull ports d tokens i → (i < length (tokens_of tokens)) × HasPartial (tracing (text_of tokens)) (trace ports) (suc d) (tokens_of tokens) (i + 1)
+  full_trace_goes_on : (d i : ℕ) → IsFull ports d (text_of tokens) (tokens_of tokens) i → (i < length (tokens_of tokens)) × HasPartial (tracing (text_of tokens)) (trace ports) (suc d) (tokens_of tokens) (i + 1)
   full_trace_goes_on d i f =
       let ts = f.1.0 in
       let m = f.1.1.1.1 in
@@ -91,23 +91,23 @@ module _ (tokens : Tokens) (ports : List Port) where
   counts_trace A B d v m b (TooMany place) x y h =
       let p : m ≡ 1 = omega (arith, x.1) in
       let q : b ≡ 2 = omega (arith, p, y.1) in
-      ((x.0, subst (λ o. At (tracing (text_of tokens)) (tokens_of tokens) o (number 1 1)) p y.0), subst (λ o. IsFullAfter ports d tokens o place) q h)
+      ((x.0, subst (λ o. At (tracing (text_of tokens)) (tokens_of tokens) o (number 1 1)) p y.0), subst (λ o. IsFullAfter ports d (text_of tokens) (tokens_of tokens) o place) q h)
 
-  not_full : (place : ℕ) → Explains (tracing (text_of tokens)) (trace ports) 200000 (tokens_of tokens) (wrong_at place) → IsFull ports 200000 tokens place → ⊥
+  not_full : (place : ℕ) → Explains (tracing (text_of tokens)) (trace ports) 200000 (tokens_of tokens) (wrong_at place) → IsFull ports 200000 (text_of tokens) (tokens_of tokens) place → ⊥
   not_full place h f = let g = full_trace_goes_on 200000 place f in h.1 g.0 (suc 200000) g.1
 
   -- From what is found of the whole to the answer.
-  pub whole_found : (x : List Event) (b : ℕ) → b ≡ length (tokens_of tokens) → HaveNoValues x → Finds tokens (trace ports) 200000 0 b (trace_shape x) → ReadsTrace ports tokens (Ok x)
+  pub whole_found : (x : List Event) (b : ℕ) → b ≡ length (tokens_of tokens) → HaveNoValues x → Finds tokens (trace ports) 200000 0 b (trace_shape x) → ReadsTrace ports (text_of tokens) (tokens_of tokens) (Ok x)
   whole_found x b e n h =
       let w = exits.whole_tree (fits (text_of tokens)) (trace ports) 200000 (tokens_of tokens) (trace_shape x) b e h in
       (w.0, λ y z. same_trace x y n (w.1 (trace_shape y) z))
 
-  pub whole_then_more : (b : ℕ) (t : Shape) → (b ≡ length (tokens_of tokens) → ⊥) → Finds tokens (trace ports) 200000 0 b t → ReadsTrace ports tokens (Err (BadToken b))
+  pub whole_then_more : (b : ℕ) (t : Shape) → (b ≡ length (tokens_of tokens) → ⊥) → Finds tokens (trace ports) 200000 0 b t → ReadsTrace ports (text_of tokens) (tokens_of tokens) (Err (BadToken b))
   whole_then_more b t n h =
       let w = exits.tokens_behind (fits (text_of tokens)) (trace ports) 200000 (tokens_of tokens) b t n h in
       (w.0, not_full b w)
 
-  pub whole_refused : (e : TraceError) → Refuses (tracing (text_of tokens)) marks (trace ports) (tokens_of tokens) 200000 0 (cause e) → CountsTrace {A = List Event × ℕ} ports 200000 tokens (Err e) → ReadsTrace ports tokens (Err e)
+  pub whole_refused : (e : TraceError) → Refuses (tracing (text_of tokens)) marks (trace ports) (tokens_of tokens) 200000 0 (cause e) → CountsTrace {A = List Event × ℕ} ports 200000 tokens (Err e) → ReadsTrace ports (text_of tokens) (tokens_of tokens) (Err e)
   whole_refused (Memory error) h m = tt
   whole_refused (BadToken place) h m = let w = exits.explained (fits (text_of tokens)) (trace ports) 200000 (tokens_of tokens) (wrong_at place) h in (w.0, not_full place w)
   whole_refused (TooMany place) h m = ((exits.explained (fits (text_of tokens)) (trace ports) 200000 (tokens_of tokens) (too_deep_at place) h).0, m)

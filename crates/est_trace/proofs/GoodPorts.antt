@@ -16,7 +16,7 @@ use Rattle.est_syntax.specs.declared.specification.Part.{Part}
 use Rattle.est_syntax.specs.declared.specification.Part.TheVariants as part
 use Rattle.est_syntax.specs.declared.specification.Spec.{Spec}
 use Rattle.est_syntax.specs.Names as names
-use Rattle.est_syntax.specs.Names.{Side, Sort, Region, Scope, Declaration, Meaning, nothing, unseen, seen, spelled, is_name, declared_in, in_force, meaning, meaning_by, declared_together, roles_region, interactions_region, by_region, channel_region, states_region, modvars_region, part_region, parts_region, spec_scope, channel_in, channel_by, side_with, side_by, side_of, role_named, points_region}
+use Rattle.est_syntax.specs.Names.{Side, Sort, Region, Scope, Declaration, Meaning, nothing, unseen, seen, spelled, is_name, is_predeclared, declared_in, in_force, meaning, meaning_by, declared_together, roles_region, interactions_region, by_region, channel_region, states_region, modvars_region, part_region, parts_region, spec_scope, channel_in, channel_by, side_with, side_by, side_of, role_named, points_region}
 use Rattle.est_syntax.specs.Faults.{broken_if, is_among, twice_faults, names_of, by_faults, channel_faults, points_faults}
 use Rattle.est_syntax.specs.Environment.{environment, channel_environment}
 use Rattle.est_syntax.specs.Least.{IsIn}
@@ -227,9 +227,10 @@ channel_comes all names.state c h e = cc
 channel_comes all (names.role b) c h e = cc
 channel_comes all (names.interaction b i) c h e = cc
 
-seen_comes : (all : List Part) (o : Option Declaration) (c : Channel) → OneComes all o → channel_by (meaning_by o None) ≡ Some c → IsIn (part.Channel c) all
-seen_comes all None c h e = cc
-seen_comes all (Some d) c h e = channel_comes all d.sort c h e
+seen_comes : (all : List Part) (known : Bool) (o : Option Declaration) (c : Channel) → OneComes all o → channel_by (meaning_by known o None) ≡ Some c → IsIn (part.Channel c) all
+seen_comes all true None c h e = cc
+seen_comes all false None c h e = cc
+seen_comes all known (Some d) c h e = channel_comes all d.sort c h e
 
 channel_of_side : (o : Option Channel) (u : Used) (side : Side) → side_by o u ≡ Some side → o ≡ Some side.channel
 channel_of_side None u side e = cc
@@ -246,7 +247,7 @@ module _ (s : Spec) (sk : IsSkeleton s) (good : IsGood s) where
       let c = channel_of_side (channel_by (meaning (spec_scope s) p.channel)) p.role side e in
       let o = in_force (declared_in r (spelled p.channel)) p.channel.place None in
       let h = come_force s.parts (declared_in r (spelled p.channel)) p.channel.place (come_declared s.parts r (spelled p.channel) (come_parts s.parts s.parts (λ q i. i))) in
-      let i = seen_comes s.parts o side.channel h c in
+      let i = seen_comes s.parts (is_predeclared (spelled p.channel)) o side.channel h c in
       λ f k. good f.place f.rule (inside (spec_scope s) (part.Channel side.channel) (outermost i) k)
 
   header_part : (cs : List Channel) (h : Header) (rest : List Part) → IsIn (part.Header h) (channel_parts cs ++ part.Header h ∷ rest)

@@ -31,7 +31,7 @@ pub const MOST_EVENTS: u32 = 200_000;
 
 /// The trace of a specification that the tokens are, or the first token that is refused.
 pub fn read_trace(alloc: Global, checked: &Checked, tokens: &Tokens) -> Result<Trace, TraceError>
-    ensures reads { ReadsTrace (ports_of checked.now) tokens.now result }
+    ensures reads { ReadsTrace (ports_of checked.now) (text_of tokens.now) (tokens_of tokens.now) result }
     ensures allowed { IfOk result (λ x. IsAllowedTrace checked.now x) }
 {
     let _spec = checked.spec();
@@ -47,7 +47,7 @@ pub(crate) fn read_events(
     tokens: &Tokens,
 ) -> Result<Trace, TraceError>
     requires { ArePlain ports.now }
-    ensures reads { ReadsTrace ports.now tokens.now result }
+    ensures reads { ReadsTrace ports.now (text_of tokens.now) (tokens_of tokens.now) result }
     ensures at_ports { IfOk result (λ x. AreAtPorts ports.now x) }
     ensures few { IfOk result (λ x. length x ≤ MOST_EVENTS) }
 {

@@ -3,4 +3,4 @@ use Rattle.std.proofs.Common.{rules, append_assoc}
 use Rattle.est_tool.proofs.report.refusal_report.Goals as goal
 
 pub returns : goal.returns
-returns c = search (rules, append_assoc)
+returns c = rw (← c.word-word.ensures) (search (rules, append_assoc))

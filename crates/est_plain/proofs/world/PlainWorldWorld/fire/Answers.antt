@@ -14,7 +14,7 @@ pub returns-in-None-2-clause-answer : goal.returns-in-None-2-clause-answer
 returns-in-None-2-clause-answer c spec h =
     let w = c.args.self.now in
     answers_limit w.limit w.spec.now spec w.root.now w.points.items w.ports.now (seen w.transitions.items) h w.points_are w.ports_are w.transitions_are w.now c.args.what.now c.in-Some.transition.now _ _ _
-    (rw c.as_slice.ensures.value at c.in-Some.ensures) (rw (c.in-None-2.is, c.as_slice-ports.ensures) at c.in_ok-attempt-in-Some.ensures) c.clear-in-None-2.ensures.items refl
+    (rw c.as_slice.ensures.value at c.in-Some.ensures) (rw (c.in-None-2.is, c.as_slice-ports.ensures) at c.in_ok-attempt-in-Some.ensures) c.clear.ensures.items refl
 
 pub returns-in_ok-push-in-Some-2-clause-answer : goal.returns-in_ok-push-in-Some-2-clause-answer
 returns-in_ok-push-in-Some-2-clause-answer c spec h =

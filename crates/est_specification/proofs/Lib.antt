@@ -1,0 +1,5 @@
+pub mod CountLaws
+pub mod OrderLaws
+pub mod PortBounds
+pub mod Sentences
+pub mod SkeletonLaws

@@ -1,0 +1,5 @@
+use Rattle.est_specification.proofs.OrderLaws.{few_broken}
+use Rattle.est_specification.proofs.laws.sentences_break_few.Goals as goal
+
+pub returns : goal.returns
+returns c = few_broken

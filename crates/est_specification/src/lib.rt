@@ -1,0 +1,11 @@
+//! Specifications: sentences of the grammar that break no rule.
+#![tactic(auto)]
+
+mod error;
+pub mod laws;
+mod read;
+#[cfg(test)]
+mod tests;
+
+pub use error::SpecificationError;
+pub use read::read_specification;

@@ -1,0 +1,20 @@
+//! The reader of specifications.
+
+ghost use Rattle.std.specs.Prelude.{◌≤◌, length};
+ghost use Rattle.est_lexer.specs.Places.{text_of, tokens_of};
+ghost use Rattle.est_specification.specs.Reading.{ReadsSpecification};
+
+use crate::error::SpecificationError;
+use est_check::{Checked, check};
+use est_grammar::parse;
+use est_lexer::tokens::Tokens;
+use std::alloc::Global;
+
+/// The specification that the tokens are, which breaks no rule, or why they are none.
+pub fn read_specification(alloc: Global, tokens: &Tokens) -> Result<Checked, SpecificationError>
+    requires few { length (tokens_of tokens.now) ≤ 1048576 }
+    ensures { ReadsSpecification (text_of tokens.now) (tokens_of tokens.now) result }
+{
+    let spec = parse(alloc, tokens)?;
+    Ok(check(alloc, spec)?)
+}

@@ -1,0 +1,25 @@
+//! Why a function stops before its work is done.
+ghost use Rattle.std.specs.Prelude.{◌≡◌};
+ghost use Rattle.est_tool.specs.declared.ending.Ending.TheVariants.{OutOfMemory as Wanting};
+
+use crate::status::Status;
+use std::alloc::AllocError;
+
+/// Why a function stops before its work is done.
+#[derive(Debug, Drop)]
+pub(crate) enum Ending {
+    /// A text is refused: the status, and the report that says so.
+    Report(Status, String),
+    /// A file could not be read.
+    ReadFault,
+    /// Memory was wanting.
+    OutOfMemory,
+}
+
+impl From<AllocError> for Ending {
+    ghost from_gives = { λ error ending. ending ≡ Wanting };
+
+    fn from(_: AllocError) -> Ending {
+        Ending::OutOfMemory
+    }
+}

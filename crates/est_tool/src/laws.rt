@@ -1,8 +1,0 @@
-//! What holds of every specification that the program accepts or refuses.
-ghost use Rattle.est_tool.specs.SentenceRules.{SentencesBreakFew};
-
-/// A skeleton sentence breaks no rules but those on unknown names, doubled names, sorts, directions
-/// and first states.
-pub fn sentences_break_few()
-    ensures { SentencesBreakFew }
-{}
