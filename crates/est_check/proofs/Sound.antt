@@ -28,7 +28,8 @@ use Rattle.est_check.specs.declared.table.Members.{Members}
 use Rattle.est_check.specs.Entries.{Entries, State, enter_parts}
 use Rattle.est_check.specs.Tables.{members_by, names_by}
 use Rattle.est_check.specs.Passes.{channels_pass, parts_pass, tables, spec_pass}
-use Rattle.est_check.specs.Skeleton.{AreStates, IsPlain, IsPlainBody, IsSkeleton, channel_parts}
+use Rattle.est_syntax.specs.declared.specification.Group.{out-Group}
+use Rattle.est_check.specs.Skeleton.{AreStates, IsOne, IsPlain, IsPlainTransition, IsPlainBody, IsSkeleton, channel_parts}
 use Rattle.est_check.proofs.Stands.{ChannelFor, HeaderFor}
 use Rattle.est_check.proofs.Channels.{MembersFor}
 use Rattle.est_check.proofs.Environments.{OuterFor, ChannelsFor, alone, environment_outside}
@@ -361,6 +362,13 @@ noted_part_of sk f _ p (nested scope b hb i) h =
     let plain : IsPlainBody b = plain_part sk scope (part.Body b) hb
     in absurd (no_faults_of_states (names.body_scope scope b) f p (states_in (out-Body b).parts p plain.states i) h)
 
+-- what holds of the one item of a list holds of each
+pub one_in : {X : Type 0} (P : X → Type 0) (xs : List X) (x : X) → IsOne P xs → IsIn x xs → P x
+one_in P [] x h i = absurd i
+one_in P (y ∷ []) x h (inl e) = subst P e h
+one_in P (y ∷ []) x h (inr i) = absurd i
+one_in P (y ∷ z ∷ xs) x h i = absurd h
+
 -- a skeleton starts a module in its one statement alone
 pub is_no_init : (st : Statement) (at : Access) (named : Used) (arguments : List Expr) (place : ℕ) → IsPlain st → st ≡ statement.Init at named arguments place → ⊥
 is_no_init st at named arguments place h e = subst IsPlain e h
@@ -370,10 +378,10 @@ pub starts_outside : {s : Spec} (sk : IsSkeleton s) (scope : Scope) (st : Statem
 starts_outside sk _ _ at named arguments place own e = refl
 starts_outside sk _ _ at named arguments place (of_first_part scope b f st hb is i) e =
     let plain : IsPlainBody b = plain_part sk scope (part.Body b) hb
-    in absurd (is_no_init st at named arguments place (plain.first f st is i) e)
+    in absurd (is_no_init st at named arguments place (one_in IsPlain f.block.statements st (plain.first f is).block.statements i) e)
 starts_outside sk _ _ at named arguments place (of_transition scope b g t st hb i j k) e =
     let plain : IsPlainBody b = plain_part sk scope (part.Body b) hb
-    in absurd (is_no_init st at named arguments place (plain.transitions g t st i j k) e)
+    in absurd (is_no_init st at named arguments place (one_in IsPlain t.block.statements st (one_in IsPlainTransition (out-Group g).transitions t (plain.groups g i) j).block.statements k) e)
 
 abbrev pub IsYes : Bool → Type 0
 IsYes true = Unit {0}
@@ -385,7 +393,7 @@ broken_noted {s = s} sk place r (outside i) =
     noted_outside s record { place = place; rule = r } (into_either record { place = place; rule = r } (twice_faults [] (names_of (parts_region s.parts))) (statement_faults (environment (spec_scope s)) s.first) i)
 broken_noted sk place r (inside scope p h i) = noted_part_of sk record { place = place; rule = r } scope p h i
 broken_noted sk _ _ (no_system ms m h i j is system) =
-    absurd (subst IsYes (sym (ap (λ x. x.system) (header_is sk m.header h is) ∙ sk.system) ∙ system) tt)
+    absurd (subst IsYes (sym (ap (λ x. x.system) (header_is sk m.header h is) ∙ sk.plain_header.system) ∙ system) tt)
 broken_noted sk _ _ (system_inside scope b ms m h hb i j is system) =
     let plain : IsPlainBody b = plain_part sk scope (part.Body b) hb
     in absurd (states_in (out-Body b).parts (part.Modvars ms) plain.states i)

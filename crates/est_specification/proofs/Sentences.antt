@@ -141,7 +141,7 @@ module _ (text : List ℕ) (tokens : List Token) where
   none_last : {d a b : ℕ} → Has Last d a b nothing → ⊥
   none_last h = elim h [ ]
 
-  split : (ps : List Part) (t : Shape) (d a b : ℕ) → Has Last d a b (last_parts (behind_channels ps) t) → IsSplit ps t d a b
+  pub split : (ps : List Part) (t : Shape) (d a b : ℕ) → Has Last d a b (last_parts (behind_channels ps) t) → IsSplit ps t d a b
   split (part.Channel c ∷ ps) t d a b h =
       let rest : IsSplit ps t d a b = split ps t d a b h in
       record {
