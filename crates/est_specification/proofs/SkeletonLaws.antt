@@ -2,10 +2,9 @@
 use Rattle.std.proofs.Common.{◌≡◌, ◌≤◌, ℕ, Bool, true, false, List, [], ◌∷◌, ◌++◌, Option, Some, None, length, map, arith, refl, ap, ◌∙◌, subst, inl, inr}
 use Rattle.est_lexer.specs.declared.kind.Token.{Token}
 use Rattle.est_lexer.specs.declared.kind.Symbol.TheVariants.{Comma, Semicolon, RightParenthesis}
-use Rattle.est_lexer.specs.declared.kind.ReservedWord.TheVariants.{Begin, End, Modvar}
-use Rattle.est_language.specs.Grammar.{Grammar, here, seq, rep, rule, chain, nothing, placed, some, left, both, Tree, t_word, t_here, t_seq, t_rule, t_rep_in, t_opt_in}
+use Rattle.est_lexer.specs.declared.kind.ReservedWord.TheVariants.{Begin, End}
+use Rattle.est_language.specs.Grammar.{Grammar, here, seq, rep, rule, chain, nothing, placed, some, left, both, t_word, t_here, t_seq, t_rule, t_rep_in, t_opt_in}
 use Rattle.est_grammar.specs.Skeleton.{Rule, Production, specification, channel, by, header, point, body, transition, sign, said, name, several, listed, interaction, states, first_part, empty_block, to_clause, when_clause, clauses, dotted, statement as a_statement, module_variable, init, initialization}
-use Rattle.est_grammar.specs.Language.{skeleton}
 use Rattle.est_grammar.specs.Views.{Shape, used_shape, access_shape, names_shape, interaction_shape, interactions_shape, one_name, two_names, by_shape, by_parts_shape, channel_shape, point_shape, points_shape, header_shape, sending_shape, sendings_shape, statement_shape, one_statement, block_shape, when_part, to_part, clauses_shape, transition_shape, one_transition, group_shape, states_shape, first_state, first_shape, body_shape, modvar_shape, init_shape, initialization_shape, last_parts, behind_channels, channels_shape, spec_shape, without, without_some, where_true}
 use Rattle.est_syntax.specs.declared.name.Used.{Used}
 use Rattle.est_syntax.specs.declared.expression.Access.{Access}
@@ -30,7 +29,7 @@ use Rattle.est_syntax.specs.declared.specification.Part.TheVariants as part
 use Rattle.est_syntax.specs.declared.specification.Spec.{Spec}
 use Rattle.est_syntax.specs.Least.{IsIn}
 use Rattle.est_check.specs.Skeleton.{channel_parts, AreStates, IsOne, IsPlainChannel, IsPlainHeader, IsPlainVariable, IsPlainSending, IsPlain, IsInit, IsPlainBlock, IsWhen, IsToWhen, AreClauses, IsPlainTransition, IsPlainFirst, IsPlainBody, IsSkeleton}
-use Rattle.est_check.specs.Counts.{group_count, transition_count}
+use Rattle.est_check.specs.Counts.{transition_count}
 use Rattle.est_grammar.specs.Answer.{HasOneTree}
 use Rattle.est_specification.proofs.Sentences.{HasAt, Last, none, IsSplit, split}
 use Rattle.est_specification.proofs.CountLaws.{port_sum, sentence_few}
