@@ -133,12 +133,11 @@ fn with_firing(alloc: Global, moves: &str, firing: &str) -> Result<String, Alloc
     format!(in alloc; "explanation 1 {moves} fire {firing} yields 0")
 }
 
-// What `replay` answers for the skeleton where these moves have happened, and then this firing.
-fn fired(alloc: Global, moves: &str, firing: &str) -> Result<Vec<u8>, AllocError> {
+// What `replay` answers for the skeleton and an explanation.
+fn explained(alloc: Global, explanation: &str) -> Result<Vec<u8>, AllocError> {
     let skeleton = skeleton(alloc)?;
     let trace = "trace 1 in p.go out p.left out p.right time 5 end";
-    let explanation = with_firing(alloc, moves, firing)?;
-    let texts = [skeleton.as_str(), trace, explanation.as_str()];
+    let texts = [skeleton.as_str(), trace, explanation];
     let (_, written) = replayed(alloc, texts, "", "", &[])?;
     Ok(written)
 }
@@ -171,7 +170,8 @@ fn firings_of_each_situation(rt: HostRuntime) -> Result<(), Fail> {
         for other in [
             "1 1 1", "1 2 1", "1 3 1", "1 1 2", "2 1 1", "0 1 1", "1 0 1", "1 1 0",
         ] {
-            let written = fired(alloc, moves, other)?;
+            let explanation = with_firing(alloc, moves, other)?;
+            let written = explained(alloc, explanation.as_str())?;
             if other == firing {
                 assert_eq!(rt; written.as_slice(), possible, "{moves} {other}");
             } else {
