@@ -12,7 +12,7 @@ use Rattle.est_syntax.specs.declared.specification.Statement.{Statement}
 use Rattle.est_syntax.specs.declared.specification.Statement.TheVariants as statement
 use Rattle.est_syntax.specs.declared.specification.Part.TheVariants as part
 use Rattle.est_syntax.specs.declared.specification.Spec.{Spec}
-use Rattle.est_syntax.specs.Names.{Sort, Declaration, Region, Meaning, nothing, unseen, seen, meaning, meaning_by, in_force, declared_in, spelled, is_name, parts_region, spec_scope}
+use Rattle.est_syntax.specs.Names.{Sort, Declaration, Region, Meaning, nothing, unseen, seen, meaning, meaning_by, in_force, declared_in, spelled, is_name, is_predeclared, parts_region, spec_scope}
 use Rattle.est_syntax.specs.Names as names
 use Rattle.est_syntax.specs.Environment.{environment, sort_by, name_sort}
 use Rattle.est_syntax.specs.Faults.{takes, use_faults, statement_faults, names_of, twice_faults}
@@ -79,17 +79,18 @@ module _ (name : List ℕ) (body : Body) where
   sort_names (names.role b) k h = absurd (subst IsYes (sym h) tt)
   sort_names (names.interaction b i) k h = absurd (subst IsYes (sym h) tt)
 
-  option_names : (o : Option Declaration) → NamesIn o → Takes sort.Body (sort_by (meaning_by o None)) → is_name name (spelled (out-Body body).name) ≡ true
-  option_names None k h = absurd h
-  option_names (Some d) k h = sort_names d.sort k h
+  option_names : (known : Bool) (o : Option Declaration) → NamesIn o → Takes sort.Body (sort_by (meaning_by known o None)) → is_name name (spelled (out-Body body).name) ≡ true
+  option_names true None k h = absurd h
+  option_names false None k h = absurd h
+  option_names known (Some d) k h = sort_names d.sort k h
 
   -- a use of the name that means a body means this one
-  means_body : (cs : List Channel) (h : Header) (m : ModvarDef) (place : ℕ)
-      → Takes sort.Body (sort_by (meaning_by (in_force (declared_in (parts_region (channel_parts cs ++ part.Header h ∷ part.Body body ∷ part.Modvars (m ∷ []) ∷ [])) name) place None) None))
+  means_body : (known : Bool) (cs : List Channel) (h : Header) (m : ModvarDef) (place : ℕ)
+      → Takes sort.Body (sort_by (meaning_by known (in_force (declared_in (parts_region (channel_parts cs ++ part.Header h ∷ part.Body body ∷ part.Modvars (m ∷ []) ∷ [])) name) place None) None))
       → is_name name (spelled (out-Body body).name) ≡ true
-  means_body cs h m place t =
+  means_body known cs h m place t =
       let r = parts_region (channel_parts cs ++ part.Header h ∷ part.Body body ∷ part.Modvars (m ∷ []) ∷ []) in
-      option_names (in_force (declared_in r name) place None) (force_name (declared_in r name) place (declared_name r (parts_name cs h m))) t
+      option_names known (in_force (declared_in r name) place None) (force_name (declared_in r name) place (declared_name r (parts_name cs h m))) t
 
 -- the one body of a skeleton
 bodies_are : (cs : List Channel) (h : Header) (b : Body) (m : ModvarDef) → filter_map body_in (channel_parts cs ++ part.Header h ∷ part.Body b ∷ part.Modvars (m ∷ []) ∷ []) ≡ b ∷ []
@@ -100,8 +101,8 @@ bodies_are (c ∷ cs) h b m = bodies_are cs h b m
 used_body : (s : Spec) (sk : IsSkeleton s) (u : Used) → NoFault (use_faults (environment (spec_scope s)) sort.Body u) → find (λ (b : Body). uses_name u.name (out-Body b).name) (filter_map body_in s.parts) ≡ Some sk.body
 used_body s sk u h =
     let t = takes_fine sort.Body u.place (sort_by (meaning (spec_scope s) u)) h in
-    let e = means_body (spelled u) sk.body sk.channels sk.header sk.variable u.place
-    (subst (λ ps. Takes sort.Body (sort_by (meaning_by (in_force (declared_in (parts_region ps) (spelled u)) u.place None) None))) sk.parts t) in
+    let e = means_body (spelled u) sk.body (is_predeclared (spelled u)) sk.channels sk.header sk.variable u.place
+    (subst (λ ps. Takes sort.Body (sort_by (meaning_by (is_predeclared (spelled u)) (in_force (declared_in (parts_region ps) (spelled u)) u.place None) None))) sk.parts t) in
     ap (find (λ (b : Body). uses_name u.name (out-Body b).name)) (ap (filter_map body_in) sk.parts ∙ bodies_are sk.channels sk.header sk.body sk.variable)
     ∙ ap (λ t. cond t (Some sk.body) None) e
 
