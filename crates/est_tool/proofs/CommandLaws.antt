@@ -16,19 +16,19 @@ use Rattle.est_replay.specs.declared.verdict.Replayed.{Replayed}
 use Rattle.est_specification.specs.Reading.{IsSpecification}
 use Rattle.est_trace.specs.Reading.{IsOnlyTraceText}
 use Rattle.est_replay.specs.Reading.{IsOnlyExplanationText}
-use Rattle.est_tool.specs.declared.ending.Ending.{Ending}
+use Rattle.est_tool.specs.declared.stop.Stop.{Stop}
 use Rattle.est_tool.specs.declared.file.File.TheVariants.{Specification, Trace, Explanation as Explaining}
 use Rattle.est_tool.specs.declared.status.Status.{Status}
 use Rattle.est_tool.specs.declared.status.Status.TheVariants.{Fine}
 use Rattle.est_tool.specs.Reports.{ok_line, replay_line}
 use Rattle.est_tool.specs.Statuses.{replay_status}
 use Rattle.est_tool.specs.Texts.{Holds, RefusesSpecification, RefusesTrace, RefusesExplanation}
-use Rattle.est_tool.specs.Ends.{Seen, seen, End, reported, EndsAt, HoldsSpecification, HoldsTrace, HoldsExplanation, CheckEnds, at_its_file, good, ReplayEnds, at_specification, at_trace, at_explanation, replayed, IsEnding, IsMade}
+use Rattle.est_tool.specs.Ends.{Seen, seen, End, reported, EndsAt, HoldsSpecification, HoldsTrace, HoldsExplanation, CheckEnds, at_its_file, good, ReplayEnds, at_specification, at_trace, at_explanation, replayed, IsStop, IsMade}
 use Rattle.est_tool.proofs.EndLaws.{made_of, holds_before, ends_before}
 
 -- CHECK
 
-pub check_stops : (shelf : Seen) (name : List ℕ) (r : Result (Status × String Global) Ending) (e : Ending) → IsErr r × IsErrAnd r (λ x. x ≡ e) → IsEnding (EndsAt shelf Specification name RefusesSpecification) e → IsMade (CheckEnds shelf name) r
+pub check_stops : (shelf : Seen) (name : List ℕ) (r : Result (Status × String Global) Stop) (e : Stop) → IsErr r × IsErrAnd r (λ x. x ≡ e) → IsStop (EndsAt shelf Specification name RefusesSpecification) e → IsMade (CheckEnds shelf name) r
 check_stops shelf name r e is ended = made_of {Q = CheckEnds shelf name} r e is (λ end at. at_its_file end at) ended
 
 pub check_ends : (shelf : Seen) (name : List ℕ) (spec : Spec) (counts : Counts) (report : List ℕ) → HoldsSpecification shelf name spec → counts ≡ counts_of spec → report ≡ ok_line counts.bodies counts.transitions counts.ports → CheckEnds shelf name (reported Fine report)
@@ -54,14 +54,14 @@ module _ (specification trace explanation : List ℕ) (silent statements : ℕ) 
   abbrev Replays : Seen → End → Type 0
   Replays shelf = ReplayEnds shelf specification trace explanation silent statements
 
-  pub replay_stops_at_specification : (shelf : Seen) (r : Result (Status × String Global) Ending) (e : Ending) → IsErr r × IsErrAnd r (λ x. x ≡ e) → IsEnding (EndsAt shelf Specification specification RefusesSpecification) e
+  pub replay_stops_at_specification : (shelf : Seen) (r : Result (Status × String Global) Stop) (e : Stop) → IsErr r × IsErrAnd r (λ x. x ≡ e) → IsStop (EndsAt shelf Specification specification RefusesSpecification) e
       → IsMade (ReplayEnds shelf specification trace explanation silent statements) r
   replay_stops_at_specification shelf r e is ended = made_of {Q = Replays shelf} r e is (λ end at. at_specification end at) ended
 
   -- The shelf told the same before the call and behind the specification, which was read.
   module _ (told told' : List ℕ → Option (List ℕ)) (before first after : List ℕ → ℕ) (taken : ℕ) (spec : Spec) (same : SameTold told told') (on : AllGoOn before first)
       (checked : Holds Specification (told specification) (λ text tokens. IsSpecification text tokens spec)) where
-    pub replay_stops_at_trace : (r : Result (Status × String Global) Ending) (e : Ending) → IsErr r × IsErrAnd r (λ x. x ≡ e) → IsEnding (EndsAt (seen told' first after taken) Trace trace (RefusesTrace spec)) e
+    pub replay_stops_at_trace : (r : Result (Status × String Global) Stop) (e : Stop) → IsErr r × IsErrAnd r (λ x. x ≡ e) → IsStop (EndsAt (seen told' first after taken) Trace trace (RefusesTrace spec)) e
         → IsMade (ReplayEnds (seen told before after taken) specification trace explanation silent statements) r
     replay_stops_at_trace r e is ended =
         made_of {Q = Replays (seen told before after taken)} r e is (λ end at. at_trace spec end checked (ends_before same on end at)) ended
@@ -70,7 +70,7 @@ module _ (specification trace explanation : List ℕ) (silent statements : ℕ) 
       traced_before : HoldsTrace (seen told before after taken) trace spec events
       traced_before = holds_before Trace (λ text tokens. IsOnlyTraceText (ports_of spec) text tokens events) (same trace) traced
 
-      pub replay_stops_at_explanation : (r : Result (Status × String Global) Ending) (e : Ending) → IsErr r × IsErrAnd r (λ x. x ≡ e) → IsEnding (EndsAt (seen told'' second after taken) Explaining explanation RefusesExplanation) e
+      pub replay_stops_at_explanation : (r : Result (Status × String Global) Stop) (e : Stop) → IsErr r × IsErrAnd r (λ x. x ≡ e) → IsStop (EndsAt (seen told'' second after taken) Explaining explanation RefusesExplanation) e
           → IsMade (ReplayEnds (seen told before after taken) specification trace explanation silent statements) r
       replay_stops_at_explanation r e is ended =
           made_of {Q = Replays (seen told before after taken)} r e is (λ end at. at_explanation spec events end checked traced_before (ends_before (told_on same same') (all_go_on on on') end at)) ended

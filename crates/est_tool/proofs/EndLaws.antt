@@ -10,13 +10,13 @@ use Rattle.est_lexer.specs.Places.{offset_at, last_end}
 use Rattle.est_lexer.specs.TokenList.{IsTokenList}
 use Rattle.est_edge.specs.Counts.{Rose, GoesOn, AllGoOn}
 use Rattle.est_edge.specs.Pieces.{SameTold}
-use Rattle.est_tool.specs.declared.ending.Ending.{Ending}
-use Rattle.est_tool.specs.declared.ending.Ending.TheVariants.{Report, ReadFault, OutOfMemory}
+use Rattle.est_tool.specs.declared.stop.Stop.{Stop}
+use Rattle.est_tool.specs.declared.stop.Stop.TheVariants.{Report, ReadFault, OutOfMemory}
 use Rattle.est_tool.specs.declared.file.File.{File}
 use Rattle.est_tool.specs.declared.status.Status.{Status}
 use Rattle.est_tool.specs.Files.{limit_of}
 use Rattle.est_tool.specs.Texts.{IsText, SomeText, Holds, Refusals, IsReported, refusal_at}
-use Rattle.est_tool.specs.Ends.{Seen, seen, End, reported, unread, IsTooLong, EndsAt, longer, refused, failed, IsUnread, IsRefusedText, IsRead, IsEnding, IsMade}
+use Rattle.est_tool.specs.Ends.{Seen, seen, End, reported, unread, IsTooLong, EndsAt, longer, refused, failed, IsUnread, IsRefusedText, IsRead, IsStop, IsMade}
 
 -- TEXTS
 
@@ -39,26 +39,26 @@ holds_before file Is same holds = subst (λ told. Holds file told Is) same holds
 -- ENDINGS
 
 -- what holds of the end holds in a weaker form too
-pub ending_then : {P Q : End → Type 0} (ending : Ending) → ((end : End) → P end → Q end) → IsEnding P ending → IsEnding Q ending
-ending_then (Report status report) weaker holds = weaker _ holds
-ending_then ReadFault weaker holds = weaker _ holds
-ending_then OutOfMemory weaker holds = tt
+pub stop_then : {P Q : End → Type 0} (stop : Stop) → ((end : End) → P end → Q end) → IsStop P stop → IsStop Q stop
+stop_then (Report status report) weaker holds = weaker _ holds
+stop_then ReadFault weaker holds = weaker _ holds
+stop_then OutOfMemory weaker holds = tt
 
 -- and so does what holds of a function that stops for it
-pub passed_on : {A : Type 0} {P Q : End → Type 0} (r : Result A Ending) (e : Ending) → IsErr r × IsErrAnd r (λ x. x ≡ e) → ((end : End) → P end → Q end) → IsEnding P e → IfErr r (IsEnding Q)
+pub passed_on : {A : Type 0} {P Q : End → Type 0} (r : Result A Stop) (e : Stop) → IsErr r × IsErrAnd r (λ x. x ≡ e) → ((end : End) → P end → Q end) → IsStop P e → IfErr r (IsStop Q)
 passed_on (Ok x) e is weaker holds = tt
-passed_on {Q = Q} (Err x) e is weaker holds = subst (IsEnding Q) (sym is.1) (ending_then e weaker holds)
+passed_on {Q = Q} (Err x) e is weaker holds = subst (IsStop Q) (sym is.1) (stop_then e weaker holds)
 
-pub made_of : {P Q : End → Type 0} (r : Result (Status × String Global) Ending) (e : Ending) → IsErr r × IsErrAnd r (λ x. x ≡ e) → ((end : End) → P end → Q end) → IsEnding P e → IsMade Q r
+pub made_of : {P Q : End → Type 0} (r : Result (Status × String Global) Stop) (e : Stop) → IsErr r × IsErrAnd r (λ x. x ≡ e) → ((end : End) → P end → Q end) → IsStop P e → IsMade Q r
 made_of (Ok x) e is weaker holds = absurd (never is.0)
   where
     never : false ≡ true → ⊥
     never e = cc
-made_of {Q = Q} (Err x) e is weaker holds = subst (IsEnding Q) (sym is.1) (ending_then e weaker holds)
+made_of {Q = Q} (Err x) e is weaker holds = subst (IsStop Q) (sym is.1) (stop_then e weaker holds)
 
-pub err_then : {A : Type 0} {P Q : End → Type 0} (r : Result A Ending) → ((end : End) → P end → Q end) → IfErr r (IsEnding P) → IfErr r (IsEnding Q)
+pub err_then : {A : Type 0} {P Q : End → Type 0} (r : Result A Stop) → ((end : End) → P end → Q end) → IfErr r (IsStop P) → IfErr r (IsStop Q)
 err_then (Ok x) weaker holds = tt
-err_then (Err e) weaker holds = ending_then e weaker holds
+err_then (Err e) weaker holds = stop_then e weaker holds
 
 -- what holds of a value that was made holds in a weaker form too
 pub ok_then : {A E : Type 0} {P Q : A → Type 0} (r : Result A E) → ((x : A) → P x → Q x) → IfOk r P → IfOk r Q
@@ -80,13 +80,13 @@ rose_before after goes_on name rose = let on : _ = (goes_on name).never_falls in
 
 -- The same of what a reader of a file answers.
 module _ (shelf : Seen) (file : File) (name : List ℕ) {A : Type 0} where
-  pub unread_ended : (Refuses : Refusals) (r : Result A Ending) (e : Ending) → IsErr r × IsErrAnd r (λ x. x ≡ e) → IsEnding (IsUnread shelf file name) e → IfErr r (IsEnding (EndsAt shelf file name Refuses))
+  pub unread_ended : (Refuses : Refusals) (r : Result A Stop) (e : Stop) → IsErr r × IsErrAnd r (λ x. x ≡ e) → IsStop (IsUnread shelf file name) e → IfErr r (IsStop (EndsAt shelf file name Refuses))
   unread_ended Refuses r e is ended = passed_on {Q = EndsAt shelf file name Refuses} r e is (λ end u. unread_ends {shelf = shelf} {file = file} {name = name} {Refuses = Refuses} end u) ended
 
-  pub refused_ended : (Refuses : Refusals) (text : List ℕ) (r : Result A Ending) → IsRead shelf file name text → IfErr r (IsEnding (IsRefusedText file Refuses text)) → IfErr r (IsEnding (EndsAt shelf file name Refuses))
+  pub refused_ended : (Refuses : Refusals) (text : List ℕ) (r : Result A Stop) → IsRead shelf file name text → IfErr r (IsStop (IsRefusedText file Refuses text)) → IfErr r (IsStop (EndsAt shelf file name Refuses))
   refused_ended Refuses text r read ended = err_then {Q = EndsAt shelf file name Refuses} r (λ end u. refused_ends {shelf = shelf} {file = file} {name = name} {text = text} {Refuses = Refuses} read end u) ended
 
-  pub held : (Is : A → List ℕ → List Token → Type 0) (text : List ℕ) (r : Result A Ending) → IsRead shelf file name text → IfOk r (λ x. IsText file text (Is x)) → IfOk r (λ x. Holds file (shelf.told name) (Is x))
+  pub held : (Is : A → List ℕ → List Token → Type 0) (text : List ℕ) (r : Result A Stop) → IsRead shelf file name text → IfOk r (λ x. IsText file text (Is x)) → IfOk r (λ x. Holds file (shelf.told name) (Is x))
   held Is text r read holds = ok_then {P = λ x. IsText file text (Is x)} {Q = λ x. Holds file (shelf.told name) (Is x)} r (λ x is. holds_read {shelf = shelf} {file = file} {name = name} {text = text} {Is = Is x} read is) holds
 
 -- The shelf held the same under each name and its counts had gone on when this part of the call began.

@@ -13,17 +13,17 @@ use Rattle.est_trace.specs.declared.error.TraceError.{TraceError}
 use Rattle.est_trace.specs.declared.error.TraceError.TheVariants as trace
 use Rattle.est_replay.specs.declared.error.ExplanationError.{ExplanationError}
 use Rattle.est_replay.specs.declared.error.ExplanationError.TheVariants as explanation
-use Rattle.est_tool.specs.declared.ending.Ending.{Ending}
-use Rattle.est_tool.specs.declared.ending.Ending.TheVariants as ending
+use Rattle.est_tool.specs.declared.stop.Stop.{Stop}
+use Rattle.est_tool.specs.declared.stop.Stop.TheVariants as stop
 use Rattle.est_tool.specs.declared.file.File.{File}
 use Rattle.est_tool.specs.declared.status.Status.{Status}
 use Rattle.est_tool.specs.declared.status.Status.TheVariants.{Fine, Refused, BadSpec, BadTrace, BadExplanation, TooLong, Usage, ReadFault, WriteFault, OutOfMemory, NotBuilt}
 use Rattle.est_tool.specs.Statuses.{replay_status}
 use Rattle.est_tool.specs.Texts.{SomeText, Holds, IsText, Refusals, RefusesSpecification, RefusesTrace, RefusesExplanation, SaysOfSpecification, SaysOfTrace, SaysOfExplanation, IsReported}
 use Rattle.est_tool.specs.Words.{Request, check, replay}
-use Rattle.est_tool.specs.Ends.{Seen, End, reported, unread, EndsAt, longer, refused, failed, at_its_file, good, at_specification, at_trace, at_explanation, replayed, Ends, IsEnding, IsMade}
+use Rattle.est_tool.specs.Ends.{Seen, End, reported, unread, EndsAt, longer, refused, failed, at_its_file, good, at_specification, at_trace, at_explanation, replayed, Ends, IsStop, IsMade}
 use Rattle.est_tool.specs.Result.{Asked, Writes, HasReport, IsReportable, IsSent, whole, broken_off, IsDelivered}
-use Rattle.est_tool.proofs.EndLaws.{ending_then}
+use Rattle.est_tool.proofs.EndLaws.{stop_then}
 
 -- STATUSES WITH REPORTS
 
@@ -70,9 +70,9 @@ ends_reportable shelf (replay s t e silent statements) _ (at_explanation spec ev
 ends_reportable shelf (replay s t e silent statements) _ (replayed spec events read answer holds traced explained is) = of_answer answer
 
 -- what holds of the end of a command holds in a weaker form too
-pub made_then : {P Q : End → Type 0} (made : Result (Status × String Global) Ending) → ((end : End) → P end → Q end) → IsMade P made → IsMade Q made
+pub made_then : {P Q : End → Type 0} (made : Result (Status × String Global) Stop) → ((end : End) → P end → Q end) → IsMade P made → IsMade Q made
 made_then (Ok made) weaker holds = weaker _ holds
-made_then (Err e) weaker holds = ending_then e weaker holds
+made_then (Err e) weaker holds = stop_then e weaker holds
 
 -- WRITTEN REPORTS
 
@@ -96,12 +96,12 @@ module _ (Gives : Status → List ℕ → Type 0) where
   writes_sent status report answer before after has given (broken_off _ _ part front is) = (status, report, given, part, front, is)
 
   -- and so where it may be that no report was made
-  pub writes_delivered : (P : End → Type 0) (made : Result (Status × String Global) Ending) (answer : Status) (before after : Option (List ℕ)) → ((status : Status) (report : List ℕ) → P (reported status report) → Gives status report)
+  pub writes_delivered : (P : End → Type 0) (made : Result (Status × String Global) Stop) (answer : Status) (before after : Option (List ℕ)) → ((status : Status) (report : List ℕ) → P (reported status report) → Gives status report)
       → IsMade IsReportable made → IsMade P made → IsDelivered made answer before after → Writes Gives answer before after
   writes_delivered P (Ok made) answer before after gives has is sent = writes_sent made.0 (string_bytes made.1) answer before after has (gives made.0 (string_bytes made.1) is) sent
-  writes_delivered P (Err (ending.Report status report)) answer before after gives has is sent = writes_sent status (string_bytes report) answer before after has (gives status (string_bytes report) is) sent
-  writes_delivered P (Err ending.ReadFault) answer before after gives has is none = subst (λ a. Writes Gives a before after) (sym none.0) none.1
-  writes_delivered P (Err ending.OutOfMemory) answer before after gives has is none = subst (λ a. Writes Gives a before after) (sym none.0) none.1
+  writes_delivered P (Err (stop.Report status report)) answer before after gives has is sent = writes_sent status (string_bytes report) answer before after has (gives status (string_bytes report) is) sent
+  writes_delivered P (Err stop.ReadFault) answer before after gives has is none = subst (λ a. Writes Gives a before after) (sym none.0) none.1
+  writes_delivered P (Err stop.OutOfMemory) answer before after gives has is none = subst (λ a. Writes Gives a before after) (sym none.0) none.1
 
 -- FAULTS OF READS
 
@@ -110,27 +110,27 @@ sent_no_read_fault status report answer before after has (whole _ _ is) fault = 
 sent_no_read_fault status report answer before after has (broken_off _ _ part front is) fault = cc
 
 -- the answer is a fault of a read only where a file could not be read
-pub delivered_unread : (P : End → Type 0) (made : Result (Status × String Global) Ending) (answer : Status) (before after : Option (List ℕ))
+pub delivered_unread : (P : End → Type 0) (made : Result (Status × String Global) Stop) (answer : Status) (before after : Option (List ℕ))
     → IsMade IsReportable made → IsMade P made → IsDelivered made answer before after → answer ≡ ReadFault → P unread
 delivered_unread P (Ok made) answer before after has is sent fault = absurd (sent_no_read_fault made.0 (string_bytes made.1) answer before after has sent fault)
-delivered_unread P (Err (ending.Report status report)) answer before after has is sent fault = absurd (sent_no_read_fault status (string_bytes report) answer before after has sent fault)
-delivered_unread P (Err ending.ReadFault) answer before after has is none fault = is
-delivered_unread P (Err ending.OutOfMemory) answer before after has is none fault = let f : OutOfMemory ≡ ReadFault = sym none.0 ∙ fault in cc
+delivered_unread P (Err (stop.Report status report)) answer before after has is sent fault = absurd (sent_no_read_fault status (string_bytes report) answer before after has sent fault)
+delivered_unread P (Err stop.ReadFault) answer before after has is none fault = is
+delivered_unread P (Err stop.OutOfMemory) answer before after has is none fault = let f : OutOfMemory ≡ ReadFault = sym none.0 ∙ fault in cc
 
 -- WHAT THE WORDS ASK FOR
 
 -- the report of what the words ask for has such a status
-pub asked_reportable : (words : List (String Global)) (shelf : Seen) (made : Result (Status × String Global) Ending) → Asked words (λ request. IsMade (Ends shelf request) made) → IsMade IsReportable made
+pub asked_reportable : (words : List (String Global)) (shelf : Seen) (made : Result (Status × String Global) Stop) → Asked words (λ request. IsMade (Ends shelf request) made) → IsMade IsReportable made
 asked_reportable words shelf made asked = made_then made (ends_reportable shelf asked.0) asked.2
 
 -- a fault of a read is that of what the words ask for
-pub asked_unread : (words : List (String Global)) (shelf : Seen) (made : Result (Status × String Global) Ending) (answer : Status) (before after : Option (List ℕ))
+pub asked_unread : (words : List (String Global)) (shelf : Seen) (made : Result (Status × String Global) Stop) (answer : Status) (before after : Option (List ℕ))
     → Asked words (λ request. IsMade (Ends shelf request) made) → IsDelivered made answer before after → answer ≡ ReadFault → Asked words (λ request. Ends shelf request unread)
 asked_unread words shelf made answer before after asked delivered fault =
     (asked.0, asked.1, delivered_unread (Ends shelf asked.0) made answer before after (asked_reportable words shelf made asked) asked.2 delivered fault)
 
 -- and so is what is written
-pub asked_written : (words : List (String Global)) (shelf : Seen) (made : Result (Status × String Global) Ending) (answer : Status) (before after : Option (List ℕ))
+pub asked_written : (words : List (String Global)) (shelf : Seen) (made : Result (Status × String Global) Stop) (answer : Status) (before after : Option (List ℕ))
     → Asked words (λ request. IsMade (Ends shelf request) made) → IsDelivered made answer before after
     → Writes (λ status report. Asked words (λ request. Ends shelf request (reported status report))) answer before after
 asked_written words shelf made answer before after asked delivered =

@@ -6,7 +6,7 @@ use Rattle.std.specs.Global.{Global}
 use Rattle.est_meaning.specs.declared.run.Limits.{Limits}
 use Rattle.est_tool.specs.declared.words.Command.{Command}
 use Rattle.est_tool.specs.declared.words.Command.TheVariants.{Check, Replay}
-use Rattle.est_tool.specs.Words.{Request, Asks, AreLimits, AsksNothing, IsCheck, IsCommand, IsReplay, bytes_of, to_check, to_replay, left_out, given, IsNumber}
+use Rattle.est_tool.specs.Words.{Request, Asks, AreLimits, AsksNothing, AsksToCheck, IsCommand, AsksToReplay, bytes_of, to_check, to_replay, left_out, given, IsNumber}
 
 -- a word that is not empty, by its length
 pub named : (word : String Global) (empty : Bool) → empty ≡ (string_len word == 0) → empty ≡ false → string_bytes word ≢ []
@@ -34,15 +34,15 @@ four_words (x ∷ y ∷ z ∷ w ∷ words) a b c d long at_a at_b at_c at_d =
     let all : take (length (x ∷ y ∷ z ∷ w ∷ words) - 4) words ≡ words = take_all _ words (omega arith) in cc
 
 -- the words of a check
-pub is_check : (words : List (String Global)) (command specification : String Global) → words ≡ command ∷ specification ∷ [] → string_bytes command ≡ codes "check" → string_bytes specification ≢ [] → IsCheck words
+pub is_check : (words : List (String Global)) (command specification : String Global) → words ≡ command ∷ specification ∷ [] → string_bytes command ≡ codes "check" → string_bytes specification ≢ [] → AsksToCheck words
 is_check words command specification are asked specification_named =
-    subst IsCheck (sym are) (to_check (string_bytes specification) (ap (λ c. c ∷ string_bytes specification ∷ []) asked) specification_named)
+    subst AsksToCheck (sym are) (to_check (string_bytes specification) (ap (λ c. c ∷ string_bytes specification ∷ []) asked) specification_named)
 
 -- the words of a replay
 pub is_replay : (words : List (String Global)) (command specification trace explanation : String Global) (rest : List (String Global)) (limits : Limits) → words ≡ command ∷ specification ∷ trace ∷ explanation ∷ rest
-    → string_bytes command ≡ codes "replay" → string_bytes specification ≢ [] → string_bytes trace ≢ [] → string_bytes explanation ≢ [] → AreLimits (bytes_of rest) limits.silent limits.statements → IsReplay limits words
+    → string_bytes command ≡ codes "replay" → string_bytes specification ≢ [] → string_bytes trace ≢ [] → string_bytes explanation ≢ [] → AreLimits (bytes_of rest) limits.silent limits.statements → AsksToReplay limits words
 is_replay words command specification trace explanation rest limits are asked specification_named trace_named explanation_named are_limits =
-    subst (IsReplay limits) (sym are)
+    subst (AsksToReplay limits) (sym are)
     (to_replay _ _ _ (bytes_of rest) limits.silent limits.statements (ap (λ c. c ∷ string_bytes specification ∷ string_bytes trace ∷ string_bytes explanation ∷ bytes_of rest) asked)
     specification_named trace_named explanation_named are_limits)
 
@@ -85,14 +85,14 @@ pub both_given : (words : List (String Global)) (a b : String Global) (silent st
 both_given words a b silent statements are is_silent is_statements = given _ _ silent statements (ap bytes_of are) is_silent is_statements
 
 -- words that ask to check a file ask for something
-check_asks : (words : List (String Global)) → IsCheck words → AsksNothing words → ⊥
+check_asks : (words : List (String Global)) → AsksToCheck words → AsksNothing words → ⊥
 check_asks [] asked nothing = asked
 check_asks (a ∷ []) asked nothing = asked
 check_asks (a ∷ b ∷ []) asked nothing = nothing _ asked
 check_asks (a ∷ b ∷ c ∷ words) asked nothing = asked
 
 -- words that ask for a replay ask for something
-replay_asks : (words : List (String Global)) (limits : Limits) → IsReplay limits words → AsksNothing words → ⊥
+replay_asks : (words : List (String Global)) (limits : Limits) → AsksToReplay limits words → AsksNothing words → ⊥
 replay_asks [] limits asked nothing = asked
 replay_asks (a ∷ []) limits asked nothing = asked
 replay_asks (a ∷ b ∷ []) limits asked nothing = asked

@@ -13,8 +13,8 @@ use Rattle.est_replay.specs.Reading.{IsOnlyExplanationText}
 use Rattle.est_replay.specs.Replay.{IsReplay}
 use Rattle.est_replay.specs.declared.explanation.Explanation.{Explanation}
 use Rattle.est_replay.specs.declared.verdict.Replayed.{Replayed}
-use Rattle.est_tool.specs.declared.ending.Ending.{Ending}
-use Rattle.est_tool.specs.declared.ending.Ending.TheVariants.{Report, ReadFault, OutOfMemory}
+use Rattle.est_tool.specs.declared.stop.Stop.{Stop}
+use Rattle.est_tool.specs.declared.stop.Stop.TheVariants.{Report, ReadFault, OutOfMemory}
 use Rattle.est_tool.specs.declared.file.File.{File}
 use Rattle.est_tool.specs.declared.file.File.TheVariants.{Specification, Trace, Explanation as Explaining}
 use Rattle.est_tool.specs.declared.status.Status.{Status}
@@ -32,6 +32,7 @@ pub record Seen : Type 0 where
   pub after : List ℕ → ℕ
   pub taken : ℕ
 
+-- what is seen of a shelf, from its four parts
 abbrev pub seen : (List ℕ → Option (List ℕ)) → (List ℕ → ℕ) → (List ℕ → ℕ) → ℕ → Seen
 seen told before after taken = record { told = told; before = before; after = after; taken = taken }
 
@@ -109,12 +110,12 @@ Ends shelf (replay specification trace explanation silent statements) end = Repl
 -- ANSWERS
 
 -- a function stops before its work is done; want of memory may come at any time
-abbrev pub IsEnding : (End → Type 0) → Ending → Type 0
-IsEnding P (Report status report) = P (reported status (string_bytes report))
-IsEnding P ReadFault = P unread
-IsEnding P OutOfMemory = Unit {0}
+abbrev pub IsStop : (End → Type 0) → Stop → Type 0
+IsStop P (Report status report) = P (reported status (string_bytes report))
+IsStop P ReadFault = P unread
+IsStop P OutOfMemory = Unit {0}
 
 -- a command ends with a report, or stops before
-abbrev pub IsMade : (End → Type 0) → Result (Status × String Global) Ending → Type 0
+abbrev pub IsMade : (End → Type 0) → Result (Status × String Global) Stop → Type 0
 IsMade P (Ok made) = P (reported made.0 (string_bytes made.1))
-IsMade P (Err ending) = IsEnding P ending
+IsMade P (Err stop) = IsStop P stop

@@ -3,8 +3,8 @@ use Rattle.std.specs.Prelude.{◌≡◌, ℕ, List, Option}
 use Rattle.std.specs.Prelude.{Result, Ok, Err, String, string_bytes}
 use Rattle.std.specs.Global.{Global}
 use Rattle.est_edge.specs.Pieces.{appended, IsPrefix}
-use Rattle.est_tool.specs.declared.ending.Ending.{Ending}
-use Rattle.est_tool.specs.declared.ending.Ending.TheVariants as ending
+use Rattle.est_tool.specs.declared.stop.Stop.{Stop}
+use Rattle.est_tool.specs.declared.stop.Stop.TheVariants as stop
 use Rattle.est_tool.specs.declared.status.Status.{Status}
 use Rattle.est_tool.specs.declared.status.Status.TheVariants.{Usage, ReadFault, WriteFault, OutOfMemory}
 use Rattle.est_tool.specs.Ends.{End, reported, unread}
@@ -42,8 +42,8 @@ pub data IsSent (status : Status) (report : List ℕ) : Status → Option (List 
   broken_off : (before after : Option (List ℕ)) (part : List ℕ) → IsPrefix part report → after ≡ appended before part → IsSent status report WriteFault before after
 
 -- a report was written where one was made
-abbrev pub IsDelivered : Result (Status × String Global) Ending → Status → Option (List ℕ) → Option (List ℕ) → Type 0
+abbrev pub IsDelivered : Result (Status × String Global) Stop → Status → Option (List ℕ) → Option (List ℕ) → Type 0
 IsDelivered (Ok made) status before after = IsSent made.0 (string_bytes made.1) status before after
-IsDelivered (Err (ending.Report made report)) status before after = IsSent made (string_bytes report) status before after
-IsDelivered (Err ending.ReadFault) status before after = (status ≡ ReadFault) × (after ≡ before)
-IsDelivered (Err ending.OutOfMemory) status before after = (status ≡ OutOfMemory) × (after ≡ before)
+IsDelivered (Err (stop.Report made report)) status before after = IsSent made (string_bytes report) status before after
+IsDelivered (Err stop.ReadFault) status before after = (status ≡ ReadFault) × (after ≡ before)
+IsDelivered (Err stop.OutOfMemory) status before after = (status ≡ OutOfMemory) × (after ≡ before)

@@ -49,11 +49,13 @@ SaysOfSpecification (specification.NotYet at) status place why = (status ≡ Not
 SaysOfSpecification (specification.BrokenRule at rule) status place why = (status ≡ BadSpec) × (place ≡ at) × (why ≡ rule_text rule)
 SaysOfSpecification (specification.Memory error) status place why = ⊥
 
+-- the same of a trace
 abbrev pub SaysOfTrace : TraceError → Status → ℕ → List ℕ → Type 0
 SaysOfTrace (trace.BadToken at) status place why = (status ≡ BadTrace) × (place ≡ at) × (why ≡ codes "bad token")
 SaysOfTrace (trace.TooMany at) status place why = (status ≡ BadTrace) × (place ≡ at) × (why ≡ codes "too many events")
 SaysOfTrace (trace.Memory error) status place why = ⊥
 
+-- the same of an explanation
 abbrev pub SaysOfExplanation : ExplanationError → Status → ℕ → List ℕ → Type 0
 SaysOfExplanation (explanation.BadToken at) status place why = (status ≡ BadExplanation) × (place ≡ at) × (why ≡ codes "bad token")
 SaysOfExplanation (explanation.Memory error) status place why = ⊥

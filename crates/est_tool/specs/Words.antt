@@ -40,17 +40,17 @@ abbrev pub AsksNothing : List (String Global) → Type 0
 AsksNothing words = (request : Request) → Asks (bytes_of words) request → ⊥
 
 -- the words ask to check the file that the second one names
-abbrev pub IsCheck : List (String Global) → Type 0
-IsCheck (command ∷ specification ∷ []) = Asks (bytes_of (command ∷ specification ∷ [])) (check (string_bytes specification))
-IsCheck _ = ⊥
+abbrev pub AsksToCheck : List (String Global) → Type 0
+AsksToCheck (command ∷ specification ∷ []) = Asks (bytes_of (command ∷ specification ∷ [])) (check (string_bytes specification))
+AsksToCheck _ = ⊥
 
 -- the words ask to replay, within these limits, the files that the second, third and fourth one name
-abbrev pub IsReplay : Limits → List (String Global) → Type 0
-IsReplay limits (command ∷ specification ∷ trace ∷ explanation ∷ rest) =
+abbrev pub AsksToReplay : Limits → List (String Global) → Type 0
+AsksToReplay limits (command ∷ specification ∷ trace ∷ explanation ∷ rest) =
     Asks (bytes_of (command ∷ specification ∷ trace ∷ explanation ∷ rest)) (replay (string_bytes specification) (string_bytes trace) (string_bytes explanation) limits.silent limits.statements)
-IsReplay limits _ = ⊥
+AsksToReplay limits _ = ⊥
 
 -- the words ask for this command, and the files that it is for are the words at their places
 abbrev pub IsCommand : List (String Global) → Command → Type 0
-IsCommand words Check = IsCheck words
-IsCommand words (Replay limits) = IsReplay limits words
+IsCommand words Check = AsksToCheck words
+IsCommand words (Replay limits) = AsksToReplay limits words

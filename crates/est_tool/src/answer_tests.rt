@@ -216,7 +216,7 @@ const CONFIRMED: [Row; 24] = [
         "",
         "confirmed: first 2 of 2 events",
     ),
-    // row 1
+    // one silent firing, and one is allowed
     (
         QUIET,
         "in p.go out p.left",
@@ -225,7 +225,7 @@ const CONFIRMED: [Row; 24] = [
         "10000",
         "confirmed: first 0 of 2 events",
     ),
-    // rows 1, 0, 1, 0, 1: a take and an output begin anew
+    // a take and an output end a row of silent firings
     (
         QUIET,
         "in p.go out p.left",
@@ -234,7 +234,7 @@ const CONFIRMED: [Row; 24] = [
         "10000",
         "confirmed: all 2 events",
     ),
-    // row 8
+    // eight silent firings, as many as usual
     (
         QUIET,
         "in p.go out p.left",
@@ -243,7 +243,7 @@ const CONFIRMED: [Row; 24] = [
         "",
         "confirmed: first 0 of 2 events",
     ),
-    // row 8, then 0
+    // eight, and a take ends the row
     (
         QUIET,
         "in p.go out p.left",
@@ -477,7 +477,7 @@ const BEYOND_LIMITS: [Row; 6] = [
     ),
     // the same without moves
     (SKEL, "", "yields 0", "0", "1", "rejected at move 0: limit"),
-    // row 1
+    // one where none is allowed
     (
         QUIET,
         "in p.go out p.left",
@@ -486,7 +486,7 @@ const BEYOND_LIMITS: [Row; 6] = [
         "10000",
         "rejected at move 1: too silent",
     ),
-    // row 2
+    // two where one is allowed
     (
         QUIET,
         "in p.go out p.left",
@@ -495,7 +495,7 @@ const BEYOND_LIMITS: [Row; 6] = [
         "10000",
         "rejected at move 2: too silent",
     ),
-    // rows 0, 0, 1, 2
+    // an output, and then two silent firings
     (
         QUIET,
         "in p.go out p.left",
@@ -504,7 +504,7 @@ const BEYOND_LIMITS: [Row; 6] = [
         "10000",
         "rejected at move 4: too silent",
     ),
-    // row 9
+    // nine where eight are allowed
     (
         QUIET,
         "in p.go out p.left",

@@ -2,12 +2,12 @@
 ghost use Rattle.est_edge.specs.Pieces.{SameTold};
 ghost use Rattle.est_tool.specs.Ends.{seen, CheckEnds, ReplayEnds, IsMade};
 
-use crate::ending::Ending;
-use crate::explanation::explanation;
+use crate::explanation::explanation_in;
 use crate::report::{ok_report, replay_report, replay_status};
-use crate::specification::specification;
+use crate::specification::specification_in;
 use crate::status::Status;
-use crate::trace::trace;
+use crate::stop::Stop;
+use crate::trace::trace_in;
 use est_edge::Shelf;
 use est_meaning::run::Limits;
 use est_replay::checked::replay;
@@ -26,11 +26,11 @@ pub(crate) fn check_file<S: Shelf>(
     alloc: Global,
     shelf: &mut S,
     name: &str,
-) -> Result<(Status, String), Ending>
+) -> Result<(Status, String), Stop>
     ensures told { SameTold (S.told shelf.old) (S.told shelf.new) }
     ensures ends { IsMade (CheckEnds (seen (S.told shelf.old) (S.faults shelf.old) (S.faults shelf.new) (S.taken shelf.new)) name.now) result }
 {
-    let checked = specification(alloc, shelf, name)?;
+    let checked = specification_in(alloc, shelf, name)?;
     let report = ok_report(alloc, checked.counts())?;
     Ok((Status::Fine, report))
 }
@@ -41,13 +41,13 @@ pub(crate) fn replay_files<S: Shelf>(
     shelf: &mut S,
     files: &ReplayFiles<'_>,
     limits: &Limits,
-) -> Result<(Status, String), Ending>
+) -> Result<(Status, String), Stop>
     ensures told { SameTold (S.told shelf.old) (S.told shelf.new) }
     ensures ends { IsMade (ReplayEnds (seen (S.told shelf.old) (S.faults shelf.old) (S.faults shelf.new) (S.taken shelf.new)) files.now.specification.now files.now.trace.now files.now.explanation.now limits.now.silent limits.now.statements) result }
 {
-    let checked = specification(alloc, shelf, files.specification)?;
-    let trace = trace(alloc, shelf, files.trace, &checked)?;
-    let explanation = explanation(alloc, shelf, files.explanation)?;
+    let checked = specification_in(alloc, shelf, files.specification)?;
+    let trace = trace_in(alloc, shelf, files.trace, &checked)?;
+    let explanation = explanation_in(alloc, shelf, files.explanation)?;
     let answer = replay(alloc, &checked, &trace, &explanation, limits)?;
     let report = replay_report(alloc, answer, trace.len() as u32)?;
     Ok((replay_status(answer), report))

@@ -4,7 +4,6 @@
 #[cfg(test)]
 mod answer_tests;
 mod commands;
-mod ending;
 mod explanation;
 pub mod file;
 mod reading;
@@ -14,6 +13,7 @@ mod replay_tests;
 mod report;
 mod specification;
 pub mod status;
+mod stop;
 #[cfg(test)]
 mod tests;
 pub mod top;

@@ -1,13 +1,13 @@
 //! Refusals of texts.
 ghost use Rattle.std.specs.Prelude.{◌≡◌};
 ghost use Rattle.est_lexer.specs.Places.{text_of, tokens_of};
-ghost use Rattle.est_tool.specs.Ends.{IsEnding, reported};
+ghost use Rattle.est_tool.specs.Ends.{IsStop, reported};
 ghost use Rattle.est_tool.specs.Texts.{refusal_at};
 
-use crate::ending::Ending;
 use crate::file::File;
 use crate::report::refusal_report;
 use crate::status::Status;
+use crate::stop::Stop;
 use est_lexer::tokens::Tokens;
 use std::alloc::Global;
 
@@ -20,13 +20,13 @@ pub(crate) struct Refusal {
 }
 
 /// Ends with the report of a refusal.
-pub(crate) fn refuse(alloc: Global, file: File, tokens: &Tokens<'_>, refusal: Refusal) -> Ending
-    ensures { IsEnding (λ end. end ≡ reported refusal.status (refusal_at file (text_of tokens.now) (tokens_of tokens.now) refusal.place refusal.why.now)) result }
+pub(crate) fn refuse(alloc: Global, file: File, tokens: &Tokens<'_>, refusal: Refusal) -> Stop
+    ensures { IsStop (λ end. end ≡ reported refusal.status (refusal_at file (text_of tokens.now) (tokens_of tokens.now) refusal.place refusal.why.now)) result }
 {
     let Refusal { status, place, why } = refusal;
     let (line, column) = tokens.line_column(place.min(tokens.count()));
     match refusal_report(alloc, file, line, column, why) {
-        Ok(report) => Ending::Report(status, report),
-        Err(_) => Ending::OutOfMemory,
+        Ok(report) => Stop::Report(status, report),
+        Err(_) => Stop::OutOfMemory,
     }
 }

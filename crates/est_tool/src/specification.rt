@@ -5,16 +5,16 @@ ghost use Rattle.est_edge.specs.Pieces.{SameTold};
 ghost use Rattle.est_lexer.specs.Places.{text_of, tokens_of};
 ghost use Rattle.est_specification.specs.Reading.{IsSpecification};
 ghost use Rattle.est_tool.specs.declared.file.File.TheVariants.{Specification as Specifying};
-ghost use Rattle.est_tool.specs.Ends.{seen, EndsAt, HoldsSpecification, IsEnding, IsRefusedText};
+ghost use Rattle.est_tool.specs.Ends.{seen, EndsAt, HoldsSpecification, IsStop, IsRefusedText};
 ghost use Rattle.est_tool.specs.Files.{limit_of};
 ghost use Rattle.est_tool.specs.Texts.{IsText, RefusesSpecification, SaysOfSpecification};
 
-use crate::ending::Ending;
 use crate::file::File;
 use crate::reading::read_text;
 use crate::refusal::{Refusal, refuse};
 use crate::report::rule_text;
 use crate::status::Status;
+use crate::stop::Stop;
 use est_check::Checked;
 use est_edge::Shelf;
 use est_lexer::lex::lex;
@@ -22,32 +22,32 @@ use est_specification::{SpecificationError, read_specification};
 use std::alloc::{AllocError, Global};
 
 /// The specification in the file of this name.
-pub(crate) fn specification<S: Shelf>(
+pub(crate) fn specification_in<S: Shelf>(
     alloc: Global,
     shelf: &mut S,
     name: &str,
-) -> Result<Checked, Ending>
+) -> Result<Checked, Stop>
     ensures told { SameTold (S.told shelf.old) (S.told shelf.new) }
     ensures counts { AllGoOn (S.faults shelf.old) (S.faults shelf.new) }
     ensures good { IfOk result (HoldsSpecification (seen (S.told shelf.old) (S.faults shelf.old) (S.faults shelf.new) (S.taken shelf.new)) name.now) }
-    ensures ended { IfErr result (IsEnding (EndsAt (seen (S.told shelf.old) (S.faults shelf.old) (S.faults shelf.new) (S.taken shelf.new)) Specifying name.now RefusesSpecification)) }
+    ensures ended { IfErr result (IsStop (EndsAt (seen (S.told shelf.old) (S.faults shelf.old) (S.faults shelf.new) (S.taken shelf.new)) Specifying name.now RefusesSpecification)) }
 {
     let text = read_text(alloc, shelf, name, File::Specification)?;
     specification_of(alloc, text.as_slice())
 }
 
 // The specification that a text within its limit is.
-fn specification_of(alloc: Global, text: &[u8]) -> Result<Checked, Ending>
+fn specification_of(alloc: Global, text: &[u8]) -> Result<Checked, Stop>
     requires { length text.now ≤ limit_of Specifying }
     ensures good { IfOk result (λ checked. IsText Specifying text.now (λ text tokens. IsSpecification text tokens checked)) }
-    ensures refused { IfErr result (IsEnding (IsRefusedText Specifying RefusesSpecification text.now)) }
+    ensures refused { IfErr result (IsStop (IsRefusedText Specifying RefusesSpecification text.now)) }
 {
     let tokens = lex(alloc, text)?;
     match read_specification(alloc, &tokens) {
         Ok(checked) => Ok(checked),
         Err(error) => match said_of(error) {
             Ok(refusal) => Err(refuse(alloc, File::Specification, &tokens, refusal)),
-            Err(AllocError) => Err(Ending::OutOfMemory),
+            Err(AllocError) => Err(Stop::OutOfMemory),
         },
     }
 }

@@ -30,6 +30,7 @@ pub enum Status {
 }
 
 impl Status {
+    /// The exit status.
     pub fn code(self) -> u8
         ensures { result ≡ code_of self }
     {

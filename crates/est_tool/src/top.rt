@@ -7,8 +7,8 @@ ghost use Rattle.est_tool.specs.Result.{Asked, Writes, HasReport, IsReportable, 
 ghost use Rattle.est_tool.specs.Words.{AsksNothing, IsCommand};
 
 use crate::commands::{ReplayFiles, check_file, replay_files};
-use crate::ending::Ending;
 use crate::status::Status;
+use crate::stop::Stop;
 use crate::words::{BadUsage, Command, read_words};
 use est_edge::{Shelf, Sink, write_whole};
 use std::alloc::Global;
@@ -42,7 +42,7 @@ fn obey<S: Shelf>(
     words: &[String],
     command: Command,
     shelf: &mut S,
-) -> Result<(Status, String), Ending>
+) -> Result<(Status, String), Stop>
     requires { IsCommand words.now command }
     ensures told { SameTold (S.told shelf.old) (S.told shelf.new) }
     ensures ends { Asked words.now (λ request. IsMade (Ends (seen (S.told shelf.old) (S.faults shelf.old) (S.faults shelf.new) (S.taken shelf.new)) request) result) }
@@ -61,7 +61,7 @@ fn obey<S: Shelf>(
 }
 
 // Writes a report that was made, and answers its status where that went well.
-fn deliver<K: Sink>(made: Result<(Status, String), Ending>, sink: &mut K) -> Status
+fn deliver<K: Sink>(made: Result<(Status, String), Stop>, sink: &mut K) -> Status
     requires { IsMade IsReportable made }
     ensures asked { result ≢ Status.Usage }
     ensures delivered { IsDelivered made result (K.written sink.old) (K.written sink.new) }
@@ -69,9 +69,9 @@ fn deliver<K: Sink>(made: Result<(Status, String), Ending>, sink: &mut K) -> Sta
 {
     match made {
         Ok((status, report)) => send(status, report.as_bytes(), sink),
-        Err(Ending::Report(status, report)) => send(status, report.as_bytes(), sink),
-        Err(Ending::ReadFault) => Status::ReadFault,
-        Err(Ending::OutOfMemory) => Status::OutOfMemory,
+        Err(Stop::Report(status, report)) => send(status, report.as_bytes(), sink),
+        Err(Stop::ReadFault) => Status::ReadFault,
+        Err(Stop::OutOfMemory) => Status::OutOfMemory,
     }
 }
 

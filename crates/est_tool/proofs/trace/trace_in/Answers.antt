@@ -3,7 +3,7 @@ use Rattle.est_tool.specs.Ends.{seen}
 use Rattle.est_trace.specs.Reading.{IsOnlyTraceText}
 use Rattle.est_syntax.specs.Ports.{ports_of}
 use Rattle.est_tool.proofs.EndLaws.{unread_ended, refused_ended, held}
-use Rattle.est_tool.proofs.trace.trace.Goals as goal
+use Rattle.est_tool.proofs.trace.trace_in.Goals as goal
 
 pub returns-in_err-text-clause-ended : goal.returns-in_err-text-clause-ended
 returns-in_err-text-clause-ended g c = unread_ended _ _ _ _ c.from_residual.result _ c.from_residual.ensures c.in_err-text.ensures.ended

@@ -2,7 +2,7 @@ use Rattle.est_tool.specs.declared.file.File.TheVariants.{Explanation}
 use Rattle.est_tool.specs.Ends.{seen}
 use Rattle.est_replay.specs.Reading.{IsOnlyExplanationText}
 use Rattle.est_tool.proofs.EndLaws.{unread_ended, refused_ended, held}
-use Rattle.est_tool.proofs.explanation.explanation.Goals as goal
+use Rattle.est_tool.proofs.explanation.explanation_in.Goals as goal
 
 pub returns-in_err-text-clause-ended : goal.returns-in_err-text-clause-ended
 returns-in_err-text-clause-ended g c = unread_ended _ _ _ _ c.from_residual.result _ c.from_residual.ensures c.in_err-text.ensures.ended
