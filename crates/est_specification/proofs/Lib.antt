@@ -3,3 +3,4 @@ pub mod OrderLaws
 pub mod PortBounds
 pub mod Sentences
 pub mod SkeletonLaws
+pub mod UniqueLaws

@@ -35,6 +35,18 @@ use Rattle.est_specification.proofs.Sentences.{HasAt, Last, none, IsSplit, split
 use Rattle.est_specification.proofs.CountLaws.{port_sum, sentence_few}
 use Rattle.est_specification.proofs.PortBounds.{length-ports_of}
 
+-- a `by` part of one role, and interactions without parameters
+abbrev pub IsPlainBy : ByPart → Type 0
+IsPlainBy b = (length b.roles ≡ 1) × ((i : InteractionDef) → IsIn i b.interactions → i.params ≡ [])
+
+-- interaction points without dimensions and without a queue of their own
+abbrev pub IsPlainPoint : Point → Type 0
+IsPlainPoint p = (p.dims ≡ []) × (p.queue ≡ None)
+
+-- a `trans` with one transition without a name
+abbrev pub IsPlainGroup : Group → Type 0
+IsPlainGroup g = IsOne IsPlainTransition (out-Group g).transitions
+
 module _ (text : List ℕ) (tokens : List Token) where
   abbrev Has : Rule → ℕ → ℕ → ℕ → Shape → Type 0
   Has = HasAt text tokens
@@ -77,9 +89,6 @@ module _ (text : List ℕ) (tokens : List Token) where
   plain_interaction : (i : InteractionDef) (d a b : ℕ) → Has interaction d a b (interaction_shape i) → i.params ≡ []
   plain_interaction i d a b h = (of_empty interaction none_interaction i.params (both (used_shape i.name) nothing) h).0
 
-  abbrev IsPlainBy : ByPart → Type 0
-  IsPlainBy b = (length b.roles ≡ 1) × ((i : InteractionDef) → IsIn i b.interactions → i.params ≡ [])
-
   plain_by : (x : ByPart) (d a b : ℕ) → Has (rule by) d a b (by_shape x) → IsPlainBy x
   plain_by x d a b h = one x.roles h
     where
@@ -103,12 +112,12 @@ module _ (text : List ℕ) (tokens : List Token) where
       two (u ∷ []) is h = elim h [ ]
       two (u ∷ v ∷ w ∷ us) is h = elim h [ ]
 
-  channels_are : (cs : List Channel) (h : Header) (ps : List Part) → channels_shape (channel_parts cs ++ part.Header h ∷ ps) ≡ chain (map channel_shape cs) nothing
+  pub channels_are : (cs : List Channel) (h : Header) (ps : List Part) → channels_shape (channel_parts cs ++ part.Header h ∷ ps) ≡ chain (map channel_shape cs) nothing
   channels_are [] h ps = refl
   channels_are (c ∷ cs) h ps = ap (both (channel_shape c)) (channels_are cs h ps)
 
   -- the header
-  plain_point : (p : Point) (d a b : ℕ) → Has (rule point) d a b (point_shape p) → (p.dims ≡ []) × (p.queue ≡ None)
+  plain_point : (p : Point) (d a b : ℕ) → Has (rule point) d a b (point_shape p) → IsPlainPoint p
   plain_point p d a b h =
       let shape : Shape = placed p.place (both (names_shape p.names) (both (used_shape p.channel) (both (used_shape p.role) nothing))) in
       let flat = of_empty (rule point) (something point) p.dims (without_some p.queue shape) h in
@@ -118,9 +127,9 @@ module _ (text : List ℕ) (tokens : List Token) where
   is_system true t h = (refl, h)
   is_system false t h = absurd ((something header) _ _ _ h)
 
-  plain_points : (own : Used) (ps : List Point) {d a b : ℕ} → Has (rule header) d a b (both (used_shape own) (both (points_shape ps) nothing)) → (p : Point) → IsIn p ps → (p.dims ≡ []) × (p.queue ≡ None)
+  plain_points : (own : Used) (ps : List Point) {d a b : ℕ} → Has (rule header) d a b (both (used_shape own) (both (points_shape ps) nothing)) → (p : Point) → IsIn p ps → IsPlainPoint p
   plain_points own ps (t_rule (t_word k i e (t_seq named (t_word k' i' e' (t_word l j f (t_word l' j' f' (t_seq points rest))))))) =
-      each_several (λ p. (p.dims ≡ []) × (p.queue ≡ None)) (rule point) point_shape plain_point ps points
+      each_several IsPlainPoint (rule point) point_shape plain_point ps points
 
   plain_header : (h : Header) {d a b : ℕ} → Has (rule header) d a b (header_shape h) → IsPlainHeader h
   plain_header h tree =
@@ -238,7 +247,7 @@ module _ (text : List ℕ) (tokens : List Token) where
       let unnamed = of_none (rule transition) (something transition) x.name (both (clauses_shape x.clauses) (both (block_shape x.block) nothing)) h in
       plain_parts x unnamed.0 unnamed.1
 
-  plain_group : (g : Group) (d a b : ℕ) → Has (rule transition) d a b (group_shape g) → IsOne IsPlainTransition (out-Group g).transitions
+  plain_group : (g : Group) (d a b : ℕ) → Has (rule transition) d a b (group_shape g) → IsPlainGroup g
   plain_group g d a b h = one (out-Group g).transitions h
     where
       one : (ts : List Transition) {d a b : ℕ} → Has (rule transition) d a b (one_transition ts) → IsOne IsPlainTransition ts
@@ -253,7 +262,7 @@ module _ (text : List ℕ) (tokens : List Token) where
         states = are_states (out-Body x).parts stated;
         one_section = one_section (out-Body x).parts stated;
         first = λ f is. plain_first_part (out-Body x).first f is first;
-        groups = each_repeated (λ g. IsOne IsPlainTransition (out-Group g).transitions) (rule transition) group_shape plain_group (out-Body x).groups groups;
+        groups = each_repeated IsPlainGroup (rule transition) group_shape plain_group (out-Body x).groups groups;
       }
 
   -- the module variable
@@ -288,7 +297,7 @@ module _ (text : List ℕ) (tokens : List Token) where
   starts st (t_word k i e (t_word k' i' e' (t_seq one rest))) = is_init st one
 
   -- a header, a body, the module variable and the one statement
-  of_last : (h : Header) (x : Body) (m : ModvarDef) (st : Statement) {d a b : ℕ} → Has Last d a b (both (header_shape h) (both (body_shape x) (both (modvar_shape m) (initialization_shape st))))
+  pub of_last : (h : Header) (x : Body) (m : ModvarDef) (st : Statement) {d a b : ℕ} → Has Last d a b (both (header_shape h) (both (body_shape x) (both (modvar_shape m) (initialization_shape st))))
       → IsPlainHeader h × IsPlainBody x × IsPlainVariable m × IsInit st
   of_last h x m st (t_seq headed (t_seq bodied (t_word k i e (t_seq variable (t_word k' i' e' rest))))) = (plain_header h headed, plain_body x bodied, plain_variable m variable, starts st rest)
 
@@ -306,14 +315,14 @@ module _ (text : List ℕ) (tokens : List Token) where
   of_sentence spec no_queue no_scale {b = b} (t_rule (t_word k i e (t_seq named (t_word {a = p} k' i' e' (t_seq {b = q} channels last))))) =
       record { queue = no_queue; scale = no_scale; first = _; last = q; channels = channels; split = split text tokens spec.parts (initialization_shape spec.first) 0 q b last }
 
-  sentence : (spec : Spec) {a b : ℕ} → Has (rule specification) 0 a b (spec_shape spec) → IsSentence spec b
+  pub sentence : (spec : Spec) {a b : ℕ} → Has (rule specification) 0 a b (spec_shape spec) → IsSentence spec b
   sentence spec tree =
       let shape : Shape = both (used_shape spec.name) (both (channels_shape spec.parts) (last_parts (behind_channels spec.parts) (initialization_shape spec.first))) in
       let queue = of_none (rule specification) (something specification) spec.queue (without_some spec.scale shape) tree in
       let scale = of_none (rule specification) (something specification) spec.scale shape queue.1 in
       of_sentence spec queue.0 scale.0 scale.1
 
-  plain_channels : (spec : Spec) {b : ℕ} (x : IsSentence spec b) → (c : Channel) → IsIn c x.split.channels → IsPlainChannel c
+  pub plain_channels : (spec : Spec) {b : ℕ} (x : IsSentence spec b) → (c : Channel) → IsIn c x.split.channels → IsPlainChannel c
   plain_channels spec x =
       let is : channels_shape spec.parts ≡ chain (map channel_shape x.split.channels) nothing =
       ap channels_shape x.split.parts ∙ channels_are x.split.channels x.split.header_of (part.Body x.split.body_of ∷ part.Modvars (x.split.variable ∷ []) ∷ []) in
