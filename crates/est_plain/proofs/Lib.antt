@@ -1,4 +1,5 @@
 pub mod ListLaws
+pub mod UndoLaws
 pub mod ChoiceLaws
 pub mod SituationLaws
 pub mod BlockLaws

@@ -14,10 +14,9 @@ use Rattle.est_meaning.specs.Links.{queue_of, queue_in, queue_by}
 use Rattle.est_meaning.specs.Choices as meaning
 use Rattle.est_meaning.specs.Choices.{Choice, choice_of, head_of, came_through, has_arrived, fits_state, is_enabled_choice, is_enabled, is_offered, is_due, IsAncestor, parent, beyond, Outranks, priority_at, CanFire, IsPossible, IsSettled, stamp_after, restamped, first_choice}
 use Rattle.est_meaning.specs.Step.{root_row}
-use Rattle.est_plain.specs.declared.situation.Flat.{Flat}
 use Rattle.est_plain.specs.declared.situation.PointQueue.{PointQueue}
 use Rattle.est_plain.specs.declared.situation.Waiting.{Waiting}
-use Rattle.est_plain.specs.Flat.{is_common, queue_for, queues_for, has_name, point_named, queue_named, item_of, waits_in, queued, bare, situation_of, head_matches, arrived_in, is_enabled_in, choice_in}
+use Rattle.est_plain.specs.Flat.{Held, is_common, queue_for, queues_for, has_name, point_named, queue_named, item_of, waits_in, queued, bare, situation_of, head_matches, arrived_in, is_enabled_in, choice_in}
 
 -- TESTS
 
@@ -72,12 +71,12 @@ head_is : (name signal : Name) (o : Option Waiting) → option_map_or (came_thro
 head_is name signal None = refl
 head_is name signal (Some x) = ap (λ b. b && is_name signal x.signal) (and_true (is_name name x.at))
 
-module _ (spec : Spec) (body : Body) (flat : Flat) where
-  arrived_is : (w : Option Awaited) → has_arrived spec (situation_of (queues_for spec body) body flat) 1 w ≡ arrived_in (queues_for spec body) flat.waiting.items w
+module _ (spec : Spec) (body : Body) (flat : Held) where
+  arrived_is : (w : Option Awaited) → has_arrived spec (situation_of (queues_for spec body) body flat) 1 w ≡ arrived_in (queues_for spec body) flat.waiting w
   arrived_is None = refl
   arrived_is (Some w) =
       let points = queues_for spec body in
-      let ws = flat.waiting.items in
+      let ws = flat.waiting in
       let name = w.at.name.name in
       let signal = w.signal.name in
       ap (λ q. option_map_or (came_through (point_named name) signal) (head_of (queued points ws q)) false) (queue_is spec body flat.state (queued points ws) flat.clock name)
@@ -102,7 +101,7 @@ chosen_by spec body state n false b = refl
 pub choice_is : (spec : Spec) (body : Body) (state : Option Name) (queues : QueueName → List Item) (clock : ℕ) (f : Firing) → choice_of spec (bare body state queues clock) f ≡ option_map (chosen body state) (choice_in (transitions_of body) f)
 choice_is spec body state queues clock f = chosen_by spec body state f.transition (nat_eq f.choice 1) (nat_eq f.instance 1)
 
-module _ (spec : Spec) (body : Body) (flat : Flat) where
+module _ (spec : Spec) (body : Body) (flat : Held) where
   passes : (t : Option Transition) → option_map_or (is_enabled_choice spec (situation_of (queues_for spec body) body flat)) (option_map (chosen body flat.state) t) false ≡ option_map_or (is_enabled_in (queues_for spec body) flat) t false
   passes None = refl
   passes (Some t) = enabled_is spec body flat t
@@ -110,7 +109,7 @@ module _ (spec : Spec) (body : Body) (flat : Flat) where
   pub offered_is : (limit : ℕ) (f : Firing) → is_offered limit spec (situation_of (queues_for spec body) body flat) f ≡ option_map_or (is_enabled_in (queues_for spec body) flat) (choice_in (transitions_of body) f) false
   offered_is limit f =
       let points = queues_for spec body in
-      ap (λ o. option_map_or (is_enabled_choice spec (situation_of points body flat)) o false) (choice_is spec body flat.state (queued points flat.waiting.items) flat.clock f)
+      ap (λ o. option_map_or (is_enabled_choice spec (situation_of points body flat)) o false) (choice_is spec body flat.state (queued points flat.waiting) flat.clock f)
       ∙ passes (choice_in (transitions_of body) f)
 
 -- POSSIBLE FIRINGS
@@ -144,11 +143,11 @@ false_true : false ≡ true → ⊥
 false_true e = cc
 
 -- a firing whose clauses hold is possible, since the root has no ancestor and no transition a priority
-pub possible_of : (limit : ℕ) (spec : Spec) (body : Body) (flat : Flat) (f : Firing) → option_map_or (is_enabled_in (queues_for spec body) flat) (choice_in (transitions_of body) f) false ≡ true → IsPossible limit spec (situation_of (queues_for spec body) body flat) f
+pub possible_of : (limit : ℕ) (spec : Spec) (body : Body) (flat : Held) (f : Firing) → option_map_or (is_enabled_in (queues_for spec body) flat) (choice_in (transitions_of body) f) false ≡ true → IsPossible limit spec (situation_of (queues_for spec body) body flat) f
 unfolding IsPossible IsSettled
 possible_of limit spec body flat f e =
     let points = queues_for spec body in
-    let queues = queued points flat.waiting.items in
+    let queues = queued points flat.waiting in
     record {
       settled = tt;
       offered = offered_is spec body flat limit f ∙ e;
@@ -159,7 +158,7 @@ possible_of limit spec body flat f e =
     }
 
 -- and the clauses of a possible firing hold
-pub enabled_of : (limit : ℕ) (spec : Spec) (body : Body) (flat : Flat) (f : Firing) → IsPossible limit spec (situation_of (queues_for spec body) body flat) f → option_map_or (is_enabled_in (queues_for spec body) flat) (choice_in (transitions_of body) f) false ≡ true
+pub enabled_of : (limit : ℕ) (spec : Spec) (body : Body) (flat : Held) (f : Firing) → IsPossible limit spec (situation_of (queues_for spec body) body flat) f → option_map_or (is_enabled_in (queues_for spec body) flat) (choice_in (transitions_of body) f) false ≡ true
 unfolding IsPossible
 enabled_of limit spec body flat f p = sym (offered_is spec body flat limit f) ∙ p.offered
 

@@ -1,9 +1,8 @@
 -- What a plain world answers.
-use Rattle.std.proofs.Common.{◌≡◌, ◌≤◌, ◌+◌, ◌-◌, ◌++◌, ℕ, zero, suc, Bool, true, false, if◌then◌else◌, nat_eq, List, [], ◌∷◌, map, reverse, length, Option, Some, None, slice_get, refl, sym, ap, subst, ◌∙◌, arith}
+use Rattle.std.proofs.Common.{◌≡◌, ◌≤◌, ◌+◌, ◌-◌, ◌++◌, ℕ, zero, suc, Bool, true, false, if◌then◌else◌, nat_eq, List, [], ◌∷◌, length, Option, Some, None, slice_get, refl, sym, ap, subst, ◌∙◌, arith}
 use Rattle.std.specs.Borrow.{Bor}
 use Rattle.std.specs.Option.{option_map, option_map_or}
 use Rattle.std.proofs.lemmas.Bool.{eqb-true}
-use Rattle.std.proofs.lemmas.List.{reverse-append}
 use Rattle.std.proofs.lemmas.Option.{slice_get_within}
 use Rattle.est_syntax.specs.declared.name.Name.{Name}
 use Rattle.est_syntax.specs.declared.name.Used.{Used}
@@ -24,15 +23,16 @@ use Rattle.est_meaning.specs.Text.{root_in, root_of, transitions_of, numbered, w
 use Rattle.est_meaning.specs.Situation.{QueueName, Item}
 use Rattle.est_meaning.specs.Choices.{IsSettled, restamped}
 use Rattle.est_meaning.specs.Blocks.{Outcome, Done, Fault, Limit, block_meaning}
-use Rattle.est_meaning.specs.Step.{with_state, completed, fired_by, outcome, initialized, made, begun, start_of, after_event, later}
+use Rattle.est_meaning.specs.Step.{with_state, completed, fired_by, outcome, initialized, made, begun, start_of, after_event}
 use Rattle.est_meaning.specs.Order.{IsAmong}
 use Rattle.est_meaning.specs.Stack.{Stack, pushed, OffersAre, FiredAs}
-use Rattle.est_plain.specs.declared.situation.Flat.{Flat}
 use Rattle.est_plain.specs.declared.situation.PointQueue.{PointQueue}
 use Rattle.est_syntax.specs.declared.ports.Port.{Port}
 use Rattle.est_syntax.specs.Ports.{ports_of}
 use Rattle.est_plain.specs.declared.situation.Waiting.{Waiting}
-use Rattle.est_plain.specs.Flat.{SameFlat, seen, queues_for, queued, bare, situation_of, is_enabled_in, choice_in, block_in, taken_in, next_in, IsAfter, AttemptIs, arrival_in, FirstIs, stack_of, firing_at, ListsFirst}
+use Rattle.est_plain.specs.Flat.{Held, EndsAs, seen, queues_for, queued, bare, situation_of, is_enabled_in, choice_in, block_in, taken_in, next_in, stepped, joined, begun_with, arrival_as, arrival_at, arrival_in, FirstIs, firing_at, ListsFirst}
+use Rattle.est_plain.specs.Trail.{Trail, onto, only, stack_of}
+use Rattle.est_meaning.specs.Allowed.{IsReceivable}
 use Rattle.est_plain.proofs.SituationLaws.{choice_is, chosen, possible_of, enabled_of, restamped_is}
 use Rattle.est_plain.proofs.BlockLaws.{length_by, ended, block_is, taken_is, arrival_is}
 
@@ -77,7 +77,7 @@ passes_at test ts f k t is got e =
     ap (λ w. option_map_or test (choice_in ts w) false) is ∙ ap (λ o. option_map_or test o false) (next_number ts k ∙ got) ∙ e
 
 -- the list of a plain world is that of the possible firings
-pub offers_own : (limit : ℕ) (spec : Spec) (body : Body) (flat : Flat) (fs : List Firing) → ListsFirst (is_enabled_in (queues_for spec body) flat) (transitions_of body) (length (transitions_of body)) fs → OffersAre limit spec (situation_of (queues_for spec body) body flat) Settled fs
+pub offers_own : (limit : ℕ) (spec : Spec) (body : Body) (flat : Held) (fs : List Firing) → ListsFirst (is_enabled_in (queues_for spec body) flat) (transitions_of body) (length (transitions_of body)) fs → OffersAre limit spec (situation_of (queues_for spec body) body flat) Settled fs
 unfolding IsSettled
 offers_own limit spec body flat fs l =
     let test = is_enabled_in (queues_for spec body) flat in
@@ -91,7 +91,7 @@ offers_own limit spec body flat fs l =
       },
     )
 
-pub offers_are : (limit : ℕ) (own spec : Spec) (body : Body) (points : List PointQueue) (ts : List Transition) (n : ℕ) (flat : Flat) (fs : List Firing) → own ≡ spec → points ≡ queues_for own body → ts ≡ transitions_of body → n ≡ length ts
+pub offers_are : (limit : ℕ) (own spec : Spec) (body : Body) (points : List PointQueue) (ts : List Transition) (n : ℕ) (flat : Held) (fs : List Firing) → own ≡ spec → points ≡ queues_for own body → ts ≡ transitions_of body → n ≡ length ts
     → ListsFirst (is_enabled_in points flat) ts n fs → OffersAre limit spec (situation_of points body flat) Settled fs
 offers_are limit own spec body points ts n flat fs same are ts_are all l =
     let l2 = subst (λ m. ListsFirst (is_enabled_in points flat) ts m fs) all l in
@@ -100,29 +100,22 @@ offers_are limit own spec body points ts n flat fs same are ts_are all l =
     subst (λ s. OffersAre limit s (situation_of points body flat) Settled fs) same
     (subst (λ ps. OffersAre limit own (situation_of ps body flat) Settled fs) (sym are) (offers_own limit own body flat fs l4))
 
--- STACKS
-
-pub pushed_is : (points : List PointQueue) (body : Body) (now next : Flat) (below after : List Flat) → after ≡ below ++ now ∷ [] → stack_of points body next after ≡ pushed (situation_of points body next) (stack_of points body now below)
-pushed_is points body now next below after e =
-    ap (λ xs. let w : Stack = record { now = situation_of points body next; below = map (situation_of points body) (reverse xs) } in w) e
-    ∙ ap (λ xs. let w : Stack = record { now = situation_of points body next; below = map (situation_of points body) xs } in w) (reverse-append below (now ∷ []))
-
 -- FIRING
 
-module _ (limit : ℕ) (spec : Spec) (body : Body) (flat : Flat) (f : Firing) where
+module _ (limit : ℕ) (spec : Spec) (body : Body) (flat : Held) (f : Firing) where
   outcome_at : (o : Option Transition) → choice_in (transitions_of body) f ≡ o → outcome limit spec (situation_of (queues_for spec body) body flat) f ≡ option_map_or (fired_by limit spec (situation_of (queues_for spec body) body flat) f) (option_map (chosen body flat.state) o) (Fault NoModule)
   unfolding outcome
   outcome_at o e =
       let s = situation_of (queues_for spec body) body flat in
-      ap (λ c. option_map_or (fired_by limit spec s f) c (Fault NoModule)) (choice_is spec body flat.state (queued (queues_for spec body) flat.waiting.items) flat.clock f ∙ ap (option_map (chosen body flat.state)) e)
+      ap (λ c. option_map_or (fired_by limit spec s f) c (Fault NoModule)) (choice_is spec body flat.state (queued (queues_for spec body) flat.waiting) flat.clock f ∙ ap (option_map (chosen body flat.state)) e)
 
   abbrev taken_queues : Transition → (QueueName → List Item)
-  taken_queues t = queued (queues_for spec body) (taken_in (queues_for spec body) flat.waiting.items (when_of t))
+  taken_queues t = queued (queues_for spec body) (taken_in (queues_for spec body) flat.waiting (when_of t))
 
   fired_is : (t : Transition) → fired_by limit spec (situation_of (queues_for spec body) body flat) f (chosen body flat.state t)
       ≡ completed limit spec (Some f) 1 (to_of t) (ended spec body flat.state (taken_queues t) flat.clock (block_in (ports_of spec) t.block.statements limit []))
   fired_is t =
-      ap (λ s. completed limit spec (Some f) 1 (to_of t) (block_meaning spec 1 t.block.statements limit s [])) (taken_is spec body flat.state flat.clock flat.waiting.items (when_of t))
+      ap (λ s. completed limit spec (Some f) 1 (to_of t) (block_meaning spec 1 t.block.statements limit s [])) (taken_is spec body flat.state flat.clock flat.waiting (when_of t))
       ∙ ap (completed limit spec (Some f) 1 (to_of t)) (block_is spec body flat.state (taken_queues t) flat.clock t.block.statements limit [])
 
   pub outcome_none : choice_in (transitions_of body) f ≡ None → outcome limit spec (situation_of (queues_for spec body) body flat) f ≡ Fault NoModule
@@ -143,14 +136,18 @@ module _ (limit : ℕ) (spec : Spec) (body : Body) (flat : Flat) (f : Firing) wh
       ∙ ap (λ s. Done (restamped limit spec (Some f) s) outs) (state_set (taken_queues t) (to_of t))
       ∙ ap (λ s. Done s outs) (restamped_is limit spec (Some f) body (next_in flat.state (to_of t)) (taken_queues t) flat.clock)
 
-after_is : (points : List PointQueue) (body : Body) (flat next : Flat) (t : Transition) → IsAfter points flat t next → situation_of points body next ≡ bare body (next_in flat.state (to_of t)) (queued points (taken_in points flat.waiting.items (when_of t))) flat.clock
-after_is points body flat next t a =
-    ap (λ st. bare body st (queued points next.waiting.items) next.clock) a.state_is
-    ∙ ap (λ ws. bare body (next_in flat.state (to_of t)) (queued points ws) next.clock) a.waiting_is
-    ∙ ap (bare body (next_in flat.state (to_of t)) (queued points (taken_in points flat.waiting.items (when_of t)))) a.clock_is
+-- the events of a block that is done
+pub ends_done : (o : Option (List Event)) (outs : List Event) → EndsAs o true outs → o ≡ Some outs
+ends_done (Some events) outs e = ap Some (sym e)
+ends_done None outs e = absurd e
+
+-- and none of one that passes its limit
+pub ends_limit : (o : Option (List Event)) (outs : List Event) → EndsAs o false outs → o ≡ None
+ends_limit (Some events) outs e = absurd e
+ends_limit None outs e = refl
 
 -- what a plain world answers to a firing
-module _ (limit : ℕ) (own spec : Spec) (body : Body) (points : List PointQueue) (ports : List Port) (ts : List Transition) (same : own ≡ spec) (are : points ≡ queues_for own body) (ports_are : ports ≡ ports_of own) (ts_are : ts ≡ transitions_of body) (flat : Flat) (f : Firing) where
+module _ (limit : ℕ) (own spec : Spec) (body : Body) (points : List PointQueue) (ports : List Port) (ts : List Transition) (same : own ≡ spec) (are : points ≡ queues_for own body) (ports_are : ports ≡ ports_of own) (ts_are : ts ≡ transitions_of body) (flat : Held) (f : Firing) where
   to_own : (o : Outcome) → outcome limit own (situation_of (queues_for own body) body flat) f ≡ o → outcome limit spec (situation_of points body flat) f ≡ o
   to_own o e = subst (λ s. outcome limit s (situation_of points body flat) f ≡ o) same (subst (λ ps. outcome limit own (situation_of ps body flat) f ≡ o) (sym are) e)
 
@@ -163,46 +160,38 @@ module _ (limit : ℕ) (own spec : Spec) (body : Body) (points : List PointQueue
       subst (λ o. FiredAs o fired.Limit events old new)
       (sym (to_own Limit (outcome_limit limit own body flat f t (sym (ap (λ us. choice_in us f) ts_are) ∙ sym c) (subst (λ ps. block_in ps t.block.statements limit [] ≡ None) ports_are b)))) (none, stays)
 
-  pub answers_done : (t : Transition) (next : Flat) (events : List Event) (below after : List Flat) → Some t ≡ choice_in ts f → AttemptIs points ports limit flat t (Some next) events → after ≡ below ++ flat ∷ []
-      → FiredAs (outcome limit spec (situation_of points body flat) f) fired.Done events (stack_of points body flat below) (stack_of points body next after)
-  answers_done t next events below after c a e =
-      let s = bare body (next_in flat.state (to_of t)) (queued points (taken_in points flat.waiting.items (when_of t))) flat.clock in
-      let done : outcome limit spec (situation_of points body flat) f ≡ Done s events =
-      to_own (Done s events)
-      (outcome_done limit own body flat f t events (sym (ap (λ us. choice_in us f) ts_are) ∙ sym c) (subst (λ ps. block_in ps t.block.statements limit [] ≡ Some events) ports_are a.1)
-      ∙ ap (λ ps. Done (bare body (next_in flat.state (to_of t)) (queued ps (taken_in ps flat.waiting.items (when_of t))) flat.clock) events) (sym are)) in
-      subst (λ o. FiredAs o fired.Done events (stack_of points body flat below) (stack_of points body next after)) (sym done)
-      (refl, pushed_is points body flat next below after e ∙ ap (λ w. pushed w (stack_of points body flat below)) (after_is points body flat next t a.0))
+  pub answers_done : (t : Transition) (events : List Event) (old new : Trail) → Some t ≡ choice_in ts f → block_in ports t.block.statements limit [] ≡ Some events → old.now ≡ flat → new ≡ onto (stepped points t old.now) old
+      → FiredAs (outcome limit spec (situation_of points body flat) f) fired.Done events (stack_of points body old) (stack_of points body new)
+  answers_done t events old new c b now e =
+      let done : outcome limit spec (situation_of points body flat) f ≡ Done (situation_of points body (stepped points t flat)) events =
+      to_own (Done (situation_of points body (stepped points t flat)) events)
+      (outcome_done limit own body flat f t events (sym (ap (λ us. choice_in us f) ts_are) ∙ sym c) (subst (λ ps. block_in ps t.block.statements limit [] ≡ Some events) ports_are b)
+      ∙ ap (λ ps. Done (situation_of ps body (stepped ps t flat)) events) (sym are)) in
+      subst (λ o. FiredAs o fired.Done events (stack_of points body old) (stack_of points body new)) (sym done)
+      (refl, ap (stack_of points body) e ∙ ap (λ h. pushed (situation_of points body (stepped points t h)) (stack_of points body old)) now)
 
 -- THE OUTSIDE
 
 -- what a plain world is behind an arrival
-pub arrival_pushed : (own spec : Spec) (body : Body) (points : List PointQueue) (ports : List Port) (flat copied next : Flat) (i : Interaction) (below after : List Flat) → own ≡ spec → points ≡ queues_for own body → ports ≡ ports_of own
-    → SameFlat copied flat → next.state ≡ copied.state → next.waiting.items ≡ copied.waiting.items ++ arrival_in ports i → next.clock ≡ copied.clock → after ≡ below ++ flat ∷ []
-    → stack_of points body next after ≡ pushed (after_event spec (situation_of points body flat) (event.Arrives i)) (stack_of points body flat below)
+pub arrival_pushed : (own spec : Spec) (body : Body) (points : List PointQueue) (ports : List Port) (old new : Trail) (i : Interaction) (w : Waiting) → own ≡ spec → points ≡ queues_for own body → ports ≡ ports_of own
+    → w ∷ [] ≡ arrival_in ports i → new ≡ onto (joined w old.now) old
+    → stack_of points body new ≡ pushed (after_event spec (situation_of points body old.now) (event.Arrives i)) (stack_of points body old)
 unfolding after_event
-arrival_pushed own spec body points ports flat copied next i below after same are ports_are c state waiting clock e =
-    let waiting_after : List Waiting = flat.waiting.items ++ arrival_in ports i in
-    let own_is : after_event own (situation_of (queues_for own body) body flat) (event.Arrives i) ≡ bare body flat.state (queued (queues_for own body) waiting_after) flat.clock =
-    arrival_is own body flat.state flat.clock flat.waiting.items i ∙ ap (λ ps. bare body flat.state (queued (queues_for own body) (flat.waiting.items ++ arrival_in ps i)) flat.clock) (sym ports_are) in
-    let is = subst (λ s. after_event s (situation_of points body flat) (event.Arrives i) ≡ bare body flat.state (queued points waiting_after) flat.clock) same
-    (subst (λ ps. after_event own (situation_of ps body flat) (event.Arrives i) ≡ bare body flat.state (queued ps waiting_after) flat.clock) (sym are) own_is) in
-    let next_is : situation_of points body next ≡ bare body flat.state (queued points (flat.waiting.items ++ arrival_in ports i)) flat.clock =
-    ap (λ st. bare body st (queued points next.waiting.items) next.clock) (state ∙ c.state_is)
-    ∙ ap (λ ws. bare body flat.state (queued points ws) next.clock) (waiting ∙ ap (λ ws. ws ++ arrival_in ports i) c.waiting_is)
-    ∙ ap (bare body flat.state (queued points (flat.waiting.items ++ arrival_in ports i))) (clock ∙ c.clock_is) in
-    pushed_is points body flat next below after e ∙ ap (λ w. pushed w (stack_of points body flat below)) (next_is ∙ sym is)
+arrival_pushed own spec body points ports old new i w same are ports_are item e =
+    let flat = old.now in
+    let own_is : after_event own (situation_of (queues_for own body) body flat) (event.Arrives i) ≡ situation_of (queues_for own body) body (joined w flat) =
+    arrival_is own body flat.state flat.clock flat.waiting i ∙ ap (λ ws. bare body flat.state (queued (queues_for own body) (flat.waiting ++ ws)) flat.clock) (ap (λ ps. arrival_in ps i) (sym ports_are) ∙ sym item) in
+    let is = subst (λ s. after_event s (situation_of points body flat) (event.Arrives i) ≡ situation_of points body (joined w flat)) same
+    (subst (λ ps. after_event own (situation_of ps body flat) (event.Arrives i) ≡ situation_of ps body (joined w flat)) (sym are) own_is) in
+    ap (stack_of points body) e ∙ ap (λ s. pushed s (stack_of points body old)) (sym is)
 
--- what a plain world is behind passing time
-pub passing_pushed : (body : Body) (points : List PointQueue) (flat copied next : Flat) (units : ℕ) (below after : List Flat)
-    → SameFlat copied flat → next.state ≡ copied.state → next.waiting.items ≡ copied.waiting.items → next.clock ≡ flat.clock + units → after ≡ below ++ flat ∷ []
-    → stack_of points body next after ≡ pushed (later (situation_of points body flat) units) (stack_of points body flat below)
-passing_pushed body points flat copied next units below after c state waiting clock e =
-    let next_is : situation_of points body next ≡ bare body flat.state (queued points flat.waiting.items) (flat.clock + units) =
-    ap (λ st. bare body st (queued points next.waiting.items) next.clock) (state ∙ c.state_is)
-    ∙ ap (λ ws. bare body flat.state (queued points ws) next.clock) (waiting ∙ c.waiting_is)
-    ∙ ap (bare body flat.state (queued points flat.waiting.items)) clock in
-    pushed_is points body flat next below after e ∙ ap (λ w. pushed w (stack_of points body flat below)) next_is
+-- an interaction that can be received has something that waits
+pub arrival_some : (own : Spec) (ports : List Port) (i : Interaction) → ports ≡ ports_of own → IsReceivable own i → [] ≡ arrival_in ports i → ⊥
+unfolding IsReceivable
+arrival_some own ports i are r none =
+    let port = r.0 in
+    let e : [] ≡ arrival_as port i (Some r.1) = none ∙ ap (λ ps. arrival_in ps i) are ∙ ap (arrival_at i) r.2.port_is ∙ ap (arrival_as port i) r.2.signal_is in
+    cc
 
 -- START
 
@@ -261,15 +250,12 @@ pub started_limit : (limit left : ℕ) (spec : Spec) (body : Body) (ports : List
 started_limit limit left spec body ports o outs root are e none a =
     start_limited limit spec body root left outs e (subst (λ ps. FirstIs ps left (out-Body body).first None outs) are (subst (λ w. FirstIs ports left (out-Body body).first w outs) none a))
 
-pub started_done : (limit left : ℕ) (own spec : Spec) (body : Body) (points : List PointQueue) (ports : List Port) (o : Option (Option Name)) (state : Option Name) (outs : List Event) (waiting : List Waiting)
-    → own ≡ spec → root_of own ≡ Some body → points ≡ queues_for own body → ports ≡ ports_of own → waiting ≡ [] → limit ≡ left + 1 → o ≡ Some state → FirstIs ports left (out-Body body).first o outs → start_of limit spec ≡ Done (bare body state (queued points waiting) 0) outs
-started_done limit left own spec body points ports o state outs waiting same root are ports_are none e is a =
+pub started_done : (limit left : ℕ) (own spec : Spec) (body : Body) (points : List PointQueue) (ports : List Port) (o : Option (Option Name)) (state : Option Name) (outs : List Event) (trail : Trail)
+    → own ≡ spec → root_of own ≡ Some body → points ≡ queues_for own body → ports ≡ ports_of own → trail ≡ only (begun_with state) → limit ≡ left + 1 → o ≡ Some state → FirstIs ports left (out-Body body).first o outs → start_of limit spec ≡ Done (stack_of points body trail).now outs
+started_done limit left own spec body points ports o state outs trail same root are ports_are now e is a =
     let first = subst (λ ps. FirstIs ps left (out-Body body).first (Some state) outs) ports_are (subst (λ w. FirstIs ports left (out-Body body).first w outs) is a) in
-    subst (λ s. start_of limit s ≡ Done (bare body state (queued points waiting) 0) outs) same
-    (start_done limit own body root left state outs e first ∙ ap (λ ps. Done (bare body state (queued ps []) 0) outs) (sym are) ∙ ap (λ ws. Done (bare body state (queued points ws) 0) outs) (sym none))
-
-pub nothing_below : (points : List PointQueue) (body : Body) (now : Flat) (below : List Flat) → below ≡ [] → (stack_of points body now below).below ≡ []
-nothing_below points body now below e = ap (λ xs. map (situation_of points body) (reverse xs)) e
+    subst (λ s. start_of limit s ≡ Done (stack_of points body trail).now outs) same
+    (start_done limit own body root left state outs e first ∙ ap (λ ps. Done (bare body state (queued ps []) 0) outs) (sym are) ∙ ap (λ t. Done (stack_of points body t).now outs) (sym now))
 
 pub as_many : (xs : List (Bor Transition)) → length xs ≡ length (seen xs)
 as_many xs = sym (length_by (λ (x : Bor Transition). x.now) xs)

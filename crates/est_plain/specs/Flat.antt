@@ -1,5 +1,5 @@
 -- Flat lists, and what they stand for.
-use Rattle.std.specs.Prelude.{◌≡◌, ◌<◌, ◌^◌, ◌+◌, ◌&&◌, ℕ, zero, suc, Bool, true, false, List, [], ◌∷◌, ◌++◌, map, filter, find, length, Option, Some, None, nat_eq, reverse, slice_get, if◌then◌else◌}
+use Rattle.std.specs.Prelude.{◌≡◌, ◌<◌, ◌^◌, ◌+◌, ◌&&◌, ℕ, zero, suc, Bool, true, false, List, [], ◌∷◌, ◌++◌, map, filter, find, length, Option, Some, None, nat_eq, slice_get, if◌then◌else◌}
 use Rattle.std.specs.Borrow.{Bor}
 use Rattle.std.specs.List.{position}
 use Rattle.std.specs.Option.{option_map_or}
@@ -20,7 +20,6 @@ use Rattle.est_meaning.specs.declared.run.Firing.{Firing}
 use Rattle.est_meaning.specs.Text.{Declared, Awaited, is_name, discipline, points_in, header_of, numbered, from_of, to_of, when_of}
 use Rattle.est_meaning.specs.Situation.{nothing, InteractionPoint, QueueName, Own, Shared, is_queue, Item, Situation}
 use Rattle.est_meaning.specs.Order.{IsAscending, IsAmong}
-use Rattle.est_meaning.specs.Stack.{Stack}
 use Rattle.est_meaning.specs.declared.event.Interaction.{Interaction}
 use Rattle.est_syntax.specs.declared.specification.FirstPart.{FirstPart}
 use Rattle.est_meaning.specs.Choices.{fits_state}
@@ -34,11 +33,15 @@ use Rattle.est_meaning.specs.Links.{port_point}
 use Rattle.est_meaning.specs.Blocks.{is_signal}
 use Rattle.est_plain.specs.declared.situation.Waiting.{Waiting}
 
--- both hold the same
-pub record SameFlat (a b : Flat) : Type 0 where
-  pub state_is : a.state ≡ b.state
-  pub waiting_is : a.waiting.items ≡ b.waiting.items
-  pub clock_is : a.clock ≡ b.clock
+-- what a flat situation holds: its state, all that waits in order of arrival, and the clock
+pub record Held : Type 0 where
+  pub state : Option Name
+  pub waiting : List Waiting
+  pub clock : ℕ
+
+-- what this one holds
+abbrev pub held : Flat → Held
+held flat = record { state = flat.state; waiting = flat.waiting.items; clock = flat.clock }
 
 -- THE TEXT AS LISTS
 
@@ -111,8 +114,12 @@ bare body state queues clock =
     record { rows = record (root_row body) { state = state } ∷ []; peer = nothing; down = nothing; queues = queues; stamps = nothing; clock = clock; next = 2 }
 
 -- what a flat situation stands for
-abbrev pub situation_of : List PointQueue → Body → Flat → Situation
-situation_of points body flat = bare body flat.state (queued points flat.waiting.items) flat.clock
+abbrev pub situation_of : List PointQueue → Body → Held → Situation
+situation_of points body h = bare body h.state (queued points h.waiting) h.clock
+
+-- the situation before any move: a state, nothing that waits, and no time passed
+abbrev pub begun_with : Option Name → Held
+begun_with state = record { state = state; waiting = []; clock = 0 }
 
 -- CHOICES
 
@@ -127,8 +134,8 @@ arrived_in points waiting None = true
 arrived_in points waiting (Some w) = head_matches w.at.name.name w.signal.name (find (waits_in points (queue_named points w.at.name.name)) waiting)
 
 -- the clauses of a transition hold in a flat situation
-abbrev pub is_enabled_in : List PointQueue → Flat → Transition → Bool
-is_enabled_in points flat t = fits_state (from_of t) flat.state && arrived_in points flat.waiting.items (when_of t)
+abbrev pub is_enabled_in : List PointQueue → Held → Transition → Bool
+is_enabled_in points h t = fits_state (from_of t) h.state && arrived_in points h.waiting (when_of t)
 
 -- the transition of a firing of the root
 abbrev pub choice_in : List Transition → Firing → Option Transition
@@ -190,16 +197,17 @@ abbrev pub next_in : Option Name → Option Used → Option Name
 next_in state None = state
 next_in state (Some u) = Some u.name
 
--- the situation after a transition whose block is done
-pub record IsAfter (points : List PointQueue) (flat : Flat) (t : Transition) (next : Flat) : Type 0 where
-  pub state_is : next.state ≡ next_in flat.state (to_of t)
-  pub waiting_is : next.waiting.items ≡ taken_in points flat.waiting.items (when_of t)
-  pub clock_is : next.clock ≡ flat.clock
+-- the situation behind a transition whose block is done
+abbrev pub stepped : List PointQueue → Transition → Held → Held
+stepped points t h = record { state = next_in h.state (to_of t); waiting = taken_in points h.waiting (when_of t); clock = h.clock }
 
--- what comes of a transition: the next situation with its outside events, or none where the block passes its limit
-abbrev pub AttemptIs : List PointQueue → List Port → ℕ → Flat → Transition → Option Flat → List Event → Type 0
-AttemptIs points ports limit flat t None outs = block_in ports t.block.statements limit [] ≡ None
-AttemptIs points ports limit flat t (Some next) outs = IsAfter points flat t next × (block_in ports t.block.statements limit [] ≡ Some outs)
+-- the situation in which one more item waits
+abbrev pub joined : Waiting → Held → Held
+joined w h = record h { waiting = h.waiting ++ w ∷ [] }
+
+-- the situation some time later
+abbrev pub delayed : ℕ → Held → Held
+delayed units h = record h { clock = h.clock + units }
 
 -- what an arrival adds to what waits
 abbrev pub arrival_as : Port → Interaction → Option Signal → List Waiting
@@ -221,12 +229,6 @@ FirstIs ports left None None outs = ⊥
 FirstIs ports left None (Some state) outs = (state ≡ None) × (outs ≡ [])
 FirstIs ports left (Some part) None outs = block_in ports part.block.statements left [] ≡ None
 FirstIs ports left (Some part) (Some state) outs = (state ≡ next_in None part.to) × (block_in ports part.block.statements left [] ≡ Some outs)
-
--- STACKS
-
--- what a current situation and those below it, the latest last, stand for
-abbrev pub stack_of : List PointQueue → Body → Flat → List Flat → Stack
-stack_of points body now below = record { now = situation_of points body now; below = map (situation_of points body) (reverse below) }
 
 -- OPTIONS
 

@@ -1,23 +1,27 @@
 //! Choices and blocks of the one instance.
 
-ghost use Rattle.std.specs.Prelude.{◌≡◌, ◌<◌, ◌^◌, ◌++◌, [], length, slice_get, IsTrue, IfOk, OnOk, option_copied};
+ghost use Rattle.std.specs.Prelude.{◌≡◌, ◌<◌, ◌^◌, ◌++◌, [], length, slice_get, IsTrue, IfOk, OnOk, option_copied, option_to_list};
 ghost use Rattle.std.specs.List.{position};
-ghost use Rattle.est_meaning.specs.Text.{when_of};
+ghost use Rattle.std.specs.VecDeque.{deque_capacity};
+ghost use Rattle.est_meaning.specs.Text.{to_of, when_of};
 ghost use Rattle.est_meaning.specs.Blocks.{is_signal};
-ghost use Rattle.est_plain.specs.Flat.{HasFew, is_port, leaving, sent_in, entered_in, block_in, EndsAs, arrived_in, is_enabled_in, head_matches, taken_in, next_in, AttemptIs, arrival_in, FirstIs, ListsFirst, choice_in, seen};
+ghost use Rattle.est_plain.specs.Flat.{held, HasFew, is_port, leaving, sent_in, entered_in, block_in, EndsAs, arrived_in, is_enabled_in, head_matches, taken_in, next_in, arrival_in, FirstIs, ListsFirst, choice_in, seen};
+ghost use Rattle.est_plain.specs.Undo.{put_back, HasPlace};
 
 use crate::clauses::{awaited, fits_state, next_state};
 use crate::queue::{head, take_head};
-use crate::situation::{Flat, PointQueue, Waiting};
+use crate::situation::{Flat, PointQueue, Waiting, copy_state};
 use crate::text::same_name;
+use crate::undo::Taken;
 use est_meaning::event::{Event, Interaction};
 use est_meaning::run::Firing;
 use est_syntax::copy::copy_values;
 use est_syntax::kind::Values;
-use est_syntax::name::{Name, Used};
+use est_syntax::name::Name;
 use est_syntax::ports::{Port, Signal, Signals};
 use est_syntax::specification::{FirstPart, Sendings, Statement, Statements, Transition};
 use std::alloc::{AllocError, Global};
+use std::collections::VecDeque;
 
 /// The greatest number of 32 bits.
 const MOST: usize = 4_294_967_295;
@@ -33,8 +37,8 @@ fn matches(item: Option<&Waiting>, at: &Name, signal: &Name) -> bool
 }
 
 /// Whether the interaction that a transition awaits has arrived.
-fn has_arrived(points: &[PointQueue], waiting: &[Waiting], transition: &Transition) -> bool
-    ensures { result ≡ arrived_in points.now waiting.now (when_of transition.now) }
+fn has_arrived(points: &[PointQueue], waiting: &VecDeque<Waiting>, transition: &Transition) -> bool
+    ensures { result ≡ arrived_in points.now waiting.now.items (when_of transition.now) }
 {
     match awaited(transition) {
         None => true,
@@ -50,10 +54,10 @@ fn has_arrived(points: &[PointQueue], waiting: &[Waiting], transition: &Transiti
 
 /// Whether all clauses of a transition hold.
 pub fn is_enabled(points: &[PointQueue], flat: &Flat, transition: &Transition) -> bool
-    ensures { result ≡ is_enabled_in points.now flat.now transition.now }
+    ensures { result ≡ is_enabled_in points.now (held flat.now) transition.now }
 {
     if fits_state(transition, &flat.state) {
-        has_arrived(points, flat.waiting.as_slice(), transition)
+        has_arrived(points, &flat.waiting, transition)
     } else {
         false
     }
@@ -170,47 +174,33 @@ pub fn run_block(
 }
 
 /// Takes the interaction that a transition awaits, where it awaits one.
-fn take_awaited(points: &[PointQueue], transition: &Transition, waiting: &mut Vec<Waiting>)
-    ensures { waiting.new.items ≡ taken_in points.now waiting.old.items (when_of transition.now) }
+pub fn take_awaited(
+    points: &[PointQueue],
+    transition: &Transition,
+    waiting: &mut VecDeque<Waiting>,
+) -> Option<Taken>
+    ensures items { waiting.new.items ≡ taken_in points.now waiting.old.items (when_of transition.now) }
+    ensures back { put_back result waiting.new.items ≡ waiting.old.items }
+    ensures place { HasPlace (deque_capacity waiting.new) result waiting.new.items }
+    ensures capacity { deque_capacity waiting.new ≡ deque_capacity waiting.old }
 {
     match awaited(transition) {
-        None => {}
+        None => None,
         Some((at, _)) => take_head(points, waiting, &at.name.name),
     }
 }
 
-/// Sets the next state, where the transition names one.
-fn set_state(alloc: Global, state: Option<&Used>, flat: &mut Flat) -> Result<(), AllocError>
-    ensures { OnOk result (flat.new ≡ record flat.old { state = next_in flat.old.state (option_copied state.entry) }) }
-{
-    match state {
-        None => {}
-        Some(used) => flat.state = Some(used.name.copy(alloc)?),
-    }
-    Ok(())
-}
-
-/// Tries a transition on a copy of a situation. Answers none where its block passes the limit.
-pub fn attempt(
+/// The state behind a transition: the one that it names, or the same.
+pub fn state_after(
     alloc: Global,
-    points: &[PointQueue],
-    ports: &[Port],
-    limit: u32,
-    flat: &Flat,
     transition: &Transition,
-    outs: &mut Vec<Event>,
-) -> Result<Option<Flat>, AllocError>
-    requires few { HasFew ports.now }
-    requires empty { outs.old.items ≡ [] }
-    ensures { IfOk result (λ next. AttemptIs points.now ports.now limit flat.now transition.now next outs.new.items) }
+    state: &Option<Name>,
+) -> Result<Option<Name>, AllocError>
+    ensures { IfOk result (λ next. next ≡ next_in state.now (to_of transition.now)) }
 {
-    let mut next = flat.copy(alloc)?;
-    take_awaited(points, transition, &mut next.waiting);
-    if run_block(alloc, ports, &transition.block.statements, limit, outs)? {
-        set_state(alloc, next_state(transition), &mut next)?;
-        Ok(Some(next))
-    } else {
-        Ok(None)
+    match next_state(transition) {
+        None => copy_state(alloc, state),
+        Some(used) => Ok(Some(used.name.copy(alloc)?)),
     }
 }
 
@@ -228,27 +218,23 @@ fn signal_at(signals: &Signals, number: u32) -> Option<&Signal>
     signals.as_slice().get(number as usize)
 }
 
-/// Puts an interaction that arrives behind all that waits.
-pub fn add_arrival(
+/// What waits once an interaction has arrived, where its port has it.
+pub fn arrival(
     alloc: Global,
     ports: &[Port],
     interaction: &Interaction,
-    waiting: &mut Vec<Waiting>,
-) -> Result<(), AllocError>
-    ensures { OnOk result (waiting.new.items ≡ waiting.old.items ++ arrival_in ports.now interaction.now) }
+) -> Result<Option<Waiting>, AllocError>
+    ensures { IfOk result (λ item. option_to_list item ≡ arrival_in ports.now interaction.now) }
 {
     match port_at(ports, interaction.port) {
-        None => Ok(()),
+        None => Ok(None),
         Some(port) => match signal_at(&port.signals, interaction.signal) {
-            None => Ok(()),
-            Some(signal) => {
-                waiting.push(Waiting {
-                    at: port.name.copy(alloc)?,
-                    signal: signal.name.copy(alloc)?,
-                    values: copy_values(alloc, &interaction.values)?,
-                })?;
-                Ok(())
-            }
+            None => Ok(None),
+            Some(signal) => Ok(Some(Waiting {
+                at: port.name.copy(alloc)?,
+                signal: signal.name.copy(alloc)?,
+                values: copy_values(alloc, &interaction.values)?,
+            })),
         },
     }
 }
@@ -289,7 +275,7 @@ pub fn list_enabled(
 ) -> Result<(), AllocError>
     requires few { length transitions.now < 2 ^ 32 }
     requires empty { into.old.items ≡ [] }
-    ensures { OnOk result (ListsFirst (is_enabled_in points.now flat.now) (seen transitions.now) (length transitions.now) into.new.items) }
+    ensures { OnOk result (ListsFirst (is_enabled_in points.now (held flat.now)) (seen transitions.now) (length transitions.now) into.new.items) }
 {
     for (index, transition) in transitions.iter().enumerate() {
         if is_enabled(points, flat, transition) {

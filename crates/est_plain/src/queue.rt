@@ -3,12 +3,16 @@
 ghost use Rattle.std.specs.Prelude.{◌≡◌, find};
 ghost use Rattle.std.specs.List.{position};
 ghost use Rattle.std.specs.Option.{option_copied};
+ghost use Rattle.std.specs.VecDeque.{deque_capacity};
 ghost use Rattle.est_meaning.specs.Situation.{is_queue};
 ghost use Rattle.est_plain.specs.Flat.{has_name, shares, queue_named, waits_in, without_first};
+ghost use Rattle.est_plain.specs.Undo.{put_back, HasPlace};
 
 use crate::situation::{PointQueue, Waiting};
 use crate::text::same_name;
+use crate::undo::Taken;
 use est_syntax::name::Name;
+use std::collections::VecDeque;
 
 /// The first interaction point of a name.
 fn point_named<'p>(points: &'p [PointQueue], name: &Name) -> Option<&'p PointQueue>
@@ -41,8 +45,12 @@ fn same_queue(points: &[PointQueue], a: &Name, b: &Name) -> bool
 }
 
 /// The head of the queue of an interaction point.
-pub fn head<'w>(points: &[PointQueue], waiting: &'w [Waiting], name: &Name) -> Option<&'w Waiting>
-    ensures { option_copied result ≡ find (waits_in points.now (queue_named points.now name.now)) waiting.now }
+pub fn head<'w>(
+    points: &[PointQueue],
+    waiting: &'w VecDeque<Waiting>,
+    name: &Name,
+) -> Option<&'w Waiting>
+    ensures { option_copied result ≡ find (waits_in points.now (queue_named points.now name.now)) waiting.now.items }
 {
     waiting
         .iter()
@@ -50,8 +58,8 @@ pub fn head<'w>(points: &[PointQueue], waiting: &'w [Waiting], name: &Name) -> O
 }
 
 /// Where the head of the queue of an interaction point stands.
-fn head_index(points: &[PointQueue], waiting: &[Waiting], name: &Name) -> Option<usize>
-    ensures { result ≡ position (waits_in points.now (queue_named points.now name.now)) waiting.now }
+fn head_index(points: &[PointQueue], waiting: &VecDeque<Waiting>, name: &Name) -> Option<usize>
+    ensures { result ≡ position (waits_in points.now (queue_named points.now name.now)) waiting.now.items }
 {
     waiting
         .iter()
@@ -59,13 +67,17 @@ fn head_index(points: &[PointQueue], waiting: &[Waiting], name: &Name) -> Option
 }
 
 /// Takes the head of the queue of an interaction point.
-pub fn take_head(points: &[PointQueue], waiting: &mut Vec<Waiting>, name: &Name)
-    ensures { waiting.new.items ≡ without_first (waits_in points.now (queue_named points.now name.now)) waiting.old.items }
+pub fn take_head(
+    points: &[PointQueue],
+    waiting: &mut VecDeque<Waiting>,
+    name: &Name,
+) -> Option<Taken>
+    ensures items { waiting.new.items ≡ without_first (waits_in points.now (queue_named points.now name.now)) waiting.old.items }
+    ensures back { put_back result waiting.new.items ≡ waiting.old.items }
+    ensures place { HasPlace (deque_capacity waiting.new) result waiting.new.items }
+    ensures capacity { deque_capacity waiting.new ≡ deque_capacity waiting.old }
 {
-    match head_index(points, waiting.as_slice(), name) {
-        None => {}
-        Some(index) => {
-            waiting.remove(index);
-        }
-    }
+    let index = head_index(points, waiting, name)?;
+    let item = waiting.remove(index)?;
+    Some(Taken { index, item })
 }

@@ -1,14 +1,15 @@
-//! A world of one instance that keeps a copy of its situation for each move.
+//! A world of one instance whose moves change one situation, and are undone there.
 
-ghost use Rattle.std.specs.Prelude.{◌≡◌, ◌<◌, ◌≤◌, ◌^◌, ◌+◌, ◌∷◌, ◌++◌, [], refl, length, Some, OnOk, OnErr, IfOk};
+ghost use Rattle.std.specs.Prelude.{◌≡◌, ◌<◌, ◌^◌, ◌+◌, refl, length, Some, IfOk};
 ghost use Rattle.est_syntax.specs.Ports.{ports_of};
 ghost use Rattle.est_meaning.specs.Text.{root_of, transitions_of};
 ghost use Rattle.est_meaning.specs.Stack.{StartedAs};
 ghost use Rattle.est_plain.specs.Flat.{queues_for, seen, HasFew};
 
-use crate::block::{add_arrival, attempt, choice, has_few, list_enabled, run_first};
+use crate::block::{arrival, choice, has_few, list_enabled, run_block, run_first};
+use crate::history::History;
 use crate::outline::{queues_of, transitions_of};
-use crate::situation::{Flat, PointQueue};
+use crate::situation::PointQueue;
 use crate::text::{header_of, root_of};
 use est_check::Checked;
 use est_meaning::event::{Event, Events};
@@ -17,7 +18,6 @@ use est_meaning::world::World;
 use est_syntax::ports::Ports;
 use est_syntax::specification::{Body, Spec, Transition};
 use std::alloc::{AllocError, Global};
-use std::mem;
 
 /// A system of one instance that can be run and undone step by step.
 #[derive(Drop)]
@@ -29,8 +29,7 @@ pub struct PlainWorld<'c> {
     transitions: Vec<&'c Transition>,
     limit: u32,
     fired: u64,
-    now: Flat,
-    below: Vec<Flat>,
+    history: History,
     ghost root_is: { root_of spec.now ≡ Some root.now },
     ghost ports_are: { ports.now ≡ ports_of spec.now },
     ghost points_are: { points.items ≡ queues_for spec.now root.now },
@@ -39,23 +38,13 @@ pub struct PlainWorld<'c> {
     ghost few_transitions: { length transitions.items < 2 ^ 32 },
 }
 
-/// Puts a situation on top of the others.
-fn push(now: &mut Flat, below: &mut Vec<Flat>, next: Flat) -> Result<(), AllocError>
-    ensures ok { OnOk result ((now.new ≡ next) × (below.new.items ≡ below.old.items ++ now.old ∷ [])) }
-    ensures err { OnErr result ((now.new ≡ now.old) × (below.new.items ≡ below.old.items)) }
-{
-    below.reserve(1)?;
-    below.push_reserved(mem::replace(now, next));
-    Ok(())
-}
-
 impl<'c> World for PlainWorld<'c> {
     ghost use Rattle.std.specs.Prelude.{◌≡◌, refl};
-    ghost use Rattle.est_plain.specs.Flat.{stack_of};
+    ghost use Rattle.est_plain.specs.Trail.{trail, stack_of};
 
     ghost speaks = { λ w spec. w.spec.now ≡ spec };
 
-    ghost stack = { λ w _. stack_of w.points.items w.root.now w.now w.below.items };
+    ghost stack = { λ w _. stack_of w.points.items w.root.now (trail w.history) };
 
     ghost limit = { λ w. w.limit };
 
@@ -68,7 +57,7 @@ impl<'c> World for PlainWorld<'c> {
         list_enabled(
             self.points.as_slice(),
             self.transitions.as_slice(),
-            &self.now,
+            &self.history.current,
             into,
         )?;
         Ok(Offers::Settled)
@@ -86,17 +75,20 @@ impl<'c> World for PlainWorld<'c> {
         match choice(self.transitions.as_slice(), what) {
             None => Ok(Fired::Fault(BlockFault::NoModule)),
             Some(transition) => {
-                let points = self.points.as_slice();
-                let ports = self.ports.as_slice();
-                match attempt(
-                    alloc, points, ports, self.limit, &self.now, transition, &mut sent,
+                let statements = &transition.block.statements;
+                if run_block(
+                    alloc,
+                    self.ports.as_slice(),
+                    statements,
+                    self.limit,
+                    &mut sent,
                 )? {
-                    None => Ok(Fired::Limit),
-                    Some(next) => {
-                        push(&mut self.now, &mut self.below, next)?;
-                        *outs = sent;
-                        Ok(Fired::Done)
-                    }
+                    self.history
+                        .step(alloc, self.points.as_slice(), transition)?;
+                    *outs = sent;
+                    Ok(Fired::Done)
+                } else {
+                    Ok(Fired::Limit)
                 }
             }
         }
@@ -105,10 +97,13 @@ impl<'c> World for PlainWorld<'c> {
     fn arrive(&mut self, alloc: Global, event: &Event) -> Result<(), AllocError> {
         match event {
             Event::Arrives(interaction) => {
-                let mut next = self.now.copy(alloc)?;
-                add_arrival(alloc, self.ports.as_slice(), interaction, &mut next.waiting)?;
-                push(&mut self.now, &mut self.below, next)?;
-                Ok(())
+                match arrival(alloc, self.ports.as_slice(), interaction)? {
+                    None => unreachable!(),
+                    Some(item) => {
+                        self.history.arrive(item)?;
+                        Ok(())
+                    }
+                }
             }
             Event::Leaves(_) => unreachable!(),
             Event::Passes(_) => unreachable!(),
@@ -116,24 +111,19 @@ impl<'c> World for PlainWorld<'c> {
     }
 
     fn pass(&mut self, alloc: Global, units: u64) -> Result<(), AllocError> {
-        let mut next = self.now.copy(alloc)?;
-        next.clock = self.now.clock + units;
-        push(&mut self.now, &mut self.below, next)?;
-        Ok(())
+        self.history.pass(units)
     }
 
     fn back(&mut self) {
-        if let Some(flat) = self.below.pop() {
-            self.now = flat;
-        }
+        self.history.back();
     }
 
     fn forget(&mut self) {
-        self.below.clear();
+        self.history.forget();
     }
 
     fn depth(&self) -> u64 {
-        self.below.len() as u64
+        self.history.depth()
     }
 }
 
@@ -178,12 +168,7 @@ impl<'c> PlainWorld<'c> {
                     transitions,
                     limit: left + 1,
                     fired: 0,
-                    now: Flat {
-                        state,
-                        waiting: Vec::new(alloc),
-                        clock: 0,
-                    },
-                    below: Vec::new(alloc),
+                    history: History::new(alloc, state),
                 },
                 outs: Events { items: outs },
             }),

@@ -23,7 +23,7 @@ use Rattle.est_tool.specs.declared.status.Status.TheVariants.{Fine}
 use Rattle.est_tool.specs.Reports.{ok_line, replay_line}
 use Rattle.est_tool.specs.Statuses.{replay_status}
 use Rattle.est_tool.specs.Texts.{Holds, RefusesSpecification, RefusesTrace, RefusesExplanation}
-use Rattle.est_tool.specs.Ends.{Seen, seen, End, reported, EndsAt, HoldsSpecification, HoldsTrace, HoldsExplanation, CheckEnds, at_its_file, good, ReplayEnds, at_specification, at_trace, at_explanation, replayed, IsStop, IsMade}
+use Rattle.est_tool.specs.Ends.{Seen, seen, End, reported, EndsAt, HoldsSpecification, HoldsTrace, CheckEnds, at_its_file, good, ReplayEnds, at_specification, at_trace, at_explanation, replayed, IsStop, IsMade}
 use Rattle.est_tool.proofs.EndLaws.{made_of, holds_before, ends_before}
 
 -- CHECK

@@ -8,14 +8,14 @@ use Rattle.std.specs.Option.{option_map_or}
 use Rattle.est_lexer.specs.declared.kind.Token.{Token}
 use Rattle.est_lexer.specs.Places.{offset_at, last_end}
 use Rattle.est_lexer.specs.TokenList.{IsTokenList}
-use Rattle.est_edge.specs.Counts.{Rose, GoesOn, AllGoOn}
+use Rattle.est_edge.specs.Counts.{Rose, AllGoOn}
 use Rattle.est_edge.specs.Pieces.{SameTold}
 use Rattle.est_tool.specs.declared.stop.Stop.{Stop}
 use Rattle.est_tool.specs.declared.stop.Stop.TheVariants.{Report, ReadFault, OutOfMemory}
 use Rattle.est_tool.specs.declared.file.File.{File}
 use Rattle.est_tool.specs.declared.status.Status.{Status}
 use Rattle.est_tool.specs.Files.{limit_of}
-use Rattle.est_tool.specs.Texts.{IsText, SomeText, Holds, Refusals, IsReported, refusal_at}
+use Rattle.est_tool.specs.Texts.{IsText, SomeText, Holds, Refusals, IsReported}
 use Rattle.est_tool.specs.Ends.{Seen, seen, End, reported, unread, IsTooLong, EndsAt, longer, refused, failed, IsUnread, IsRefusedText, IsRead, IsStop, IsMade}
 
 -- TEXTS

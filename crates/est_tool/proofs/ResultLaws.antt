@@ -1,10 +1,9 @@
 -- What a call writes, from what its steps answered.
-use Rattle.std.proofs.Common.{◌≡◌, ◌⊎◌, inl, inr, ◌∙◌, ℕ, List, Option, Some, None, sym, subst, refl, Result, Ok, Err}
+use Rattle.std.proofs.Common.{◌≡◌, ◌∙◌, ℕ, List, Option, Some, None, sym, subst, Result, Ok, Err}
 use Rattle.std.specs.Prelude.{String, string_bytes}
 use Rattle.std.specs.Global.{Global}
 use Rattle.est_lexer.specs.declared.kind.Token.{Token}
-use Rattle.est_edge.specs.Pieces.{appended, IsPrefix}
-use Rattle.est_syntax.specs.declared.specification.Spec.{Spec}
+use Rattle.est_edge.specs.Pieces.{appended}
 use Rattle.est_replay.specs.declared.verdict.Replayed.{Replayed}
 use Rattle.est_replay.specs.declared.verdict.Replayed.TheVariants.{Confirmed, Rejected}
 use Rattle.est_specification.specs.declared.error.SpecificationError.{SpecificationError}
@@ -19,9 +18,9 @@ use Rattle.est_tool.specs.declared.file.File.{File}
 use Rattle.est_tool.specs.declared.status.Status.{Status}
 use Rattle.est_tool.specs.declared.status.Status.TheVariants.{Fine, Refused, BadSpec, BadTrace, BadExplanation, TooLong, Usage, ReadFault, WriteFault, OutOfMemory, NotBuilt}
 use Rattle.est_tool.specs.Statuses.{replay_status}
-use Rattle.est_tool.specs.Texts.{SomeText, Holds, IsText, Refusals, RefusesSpecification, RefusesTrace, RefusesExplanation, SaysOfSpecification, SaysOfTrace, SaysOfExplanation, IsReported}
+use Rattle.est_tool.specs.Texts.{Holds, Refusals, RefusesSpecification, RefusesTrace, RefusesExplanation, SaysOfSpecification, SaysOfTrace, SaysOfExplanation, IsReported}
 use Rattle.est_tool.specs.Words.{Request, check, replay}
-use Rattle.est_tool.specs.Ends.{Seen, End, reported, unread, EndsAt, longer, refused, failed, at_its_file, good, at_specification, at_trace, at_explanation, replayed, Ends, IsStop, IsMade}
+use Rattle.est_tool.specs.Ends.{Seen, End, reported, unread, EndsAt, longer, refused, failed, at_its_file, good, at_specification, at_trace, at_explanation, replayed, Ends, IsMade}
 use Rattle.est_tool.specs.Result.{Asked, Writes, HasReport, IsReportable, IsSent, whole, broken_off, IsDelivered}
 use Rattle.est_tool.proofs.EndLaws.{stop_then}
 

@@ -1,5 +1,6 @@
 pub mod Ends
 pub mod Files
+pub mod Laws
 pub mod Reports
 pub mod Result
 pub mod Statuses

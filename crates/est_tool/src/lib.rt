@@ -6,6 +6,7 @@ mod answer_tests;
 mod commands;
 mod explanation;
 pub mod file;
+pub mod laws;
 mod reading;
 mod refusal;
 #[cfg(test)]

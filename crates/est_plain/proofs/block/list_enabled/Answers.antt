@@ -1,12 +1,12 @@
 use Rattle.std.proofs.Common.{sym, ap, ◌∙◌}
-use Rattle.est_plain.specs.Flat.{is_enabled_in, seen}
+use Rattle.est_plain.specs.Flat.{is_enabled_in, held, seen}
 use Rattle.est_plain.proofs.ChoiceLaws.{seen_at, lists_more, lists_skip}
 use Rattle.est_plain.proofs.block.list_enabled.Goals as goal
 use Rattle.est_plain.proofs.block.list_enabled.Goals.{then-is_enabled+in_ok-push, else-is_enabled}
 
 pub loop-index-preserved : goal.loop-index-preserved
 loop-index-preserved c =
-    let test = is_enabled_in c.args.points.now c.args.flat.now in
+    let test = is_enabled_in c.args.points.now (held c.args.flat.now) in
     let ts = seen c.args.transitions.now in
     let x = c.index-transitions-index.result in
     let t = x.now in

@@ -1,0 +1,370 @@
+-- What is told of its files determines what a call reports.
+use Rattle.std.proofs.Common.{◌≡◌, ◌∙◌, ◌⊎◌, inl, inr, ℕ, ◌<◌, Bool, true, false, List, [], ◌∷◌, length, codes, get_or, Option, Some, None, IfSome, if◌then◌else◌, slice_get, sym, subst, ap, refl, arith}
+use Rattle.est_lexer.specs.declared.kind.Token.{Token}
+use Rattle.est_lexer.specs.declared.kind.TokenKind.{TokenKind}
+use Rattle.est_lexer.specs.declared.kind.TokenKind.TheVariants.{LeftOut}
+use Rattle.est_lexer.proofs.Unique.{tokens_unique}
+use Rattle.est_language.proofs.Fronts.{at_most_one_bad_place}
+use Rattle.est_syntax.specs.declared.rule.Rule.{Rule}
+use Rattle.est_syntax.specs.declared.rule.Rule.TheVariants.{UnknownName, DeclaredTwice, NotSeenHere, WrongSort, NumberTooLarge, WrongBounds, TooLarge, WrongKind, WrongNumber, NotWritable, NotInFunction, WrongDirection, DelayNotAlone, NoFirstState, WrongAttribute, WrongBody, WrongLink, CaseTwice}
+use Rattle.est_syntax.specs.declared.specification.Spec.{Spec}
+use Rattle.est_syntax.specs.Breaks.{IsLeastFault}
+use Rattle.est_syntax.specs.Least.{number}
+use Rattle.est_syntax.specs.Ports.{ports_of}
+use Rattle.est_syntax.proofs.LeastLaws.{lex}
+use Rattle.est_grammar.specs.Answer.{HasOneTree, IsFirstBadPlace, is_left_out, is_not_yet, passes}
+use Rattle.est_check.specs.Checked.{counts_of}
+use Rattle.est_meaning.specs.declared.event.Event.{Event}
+use Rattle.est_specification.specs.Reading.{IsSpecification, IsNoSpecification}
+use Rattle.est_specification.specs.declared.error.SpecificationError.{SpecificationError}
+use Rattle.est_specification.specs.declared.error.SpecificationError.TheVariants as specification
+use Rattle.est_specification.proofs.UniqueLaws.{same_specification}
+use Rattle.est_trace.specs.Reading.{IsOnlyTraceText, IsTraceRefusal, IsFull}
+use Rattle.est_trace.specs.declared.error.TraceError.{TraceError}
+use Rattle.est_trace.specs.declared.error.TraceError.TheVariants as trace
+use Rattle.est_replay.specs.Reading.{IsOnlyExplanationText, IsExplanationRefusal}
+use Rattle.est_replay.specs.Replay.{IsReplay}
+use Rattle.est_replay.specs.declared.error.ExplanationError.{ExplanationError}
+use Rattle.est_replay.specs.declared.error.ExplanationError.TheVariants as explanation
+use Rattle.est_replay.specs.declared.explanation.Explanation.{Explanation}
+use Rattle.est_replay.specs.declared.verdict.Replayed.{Replayed}
+use Rattle.est_replay.proofs.Checks.{answer_one}
+use Rattle.est_tool.specs.declared.file.File.{File}
+use Rattle.est_tool.specs.declared.file.File.TheVariants.{Specification, Trace, Explanation as Explaining}
+use Rattle.est_tool.specs.declared.status.Status.{Status}
+use Rattle.est_tool.specs.declared.status.Status.TheVariants.{Fine, BadSpec, NotBuilt}
+use Rattle.est_tool.specs.Files.{limit_of}
+use Rattle.est_tool.specs.Reports.{ok_line, replay_line, rule_text}
+use Rattle.est_tool.specs.Statuses.{replay_status}
+use Rattle.est_tool.specs.Texts.{IsText, Holds, Refusals, RefusesSpecification, RefusesTrace, RefusesExplanation, SaysOfSpecification, SaysOfTrace, SaysOfExplanation, IsReported, refusal_at}
+use Rattle.est_tool.specs.Words.{check, replay}
+use Rattle.est_tool.specs.Ends.{Seen, End, reported, unread, IsTooLong, EndsAt, longer, refused, failed, CheckEnds, at_its_file, good, ReplayEnds, at_specification, at_trace, at_explanation, replayed}
+use Rattle.est_tool.specs.Laws.{TellAlike, OneResult}
+
+-- what is said of the tokens of a text, with a value of type A
+abbrev Goods : Type 0 → Type 1
+Goods A = A → List ℕ → List Token → Type 0
+
+-- two refusals say the same of their tokens
+abbrev AreAlike : Status → Status → ℕ → ℕ → List ℕ → List ℕ → Type 0
+AreAlike s s' place place' why why' = (s ≡ s') × (place ≡ place') × (why ≡ why')
+
+-- two results are the same
+abbrev AreSame : Status → Status → List ℕ → List ℕ → Type 0
+AreSame s s' r r' = (s ≡ s') × (r ≡ r')
+
+-- A text is refused in one way, or good with one value, and never both.
+record IsDecided {A : Type 0} (Refuses : Refusals) (Good : Goods A) : Type 0 where
+  one_refusal : (text : List ℕ) (tokens : List Token) (s s' : Status) (place place' : ℕ) (why why' : List ℕ) → Refuses text tokens s place why → Refuses text tokens s' place' why' → AreAlike s s' place place' why why'
+  not_both : (x : A) (text : List ℕ) (tokens : List Token) (s : Status) (place : ℕ) (why : List ℕ) → Good x text tokens → Refuses text tokens s place why → ⊥
+  one_value : (x y : A) (text : List ℕ) (tokens : List Token) → Good x text tokens → Good y text tokens → x ≡ y
+
+-- SPECIFICATIONS
+
+-- each rule stands at its number
+rules : List Rule
+rules = UnknownName ∷ UnknownName ∷ DeclaredTwice ∷ NotSeenHere ∷ WrongSort ∷ NumberTooLarge ∷ WrongBounds ∷ TooLarge ∷ WrongKind ∷ WrongNumber ∷ NotWritable ∷ NotInFunction ∷ WrongDirection ∷ DelayNotAlone ∷ NoFirstState ∷ WrongAttribute ∷ WrongBody ∷ WrongLink ∷ CaseTwice ∷ []
+
+by_number : (r : Rule) → get_or rules (number r) UnknownName ≡ r
+unfolding rules
+by_number UnknownName = refl
+by_number DeclaredTwice = refl
+by_number NotSeenHere = refl
+by_number WrongSort = refl
+by_number NumberTooLarge = refl
+by_number WrongBounds = refl
+by_number TooLarge = refl
+by_number WrongKind = refl
+by_number WrongNumber = refl
+by_number NotWritable = refl
+by_number NotInFunction = refl
+by_number WrongDirection = refl
+by_number DelayNotAlone = refl
+by_number NoFirstState = refl
+by_number WrongAttribute = refl
+by_number WrongBody = refl
+by_number WrongLink = refl
+by_number CaseTwice = refl
+
+-- of two faults of which none is before the other, the places and the rules are the same
+same_place : (a x b y : ℕ) → lex a x b y ≡ false → lex b y a x ≡ false → a ≡ b
+same_place a x b y h k = grind arith
+
+same_number : (a x b y : ℕ) → lex a x b y ≡ false → lex b y a x ≡ false → x ≡ y
+same_number a x b y h k = grind arith
+
+same_fault : (spec : Spec) (place place' : ℕ) (r r' : Rule) → IsLeastFault spec place r → IsLeastFault spec place' r' → (place ≡ place') × (r ≡ r')
+same_fault spec place place' r r' x y =
+    let no_later : lex place' (number r') place (number r) ≡ false = x.1 place' r' y.0 in
+    let no_sooner : lex place (number r) place' (number r') ≡ false = y.1 place r x.0 in
+    let at : place ≡ place' = same_place place (number r) place' (number r') no_sooner no_later in
+    let numbered : number r ≡ number r' = same_number place (number r) place' (number r') no_sooner no_later in
+    (at, sym (by_number r) ∙ ap (λ n. get_or rules n UnknownName) numbered ∙ by_number r')
+
+-- a token that is left out is none that comes later
+out_for_good : (kind : TokenKind) → is_left_out kind ≡ true → is_not_yet kind ≡ false
+out_for_good (LeftOut token) e = refl
+out_for_good kind e = cc
+
+passes_out : (token : Option Token) → passes is_left_out token ≡ true → passes is_not_yet token ≡ false
+passes_out None e = cc
+passes_out (Some token) e = out_for_good token.kind e
+
+-- what is said of a first bad place, by the sort of the token there
+abbrev status_by : Bool → Status
+status_by not_yet = if not_yet then NotBuilt else BadSpec
+
+abbrev why_by : Bool → Bool → List ℕ
+why_by not_yet left_out = if not_yet then codes "not built yet" else (if left_out then codes "left out" else codes "bad token")
+
+status_at : List Token → ℕ → Status
+status_at tokens place = status_by (passes is_not_yet (slice_get tokens place))
+
+why_at : List Token → ℕ → List ℕ
+why_at tokens place = why_by (passes is_not_yet (slice_get tokens place)) (passes is_left_out (slice_get tokens place))
+
+status_of : (tokens : List Token) (place : ℕ) (n : Bool) → passes is_not_yet (slice_get tokens place) ≡ n → status_by n ≡ status_at tokens place
+unfolding status_at
+status_of tokens place n p = ap status_by (sym p)
+
+why_of : (tokens : List Token) (place : ℕ) (n o : Bool) → passes is_not_yet (slice_get tokens place) ≡ n → passes is_left_out (slice_get tokens place) ≡ o → why_by n o ≡ why_at tokens place
+unfolding why_at
+why_of tokens place n o p q = λ i. why_by (sym p i) (sym q i)
+
+-- a specification is refused at its first bad place, or at its least broken rule
+data IsRefusedSpecification (text : List ℕ) (tokens : List Token) (s : Status) (place : ℕ) (why : List ℕ) : Type 0 where
+  bad : IsFirstBadPlace text tokens place → s ≡ status_at tokens place → why ≡ why_at tokens place → IsRefusedSpecification text tokens s place why
+  broken : (spec : Spec) (r : Rule) → HasOneTree text tokens spec → IsLeastFault spec place r → s ≡ BadSpec → why ≡ rule_text r → IsRefusedSpecification text tokens s place why
+
+bad_at : (text : List ℕ) (tokens : List Token) (s s' : Status) (place at : ℕ) (why why' : List ℕ) → IsFirstBadPlace text tokens at → s ≡ s' → s' ≡ status_at tokens at → place ≡ at → why ≡ why' → why' ≡ why_at tokens at
+    → IsRefusedSpecification text tokens s place why
+bad_at text tokens s s' place at why why' is e f p g h =
+    bad (subst (λ n. IsFirstBadPlace text tokens n) (sym p) is) (e ∙ f ∙ ap (λ n. status_at tokens n) (sym p)) (g ∙ h ∙ ap (λ n. why_at tokens n) (sym p))
+
+how_refused : (text : List ℕ) (tokens : List Token) (error : SpecificationError) (s : Status) (place : ℕ) (why : List ℕ) → IsNoSpecification text tokens error → SaysOfSpecification error s place why → IsRefusedSpecification text tokens s place why
+how_refused text tokens (specification.BadToken at) s place why is says =
+    bad_at text tokens s _ place at why _ is.0 says.0 (status_of tokens at false is.1.2) says.1 says.2 (why_of tokens at false false is.1.2 is.1.1)
+how_refused text tokens (specification.LeftOut at) s place why is says =
+    let later : passes is_not_yet (slice_get tokens at) ≡ false = passes_out (slice_get tokens at) is.1.1 in
+    bad_at text tokens s _ place at why _ is.0 says.0 (status_of tokens at false later) says.1 says.2 (why_of tokens at false true later is.1.1)
+how_refused text tokens (specification.NotYet at) s place why is says =
+    bad_at text tokens s _ place at why _ is.0 says.0 (status_of tokens at true is.1.1) says.1 says.2 (why_of tokens at true _ is.1.1 refl)
+how_refused text tokens (specification.BrokenRule at r) s place why is says = broken is.0 r is.1 (subst (λ n. IsLeastFault is.0 n r) (sym says.1) is.2) says.0 says.2
+how_refused text tokens (specification.Memory error) s place why is says = absurd says
+
+specifications_alike : (text : List ℕ) (tokens : List Token) (s s' : Status) (place place' : ℕ) (why why' : List ℕ) → IsRefusedSpecification text tokens s place why → IsRefusedSpecification text tokens s' place' why' → AreAlike s s' place place' why why'
+specifications_alike text tokens s s' place place' why why' (bad x e f) (bad y g h) =
+    let at : place ≡ place' = at_most_one_bad_place _ _ _ _ place place' x y in
+    (e ∙ ap (λ n. status_at tokens n) at ∙ sym g, at, f ∙ ap (λ n. why_at tokens n) at ∙ sym h)
+specifications_alike text tokens s s' place place' why why' (bad x e f) (broken spec r one least g h) = absurd (x.no_tree _ one.0)
+specifications_alike text tokens s s' place place' why why' (broken spec r one least g h) (bad x e f) = absurd (x.no_tree _ one.0)
+specifications_alike text tokens s s' place place' why why' (broken spec r one least e f) (broken spec' r' one' least' g h) =
+    let same : spec' ≡ spec = same_specification text tokens spec' spec one' one in
+    let fault = same_fault spec place place' r r' least (subst (λ z. IsLeastFault z place' r') same least') in
+    (e ∙ sym g, fault.0, f ∙ ap rule_text fault.1 ∙ sym h)
+
+good_not_refused : (text : List ℕ) (tokens : List Token) (spec : Spec) (s : Status) (place : ℕ) (why : List ℕ) → IsSpecification text tokens spec → IsRefusedSpecification text tokens s place why → ⊥
+good_not_refused text tokens spec s place why is (bad x e f) = x.no_tree _ is.tree.0
+good_not_refused text tokens spec s place why is (broken spec' r one least e f) =
+    let same : spec' ≡ spec = same_specification text tokens spec' spec one is.tree in
+    is.good place r (subst (λ z. IsLeastFault z place r) same least).0
+
+specifications_decided : IsDecided RefusesSpecification (λ spec text tokens. IsSpecification text tokens spec)
+specifications_decided = record {
+  one_refusal = λ text tokens s s' place place' why why' x y. specifications_alike text tokens s s' place place' why why' (how_refused text tokens x.0 s place why x.1 x.2) (how_refused text tokens y.0 s' place' why' y.1 y.2);
+  not_both = λ spec text tokens s place why is x. good_not_refused text tokens spec s place why is (how_refused text tokens x.0 s place why x.1 x.2);
+  one_value = λ a b text tokens x y. same_specification text tokens a b x.tree y.tree;
+}
+
+-- TRACES
+
+module _ (spec : Spec) (text : List ℕ) (tokens : List Token) where
+  traces_alike : (a b : TraceError) (s s' : Status) (place place' : ℕ) (why why' : List ℕ) → IsTraceRefusal (ports_of spec) text tokens a → SaysOfTrace a s place why
+      → IsTraceRefusal (ports_of spec) text tokens b → SaysOfTrace b s' place' why' → AreAlike s s' place place' why why'
+  traces_alike (trace.BadToken at) (trace.BadToken at') s s' place place' why why' x e y f =
+      (e.0 ∙ sym f.0, e.1 ∙ at_most_one_bad_place _ _ _ _ at at' x.0 y.0 ∙ sym f.1, e.2 ∙ sym f.2)
+  traces_alike (trace.TooMany at) (trace.TooMany at') s s' place place' why why' x e y f =
+      (e.0 ∙ sym f.0, e.1 ∙ at_most_one_bad_place _ _ _ _ at at' x.0 y.0 ∙ sym f.1, e.2 ∙ sym f.2)
+  traces_alike (trace.BadToken at) (trace.TooMany at') s s' place place' why why' x e y f =
+      absurd (x.1 (subst (λ n. IsFull (ports_of spec) 200000 text tokens n) (at_most_one_bad_place _ _ _ _ at' at y.0 x.0) y.1))
+  traces_alike (trace.TooMany at) (trace.BadToken at') s s' place place' why why' x e y f =
+      absurd (y.1 (subst (λ n. IsFull (ports_of spec) 200000 text tokens n) (at_most_one_bad_place _ _ _ _ at at' x.0 y.0) x.1))
+  traces_alike (trace.Memory error) b s s' place place' why why' x e y f = absurd e
+  traces_alike a (trace.Memory error) s s' place place' why why' x e y f = absurd f
+
+  trace_not_refused : (events : List Event) (error : TraceError) (s : Status) (place : ℕ) (why : List ℕ) → IsOnlyTraceText (ports_of spec) text tokens events → IsTraceRefusal (ports_of spec) text tokens error → SaysOfTrace error s place why → ⊥
+  trace_not_refused events (trace.BadToken at) s place why is x e = x.0.no_tree _ is.0
+  trace_not_refused events (trace.TooMany at) s place why is x e = x.0.no_tree _ is.0
+  trace_not_refused events (trace.Memory error) s place why is x e = e
+
+traces_decided : (spec : Spec) → IsDecided (RefusesTrace spec) (λ events text tokens. IsOnlyTraceText (ports_of spec) text tokens events)
+traces_decided spec = record {
+  one_refusal = λ text tokens s s' place place' why why' x y. traces_alike spec text tokens x.0 y.0 s s' place place' why why' x.1 x.2 y.1 y.2;
+  not_both = λ events text tokens s place why is x. trace_not_refused spec text tokens events x.0 s place why is x.1 x.2;
+  one_value = λ a b text tokens x y. y.1 a x.0;
+}
+
+-- EXPLANATIONS
+
+module _ (text : List ℕ) (tokens : List Token) where
+  explanations_alike : (a b : ExplanationError) (s s' : Status) (place place' : ℕ) (why why' : List ℕ) → IsExplanationRefusal text tokens a → SaysOfExplanation a s place why
+      → IsExplanationRefusal text tokens b → SaysOfExplanation b s' place' why' → AreAlike s s' place place' why why'
+  explanations_alike (explanation.BadToken at) (explanation.BadToken at') s s' place place' why why' x e y f =
+      (e.0 ∙ sym f.0, e.1 ∙ at_most_one_bad_place _ _ _ _ at at' x y ∙ sym f.1, e.2 ∙ sym f.2)
+  explanations_alike (explanation.Memory error) b s s' place place' why why' x e y f = absurd e
+  explanations_alike a (explanation.Memory error) s s' place place' why why' x e y f = absurd f
+
+  explanation_not_refused : (read : Explanation) (error : ExplanationError) (s : Status) (place : ℕ) (why : List ℕ) → IsOnlyExplanationText text tokens read → IsExplanationRefusal text tokens error → SaysOfExplanation error s place why → ⊥
+  explanation_not_refused read (explanation.BadToken at) s place why is x e = x.no_tree _ is.0
+  explanation_not_refused read (explanation.Memory error) s place why is x e = e
+
+explanations_decided : IsDecided RefusesExplanation (λ read text tokens. IsOnlyExplanationText text tokens read)
+explanations_decided = record {
+  one_refusal = λ text tokens s s' place place' why why' x y. explanations_alike text tokens x.0 y.0 s s' place place' why why' x.1 x.2 y.1 y.2;
+  not_both = λ read text tokens s place why is x. explanation_not_refused text tokens read x.0 s place why is x.1 x.2;
+  one_value = λ a b text tokens x y. y.1 a x.0;
+}
+
+-- FILES
+
+-- two texts that are held where the same bytes are told have the same tokens
+at_once : (file : File) {told told' : Option (List ℕ)} {bytes : List ℕ} (Is Js : List ℕ → List Token → Type 0) {P : Type 0} → told ≡ Some bytes → told' ≡ Some bytes → Holds file told Is → Holds file told' Js
+    → ((tokens : List Token) → Is bytes tokens → Js bytes tokens → P) → P
+at_once file {bytes = bytes} Is Js e f x y both =
+    let p : IsText file bytes Is = subst (λ t. Holds file t Is) e x in
+    let q : IsText file bytes Js = subst (λ t. Holds file t Js) f y in
+    let same : q.tokens ≡ p.tokens = tokens_unique bytes 0 q.tokens p.tokens q.list p.list in
+    both p.tokens p.is (subst (λ ts. Js bytes ts) same q.is)
+
+-- a file that is too long holds no text
+holds_none : (shelf shelf' : Seen) (file : File) (name bytes : List ℕ) (Is : List ℕ → List Token → Type 0) (s : Status) (r : List ℕ) → shelf.told name ≡ Some bytes → shelf'.told name ≡ Some bytes
+    → IsTooLong shelf file name s r → Holds file (shelf'.told name) Is → ⊥
+holds_none shelf shelf' file name bytes Is s r e f long x =
+    let p : IsText file bytes Is = subst (λ t. Holds file t Is) f x in
+    let l : limit_of file < length bytes = subst (λ t. IfSome t (λ b. limit_of file < length b)) e long.longer in
+    omega (arith, l, p.short)
+
+-- a file is too long, or its text is refused
+abbrev IsStopped : Seen → File → List ℕ → Refusals → Status → List ℕ → Type 0
+IsStopped shelf file name Refuses s r = IsTooLong shelf file name s r ⊎ Holds file (shelf.told name) (IsReported file Refuses s r)
+
+-- this holds of an end with a report
+abbrev OfReport : (Status → List ℕ → Type 0) → End → Type 0
+OfReport P (reported s r) = P s r
+OfReport P unread = Unit {0}
+
+stopped : (shelf : Seen) (file : File) (name : List ℕ) (Refuses : Refusals) (end : End) → EndsAt shelf file name Refuses end → OfReport (IsStopped shelf file name Refuses) end
+stopped shelf file name Refuses _ (longer s r x) = inl x
+stopped shelf file name Refuses _ (refused s r x) = inr x
+stopped shelf file name Refuses _ (failed x) = tt
+
+-- a call stops at a file, or goes on behind it with the value that it holds
+data Stage {A : Type 0} (shelf : Seen) (file : File) (name : List ℕ) (Refuses : Refusals) (Good : Goods A) (Next : A → Status → List ℕ → Type 0) (s : Status) (r : List ℕ) : Type 0 where
+  stops : IsStopped shelf file name Refuses s r → Stage shelf file name Refuses Good Next s r
+  goes_on : (x : A) → Holds file (shelf.told name) (Good x) → Next x s r → Stage shelf file name Refuses Good Next s r
+
+module _ {A : Type 0} (file : File) (name bytes : List ℕ) (Refuses : Refusals) (Good : Goods A) (decided : IsDecided Refuses Good) where
+  good_goes_on : (shelf shelf' : Seen) → shelf.told name ≡ Some bytes → shelf'.told name ≡ Some bytes → (x : A) (s : Status) (r : List ℕ) → IsStopped shelf file name Refuses s r → Holds file (shelf'.told name) (Good x) → ⊥
+  good_goes_on shelf shelf' told told' x s r (inl long) is = holds_none shelf shelf' file name bytes (Good x) s r told told' long is
+  good_goes_on shelf shelf' told told' x s r (inr because) is =
+      at_once file (IsReported file Refuses s r) (Good x) told told' because is (λ tokens n g. decided.not_both x bytes tokens s n.place n.why g n.refused)
+
+  module _ (shelf shelf' : Seen) (told : shelf.told name ≡ Some bytes) (told' : shelf'.told name ≡ Some bytes) where
+    one_report : (s s' : Status) (r r' : List ℕ) (tokens : List Token) → IsReported file Refuses s r bytes tokens → IsReported file Refuses s' r' bytes tokens → AreSame s s' r r'
+    one_report s s' r r' tokens x y =
+        let same = decided.one_refusal bytes tokens s s' x.place y.place x.why y.why x.refused y.refused in
+        (same.0, x.report_is ∙ (λ i. refusal_at file bytes tokens (same.1 i) (same.2 i)) ∙ sym y.report_is)
+
+    one_stop : (s s' : Status) (r r' : List ℕ) → IsStopped shelf file name Refuses s r → IsStopped shelf' file name Refuses s' r' → AreSame s s' r r'
+    one_stop s s' r r' (inl x) (inl y) = (x.status_is ∙ sym y.status_is, x.report_is ∙ sym y.report_is)
+    one_stop s s' r r' (inl x) (inr y) = absurd (holds_none shelf shelf' file name bytes (IsReported file Refuses s' r') s r told told' x y)
+    one_stop s s' r r' (inr x) (inl y) = absurd (holds_none shelf' shelf file name bytes (IsReported file Refuses s r) s' r' told' told y x)
+    one_stop s s' r r' (inr x) (inr y) = at_once file (IsReported file Refuses s r) (IsReported file Refuses s' r') told told' x y (λ tokens n m. one_report s s' r r' tokens n m)
+
+    -- a stage has one result where what comes behind it has one
+    one_stage : (Next Next' : A → Status → List ℕ → Type 0) → ((x : A) (s s' : Status) (r r' : List ℕ) → Next x s r → Next' x s' r' → AreSame s s' r r')
+        → (s s' : Status) (r r' : List ℕ) → Stage shelf file name Refuses Good Next s r → Stage shelf' file name Refuses Good Next' s' r' → AreSame s s' r r'
+    one_stage Next Next' next s s' r r' (stops x) (stops y) = one_stop s s' r r' x y
+    one_stage Next Next' next s s' r r' (stops x) (goes_on b g y) = absurd (good_goes_on shelf shelf' told told' b s r x g)
+    one_stage Next Next' next s s' r r' (goes_on a f x) (stops y) = absurd (good_goes_on shelf' shelf told' told a s' r' y f)
+    one_stage Next Next' next s s' r r' (goes_on a f x) (goes_on b g y) =
+        let same : a ≡ b = at_once file (Good a) (Good b) told told' f g (λ tokens n m. decided.one_value a b bytes tokens n m) in
+        next a s s' r r' x (subst (λ z. Next' z s' r') (sym same) y)
+
+-- COMMANDS
+
+-- the stages of a call, with what is reported behind the last one
+abbrev AtSpecification : Seen → List ℕ → (Spec → Status → List ℕ → Type 0) → Status → List ℕ → Type 0
+AtSpecification shelf name Next = Stage shelf Specification name RefusesSpecification (λ spec text tokens. IsSpecification text tokens spec) Next
+
+abbrev AtTrace : Seen → List ℕ → Spec → (List Event → Status → List ℕ → Type 0) → Status → List ℕ → Type 0
+AtTrace shelf name spec Next = Stage shelf Trace name (RefusesTrace spec) (λ events text tokens. IsOnlyTraceText (ports_of spec) text tokens events) Next
+
+abbrev AtExplanation : Seen → List ℕ → (Explanation → Status → List ℕ → Type 0) → Status → List ℕ → Type 0
+AtExplanation shelf name Next = Stage shelf Explaining name RefusesExplanation (λ read text tokens. IsOnlyExplanationText text tokens read) Next
+
+abbrev IsCounted : Spec → Status → List ℕ → Type 0
+IsCounted spec s r = (s ≡ Fine) × (r ≡ ok_line (counts_of spec).bodies (counts_of spec).transitions (counts_of spec).ports)
+
+abbrev IsAnswered : ℕ → ℕ → Spec → List Event → Explanation → Status → List ℕ → Type 0
+IsAnswered silent statements spec events read s r = (answer : Replayed) × IsReplay statements silent spec events read.moves read.claim answer × (s ≡ replay_status answer) × (r ≡ replay_line (length events) answer)
+
+one_counted : (spec : Spec) (s s' : Status) (r r' : List ℕ) → IsCounted spec s r → IsCounted spec s' r' → AreSame s s' r r'
+one_counted spec s s' r r' x y = (x.0 ∙ sym y.0, x.1 ∙ sym y.1)
+
+one_answered : (silent statements : ℕ) (spec : Spec) (events : List Event) (read : Explanation) (s s' : Status) (r r' : List ℕ) → IsAnswered silent statements spec events read s r → IsAnswered silent statements spec events read s' r' → AreSame s s' r r'
+one_answered silent statements spec events read s s' r r' x y =
+    let same : x.0 ≡ y.0 = answer_one statements silent spec events read.moves read.claim x.0 y.0 x.1 y.1 in
+    (x.2 ∙ ap replay_status same ∙ sym y.2, x.3 ∙ ap (λ a. replay_line (length events) a) same ∙ sym y.3)
+
+check_stages : (shelf : Seen) (name : List ℕ) (end : End) → CheckEnds shelf name end → OfReport (AtSpecification shelf name IsCounted) end
+check_stages shelf name _ (at_its_file (reported s r) x) = stops (stopped shelf Specification name RefusesSpecification (reported s r) x)
+check_stages shelf name _ (at_its_file unread x) = tt
+check_stages shelf name _ (good spec holds) = goes_on spec holds (refl, refl)
+
+-- the stages of a replay
+abbrev Replays : Seen → List ℕ → List ℕ → List ℕ → ℕ → ℕ → Status → List ℕ → Type 0
+Replays shelf specification trace explanation silent statements =
+    AtSpecification shelf specification (λ spec. AtTrace shelf trace spec (λ events. AtExplanation shelf explanation (IsAnswered silent statements spec events)))
+
+replay_stages : (shelf : Seen) (specification trace explanation : List ℕ) (silent statements : ℕ) (end : End) → ReplayEnds shelf specification trace explanation silent statements end
+    → OfReport (Replays shelf specification trace explanation silent statements) end
+replay_stages shelf specification trace explanation silent statements _ (at_specification (reported s r) x) = stops (stopped shelf Specification specification RefusesSpecification (reported s r) x)
+replay_stages shelf specification trace explanation silent statements _ (at_trace spec (reported s r) holds x) = goes_on spec holds (stops (stopped shelf Trace trace (RefusesTrace spec) (reported s r) x))
+replay_stages shelf specification trace explanation silent statements _ (at_explanation spec events (reported s r) holds traced x) =
+    goes_on spec holds (goes_on events traced (stops (stopped shelf Explaining explanation RefusesExplanation (reported s r) x)))
+replay_stages shelf specification trace explanation silent statements _ (at_specification unread x) = tt
+replay_stages shelf specification trace explanation silent statements _ (at_trace spec unread holds x) = tt
+replay_stages shelf specification trace explanation silent statements _ (at_explanation spec events unread holds traced x) = tt
+replay_stages shelf specification trace explanation silent statements _ (replayed spec events read answer holds traced explained is) =
+    goes_on spec holds (goes_on events traced (goes_on read explained (answer, is, refl, refl)))
+
+one_check : (shelf shelf' : Seen) (name : List ℕ) (s s' : Status) (r r' : List ℕ) → TellAlike shelf shelf' name
+    → AtSpecification shelf name IsCounted s r → AtSpecification shelf' name IsCounted s' r' → AreSame s s' r r'
+one_check shelf shelf' name s s' r r' told x y =
+    one_stage Specification name told.0 RefusesSpecification (λ spec text tokens. IsSpecification text tokens spec) specifications_decided shelf shelf' told.1 told.2 IsCounted IsCounted one_counted s s' r r' x y
+
+one_replay : (shelf shelf' : Seen) (specification trace explanation : List ℕ) (silent statements : ℕ) (s s' : Status) (r r' : List ℕ) → TellAlike shelf shelf' specification → TellAlike shelf shelf' trace
+    → TellAlike shelf shelf' explanation
+    → Replays shelf specification trace explanation silent statements s r → Replays shelf' specification trace explanation silent statements s' r' → AreSame s s' r r'
+one_replay shelf shelf' specification trace explanation silent statements s s' r r' told traced explained x y =
+    one_stage Specification specification told.0 RefusesSpecification (λ spec text tokens. IsSpecification text tokens spec) specifications_decided shelf shelf' told.1 told.2 _ _ at_trace_one s s' r r' x y
+  where
+    at_explanation_one : (spec : Spec) (events : List Event) (s s' : Status) (r r' : List ℕ) → AtExplanation shelf explanation (IsAnswered silent statements spec events) s r
+        → AtExplanation shelf' explanation (IsAnswered silent statements spec events) s' r' → AreSame s s' r r'
+    at_explanation_one spec events s s' r r' x y =
+        one_stage Explaining explanation explained.0 RefusesExplanation (λ read text tokens. IsOnlyExplanationText text tokens read) explanations_decided shelf shelf' explained.1 explained.2 _ _
+        (one_answered silent statements spec events) s s' r r' x y
+
+    at_trace_one : (spec : Spec) (s s' : Status) (r r' : List ℕ) → AtTrace shelf trace spec (λ events. AtExplanation shelf explanation (IsAnswered silent statements spec events)) s r
+        → AtTrace shelf' trace spec (λ events. AtExplanation shelf' explanation (IsAnswered silent statements spec events)) s' r' → AreSame s s' r r'
+    at_trace_one spec s s' r r' x y =
+        one_stage Trace trace traced.0 (RefusesTrace spec) (λ events text tokens. IsOnlyTraceText (ports_of spec) text tokens events) (traces_decided spec) shelf shelf' traced.1 traced.2 _ _
+        (at_explanation_one spec) s s' r r' x y
+
+pub result_one : OneResult
+result_one shelf shelf' (check specification) s s' r r' told x y =
+    one_check shelf shelf' specification s s' r r' told (check_stages shelf specification (reported s r) x) (check_stages shelf' specification (reported s' r') y)
+result_one shelf shelf' (replay specification trace explanation silent statements) s s' r r' told x y =
+    one_replay shelf shelf' specification trace explanation silent statements s s' r r' told.0 told.1 told.2 (replay_stages shelf specification trace explanation silent statements (reported s r) x)
+    (replay_stages shelf' specification trace explanation silent statements (reported s' r') y)
