@@ -51,15 +51,18 @@ def rows(what, sizes, unit, made, status, folder):
         before = taken
 
 
-def written(folder, name, text):
+def written(folder, name, *what):
+    """Has another process write an input, so that this one stays small: a process that it starts is
+    charged with its memory."""
     path = folder / name
-    path.write_text(text)
+    with open(path, "wb") as file:
+        subprocess.run([sys.executable, TOP / "bench" / "inputs.py", *map(str, what)], stdout=file, check=True)
     return path, path.stat().st_size
 
 
-def checks(folder, make):
+def checks(folder, kind):
     def made(size):
-        path, length = written(folder, "large.est", make(size, SEED))
+        path, length = written(folder, "large.est", kind, size, SEED)
         return [PROGRAM, "check", path], length
 
     return made
@@ -67,39 +70,30 @@ def checks(folder, make):
 
 def compiles(folder):
     def made(size):
-        path, length = written(folder, "large.pas", inputs.pascal(size, SEED))
+        path, length = written(folder, "large.pas", "pascal", size, SEED)
         return ["fpc", "-Cn", path], length
 
     return made
 
 
-def reads_trace(folder):
-    def made(events):
-        specification, _ = written(folder, "echo.est", inputs.ECHO)
-        trace, _ = written(folder, "long.trace", inputs.echo_trace(events))
-        explanation, _ = written(folder, "short.explanation", "explanation 1 yields 0\n")
-        return [PROGRAM, "replay", specification, trace, explanation], events
+def replays(folder, trace_of, explanation_of, limits=()):
+    """Replays of a number of moves, with the trace and the explanation of these kinds."""
+
+    def made(moves):
+        specification, _ = written(folder, "echo.est", "echo")
+        trace, _ = written(folder, "long.trace", trace_of, moves)
+        explanation, _ = written(folder, "long.explanation", explanation_of, moves)
+        return [PROGRAM, "replay", specification, trace, explanation, *limits], moves
 
     return made
 
 
 def reads_explanation(folder):
     def made(size):
-        specification, _ = written(folder, "echo.est", inputs.ECHO)
-        trace, _ = written(folder, "short.trace", "trace 1 end\n")
-        explanation, length = written(folder, "long.explanation", inputs.explanation(size, SEED))
+        specification, _ = written(folder, "echo.est", "echo")
+        trace, _ = written(folder, "short.trace", "echo_trace", 0)
+        explanation, length = written(folder, "long.explanation", "explanation", size, SEED)
         return [PROGRAM, "replay", specification, trace, explanation], length
-
-    return made
-
-
-def replays(folder, inputs_of):
-    def made(moves):
-        specification, _ = written(folder, "echo.est", inputs.ECHO)
-        texts = inputs_of(moves)
-        trace, _ = written(folder, "long.trace", texts[0])
-        explanation, _ = written(folder, "long.explanation", texts[1])
-        return [PROGRAM, "replay", specification, trace, explanation, "20", "2"], moves
 
     return made
 
@@ -111,14 +105,17 @@ def main():
     with tempfile.TemporaryDirectory() as name:
         folder = pathlib.Path(name)
         sizes = [256 * KIB, 512 * KIB, MIB]
-        rows("check of transitions", sizes, "bytes", checks(folder, inputs.skeleton), 0, folder)
-        rows("check of states", sizes, "bytes", checks(folder, inputs.states), 0, folder)
+        rows("check of transitions", sizes, "bytes", checks(folder, "skeleton"), 0, folder)
+        rows("check of states", sizes, "bytes", checks(folder, "states"), 0, folder)
         if shutil.which("fpc"):
             rows("fpc -Cn of Pascal", sizes, "bytes", compiles(folder), 0, folder)
-        rows("a trace is read", [50_000, 100_000, 200_000], "events", reads_trace(folder), 0, folder)
+        many = [50_000, 100_000, 200_000]
+        rows("a trace is read", many, "events", replays(folder, "echo_trace", "no_moves"), 0, folder)
         rows("an explanation is read", [32 * MIB, 64 * MIB, 128 * MIB], "bytes", reads_explanation(folder), 1, folder)
-        rows("takes and firings", [50_000, 100_000, 200_000], "moves", replays(folder, inputs.echoes), 0, folder)
-        rows("silent firings", [1_050_000, 2_100_000, 4_200_000], "moves", replays(folder, inputs.silences), 0, folder)
+        rows("takes and firings", many, "moves", replays(folder, "echo_trace", "echo_moves"), 0, folder)
+        rows("arrivals alone", many, "moves", replays(folder, "arrivals_trace", "arrivals_moves"), 0, folder)
+        silent = replays(folder, "silent_trace", "silent_moves", ["20", "2"])
+        rows("silent firings", [1_050_000, 2_100_000, 4_200_000], "moves", silent, 0, folder)
 
 
 main()

@@ -1,6 +1,10 @@
-"""Large inputs, made from a seed: the same seed and size give the same bytes."""
+"""Large inputs, made from a seed: the same seed and size give the same bytes.
+
+As a program it writes one of them: `inputs.py NAME NUMBER..`, with the name of a function below.
+"""
 
 import random
+import sys
 
 
 def skeleton(size, seed):
@@ -82,23 +86,42 @@ end.
 """
 
 
+def echo():
+    return ECHO
+
+
 def echo_trace(events):
     """So many events, each second one an answer to the one before."""
     return "trace 1\n" + "in p.go\nout p.left\n" * (events // 2) + "end\n"
 
 
-def echoes(moves):
-    """A trace and its explanation of so many moves: each second one a firing."""
-    explained = "explanation 1\n" + "take\nfire 1 1 1\n" * (moves // 2) + f"yields {moves + 1}\n"
-    return echo_trace(moves), explained
+def echo_moves(moves):
+    """The explanation of that trace: each second move is a firing."""
+    return "explanation 1\n" + "take\nfire 1 1 1\n" * (moves // 2) + f"yields {moves + 1}\n"
 
 
-def silences(moves):
-    """A trace of passing time and its explanation of so many moves: behind each take 20 silent firings."""
+def no_moves(_):
+    return "explanation 1 yields 0\n"
+
+
+def arrivals_trace(events):
+    """So many arrivals, which all wait."""
+    return "trace 1\n" + "in p.go\n" * events + "end\n"
+
+
+def arrivals_moves(moves):
+    return "explanation 1\n" + "take\n" * moves + f"yields {moves + 1}\n"
+
+
+def silent_trace(moves):
+    """The trace of `silent_moves`: time that passes."""
+    return "trace 1\n" + "time 1\n" * (moves // 21) + "end\n"
+
+
+def silent_moves(moves):
+    """So many moves: behind each take 20 silent firings."""
     takes = moves // 21
-    traced = "trace 1\n" + "time 1\n" * takes + "end\n"
-    explained = "explanation 1\n" + ("take\n" + "fire 1 2 1\n" * 20) * takes + f"yields {takes + 1}\n"
-    return traced, explained
+    return "explanation 1\n" + ("take\n" + "fire 1 2 1\n" * 20) * takes + f"yields {takes + 1}\n"
 
 
 def pascal(size, seed):
@@ -122,3 +145,7 @@ def pascal(size, seed):
         length += len(text)
     parts.append(tail)
     return "".join(parts)
+
+
+if __name__ == "__main__":
+    sys.stdout.write(globals()[sys.argv[1]](*map(int, sys.argv[2:])))
