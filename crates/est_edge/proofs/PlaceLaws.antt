@@ -10,7 +10,7 @@ use Rattle.std.proofs.lemmas.List.Sums.{prefix_len-le-length, passes_at_first}
 use Rattle.std.proofs.lemmas.Option.{slice_get-get_or, slice_get_past, same_Some}
 use Rattle.std.proofs.lemmas.Slice.Eq.{bytes_eq-Decides}
 use Rattle.std.proofs.lemmas.Bool.Decides.{nat_tests}
-use Rattle.est_edge.specs.declared.held.MemFile.{MemFile}
+use Rattle.est_edge.specs.declared.file.MemFile.{MemFile}
 use Rattle.est_edge.specs.Places.{place_of, file_of, name_at, bytes_at, count_at, AddsFile, ReplacesAt, RaisesAt}
 
 -- two texts that are not equal
@@ -208,8 +208,8 @@ one_place_by files a b e (inl less) =
     let both : Some a ≡ Some b = cc in
     inl (same_Some a b both)
 one_place_by files a b e (inr last) =
-    let unheld : Option MemFile → Bool = λ o. is_some (option_map (λ f. f.bytes.items) o) in
-    inr (ap unheld (no_file files a last), ap unheld (no_file files b (sym e ∙ last)))
+    let missing : Option MemFile → Bool = λ o. is_some (option_map (λ f. f.bytes.items) o) in
+    inr (ap missing (no_file files a last), ap missing (no_file files b (sym e ∙ last)))
 
 pub one_place : (files : List MemFile) (a b : List ℕ) → place_of files a ≡ place_of files b
     → (a ≡ b) ⊎ ((is_some (bytes_at files (place_of files a)) ≡ false) × (is_some (bytes_at files (place_of files b)) ≡ false))

@@ -8,7 +8,7 @@ use Rattle.std.specs.Str.{bytes_eq}
 use Rattle.std.proofs.lemmas.List.Folds.{position_or_len-set}
 use Rattle.std.proofs.lemmas.Option.{slice_get-get_or}
 use Rattle.est_edge.specs.Counts.{Rose, GoesOn}
-use Rattle.est_edge.specs.declared.held.MemFile.{MemFile}
+use Rattle.est_edge.specs.declared.file.MemFile.{MemFile}
 use Rattle.est_edge.specs.Places.{RaisesAt, ReplacesAt, count_at}
 
 -- what is seen of the element that was put in place of one that is seen alike

@@ -21,7 +21,7 @@ told_under shelf name = Some (bytes_under shelf name)
 
 -- the count of a name: that of its file, or the one count of all names that no file has
 abbrev pub count_under : MemShelf → List ℕ → ℕ
-count_under shelf name = unwrap_or (count_at shelf.files.items (place_of shelf.files.items name)) shelf.unheld.value
+count_under shelf name = unwrap_or (count_at shelf.files.items (place_of shelf.files.items name)) shelf.missing.value
 
 -- the name that is read
 abbrev pub started_name : MemShelf → Option (List ℕ)
@@ -37,7 +37,7 @@ rest_of shelf = drop shelf.taken (unwrap_or (option_and_then (bytes_at shelf.fil
 
 -- the count of a name is a number of 64 bits
 pub count_under_within : (shelf : MemShelf) (name : List ℕ) → count_under shelf name ≤ last_count
-count_under_within shelf name = count_within (slice_get shelf.files.items (place_of shelf.files.items name)) shelf.unheld
+count_under_within shelf name = count_within (slice_get shelf.files.items (place_of shelf.files.items name)) shelf.missing
 
 -- how many bytes were taken from the file that was started last
 abbrev pub taken_from : MemShelf → ℕ

@@ -6,7 +6,7 @@ use Rattle.std.specs.String.{string_bytes}
 use Rattle.std.specs.Str.{bytes_eq}
 use Rattle.est_edge.specs.Counts.{last_count, Rose, GoesOn}
 use Rattle.est_edge.specs.declared.counting.Count.{Count}
-use Rattle.est_edge.specs.declared.held.MemFile.{MemFile}
+use Rattle.est_edge.specs.declared.file.MemFile.{MemFile}
 
 -- the place of the file of this name, and the number of files where there is none
 abbrev pub place_of : List MemFile → List ℕ → ℕ
@@ -56,6 +56,6 @@ pub record AddsFile (old : List MemFile) (file : MemFile) (new : List MemFile) :
   pub length_is : length old ≤ length new
 
 -- a count is a number of 64 bits
-pub count_within : (file : Option MemFile) (unheld : Count) → unwrap_or (option_map (λ f. f.faults.value) file) unheld.value ≤ last_count
-count_within None unheld = unheld.within
-count_within (Some f) unheld = f.faults.within
+pub count_within : (file : Option MemFile) (missing : Count) → unwrap_or (option_map (λ f. f.faults.value) file) missing.value ≤ last_count
+count_within None missing = missing.within
+count_within (Some f) missing = f.faults.within

@@ -1,3 +1,5 @@
+//! Counts of faults.
+
 ghost use Rattle.std.specs.Prelude.{◌≡◌, ◌≤◌};
 ghost use Rattle.est_edge.specs.Counts.{last_count, Rose, GoesOn};
 
@@ -17,7 +19,7 @@ impl Count {
     }
 
     /// Another count that goes on from where this one stands.
-    pub fn again(&self) -> Count
+    pub fn copy(&self) -> Count
         ensures { result.value ≡ self.now.value }
     {
         Count { value: self.value }

@@ -4,7 +4,7 @@
 
 mod calls;
 mod counting;
-mod held;
+mod file;
 mod memory;
 mod memory_sink;
 mod places;

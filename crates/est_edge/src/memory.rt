@@ -1,3 +1,5 @@
+//! A shelf in memory.
+
 ghost use Rattle.std.specs.Prelude.{◌≡◌, ℕ, ◌<◌, ◌≤◌, length};
 ghost use Rattle.std.specs.Option.{ForSome};
 ghost use Rattle.est_edge.specs.Places.{place_of, name_at, bytes_at};
@@ -5,20 +7,20 @@ ghost use Rattle.std.proofs.Props.{props};
 
 use crate::calls::Calls;
 use crate::counting::Count;
-use crate::held::MemFile;
-use crate::places::{add_last, bytes_of, first_named, raise_at, replace_at, unless_at};
+use crate::file::MemFile;
+use crate::places::{add_last, bytes_of, first_named, raise_at, replace_at, without_place};
 use crate::reading::{Failed, Shelf};
 use std::alloc::{AllocError, Global};
 
-/// Files in memory, for tests. The calls of `start` and `more` are numbered together from 1, and
-/// the listed ones fail. What it holds is always told: no bytes under a name that no file has.
+/// Files in memory, for tests. Each call of `start` or `more` has a number, from 1 on, and is to
+/// fail where its number is listed. A name that no file has holds no bytes and cannot be started.
 #[derive(Debug, Drop)]
 pub struct MemShelf {
     alloc: Global,
     chunk: usize,
     calls: Calls,
     files: Vec<MemFile>,
-    unheld: Count,
+    missing: Count,
     started: Option<usize>,
     taken: usize,
     ended: bool,
@@ -49,7 +51,7 @@ impl MemShelf {
             chunk,
             calls: Calls::new(alloc, failing)?,
             files: Vec::new(alloc),
-            unheld: Count::new(),
+            missing: Count::new(),
             started: None,
             taken: 0,
             ended: false,
@@ -61,6 +63,7 @@ impl MemShelf {
     pub fn add(&mut self, name: &str, bytes: &[u8]) -> Result<(), AllocError>
         ensures plan { SamePlan self.old self.new }
         ensures counts { SameCounts self.old self.new }
+        ensures begun { (taken_from self.new ≡ taken_from self.old) × (end_seen self.new ≡ end_seen self.old) }
 
         ensures held { OnOk result (IsTrue (holds self.new name.now)) }
         ensures bytes { OnOk result (bytes_under self.new name.now ≡ bytes.now) }
@@ -73,12 +76,12 @@ impl MemShelf {
         let bytes = Vec::from_slice(self.alloc, bytes)?;
         match self.place_of(name) {
             Some(place) => {
-                self.started = unless_at(self.started, place);
+                self.started = without_place(self.started, place);
                 replace_at(&mut self.files, place, bytes);
             }
             None => {
                 let name = String::from_str(self.alloc, name)?;
-                let faults = self.unheld.again();
+                let faults = self.missing.copy();
                 let file = MemFile {
                     name,
                     bytes,
@@ -140,7 +143,7 @@ impl Shelf for MemShelf {
         let place = self.place_of(name);
         let fails = self.calls.next_fails();
         let Some(place) = place else {
-            self.unheld.raise();
+            self.missing.raise();
             return Err(Failed);
         };
         if fails {

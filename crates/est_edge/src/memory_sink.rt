@@ -1,3 +1,5 @@
+//! An output in memory.
+
 ghost use Rattle.std.specs.Prelude.{◌≡◌, ◌<◌, ◌≤◌, length, vec_capacity};
 
 use crate::calls::Calls;
@@ -6,8 +8,8 @@ use crate::reading::Failed;
 use crate::writing::Sink;
 use std::alloc::{AllocError, Global};
 
-/// An output in memory, for tests. The calls of `put` are numbered from 1, and the listed ones
-/// fail, as does each one without room.
+/// An output in memory, for tests. Each call of `put` has a number, from 1 on, and fails where its
+/// number is listed or no room is left.
 #[derive(Debug, Drop)]
 pub struct MemSink {
     chunk: usize,

@@ -1,10 +1,12 @@
+//! The list of files of a shelf in memory.
+
 ghost use Rattle.std.specs.Prelude.{◌≡◌, ◌≢◌, ◌<◌, None, Some, length, vec_len, OnOk, OnErr};
 ghost use Rattle.std.specs.List.{position};
 ghost use Rattle.std.specs.Str.{bytes_eq};
 ghost use Rattle.std.specs.String.{string_bytes};
 ghost use Rattle.est_edge.specs.Places.{RaisesAt, ReplacesAt, AddsFile, place_of, bytes_at};
 
-use crate::held::MemFile;
+use crate::file::MemFile;
 use std::alloc::AllocError;
 
 /// Where the first file of this name stands.
@@ -15,7 +17,7 @@ pub fn first_named(files: &Vec<MemFile>, name: &str) -> Option<usize>
 }
 
 /// The place, unless it is this one.
-pub fn unless_at(at: Option<usize>, place: usize) -> Option<usize>
+pub fn without_place(at: Option<usize>, place: usize) -> Option<usize>
     ensures gone { at ≡ Some place → result ≡ None }
     ensures stays { at ≢ Some place → result ≡ at }
 {

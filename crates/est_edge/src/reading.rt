@@ -1,3 +1,5 @@
+//! What a shelf of files does.
+
 ghost use Rattle.std.specs.Prelude.{◌≡◌, ℕ, ◌+◌, ◌<◌, ◌≤◌, ◌↔◌, ◌||◌, ◌==◌, List, [], Bool, false, Option, IfSome, OnOk, OnErr, IfOk, Ok, length, take, min};
 ghost use Rattle.est_edge.specs.Counts.{last_count, Rose, AllGoOn};
 ghost use Rattle.est_edge.specs.Pieces.{SameTold, TakesOff};
@@ -26,8 +28,8 @@ pub trait Shelf {
     /// How many faults there were for each name.
     ghost faults: { Self → List ℕ → ℕ };
 
-    /// Begins a file anew, in place of the one before. After an `Err` nothing is said of what is
-    /// read and what is left.
+    /// Opens the file of this name at its front, and leaves the one that was read before. After an
+    /// `Err` nothing is said of what is read and what is left.
     fn start(&mut self, name: &str) -> Result<(), Failed>
         ensures told { SameTold (told self.old) (told self.new) }
         ensures counts { AllGoOn (faults self.old) (faults self.new) }

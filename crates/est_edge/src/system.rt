@@ -1,3 +1,5 @@
+//! Real files and standard output.
+
 ghost use Rattle.std.specs.Prelude.{◌≡◌, ℕ, List, false};
 
 use crate::counting::Count;

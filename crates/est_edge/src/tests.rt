@@ -39,6 +39,18 @@ fn a_listed_call_fails(rt: HostRuntime) -> Result<(), Fail> {
     Ok(())
 }
 
+// One start and a turn for each of the 11 bytes and the end: call 14 is not made.
+#[test]
+fn reads_a_file_once(rt: HostRuntime) -> Result<(), Fail> {
+    let mut shelf = MemShelf::new(rt.alloc(), 1, &[14])?;
+    shelf.add("greeting", TEXT)?;
+    let text = read_whole(rt.alloc(), &mut shelf, "greeting", 11)?;
+    assert_eq!(rt; text.as_slice(), TEXT.as_slice());
+    let failed = shelf.start("greeting");
+    assert_eq!(rt; failed, Err(Failed));
+    Ok(())
+}
+
 #[test]
 fn writes_in_parts(rt: HostRuntime) -> Result<(), Fail> {
     let mut sink = MemSink::new(rt.alloc(), 8, &[], 11)?;

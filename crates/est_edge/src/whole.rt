@@ -1,3 +1,5 @@
+//! Whole files and whole outputs.
+
 ghost use Rattle.std.specs.Prelude.{◌≡◌, List, ℕ, IfSome, IsErrOf, OnOk, OnErr};
 ghost use Rattle.est_edge.specs.Counts.{Rose, GoesOn, AllGoOn};
 ghost use Rattle.est_edge.specs.Pieces.{SameTold, appended, IsPrefix};

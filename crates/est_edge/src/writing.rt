@@ -1,3 +1,5 @@
+//! What an output does.
+
 ghost use Rattle.std.specs.Prelude.{◌≡◌, ℕ, ◌<◌, ◌≤◌, List, Option, OnErr, IfOk, length, take};
 ghost use Rattle.est_edge.specs.Counts.{last_count, Rose, GoesOn};
 ghost use Rattle.est_edge.specs.Pieces.{appended};

@@ -4,7 +4,8 @@ use Rattle.std.specs.Char.{is_ascii_alphabetic, is_ascii_digit}
 use Rattle.std.proofs.lemmas.Bool.{and_left, and_parts, both_ways, not-true, ne_eqb}
 use Rattle.std.proofs.lemmas.Bool.Decides.{nat_tests}
 use Rattle.est_lexer.specs.Between.{is_blank}
-use Rattle.est_lexer.specs.Spellings.{Word, name_kind, symbols, symbol_kind, is_identifier_part, is_character, kind_of}
+use Rattle.est_lexer.specs.Spellings.{name_kind, symbol_kind, is_identifier_part, is_character, kind_of}
+use Rattle.est_lexer.specs.Words.{Word, symbols}
 use Rattle.est_lexer.specs.declared.kind.TokenKind.TheVariants.{Number, Character}
 
 -- No row begins with such a byte.
@@ -65,7 +66,8 @@ no_character first (a ∷ b ∷ []) no_quote = rw no_quote refl
 no_character first (a ∷ b ∷ d ∷ []) no_quote = rw no_quote refl
 no_character first (a ∷ b ∷ d ∷ e ∷ rest) no_quote = refl
 
-letter_no_digit : (b : ℕ) → is_ascii_alphabetic b ≡ true → is_ascii_digit b ≡ false
+-- A letter is no digit.
+pub letter_no_digit : (b : ℕ) → is_ascii_alphabetic b ≡ true → is_ascii_digit b ≡ false
 letter_no_digit b letter = grind (arith, nat_tests)
 
 letter_no_quote : (b : ℕ) → is_ascii_alphabetic b ≡ true → eqb b 39 ≡ false

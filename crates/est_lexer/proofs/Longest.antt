@@ -6,7 +6,8 @@ use Rattle.std.proofs.lemmas.Bool.{both_ways, and_left, and_parts, lt-ltb}
 use Rattle.std.proofs.lemmas.List.{drop_more}
 use Rattle.std.proofs.lemmas.List.Folds.{length-prefix_len}
 use Rattle.est_lexer.specs.Between.{opening}
-use Rattle.est_lexer.specs.Spellings.{name_kind, is_identifier_part, is_character, is_plain_character, kind_of, symbols, symbol_kind}
+use Rattle.est_lexer.specs.Spellings.{name_kind, is_identifier_part, is_character, is_plain_character, kind_of, symbol_kind}
+use Rattle.est_lexer.specs.Words.{symbols}
 use Rattle.est_lexer.specs.Scanning.{IsBegin, IsTokenAt, IsBadAt}
 use Rattle.est_lexer.specs.TokenList.{MayBegin, IsLongest, NoneBegins, digits_at, illegal}
 use Rattle.est_lexer.specs.declared.kind.Token.{Token}

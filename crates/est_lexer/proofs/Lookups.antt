@@ -10,7 +10,7 @@ use Rattle.std.proofs.lemmas.Bool.Decides.{nat_tests}
 use Rattle.std.proofs.lemmas.List.{get_or-map, length-map}
 use Rattle.std.proofs.lemmas.Slice.Eq.{bytes_eq-Decides}
 use Rattle.est_lexer.specs.Scanning.{rows, groups, all_of, is_by_letter}
-use Rattle.est_lexer.specs.Spellings.{Word}
+use Rattle.est_lexer.specs.Words.{Word}
 use Rattle.est_lexer.specs.declared.kind.TokenKind.{TokenKind}
 
 -- The row of a table that the code reads.

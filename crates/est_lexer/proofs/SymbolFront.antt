@@ -4,7 +4,8 @@ use Rattle.std.specs.Char.{is_ascii_alphabetic, is_ascii_digit}
 use Rattle.std.proofs.lemmas.Bool.{and_parts, false_from_ne_true, both_ways, not-true}
 use Rattle.std.proofs.lemmas.List.{take-take}
 use Rattle.std.proofs.lemmas.Slice.Eq.{bytes_eq-Decides}
-use Rattle.est_lexer.specs.Spellings.{Word, kind_of, symbols, symbol_kind}
+use Rattle.est_lexer.specs.Spellings.{kind_of, symbol_kind}
+use Rattle.est_lexer.specs.Words.{Word, symbols}
 use Rattle.est_lexer.specs.declared.kind.TokenKind.{TokenKind}
 use Rattle.est_lexer.proofs.KindOf.{kind_of_other}
 use Rattle.est_lexer.proofs.Longest.{Longest}

@@ -2,20 +2,18 @@ use Rattle.std.proofs.Common.{◌≡◌, ◌≤◌, ◌<◌, ◌+◌, ◌-◌, �
 use Rattle.std.specs.List.{prefix_len, starts_with}
 use Rattle.std.specs.Char.{is_ascii_alphabetic, is_ascii_digit}
 use Rattle.std.proofs.lemmas.Bool.{ne_eqb}
-use Rattle.std.proofs.lemmas.Bool.Decides.{nat_tests}
 use Rattle.std.proofs.lemmas.List.{drop_more, get_or-drop, take_rest}
 use Rattle.est_lexer.specs.Between.{opening}
-use Rattle.est_lexer.specs.Spellings.{name_kind, is_identifier_part, is_plain_character, kind_of, symbols}
+use Rattle.est_lexer.specs.Spellings.{name_kind, is_identifier_part, is_plain_character, kind_of}
+use Rattle.est_lexer.specs.Words.{symbols}
 use Rattle.est_lexer.specs.Scanning.{IsBegin, IsTokenAt, IsBadAt}
 use Rattle.est_lexer.specs.TokenList.{MayBegin, IsBadSpan, digits_at, many_digits}
 use Rattle.est_lexer.specs.declared.kind.Token.{Token}
 use Rattle.est_lexer.specs.declared.kind.TokenKind.{TokenKind}
 use Rattle.est_lexer.specs.declared.kind.TokenKind.TheVariants.{Number, Character, Bad}
+use Rattle.est_lexer.proofs.KindOf.{letter_no_digit}
 use Rattle.est_lexer.proofs.Longest.{Longest, name_longest, number_longest, plain_longest, quotes_longest, quote_alone, is_plain_rest, is_quotes_rest, token_there, illegal_there, may_begin_there}
 use Rattle.est_lexer.proofs.SymbolFront.{sized, symbol_longest, no_symbol}
-
-letter_no_digit : (b : ℕ) → is_ascii_alphabetic b ≡ true → is_ascii_digit b ≡ false
-letter_no_digit b letter = grind (arith, nat_tests)
 
 -- The name at a letter.
 pub name_there : (text : List ℕ) (place end : ℕ) (kind : TokenKind) (token : Token) → place < length text → opening text place ≡ 0 → is_ascii_alphabetic (get_or text place 0) ≡ true → end ≡ place + 1 + prefix_len is_identifier_part (drop (place + 1) text) → kind ≡ name_kind (slice_range text place end) → token ≡ record { kind = kind; start = place; length = end - place } → IsTokenAt text place token

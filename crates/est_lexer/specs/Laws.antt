@@ -1,7 +1,8 @@
 use Rattle.std.specs.Prelude.{◌≡◌, ℕ, Bool, true, List, [], ◌∷◌, ◌&&◌, ◌||◌, not, bytes_eq}
 use Rattle.std.specs.List.{list_all}
 use Rattle.std.specs.Char.{is_ascii_lowercase}
-use Rattle.est_lexer.specs.Spellings.{Word, is_identifier, is_number, is_character}
+use Rattle.est_lexer.specs.Spellings.{is_identifier, is_number, is_character}
+use Rattle.est_lexer.specs.Words.{Word}
 use Rattle.est_lexer.specs.declared.kind.Token.{Token}
 use Rattle.est_lexer.specs.TokenList.{IsTokenList}
 

@@ -6,3 +6,4 @@ pub mod Scanning
 pub mod Spans
 pub mod Spellings
 pub mod TokenList
+pub mod Words

@@ -5,7 +5,7 @@ use Rattle.std.specs.Borrow.{Bor}
 use Rattle.est_lexer.specs.declared.kind.TokenKind.{TokenKind}
 use Rattle.est_lexer.specs.declared.kind.Token.{Token}
 use Rattle.est_lexer.specs.declared.kind.TokenKind.TheVariants.{Bad}
-use Rattle.est_lexer.specs.Spellings.{Word}
+use Rattle.est_lexer.specs.Words.{Word}
 use Rattle.est_lexer.specs.TokenList.{IsLongest, IsBadSpan}
 use Rattle.est_lexer.specs.Between.{is_blank, opening, IsUnended}
 

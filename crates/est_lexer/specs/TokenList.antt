@@ -11,7 +11,7 @@ use Rattle.est_lexer.specs.Spans.{end_of, spelling}
 abbrev pub digits_at : List ℕ → ℕ → ℕ
 digits_at text place = prefix_len is_ascii_digit (drop place text)
 
--- A token may begin at a place: no comment begins there, nor 19 or more digits in a row.
+-- A token may begin at a place: it is not the beginning of a comment, nor of more digits than a number may have.
 pub record MayBegin (text : List ℕ) (place : ℕ) : Type 0 where
   pub no_comment : opening text place ≡ 0
   pub few_digits : digits_at text place < 19
@@ -30,13 +30,13 @@ pub record NoneBegins (text : List ℕ) (place : ℕ) : Type 0 where
   pub may_begin : MayBegin text place
   pub no_token : (end : ℕ) → end ≤ length text → kind_of (slice_range text place end) ≡ None
 
--- The span of a bad token: one byte where nothing begins, the rest of the text for an open comment, the whole run of 19 or more digits.
+-- What a bad token spans: the one byte with which nothing begins; a comment that nothing ends, up to the end of the text; or all the digits that stand in a row, where they are more than a number may have.
 pub data IsBadSpan (text : List ℕ) (place : ℕ) : ℕ → Type 0 where
   illegal : NoneBegins text place → IsBadSpan text place 1
   open_comment : IsOpenComment text place → IsBadSpan text place (length text - place)
   many_digits : 19 ≤ digits_at text place → IsBadSpan text place (digits_at text place)
 
--- The tokens from a place on: each is the longest at its start, only blanks and comments lie before, between and behind them, and a bad token ends the list, whatever lies behind it.
+-- The tokens from a place on, with blanks and comments around them: each is the longest that stands at its start, and the first bad one is the last of all.
 pub data AreTokensFrom (text : List ℕ) : ℕ → List Token → Type 0 where
   none_left : (from : ℕ) → IsBetween text from (length text) → AreTokensFrom text from []
   bad : (from : ℕ) (token : Token) → IsBetween text from token.start → token.kind ≡ Bad → IsBadSpan text token.start token.length → AreTokensFrom text from (token ∷ [])

@@ -2,7 +2,7 @@
 
 ghost use Rattle.std.specs.Prelude.{IsTrue};
 ghost use Rattle.est_lexer.specs.Laws.{TokenListIsUnique, are_distinct, are_lower_names, are_apart};
-ghost use Rattle.est_lexer.specs.Spellings.{words, symbols};
+ghost use Rattle.est_lexer.specs.Words.{words, symbols};
 
 /// A text has one token list.
 pub fn token_list_is_unique()
@@ -10,14 +10,14 @@ pub fn token_list_is_unique()
 {}
 
 /// The words have one kind each, and are kept in lower case.
-#[tactic(auto, unfolding(crate::specs::Spellings::words))]
+#[tactic(auto, unfolding(crate::specs::Words::words))]
 pub fn words_are_distinct()
     ensures distinct { IsTrue (are_distinct words) }
     ensures lower { IsTrue (are_lower_names words) }
 {}
 
 /// The symbols have one kind each, and none is a token of another sort.
-#[tactic(auto, unfolding(crate::specs::Spellings::symbols))]
+#[tactic(auto, unfolding(crate::specs::Words::symbols))]
 pub fn symbols_are_distinct()
     ensures distinct { IsTrue (are_distinct symbols) }
     ensures apart { IsTrue (are_apart symbols) }

@@ -6,7 +6,7 @@ pub mod kind;
 pub mod laws;
 pub mod lex;
 mod scan;
-pub mod table;
+mod table;
 #[cfg(test)]
 mod tests;
 pub mod tokens;

@@ -5,16 +5,17 @@ ghost use Rattle.std.specs.Char.{is_ascii_alphabetic};
 ghost use Rattle.std.specs.List.{starts_with};
 ghost use Rattle.std.specs.Str.{str_eq_ignore_ascii_case};
 ghost use Rattle.est_lexer.specs.Scanning.{rows, groups, all_of, is_by_letter};
-ghost use Rattle.est_lexer.specs.Spellings.{name_kind, symbols};
+ghost use Rattle.est_lexer.specs.Spellings.{name_kind};
+ghost use Rattle.est_lexer.specs.Words.{symbols};
 
 use crate::kind::TokenKind::{LeftOut, Reserved};
 use crate::kind::{LeftOutToken, ReservedWord, Symbol, TokenKind};
 
 /// A word or a symbol: its spelling, in lower case, and its kind.
-pub type Word = (&'static [u8], TokenKind);
+type Word = (&'static [u8], TokenKind);
 
 /// The reserved and the left-out words by their first letter, from `a` to `z`.
-pub static WORDS: [&[Word]; 26] = [
+static WORDS: [&[Word]; 26] = [
     &[
         (b"activity", Reserved(ReservedWord::Activity)),
         (b"all", Reserved(ReservedWord::All)),
@@ -135,7 +136,7 @@ pub static WORDS: [&[Word]; 26] = [
 ];
 
 /// The symbols and the left-out symbols, each before those that begin it.
-pub static SYMBOLS: [Word; 25] = [
+static SYMBOLS: [Word; 25] = [
     (b"...", LeftOut(LeftOutToken::Ellipsis)),
     (b"..", TokenKind::Symbol(Symbol::DoublePeriod)),
     (b".", TokenKind::Symbol(Symbol::Period)),
@@ -164,7 +165,6 @@ pub static SYMBOLS: [Word; 25] = [
 ];
 
 /// The kind of an identifier or a word with these bytes.
-#[tactic(auto, unfolding(crate::specs::Spellings::word_kind, crate::specs::Spellings::words))]
 pub(crate) fn word_or_identifier(bytes: &[u8]) -> TokenKind
     requires some { 0 < length bytes.now }
     requires letter { is_ascii_alphabetic (slice_index bytes.now 0) ≡ true }
@@ -200,7 +200,7 @@ fn find_word(words: &[Word], bytes: &[u8]) -> Option<TokenKind>
 }
 
 /// The length and the kind of the longest symbol that these bytes begin with.
-#[tactic(auto, unfolding(crate::specs::Spellings::symbols))]
+#[tactic(auto, unfolding(crate::specs::Words::symbols))]
 pub(crate) fn symbol_before(rest: &[u8]) -> Option<(usize, TokenKind)>
     ensures { result ≡ option_map (λ w. (length w.0, w.1)) (find (λ w. starts_with nat_eq rest.now w.0) symbols) }
 {

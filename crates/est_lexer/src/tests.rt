@@ -1,7 +1,6 @@
 use crate::kind::TokenKind::{Bad, Character, Identifier, LeftOut, Number, Reserved};
 use crate::kind::{LeftOutToken, ReservedWord, Symbol, Token, TokenKind};
 use crate::lex::lex;
-use crate::table::WORDS;
 use crate::tokens::MOST_BYTES;
 use std::alloc::Global;
 use std::process::Abort;
@@ -213,27 +212,5 @@ fn words_keep_their_spelling(rt: HostRuntime) -> Result<(), Fail> {
     assert_eq!(rt; tokens.count(), 2);
     assert_eq!(rt; tokens.spelled(0), b"x".as_slice());
     assert_eq!(rt; tokens.spelled(1), b"SpeciFication".as_slice());
-    Ok(())
-}
-
-// The kind of each word is named as the word is spelled.
-#[test]
-fn words_have_kinds_of_their_names(rt: HostRuntime) -> Result<(), Fail> {
-    let mut count = 0usize;
-    for group in &WORDS {
-        for (spelling, kind) in *group {
-            let printed = format!(in rt.alloc(); "{kind:?}")?;
-            let name = printed
-                .trim_start_matches("Reserved(")
-                .trim_start_matches("LeftOut(")
-                .trim_end_matches(")");
-            assert!(rt;
-                name.as_bytes().eq_ignore_ascii_case(spelling),
-                "at {printed}"
-            );
-            count = count.wrapping_add(1);
-        }
-    }
-    assert_eq!(rt; count, 81);
     Ok(())
 }

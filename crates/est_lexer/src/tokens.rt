@@ -54,8 +54,8 @@ impl Tokens<'_> {
         &self.text[start..start + token.length as usize]
     }
 
-    /// The line and the column of a place, counted in bytes from 1. The place behind the last
-    /// token lies just behind its last byte.
+    /// The line and the column of a place, counted in bytes from 1. The place behind all tokens
+    /// lies where the last one ends.
     pub fn line_column(&self, place: u32) -> (u32, u32)
         requires { place ≤ length (tokens_of self.now) }
         ensures line { result.0 ≡ line_at (text_of self.now) (offset_at (tokens_of self.now) place) }

@@ -1,7 +1,7 @@
 use Rattle.std.proofs.Common.{arith, ◌≡◌, ◌+◌, ◌-◌, ap, ◌∙◌, option_map, get_or}
 use Rattle.std.specs.Char.{to_ascii_lowercase}
 use Rattle.est_lexer.proofs.Lookups.{letter_decides, lower_letter}
-use Rattle.est_lexer.specs.Spellings.{Word}
+use Rattle.est_lexer.specs.Words.{Word}
 use Rattle.est_lexer.proofs.table.find_by_letter.Goals as goal
 
 pub returns : goal.returns

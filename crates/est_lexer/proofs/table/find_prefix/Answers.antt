@@ -1,6 +1,6 @@
 use Rattle.std.proofs.Common.{ap, sym, ◌∙◌, add-one, option_map, length, nat_eq}
 use Rattle.std.specs.List.{starts_with}
-use Rattle.est_lexer.specs.Spellings.{Word}
+use Rattle.est_lexer.specs.Words.{Word}
 use Rattle.est_lexer.proofs.Lookups.{find_more, find_here}
 use Rattle.est_lexer.proofs.table.find_prefix.Goals as goal
 

@@ -1,6 +1,6 @@
 use Rattle.std.proofs.Common.{refl, ap, sym, ◌∙◌, add-one, option_map}
 use Rattle.std.specs.Str.{str_eq_ignore_ascii_case}
-use Rattle.est_lexer.specs.Spellings.{Word}
+use Rattle.est_lexer.specs.Words.{Word}
 use Rattle.est_lexer.proofs.Lookups.{find_more, find_here, alike, unlike}
 use Rattle.est_lexer.proofs.table.find_word.Goals as goal
 

@@ -2,7 +2,7 @@ use Rattle.std.proofs.Common.{◌≡◌, ◌≢◌, ℕ, List, [], Option, Some,
 use Rattle.std.specs.Prelude.{is_some, unwrap_or}
 use Rattle.std.specs.Option.{option_and_then}
 use Rattle.std.specs.String.{string_bytes}
-use Rattle.est_edge.specs.declared.held.MemFile.{MemFile}
+use Rattle.est_edge.specs.declared.file.MemFile.{MemFile}
 use Rattle.est_edge.specs.Places.{place_of, name_at, bytes_at}
 use Rattle.est_edge.proofs.PlaceLaws.{replaced_others, replaced_name, replaced_rest, name_at-place_of, added_counts}
 use Rattle.est_edge.proofs.memory.MemShelf.add.Goals as goal
@@ -31,7 +31,7 @@ returns-in-Some-clause-reading c = λ unread.
     ap (λ (i : ℕ). name_at old i) at ∙ name_at-place_of old c.args.name.now (omega arith) in
     let apart : started ≢ Some c.in-Some.place =
     λ e. unread (ap (λ (o : Option ℕ). option_and_then (name_at old) o) e ∙ named) in
-    let stays : c.unless_at-self.result ≡ started = c.unless_at-self.ensures.stays apart in
+    let stays : c.without_place-self.result ≡ started = c.without_place-self.ensures.stays apart in
     record {
       name = ap (λ (o : Option ℕ). option_and_then (name_at new) o) stays ∙ replaced_name old new started c.replace_at.ensures.names;
       rest = ap (λ (o : Option (List ℕ)). drop c.args.self.now.taken (unwrap_or o []))
@@ -43,7 +43,7 @@ returns-in-Some-clause-reading c = λ unread.
 pub returns-in_ok-add_last-in-None-clause-counts : goal.returns-in_ok-add_last-in-None-clause-counts
 returns-in_ok-add_last-in-None-clause-counts c = λ each.
     let old = c.args.self.now.files.items in
-    let file : MemFile = record { name = c.in_ok-name-in-None.name; bytes = c.in_ok-bytes.bytes; faults = c.again-faults.result } in
+    let file : MemFile = record { name = c.in_ok-name-in-None.name; bytes = c.in_ok-bytes.bytes; faults = c.copy-faults.result } in
     let none : place_of old c.args.name.now ≡ length old = search rules in
     let none_named : place_of old (string_bytes file.name) ≡ length old = ap (λ (n : List ℕ). place_of old n) c.in_ok-name-in-None.ensures.ok ∙ none in
-    added_counts old file c.add_last.new.files.items c.args.self.now.unheld.value each c.in_ok-add_last-in-None.ensures.ok none_named c.again-faults.ensures
+    added_counts old file c.add_last.new.files.items c.args.self.now.missing.value each c.in_ok-add_last-in-None.ensures.ok none_named c.copy-faults.ensures

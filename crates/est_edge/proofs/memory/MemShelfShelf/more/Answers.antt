@@ -24,5 +24,5 @@ returns-then-fails-clause-one_count c =
     let named : started_name c.args.self.now ≡ Some read.0 =
     ap (λ (o : Option ℕ). option_and_then (name_at files) o) c.in-Some.is ∙ read.1 in
     rw named (λ other apart.
-    raised_others files c.raise_at.new.files.items c.in-Some.place read.0 other c.args.self.now.unheld.value
+    raised_others files c.raise_at.new.files.items c.in-Some.place read.0 other c.args.self.now.missing.value
     c.raise_at.ensures (c.args.self.now.first c.in-Some.place c.in-Some.is read.0 read.1) apart)

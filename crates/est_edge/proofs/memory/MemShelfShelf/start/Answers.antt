@@ -46,5 +46,5 @@ returns-clause-answer c =
 
 pub returns-then-fails-clause-one_count : goal.returns-then-fails-clause-one_count
 returns-then-fails-clause-one_count c = λ other apart.
-    raised_others c.args.self.now.files.items c.raise_at.new.files.items c.in-Some.place c.args.name.now other c.args.self.now.unheld.value
+    raised_others c.args.self.now.files.items c.raise_at.new.files.items c.in-Some.place c.args.name.now other c.args.self.now.missing.value
     c.raise_at.ensures (sym c.in-Some.ensures.some.0) apart

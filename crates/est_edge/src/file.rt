@@ -1,3 +1,5 @@
+//! Files in memory.
+
 use crate::counting::Count;
 
 /// A file in memory, with the count of its faults.
