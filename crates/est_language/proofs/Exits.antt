@@ -6,7 +6,7 @@ use Rattle.est_language.specs.Grammar.{Language, Grammar, Shape, meets, Tree, p_
 use Rattle.est_language.specs.Marks.{Marks, Fits, MeetsOne}
 use Rattle.est_language.specs.Reading.{Found, Refused, same, before}
 use Rattle.est_language.specs.Places.{HasTree, HasPartial}
-use Rattle.est_language.specs.Answers.{Cause, unsaid, wrong_at, too_deep_at, Refuses, Reads, Explains}
+use Rattle.est_language.specs.Answers.{Cause, unsaid, wrong_at, too_deep_at, Refuses, Reads, SaysWhy}
 use Rattle.est_language.proofs.Parts
 use Rattle.est_language.proofs.Trees
 
@@ -56,7 +56,7 @@ module _ {Token V T P : Type 0} {L : Language Token V T P} {S : Marks T P} (fits
       ]
 
   -- tokens stand behind the end
-  pub tokens_behind : (b : ℕ) (t : Shape V) → (b ≡ length s → ⊥) → Found L S s g d 0 b t → Explains L g d s (wrong_at b)
+  pub tokens_behind : (b : ℕ) (t : Shape V) → (b ≡ length s → ⊥) → Found L S s g d 0 b t → SaysWhy L g d s (wrong_at b)
   tokens_behind b t n h = (record { no_tree = no_tree; inside = inside; front = front; no_more = λ l. no_more l d }, no_more)
     where
       inside : b ≤ length s
@@ -75,7 +75,7 @@ module _ {Token V T P : Type 0} {L : Language Token V T P} {S : Marks T P} (fits
       no_more l e y = omega (arith, h.most e (b + 1) (omega arith) (omega arith) y)
 
   -- the grammar is refused
-  pub explained : (c : Cause) → Refuses L S g s d 0 c → Explains L g d s c
+  pub explained : (c : Cause) → Refuses L S g s d 0 c → SaysWhy L g d s c
   explained unsaid h = tt
   explained (wrong_at i) h = (record { no_tree = no_tree; inside = h.inside; front = h.partial; no_more = λ l. no_more l d }, no_more)
     where

@@ -5,3 +5,4 @@ pub mod Laws
 pub mod Flat
 pub mod Exits
 pub mod Fronts
+pub mod OneTree

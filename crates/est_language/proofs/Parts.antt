@@ -1,17 +1,11 @@
 -- What is found of a grammar follows from what is found of its parts.
-use Rattle.std.proofs.Common.{slice_get, Option, Some, None, ◌≡◌, ℕ, suc, ◌<◌, ◌≤◌, Bool, true, false, cond, ◌⊎◌, inl, inr, List, [], ◌∷◌, ◌++◌, length, refl, sym, ◌∙◌, ap, subst, arith}
+use Rattle.std.proofs.Common.{slice_get, Option, Some, None, ◌≡◌, ℕ, suc, ◌<◌, ◌≤◌, Bool, true, false, cond, inl, inr, List, [], ◌∷◌, ◌++◌, length, refl, sym, ◌∙◌, ap, subst, arith}
 use Rattle.est_language.specs.Grammar.{Language, At, Keeps, KeptOf, meets, Grammar, done, word, token, here, skip, seq, alt, opt, rep, nearest, ended, deeper, rule, Shape, chain, nothing, leaf, placed, both, left, right, some, Tree, t_done, t_word, t_token, t_here, t_skip, t_seq, t_left, t_right, t_opt_out, t_opt_in, t_rep_out, t_rep_in, t_nearest_out, t_nearest_in, t_ended_out, t_ended_last, t_ended_in, t_deeper, t_rule, Partial, p_none, p_whole, p_word, p_here, p_skip, p_first, p_second, p_left, p_right, p_opt, p_rep_first, p_rep_more, p_nearest, p_ended_first, p_ended_more, p_deeper, p_rule}
 use Rattle.est_language.specs.Marks.{MeetsOne, Apart, Marks, can_be_empty, can_begin, can_go_on, Fits}
-use Rattle.est_language.specs.Reading.{Ends, same, before, Found, Refused, SpeaksOf}
+use Rattle.est_language.specs.Reading.{EndsNoLater, same, before, Found, Refused, SpeaksOf}
 use Rattle.est_language.proofs.Members.{In-left, In-right}
 use Rattle.est_language.proofs.Trees
-
-cases : (a : Bool) → (a ≡ true) ⊎ (a ≡ false)
-cases true = inl refl
-cases false = inr refl
-
-step : (a b : ℕ) → a ≤ b → (a < b) ⊎ (b ≡ a)
-step a b h = grind arith
+use Rattle.est_language.proofs.Trees.{cases, step}
 
 levels_suc : (w : Bool) (d e : ℕ) → SpeaksOf w (suc d) (suc e) → SpeaksOf w d e
 levels_suc false d e h = tt
@@ -25,7 +19,7 @@ chain_more (x ∷ ts) t u = ap (both x) (chain_more ts t u)
 abbrev pub Outside : {Token V T P : Type 0} → Language Token V T P → T → List T → Type 0
 Outside {Token} L k ks = (o : Option Token) → meets L.holds k o ≡ true → MeetsOne L.holds o ks → ⊥
 
-kept_once : {Token V T P : Type 0} (L : Language Token V T P) (s : List Token) (a : ℕ) (v w : V) → Keeps L s a v → Keeps L s a w → w ≡ v
+pub kept_once : {Token V T P : Type 0} (L : Language Token V T P) (s : List Token) (a : ℕ) (v w : V) → Keeps L s a v → Keeps L s a w → w ≡ v
 kept_once L s a v w h k = go (slice_get s a) h k
   where
     go : (o : Option _) → KeptOf L o v → KeptOf L o w → w ≡ v
@@ -33,7 +27,7 @@ kept_once L s a v w h k = go (slice_get s a) h k
     go (Some x) h k = sym k ∙ h
 
 module _ {Token V T P : Type 0} (L : Language Token V T P) (S : Marks T P) (fits : Fits L S) (s : List Token) where
-  ends_most : (g : Grammar T P) (n b c : ℕ) (t u : Shape V) → Ends L S s g n b t c u → c ≡ n → n ≤ b
+  ends_most : (g : Grammar T P) (n b c : ℕ) (t u : Shape V) → EndsNoLater L S s g n b t c u → c ≡ n → n ≤ b
   ends_most g n b c t u (same p q) e = omega arith
   ends_most g n b c t u (before l w) e = omega arith
 
@@ -50,7 +44,7 @@ module _ {Token V T P : Type 0} (L : Language Token V T P) (S : Marks T P) (fits
   pub done_found : (d a : ℕ) → a ≤ length s → Found L S s done d a a nothing
   done_found d a l = record { tree = t_done; inside = l; only = only; most = most }
     where
-      only : (e n c : ℕ) (u : Shape V) → a ≤ n → n ≤ length s → Tree L s n done e a c u → Ends L S s done n a nothing c u
+      only : (e n c : ℕ) (u : Shape V) → a ≤ n → n ≤ length s → Tree L s n done e a c u → EndsNoLater L S s done n a nothing c u
       only e n c u l m t_done = same refl refl
 
       most : (e n : ℕ) → a ≤ n → n ≤ length s → Partial L s n done e a → n ≤ a
@@ -71,7 +65,7 @@ module _ {Token V T P : Type 0} (L : Language Token V T P) (S : Marks T P) (fits
   pub word_found : {g : Grammar T P} {d a b : ℕ} {t : Shape V} (k : T) → a < length s → At L s a k → Found L S s g d (suc a) b t → Found L S s (word k g) d a b t
   word_found {g} {d} {a} {b} {t} k l e h = record { tree = t_word k l e h.tree; inside = omega arith; only = only; most = most }
     where
-      only : (e n c : ℕ) (u : Shape V) → a ≤ n → n ≤ length s → Tree L s n (word k g) e a c u → Ends L S s (word k g) n b t c u
+      only : (e n c : ℕ) (u : Shape V) → a ≤ n → n ≤ length s → Tree L s n (word k g) e a c u → EndsNoLater L S s (word k g) n b t c u
       only e n c u l m (t_word k r q x) = elim (h.only e n c u (omega arith) m x) [ same p q ↦ same p q | before p q ↦ before p q ]
 
       most : (e n : ℕ) → a ≤ n → n ≤ length s → Partial L s n (word k g) e a → n ≤ b
@@ -100,7 +94,7 @@ module _ {Token V T P : Type 0} (L : Language Token V T P) (S : Marks T P) (fits
   pub token_found : (d : ℕ) {a : ℕ} (v : V) (k : T) → a < length s → At L s a k → Keeps L s a v → Found L S s (token k) d a (suc a) (leaf v)
   token_found d {a} v k l e z = record { tree = t_token v k l e z; inside = omega arith; only = only; most = most }
     where
-      only : (e n c : ℕ) (u : Shape V) → a ≤ n → n ≤ length s → Tree L s n (token k) e a c u → Ends L S s (token k) n (suc a) (leaf v) c u
+      only : (e n c : ℕ) (u : Shape V) → a ≤ n → n ≤ length s → Tree L s n (token k) e a c u → EndsNoLater L S s (token k) n (suc a) (leaf v) c u
       only e n c u l m (t_token v' k r q z') = same refl (ap leaf (kept_once L s a v v' z z'))
 
       most : (e n : ℕ) → a ≤ n → n ≤ length s → Partial L s n (token k) e a → n ≤ suc a
@@ -111,7 +105,7 @@ module _ {Token V T P : Type 0} (L : Language Token V T P) (S : Marks T P) (fits
   pub here_found : {g : Grammar T P} {d a b : ℕ} {t : Shape V} → Found L S s g d a b t → Found L S s (here g) d a b (placed a t)
   here_found {g} {d} {a} {b} {t} h = record { tree = t_here h.tree; inside = h.inside; only = only; most = most }
     where
-      only : (e n c : ℕ) (u : Shape V) → a ≤ n → n ≤ length s → Tree L s n (here g) e a c u → Ends L S s (here g) n b (placed a t) c u
+      only : (e n c : ℕ) (u : Shape V) → a ≤ n → n ≤ length s → Tree L s n (here g) e a c u → EndsNoLater L S s (here g) n b (placed a t) c u
       only e n c u l m (t_here x) = elim (h.only e n c _ l m x) [ same p q ↦ same p (ap (placed a) q) | before p q ↦ before p q ]
 
       most : (e n : ℕ) → a ≤ n → n ≤ length s → Partial L s n (here g) e a → n ≤ b
@@ -134,7 +128,7 @@ module _ {Token V T P : Type 0} (L : Language Token V T P) (S : Marks T P) (fits
   pub skip_found : {g : Grammar T P} {d a b : ℕ} {t : Shape V} → Found L S s g d a b t → Found L S s (skip g) d a b nothing
   skip_found {g} {d} {a} {b} {t} h = record { tree = t_skip h.tree; inside = h.inside; only = only; most = most }
     where
-      only : (e n c : ℕ) (u : Shape V) → a ≤ n → n ≤ length s → Tree L s n (skip g) e a c u → Ends L S s (skip g) n b nothing c u
+      only : (e n c : ℕ) (u : Shape V) → a ≤ n → n ≤ length s → Tree L s n (skip g) e a c u → EndsNoLater L S s (skip g) n b nothing c u
       only e n c u l m (t_skip x) = elim (h.only e n c _ l m x) [ same p q ↦ same p refl | before p q ↦ before p q ]
 
       most : (e n : ℕ) → a ≤ n → n ≤ length s → Partial L s n (skip g) e a → n ≤ b
@@ -157,7 +151,7 @@ module _ {Token V T P : Type 0} (L : Language Token V T P) (S : Marks T P) (fits
   pub rule_found : {p : P} {d a b : ℕ} {t : Shape V} → Found L S s (L.production p) d a b t → Found L S s (rule p) d a b t
   rule_found {p} {d} {a} {b} {t} h = record { tree = t_rule h.tree; inside = h.inside; only = only; most = most }
     where
-      only : (e n c : ℕ) (u : Shape V) → a ≤ n → n ≤ length s → Tree L s n (rule p) e a c u → Ends L S s (rule p) n b t c u
+      only : (e n c : ℕ) (u : Shape V) → a ≤ n → n ≤ length s → Tree L s n (rule p) e a c u → EndsNoLater L S s (rule p) n b t c u
       only e n c u l m (t_rule x) = elim (h.only e n c _ l m x) [ same p q ↦ same p q | before l q ↦ before l (λ z. fits.goes_on p _ (q z)) ]
 
       most : (e n : ℕ) → a ≤ n → n ≤ length s → Partial L s n (rule p) e a → n ≤ b
@@ -180,7 +174,7 @@ module _ {Token V T P : Type 0} (L : Language Token V T P) (S : Marks T P) (fits
   pub deeper_found : {g : Grammar T P} {d a b : ℕ} {t : Shape V} → Found L S s g d a b t → Found L S s (deeper g) (suc d) a b t
   deeper_found {g} {d} {a} {b} {t} h = record { tree = t_deeper h.tree; inside = h.inside; only = only; most = most }
     where
-      only : (e n c : ℕ) (u : Shape V) → a ≤ n → n ≤ length s → Tree L s n (deeper g) e a c u → Ends L S s (deeper g) n b t c u
+      only : (e n c : ℕ) (u : Shape V) → a ≤ n → n ≤ length s → Tree L s n (deeper g) e a c u → EndsNoLater L S s (deeper g) n b t c u
       only _ n c u l m (t_deeper {d = e} x) = elim (h.only e n c _ l m x) [ same p q ↦ same p q | before p q ↦ before p q ]
 
       most : (e n : ℕ) → a ≤ n → n ≤ length s → Partial L s n (deeper g) e a → n ≤ b
@@ -234,7 +228,7 @@ module _ {Token V T P : Type 0} (L : Language Token V T P) (S : Marks T P) (fits
   pub seq_found : {g h : Grammar T P} {d a b c : ℕ} {t u : Shape V} → Apart L (can_go_on S g) (can_begin S h) → Found L S s g d a b t → Found L S s h d b c u → Found L S s (seq g h) d a c (both t u)
   seq_found {g} {h} {d} {a} {b} {c} {t} {u} j x y = record { tree = t_seq x.tree y.tree; inside = x.inside; only = only; most = most }
     where
-      only : (e n r : ℕ) (v : Shape V) → a ≤ n → n ≤ length s → Tree L s n (seq g h) e a r v → Ends L S s (seq g h) n c (both t u) r v
+      only : (e n r : ℕ) (v : Shape V) → a ≤ n → n ≤ length s → Tree L s n (seq g h) e a r v → EndsNoLater L S s (seq g h) n c (both t u) r v
       only e n r v l m (t_seq {b = b'} {t = t'} {u = u'} x' y') =
           let f = Trees.tree_inside L s n x' l in
           elim (x.only e n b' t' l m x') [
@@ -333,7 +327,7 @@ module _ {Token V T P : Type 0} (L : Language Token V T P) (S : Marks T P) (fits
   pub left_found : {g : Grammar T P} (h : Grammar T P) {d a b : ℕ} {t : Shape V} → Apart L (can_begin S g) (can_begin S h) → can_be_empty S g ≡ false → can_be_empty S h ≡ false → Found L S s g d a b t → Found L S s (alt g h) d a b (left t)
   left_found {g} h {d} {a} {b} {t} j f f' x = record { tree = t_left x.tree; inside = x.inside; only = only; most = most }
     where
-      only : (e n r : ℕ) (v : Shape V) → a ≤ n → n ≤ length s → Tree L s n (alt g h) e a r v → Ends L S s (alt g h) n b (left t) r v
+      only : (e n r : ℕ) (v : Shape V) → a ≤ n → n ≤ length s → Tree L s n (alt g h) e a r v → EndsNoLater L S s (alt g h) n b (left t) r v
       only e n r v l m (t_left x') = elim (x.only e n r _ l m x') [ same p q ↦ same p (ap left q) | before l' w ↦ before l' (λ z. In-left L.holds (slice_get s r) (can_go_on S g) _ (w z)) ]
       only e n r v l m (t_right x') = absurd (no_tree h (can_begin S g) e n a r _ j (begins g f x) f' x')
 
@@ -346,7 +340,7 @@ module _ {Token V T P : Type 0} (L : Language Token V T P) (S : Marks T P) (fits
   pub right_found : (g : Grammar T P) {h : Grammar T P} {d a b : ℕ} {t : Shape V} → Apart L (can_begin S g) (can_begin S h) → can_be_empty S g ≡ false → can_be_empty S h ≡ false → Found L S s h d a b t → Found L S s (alt g h) d a b (right t)
   right_found g {h} {d} {a} {b} {t} j f f' x = record { tree = t_right x.tree; inside = x.inside; only = only; most = most }
     where
-      only : (e n r : ℕ) (v : Shape V) → a ≤ n → n ≤ length s → Tree L s n (alt g h) e a r v → Ends L S s (alt g h) n b (right t) r v
+      only : (e n r : ℕ) (v : Shape V) → a ≤ n → n ≤ length s → Tree L s n (alt g h) e a r v → EndsNoLater L S s (alt g h) n b (right t) r v
       only e n r v l m (t_right x') = elim (x.only e n r _ l m x') [ same p q ↦ same p (ap right q) | before l' w ↦ before l' (λ z. In-right L.holds (slice_get s r) (can_go_on S g) _ (w z)) ]
       only e n r v l m (t_left x') = absurd (no_tree_left g (can_begin S h) e n a r _ j (begins h f' x) f x')
 
@@ -400,7 +394,7 @@ module _ {Token V T P : Type 0} (L : Language Token V T P) (S : Marks T P) (fits
   pub opt_in_found : {g : Grammar T P} {d a b : ℕ} {t : Shape V} → can_be_empty S g ≡ false → Found L S s g d a b t → Found L S s (opt g) d a b (some t)
   opt_in_found {g} {d} {a} {b} {t} f x = record { tree = t_opt_in x.tree; inside = x.inside; only = only; most = most }
     where
-      only : (e n r : ℕ) (v : Shape V) → a ≤ n → n ≤ length s → Tree L s n (opt g) e a r v → Ends L S s (opt g) n b (some t) r v
+      only : (e n r : ℕ) (v : Shape V) → a ≤ n → n ≤ length s → Tree L s n (opt g) e a r v → EndsNoLater L S s (opt g) n b (some t) r v
       only e n r v l m t_opt_out = before (Trees.tree_moves L s S fits (length s) x.tree f) (λ z. In-left L.holds (slice_get s a) (can_begin S g) _ (begins g f x))
       only e n r v l m (t_opt_in x') = elim (x.only e n r _ l m x') [ same p q ↦ same p (ap some q) | before l' w ↦ before l' (λ z. In-right L.holds (slice_get s r) (can_begin S g) _ (w z)) ]
 
@@ -412,7 +406,7 @@ module _ {Token V T P : Type 0} (L : Language Token V T P) (S : Marks T P) (fits
   pub opt_out_found : (g : Grammar T P) (d a : ℕ) → can_be_empty S g ≡ false → a ≤ length s → (MeetsOne L.holds (slice_get s a) (can_begin S g) → ⊥) → Found L S s (opt g) d a a nothing
   opt_out_found g d a f i k = record { tree = t_opt_out; inside = i; only = only; most = most }
     where
-      only : (e n r : ℕ) (v : Shape V) → a ≤ n → n ≤ length s → Tree L s n (opt g) e a r v → Ends L S s (opt g) n a nothing r v
+      only : (e n r : ℕ) (v : Shape V) → a ≤ n → n ≤ length s → Tree L s n (opt g) e a r v → EndsNoLater L S s (opt g) n a nothing r v
       only e n r v l m t_opt_out = same refl refl
       only e n r v l m (t_opt_in x') = absurd (k (Trees.tree_starts L s S fits n x' (Trees.tree_moves L s S fits n x' f)))
 
@@ -437,7 +431,7 @@ module _ {Token V T P : Type 0} (L : Language Token V T P) (S : Marks T P) (fits
   pub rep_out_found : (g : Grammar T P) (d a : ℕ) → can_be_empty S g ≡ false → a ≤ length s → (MeetsOne L.holds (slice_get s a) (can_begin S g) → ⊥) → Found L S s (rep g) d a a nothing
   rep_out_found g d a f i k = record { tree = t_rep_out; inside = i; only = only; most = most }
     where
-      only : (e n r : ℕ) (v : Shape V) → a ≤ n → n ≤ length s → Tree L s n (rep g) e a r v → Ends L S s (rep g) n a nothing r v
+      only : (e n r : ℕ) (v : Shape V) → a ≤ n → n ≤ length s → Tree L s n (rep g) e a r v → EndsNoLater L S s (rep g) n a nothing r v
       only e n r v l m t_rep_out = same refl refl
       only e n r v l m (t_rep_in x' y') = absurd (k (Trees.tree_starts L s S fits n x' (Trees.tree_moves L s S fits n x' f)))
 
@@ -457,7 +451,7 @@ module _ {Token V T P : Type 0} (L : Language Token V T P) (S : Marks T P) (fits
   pub rep_in_found : {g : Grammar T P} {d a b c : ℕ} {t u : Shape V} → Apart L (can_go_on S g) (can_begin S g) → can_be_empty S g ≡ false → Found L S s g d a b t → Found L S s (rep g) d b c u → Found L S s (rep g) d a c (both t u)
   rep_in_found {g} {d} {a} {b} {c} {t} {u} j f x y = record { tree = t_rep_in x.tree y.tree; inside = x.inside; only = only; most = most }
     where
-      only : (e n r : ℕ) (v : Shape V) → a ≤ n → n ≤ length s → Tree L s n (rep g) e a r v → Ends L S s (rep g) n c (both t u) r v
+      only : (e n r : ℕ) (v : Shape V) → a ≤ n → n ≤ length s → Tree L s n (rep g) e a r v → EndsNoLater L S s (rep g) n c (both t u) r v
       only e n r v l m t_rep_out = before (omega (arith, Trees.tree_moves L s S fits (length s) x.tree f, found_forward y)) (λ z. In-left L.holds (slice_get s a) (can_begin S g) _ (begins g f x))
       only e n r v l m (t_rep_in {b = b'} {t = t'} {u = u'} x' y') =
           let i = Trees.tree_inside L s n x' l in
@@ -533,7 +527,7 @@ module _ {Token V T P : Type 0} (L : Language Token V T P) (S : Marks T P) (fits
   pub nearest_in_found : {g : Grammar T P} {d a b : ℕ} {t : Shape V} (k : T) → a < length s → At L s a k → Found L S s g d (suc a) b t → Found L S s (nearest k g) d a b (some t)
   nearest_in_found {g} {d} {a} {b} {t} k i j x = record { tree = t_nearest_in k i j x.tree; inside = omega arith; only = only; most = most }
     where
-      only : (e n r : ℕ) (v : Shape V) → a ≤ n → n ≤ length s → Tree L s n (nearest k g) e a r v → Ends L S s (nearest k g) n b (some t) r v
+      only : (e n r : ℕ) (v : Shape V) → a ≤ n → n ≤ length s → Tree L s n (nearest k g) e a r v → EndsNoLater L S s (nearest k g) n b (some t) r v
       only e n r v l m (t_nearest_out q) = before (found_forward x) (λ z. absurd (q z j))
       only e n r v l m (t_nearest_in k o q x') = elim (x.only e n r _ (omega arith) m x') [ same p q ↦ same p (ap some q) | before p q ↦ before p q ]
 
@@ -545,7 +539,7 @@ module _ {Token V T P : Type 0} (L : Language Token V T P) (S : Marks T P) (fits
   pub nearest_out_found : (g : Grammar T P) (k : T) (d a : ℕ) → a ≤ length s → (At L s a k → ⊥) → Found L S s (nearest k g) d a a nothing
   nearest_out_found g k d a i j = record { tree = t_nearest_out (λ z. j); inside = i; only = only; most = most }
     where
-      only : (e n r : ℕ) (v : Shape V) → a ≤ n → n ≤ length s → Tree L s n (nearest k g) e a r v → Ends L S s (nearest k g) n a nothing r v
+      only : (e n r : ℕ) (v : Shape V) → a ≤ n → n ≤ length s → Tree L s n (nearest k g) e a r v → EndsNoLater L S s (nearest k g) n a nothing r v
       only e n r v l m (t_nearest_out q) = same refl refl
       only e n r v l m (t_nearest_in k o q x') = absurd (j q)
 
@@ -576,7 +570,7 @@ module _ {Token V T P : Type 0} (L : Language Token V T P) (S : Marks T P) (fits
   pub ended_out_found : (g : Grammar T P) (k : T) (d a : ℕ) → a ≤ length s → (At L s a k → ⊥) → Found L S s (ended k g) d a a nothing
   ended_out_found g k d a i j = record { tree = t_ended_out; inside = i; only = only; most = most }
     where
-      only : (e n r : ℕ) (v : Shape V) → a ≤ n → n ≤ length s → Tree L s n (ended k g) e a r v → Ends L S s (ended k g) n a nothing r v
+      only : (e n r : ℕ) (v : Shape V) → a ≤ n → n ≤ length s → Tree L s n (ended k g) e a r v → EndsNoLater L S s (ended k g) n a nothing r v
       only e n r v l m t_ended_out = same refl refl
       only e n r v l m (t_ended_last k o q) = absurd (j q)
       only e n r v l m (t_ended_in k o q x' y') = absurd (j q)
@@ -590,7 +584,7 @@ module _ {Token V T P : Type 0} (L : Language Token V T P) (S : Marks T P) (fits
   pub ended_last_found : (g : Grammar T P) (k : T) (d a : ℕ) → can_be_empty S g ≡ false → a < length s → At L s a k → (MeetsOne L.holds (slice_get s (suc a)) (can_begin S g) → ⊥) → Found L S s (ended k g) d a (suc a) nothing
   ended_last_found g k d a f i j w = record { tree = t_ended_last k i j; inside = omega arith; only = only; most = most }
     where
-      only : (e n r : ℕ) (v : Shape V) → a ≤ n → n ≤ length s → Tree L s n (ended k g) e a r v → Ends L S s (ended k g) n (suc a) nothing r v
+      only : (e n r : ℕ) (v : Shape V) → a ≤ n → n ≤ length s → Tree L s n (ended k g) e a r v → EndsNoLater L S s (ended k g) n (suc a) nothing r v
       only e n r v l m t_ended_out = before (omega arith) (λ z. inl j)
       only e n r v l m (t_ended_last k o q) = same refl refl
       only e n r v l m (t_ended_in k o q x' y') = absurd (w (Trees.tree_starts L s S fits n x' (Trees.tree_moves L s S fits n x' f)))
@@ -607,7 +601,7 @@ module _ {Token V T P : Type 0} (L : Language Token V T P) (S : Marks T P) (fits
   pub ended_in_found : {g : Grammar T P} {d a b c : ℕ} {t u : Shape V} (k : T) → Outside L k (can_go_on S g) → can_be_empty S g ≡ false → a < length s → At L s a k → Found L S s g d (suc a) b t → Found L S s (ended k g) d b c u → Found L S s (ended k g) d a c (both t u)
   ended_in_found {g} {d} {a} {b} {c} {t} {u} k j f i' j' x y = record { tree = t_ended_in k i' j' x.tree y.tree; inside = omega arith; only = only; most = most }
     where
-      only : (e n r : ℕ) (v : Shape V) → a ≤ n → n ≤ length s → Tree L s n (ended k g) e a r v → Ends L S s (ended k g) n c (both t u) r v
+      only : (e n r : ℕ) (v : Shape V) → a ≤ n → n ≤ length s → Tree L s n (ended k g) e a r v → EndsNoLater L S s (ended k g) n c (both t u) r v
       only e n r v l m t_ended_out = before (omega (arith, found_forward x, found_forward y)) (λ z. inl j')
       only e n r v l m (t_ended_last k o q) = before (omega (arith, Trees.tree_moves L s S fits (length s) x.tree f, found_forward y)) (λ z. inr (In-left L.holds (slice_get s (suc a)) (can_begin S g) _ (begins g f x)))
       only e n r v l m (t_ended_in {b = b'} {t = t'} {u = u'} k o q x' y') =

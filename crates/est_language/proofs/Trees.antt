@@ -16,11 +16,13 @@ implied : (a b : Bool) → (not a || b) ≡ true → b ≡ false → a ≡ false
 implied true b e f = cc
 implied false b e f = refl
 
-cases : (a : Bool) → (a ≡ true) ⊎ (a ≡ false)
+-- a boolean is true or false
+pub cases : (a : Bool) → (a ≡ true) ⊎ (a ≡ false)
 cases true = inl refl
 cases false = inr refl
 
-step : (a b : ℕ) → a ≤ b → (a < b) ⊎ (b ≡ a)
+-- a number up to another lies below it, or is the other
+pub step : (a b : ℕ) → a ≤ b → (a < b) ⊎ (b ≡ a)
 step a b h = grind arith
 
 module _ {Token V T P : Type 0} (L : Language Token V T P) (s : List Token) where

@@ -28,14 +28,14 @@ Onward s a (Ok x) = (a ≤ x.1) × (x.1 ≤ length s)
 Onward s a (Err e) = Unit {0}
 
 -- why the whole list has no tree by g with d levels: its first bad place, with the reason
-abbrev pub Explains : {Token V T P : Type 0} → Language Token V T P → Grammar T P → ℕ → List Token → Cause → Type 0
-Explains L g d s unsaid = Unit {0}
+abbrev pub SaysWhy : {Token V T P : Type 0} → Language Token V T P → Grammar T P → ℕ → List Token → Cause → Type 0
+SaysWhy L g d s unsaid = Unit {0}
 -- whatever the number of levels
-Explains L g d s (wrong_at i) = IsFirstBadPlace L g d s i × (i < length s → (levels : ℕ) → HasPartial L g levels s (i + 1) → ⊥)
+SaysWhy L g d s (wrong_at i) = IsFirstBadPlace L g d s i × (i < length s → (levels : ℕ) → HasPartial L g levels s (i + 1) → ⊥)
 -- for want of levels alone
-Explains L g d s (too_deep_at i) = IsFirstBadPlace L g d s i × (i < length s) × ((levels : ℕ) × HasPartial L g levels s (i + 1))
+SaysWhy L g d s (too_deep_at i) = IsFirstBadPlace L g d s i × (i < length s) × ((levels : ℕ) × HasPartial L g levels s (i + 1))
 
 -- what a reader of a whole list by g answers: the value whose shape is that of its one tree, or why it has none
 abbrev pub Answers : {A E Token V T P : Type 0} → Language Token V T P → (E → Cause) → Grammar T P → ℕ → List Token → (A → Shape V) → Result A E → Type 0
 Answers {V = V} L cause g d s view (Ok x) = HasTree L g d s (view x) × ((t : Shape V) → HasTree L g d s t → t ≡ view x)
-Answers L cause g d s view (Err e) = Explains L g d s (cause e)
+Answers L cause g d s view (Err e) = SaysWhy L g d s (cause e)

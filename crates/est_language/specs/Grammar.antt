@@ -131,7 +131,7 @@ module _ {Token V T P : Type 0} (L : Language Token V T P) (s : List Token) (n :
     p_none : {g : Grammar T P} {d a : ℕ} → a ≡ n → Partial g d a
     -- a tree is one
     p_whole : {g : Grammar T P} {d a b : ℕ} {t : Shape V} → Tree g d a b t → b ≡ n → Partial g d a
-    -- else the items before some item have their trees, that item has a partial tree, and nothing stands behind it
+    -- else the parts up to some part have trees, and what is left is a partial tree of that part, with nothing of the next ones
     p_word : {g : Grammar T P} {d a : ℕ} (k : T) → a < n → At L s a k → Partial g d (suc a) → Partial (word k g) d a
     p_here : {g : Grammar T P} {d a : ℕ} → Partial g d a → Partial (here g) d a
     p_skip : {g : Grammar T P} {d a : ℕ} → Partial g d a → Partial (skip g) d a

@@ -1,6 +1,8 @@
 -- Laws of trees, partial trees and first bad places, as they stand on functions of this crate.
 use Rattle.std.specs.Prelude.{◌≡◌, ℕ, ◌≤◌, List, length}
 use Rattle.est_language.specs.Grammar.{Grammar, Language, Shape}
+use Rattle.est_language.specs.Marks.{Marks, Fits}
+use Rattle.est_language.specs.Lookahead.{OneTokenDecides}
 use Rattle.est_language.specs.Places.{HasTree, HasPartial, IsFirstBadPlace}
 
 -- a list of tokens has at most one first bad place by a grammar
@@ -14,3 +16,7 @@ FrontsOfTree Token V T P = (L : Language Token V T P) (g : Grammar T P) (d : ℕ
 -- where the first n tokens have a partial tree, so have the first m, for each m up to n
 abbrev pub FrontsOfPartial : Type 0 → Type 0 → Type 0 → Type 0 → Type 0
 FrontsOfPartial Token V T P = (L : Language Token V T P) (g : Grammar T P) (d : ℕ) (s : List Token) (m n : ℕ) → m ≤ n → HasPartial L g d s n → HasPartial L g d s m
+
+-- where one token decides each choice of a grammar and of the productions, by a table that says enough of these, a list of tokens has at most one tree, whatever the levels
+abbrev pub AtMostOneTree : Type 0 → Type 0 → Type 0 → Type 0 → Type 0
+AtMostOneTree Token V T P = (L : Language Token V T P) (S : Marks T P) (g : Grammar T P) (d e : ℕ) (s : List Token) (t u : Shape V) → Fits L S → ((p : P) → OneTokenDecides L S (L.production p)) → OneTokenDecides L S g → HasTree L g d s t → HasTree L g e s u → t ≡ u

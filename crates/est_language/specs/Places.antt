@@ -14,7 +14,7 @@ IsSentence {V = V} L g d s = (t : Shape V) × HasTree L g d s t
 abbrev pub HasPartial : {Token V T P : Type 0} → Language Token V T P → Grammar T P → ℕ → List Token → ℕ → Type 0
 HasPartial L g d s n = Partial L s n g d 0
 
--- The first bad place of a list that is no sentence: the first i tokens have a partial tree, and the first i + 1 have none; i is the number of tokens where the whole list has a partial tree.
+-- Place i is the first bad one of a list without a tree: what stands before it is a partial tree, and with the token at it there is none. Where the whole list is a partial tree, it is the place behind the last token.
 pub record IsFirstBadPlace {Token V T P : Type 0} (L : Language Token V T P) (g : Grammar T P) (d : ℕ) (s : List Token) (i : ℕ) : Type 0 where
   pub no_tree : (t : Shape V) → HasTree L g d s t → ⊥
   pub inside : i ≤ length s

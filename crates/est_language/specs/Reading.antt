@@ -4,15 +4,15 @@ use Rattle.est_language.specs.Grammar.{Grammar, Language, Shape, Tree, Partial}
 use Rattle.est_language.specs.Marks.{MeetsOne, Marks, can_go_on}
 
 -- A tree up to place c among the first n tokens is the one up to b, or it ends before b and the token behind it can go on.
-pub data Ends {Token V T P : Type 0} (L : Language Token V T P) (S : Marks T P) (s : List Token) (g : Grammar T P) (n b : ℕ) (t : Shape V) (c : ℕ) (u : Shape V) : Type 0 where
-  same : c ≡ b → u ≡ t → Ends L S s g n b t c u
-  before : c < b → (c < n → MeetsOne L.holds (slice_get s c) (can_go_on S g)) → Ends L S s g n b t c u
+pub data EndsNoLater {Token V T P : Type 0} (L : Language Token V T P) (S : Marks T P) (s : List Token) (g : Grammar T P) (n b : ℕ) (t : Shape V) (c : ℕ) (u : Shape V) : Type 0 where
+  same : c ≡ b → u ≡ t → EndsNoLater L S s g n b t c u
+  before : c < b → (c < n → MeetsOne L.holds (slice_get s c) (can_go_on S g)) → EndsNoLater L S s g n b t c u
 
 -- The tokens from place a up to b have a tree of the shape t with d levels, and neither another tree nor a partial tree goes further.
 pub record Found {Token V T P : Type 0} (L : Language Token V T P) (S : Marks T P) (s : List Token) (g : Grammar T P) (d a b : ℕ) (t : Shape V) : Type 0 where
   pub tree : Tree L s (length s) g d a b t
   pub inside : a ≤ length s
-  pub only : (e n c : ℕ) (u : Shape V) → a ≤ n → n ≤ length s → Tree L s n g e a c u → Ends L S s g n b t c u
+  pub only : (e n c : ℕ) (u : Shape V) → a ≤ n → n ≤ length s → Tree L s n g e a c u → EndsNoLater L S s g n b t c u
   pub most : (e n : ℕ) → a ≤ n → n ≤ length s → Partial L s n g e a → n ≤ b
 
 -- the numbers of levels that a refusal speaks of: all of them, or where levels are wanting, those that are no more than there are
