@@ -33,19 +33,22 @@ pub data HasStatement (s : Spec) : Scope → Statement → Type 0 where
   of_transition : (scope : Scope) (b : Body) (g : Group) (t : Transition) (st : Statement) → HasPart s scope (part.Body b) → IsIn g (out-Body b).groups
       → IsIn t (out-Group g).transitions → IsIn st t.block.statements → HasStatement s (body_scope scope b) st
 
--- the module variable, or the body, that a name means
+-- the module variable that is declared, with those declared together with it, where one is
 abbrev pub modvar_in : Sort → Option ModvarDef
 modvar_in (module_variable m) = Some m
 modvar_in _ = None
 
+-- the module variable that a name means, with those declared together with it, where it means one
 abbrev pub modvar_by : Meaning Declaration → Option ModvarDef
 modvar_by (seen d) = modvar_in d.sort
 modvar_by _ = None
 
+-- the body that is declared, where one is
 abbrev pub body_in : Sort → Option Body
 body_in (body b) = Some b
 body_in _ = None
 
+-- the body that a name means, where it means one
 abbrev pub body_by : Meaning Declaration → Option Body
 body_by (seen d) = body_in d.sort
 body_by _ = None
@@ -62,7 +65,9 @@ pub data Breaks (s : Spec) : ℕ → Rule → Type 0 where
   system_inside : (scope : Scope) (b : Body) (ms : List ModvarDef) (m : ModvarDef) (h : Header) → HasPart s scope (part.Body b)
       → IsIn (part.Modvars ms) (out-Body b).parts → IsIn m ms → header_by (meaning (body_scope scope b) m.header) ≡ Some h → h.system ≡ true
       → Breaks s m.header.place WrongAttribute
-  -- an `init` with a body for another header than that of the module variable, or with one that lies around it
+  -- An `init` with a body for another header than that of the module variable, or with one that lies around it. The headers are looked
+  -- up in the scope of the `init`, each name at its own place: what the parts of a body declare stands behind the bodies around it that an
+  -- `init` may name, and is not in force there. For the names that it has of its header see `side_of`.
   other_header : (scope : Scope) (at : Access) (named : Used) (arguments : List Expr) (place : ℕ) (m : ModvarDef) (b : Body) (h k : Header)
       → HasStatement s scope (Init at named arguments place) → modvar_by (meaning scope at.name) ≡ Some m → header_by (meaning scope m.header) ≡ Some h
       → body_by (meaning scope named) ≡ Some b → header_by (meaning scope (out-Body b).header) ≡ Some k → h.name.place ≢ k.name.place → Breaks s named.place WrongBody

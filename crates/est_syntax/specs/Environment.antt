@@ -21,7 +21,7 @@ pub record Environment : Type 0 where
   pub role_of : Used → Used → Option (Meaning NameSort)
   pub passage_of : Used → Used → Option Passage
 
--- the sort of a declaration
+-- the sort of what is declared
 abbrev pub name_sort : Sort → NameSort
 name_sort (channel c) = sort.Channel
 name_sort (header h) = sort.Header
@@ -32,6 +32,7 @@ name_sort state = sort.State
 name_sort (role second) = sort.Role
 name_sort (interaction part i) = sort.Interaction
 
+-- the sort of what a name means; a name that is unknown, not seen or predeclared stays so
 abbrev pub sort_by : Meaning Declaration → Meaning NameSort
 sort_by nothing = nothing
 sort_by unseen = unseen
@@ -43,54 +44,62 @@ abbrev pub sort_declared : Option Declaration → Meaning NameSort
 sort_declared None = nothing
 sort_declared (Some d) = seen (name_sort d.sort)
 
+-- the sort of a name that is looked up in a channel: a role, an interaction, or nothing
 abbrev pub member_sort : Channel → Used → Meaning NameSort
 member_sort c u = sort_declared (declared_in (channel_region c) (spelled u))
 
+-- the sort of a name in a channel, where there is one to look in
 abbrev pub role_sort : Option Channel → Used → Option (Meaning NameSort)
 role_sort None u = None
 role_sort (Some c) u = Some (member_sort c u)
 
--- whether each of these names is a role of the channel
+-- whether a role was found
 abbrev pub is_known : Option Bool → Bool
 is_known None = false
 is_known (Some second) = true
 
+-- whether each of these names is a role of the channel
 abbrev pub are_roles : Channel → List Used → Bool
 are_roles c [] = true
 are_roles c (u ∷ us) = is_known (role_named c u) && are_roles c us
 
--- whether one of these names is the first role of the channel, or the second
+-- whether a role was found and is the one that is asked for, the second or the first
 abbrev pub is_role : Bool → Option Bool → Bool
 is_role second None = false
 is_role second (Some true) = second
 is_role second (Some false) = not second
 
+-- whether one of these names is the role of the channel that is asked for, the second or the first
 abbrev pub has_role : Channel → Bool → List Used → Bool
 has_role c second [] = false
 has_role c second (u ∷ us) = is_role second (role_named c u) || has_role c second us
 
--- an interaction point sends what its role may send, and receives what the other role may send
+-- how an interaction passes that may be sent and received so: unclear where a role that sends it is unknown
 abbrev pub passage_with : Bool → Bool → Bool → Passage
 passage_with known sends receives = if known then passes sends receives else unclear
 
+-- how what is declared in a channel passes at one side: the side sends what its role may send, and receives what the other role may send
 abbrev pub passage_in : Side → Sort → Passage
 passage_in side (interaction part i) =
     passage_with (are_roles side.channel part.roles) (has_role side.channel side.is_second part.roles) (has_role side.channel (not side.is_second) part.roles)
 passage_in side _ = no_interaction
 
+-- how a name passes at one side by its declaration in the channel: missing where there is none
 abbrev pub passage_by : Side → Option Declaration → Passage
 passage_by side None = missing
 passage_by side (Some d) = passage_in side d.sort
 
+-- how a name passes at a side, where there is a side
 abbrev pub passage_at : Option Side → Used → Option Passage
 passage_at None u = None
 passage_at (Some side) u = Some (passage_by side (declared_in (channel_region side.channel) (spelled u)))
 
--- the side of the interaction point that a name means
+-- the side of the interaction point that is declared, where one is and has a side
 abbrev pub side_in : Sort → Option Side
 side_in (point p side) = side
 side_in _ = None
 
+-- the side of the interaction point that a name means, where it means one
 abbrev pub side_meant : Meaning Declaration → Option Side
 side_meant (seen d) = side_in d.sort
 side_meant _ = None
@@ -103,7 +112,7 @@ environment scope = record {
   passage_of = λ at u. passage_at (side_meant (meaning scope at)) u;
 }
 
--- the environment within a channel, whose names are looked up in it
+-- the environment within a channel, in which alone its names are looked up
 abbrev pub channel_environment : Channel → Environment
 channel_environment c = record {
   sort_of = λ u. member_sort c u;

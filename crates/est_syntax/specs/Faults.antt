@@ -30,6 +30,7 @@ use Rattle.est_syntax.specs.Environment.{Environment, Passage, missing, no_inter
 abbrev pub broken : ℕ → Rule → List Fault
 broken place r = record { place = place; rule = r } ∷ []
 
+-- the fault that a rule is broken at a place, under a condition
 abbrev pub broken_if : Bool → ℕ → Rule → List Fault
 broken_if b place r = if b then broken place r else []
 
@@ -45,71 +46,80 @@ takes sort.Role sort.Role = true
 takes sort.Interaction sort.Interaction = true
 takes _ _ = false
 
--- the use of a name where a sort is wanted: the name is unknown, not seen, or of another sort; what is predeclared is of no such sort
+-- a name of this meaning where a sort is wanted: it is unknown, not seen, or of another sort; what is predeclared is of no such sort
 abbrev pub used_as : NameSort → ℕ → Meaning NameSort → List Fault
 used_as wanted place nothing = broken place rule.UnknownName
 used_as wanted place unseen = broken place rule.NotSeenHere
 used_as wanted place predeclared = broken place rule.WrongSort
 used_as wanted place (seen s) = if takes wanted s then [] else broken place rule.WrongSort
 
+-- the use of a name where a sort is wanted
 abbrev pub use_faults : Environment → NameSort → Used → List Fault
 use_faults env wanted u = used_as wanted u.place (env.sort_of u)
 
+-- the uses of names where one sort is wanted
 abbrev pub uses_faults : Environment → NameSort → List Used → List Fault
 uses_faults env wanted [] = []
 uses_faults env wanted (u ∷ us) = use_faults env wanted u ++ uses_faults env wanted us
 
--- names that are declared again, behind these
+-- whether a name is one of these
 abbrev pub is_among : List ℕ → List (List ℕ) → Bool
 is_among name [] = false
 is_among name (other ∷ names) = is_name name other || is_among name names
 
+-- names that are declared again, behind the names of these
 abbrev pub twice_faults : List (List ℕ) → List Used → List Fault
 twice_faults before [] = []
 twice_faults before (u ∷ us) = broken_if (is_among (spelled u) before) u.place rule.DeclaredTwice ++ twice_faults (before ++ spelled u ∷ []) us
 
--- the names of a region
+-- the names that a region declares, with their places
 abbrev pub names_of : Region → List Used
 names_of [] = []
 names_of (d ∷ ds) = d.name ∷ names_of ds
 
+-- the names that a region declares, without their places
 abbrev pub spellings_of : Region → List (List ℕ)
 spellings_of [] = []
 spellings_of (d ∷ ds) = spelled d.name ∷ spellings_of ds
 
--- a channel: its names, and the roles of its `by` parts
+-- the roles of the `by` parts of a channel
 abbrev pub by_faults : Environment → List ByPart → List Fault
 by_faults env [] = []
 by_faults env (b ∷ bs) = uses_faults env sort.Role b.roles ++ by_faults env bs
 
+-- a channel: its names, and the roles of its `by` parts
 abbrev pub channel_faults : Channel → List Fault
 channel_faults c = twice_faults [] (names_of (channel_region c)) ++ by_faults (channel_environment c) c.by
 
--- a header: its names, and the channels and roles of its interaction points; a role only where the channel is one
+-- the role of an interaction point, at this place; only where its channel is one
 abbrev pub role_faults : ℕ → Option (Meaning NameSort) → List Fault
 role_faults place None = []
 role_faults place (Some found) = used_as sort.Role place found
 
+-- interaction points that are declared together: their channel and their role
 abbrev pub point_faults : Environment → Point → List Fault
 point_faults env p = use_faults env sort.Channel p.channel ++ role_faults p.role.place (env.role_of p.channel p.role)
 
+-- the interaction points of a header
 abbrev pub points_faults : Environment → List Point → List Fault
 points_faults env [] = []
 points_faults env (p ∷ ps) = point_faults env p ++ points_faults env ps
 
+-- a header: its names, and the channels and roles of its interaction points
 abbrev pub header_faults : Scope → Header → List Fault
 header_faults scope h = twice_faults [] (names_of (points_region scope h.points)) ++ points_faults (environment scope) h.points
 
--- module variables
+-- module variables: their headers
 abbrev pub modvars_faults : Environment → List ModvarDef → List Fault
 modvars_faults env [] = []
 modvars_faults env (m ∷ ms) = use_faults env sort.Header m.header ++ modvars_faults env ms
 
--- an interaction that is sent or received at an interaction point; only where the point has a channel and a role
+-- an interaction that is to be sent, or else received, and whether each may be
 abbrev pub direction_faults : Bool → ℕ → Bool → Bool → List Fault
 direction_faults true place sends receives = if sends then [] else broken place rule.WrongDirection
 direction_faults false place sends receives = if receives then [] else broken place rule.WrongDirection
 
+-- an interaction that is sent, or else received, at an interaction point; only where the point has a channel and a role
 abbrev pub passage_faults : Bool → ℕ → Option Passage → List Fault
 passage_faults sending place None = []
 passage_faults sending place (Some missing) = broken place rule.UnknownName
@@ -117,69 +127,80 @@ passage_faults sending place (Some no_interaction) = broken place rule.WrongSort
 passage_faults sending place (Some unclear) = []
 passage_faults sending place (Some (passes sends receives)) = direction_faults sending place sends receives
 
+-- an interaction point and the interaction that is sent, or else received, there
 abbrev pub interaction_faults : Environment → Bool → Used → Used → List Fault
 interaction_faults env sending at u = use_faults env sort.Point at ++ passage_faults sending u.place (env.passage_of at u)
 
--- statements
+-- what an `output` sends, and where
 abbrev pub sendings_faults : Environment → List Sending → List Fault
 sendings_faults env [] = []
 sendings_faults env (o ∷ os) = interaction_faults env true o.at.name o.signal ++ sendings_faults env os
 
+-- a statement: the names that it uses
 abbrev pub statement_faults : Environment → Statement → List Fault
 statement_faults env (statement.Empty place) = []
 statement_faults env (statement.Output sendings place) = sendings_faults env sendings
 statement_faults env (statement.Init target body arguments place) =
     use_faults env sort.ModuleVariable target.name ++ use_faults env sort.Body body
 
+-- statements in the order of the text
 abbrev pub statements_faults : Environment → List Statement → List Fault
 statements_faults env [] = []
 statements_faults env (st ∷ sts) = statement_faults env st ++ statements_faults env sts
 
--- transitions
+-- the state behind `to`, where one stands there and not `same`
 abbrev pub state_faults : Environment → Option Used → List Fault
 state_faults env None = []
 state_faults env (Some u) = use_faults env sort.State u
 
+-- a clause of a transition: its states, or the interaction that it awaits
 abbrev pub clause_faults : Environment → Clause → List Fault
 clause_faults env (clause.From states place) = uses_faults env sort.State states
 clause_faults env (clause.To state place) = state_faults env state
 clause_faults env (clause.When at signal place) = interaction_faults env false at.name signal
 
+-- the clauses of a transition
 abbrev pub clauses_faults : Environment → List Clause → List Fault
 clauses_faults env [] = []
 clauses_faults env (c ∷ cs) = clause_faults env c ++ clauses_faults env cs
 
+-- a transition: its clauses and its statements
 abbrev pub transition_faults : Environment → Transition → List Fault
 transition_faults env t = clauses_faults env t.clauses ++ statements_faults env t.block.statements
 
+-- the transitions behind one `trans`
 abbrev pub transitions_faults : Environment → List Transition → List Fault
 transitions_faults env [] = []
 transitions_faults env (t ∷ ts) = transition_faults env t ++ transitions_faults env ts
 
+-- all transitions of a body
 abbrev pub groups_faults : Environment → List Group → List Fault
 groups_faults env [] = []
 groups_faults env (g ∷ gs) = transitions_faults env (out-Group g).transitions ++ groups_faults env gs
 
--- the initialize part of a body; a body that has states has a first one
+-- whether states are declared among these parts
 abbrev pub has_states : List Part → Bool
 has_states [] = false
 has_states (part.States us ∷ ps) = true
 has_states (_ ∷ ps) = has_states ps
 
+-- the first state of a body that has states or none, at the place of its name; a body with states has a first one
 abbrev pub to_faults : Environment → ℕ → Bool → Option Used → List Fault
 to_faults env place states None = broken_if states place rule.NoFirstState
 to_faults env place states (Some u) = use_faults env sort.State u
 
+-- the initialize part of a body: its first state and its statements; a body with states has such a part
 abbrev pub first_faults : Environment → ℕ → Bool → Option FirstPart → List Fault
 first_faults env place states None = broken_if states place rule.NoFirstState
 first_faults env place states (Some f) = to_faults env place states f.to ++ statements_faults env f.block.statements
 
--- a body: its header, its names behind those of its header, its initialize part and its transitions
+-- the initialize part and the transitions of a body
 abbrev pub text_faults : Environment → Body → List Fault
 text_faults env b =
     first_faults env (out-Body b).name.place (has_states (out-Body b).parts) (out-Body b).first
     ++ groups_faults env (out-Body b).groups
 
+-- a body: its header, its names behind those of its header, its initialize part and its transitions
 abbrev pub body_faults : Scope → Body → List Fault
 body_faults scope b =
     use_faults (environment scope) sort.Header (out-Body b).header

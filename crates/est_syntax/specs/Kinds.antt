@@ -31,6 +31,7 @@ abbrev mutual
   IsWellFormed (ArrayOf' p index q of) = IsTrue (is_ordinal index) × IsWellFormed index × IsWellFormed of
   IsWellFormed (Fields' n fields) = AreWellFormed fields
 
+  -- fields of well-formed kinds
   pub AreWellFormed : {n : _} → Row_of-FieldKind n → Type 0
   AreWellFormed end_of-FieldKind = Unit {0}
   AreWellFormed (more_of-FieldKind name kind rest) = IsWellFormed kind × AreWellFormed rest

@@ -30,16 +30,6 @@ abbrev pub is_before : Fault → Fault → Bool
 is_before f g =
     if nat_lt f.place g.place then true else (if nat_lt g.place f.place then false else nat_lt (number f.rule) (number g.rule))
 
--- the lesser of the least fault so far and another
-abbrev pub lesser : Option Fault → Fault → Option Fault
-lesser None f = Some f
-lesser (Some g) f = if is_before f g then Some f else Some g
-
--- the least of the least fault so far and these
-abbrev pub least_with : Option Fault → List Fault → Option Fault
-least_with least [] = least
-least_with least (f ∷ fs) = least_with (lesser least f) fs
-
 -- x is one of a list
 abbrev pub IsIn : {X : Type 0} → X → List X → Type 0
 IsIn x [] = ⊥

@@ -1,5 +1,5 @@
 -- What the parts of a specification declare, and what a name means at a place (ISO 9074, scope of identifiers; ISO 7185, 6.2.2).
-use Rattle.std.specs.Prelude.{ℕ, ◌==◌, Bool, true, false, nat_lt, List, [], ◌∷◌, ◌++◌, Option, Some, None, if◌then◌else◌, codes}
+use Rattle.std.specs.Prelude.{ℕ, ◌==◌, Bool, true, false, nat_lt, max, List, [], ◌∷◌, ◌++◌, Option, Some, None, if◌then◌else◌, codes}
 use Rattle.std.specs.List.{list_any}
 use Rattle.std.specs.Cmp.Lexicographic.{pointwise}
 use Rattle.est_syntax.specs.declared.name.Used.{Used}
@@ -73,12 +73,13 @@ pub record Scope : Type 0 where
   pub around : List Region
   pub bodies : List Body
 
--- the predeclared names, whose region lies around every specification (ISO 7185, 6.2.2.10)
+-- the predeclared names, whose region lies around every specification (ISO 7185, 6.2.2)
 unfoldable pub predeclared_names : List (List ℕ)
 predeclared_names =
     codes "integer" ∷ codes "boolean" ∷ codes "char" ∷ codes "false" ∷ codes "true" ∷ codes "maxint" ∷ codes "ord" ∷ codes "chr" ∷ codes "succ" ∷ codes "pred" ∷ codes "abs"
     ∷ codes "odd" ∷ codes "sqr" ∷ []
 
+-- whether a name is predeclared
 abbrev pub is_predeclared : List ℕ → Bool
 is_predeclared name = list_any (λ word. is_name word name) predeclared_names
 
@@ -115,20 +116,22 @@ abbrev pub declared_together : List Used → ℕ → Sort → Region
 declared_together [] last sort = []
 declared_together (u ∷ us) last sort = declaration u last sort ∷ declared_together us last sort
 
--- the roles of a channel, of which the first stands first
+-- the roles behind the first one of a channel, each declared as its second role
 abbrev pub other_roles : List Used → Region
 other_roles [] = []
 other_roles (u ∷ us) = declaration u u.place (role true) ∷ other_roles us
 
+-- the roles of a channel, of which the first stands first
 abbrev pub roles_region : List Used → Region
 roles_region [] = []
 roles_region (u ∷ us) = declaration u u.place (role false) ∷ other_roles us
 
--- the interactions of a channel
+-- the interactions that stand behind one `by` of a channel
 abbrev pub interactions_region : ByPart → List InteractionDef → Region
-interactions_region part [] = []
-interactions_region part (i ∷ is) = declaration i.name i.name.place (interaction part i) ∷ interactions_region part is
+interactions_region b [] = []
+interactions_region b (i ∷ is) = declaration i.name i.name.place (interaction b i) ∷ interactions_region b is
 
+-- the interactions of a channel, part by part
 abbrev pub by_region : List ByPart → Region
 by_region [] = []
 by_region (b ∷ bs) = interactions_region b b.interactions ++ by_region bs
@@ -137,29 +140,35 @@ by_region (b ∷ bs) = interactions_region b b.interactions ++ by_region bs
 abbrev pub channel_region : Channel → Region
 channel_region c = roles_region c.roles ++ by_region c.by
 
--- the last place of a channel or a header that holds a name
+-- the place of the name of a type
 abbrev pub text_last : TypeText → ℕ
 text_last (text.Named u) = u.place
 
+-- the greatest of a place and of those where parameters or exports name their types
 abbrev pub vars_last : List VarDef → ℕ → ℕ
 vars_last [] last = last
-vars_last (v ∷ vs) last = vars_last vs (text_last v.text)
+vars_last (v ∷ vs) last = vars_last vs (max last (text_last v.text))
 
+-- the greatest of a place and of those that hold a name of interactions or of their parameters
 abbrev pub interactions_last : List InteractionDef → ℕ → ℕ
 interactions_last [] last = last
-interactions_last (i ∷ is) last = interactions_last is (vars_last i.params i.name.place)
+interactions_last (i ∷ is) last = interactions_last is (vars_last i.params (max last i.name.place))
 
+-- the greatest of a place and of those that hold a name of the interactions of `by` parts
 abbrev pub by_last : List ByPart → ℕ → ℕ
 by_last [] last = last
 by_last (b ∷ bs) last = by_last bs (interactions_last b.interactions last)
 
+-- the greatest place of a channel that holds a name which is declared there
 abbrev pub channel_last : Channel → ℕ
 channel_last c = by_last c.by c.name.place
 
+-- the greatest of a place and of those that hold a role of interaction points
 abbrev pub points_last : List Point → ℕ → ℕ
 points_last [] last = last
-points_last (p ∷ ps) last = points_last ps p.role.place
+points_last (p ∷ ps) last = points_last ps (max last p.role.place)
 
+-- the greatest place of a header that holds a name, in whatever order its sections stand
 abbrev pub header_last : Header → ℕ
 header_last h = vars_last h.exports (points_last h.points (vars_last h.params h.name.place))
 
@@ -181,6 +190,7 @@ part_region (part.Body b) = declaration (out-Body b).name (out-Body b).name.plac
 part_region (part.Modvars ms) = modvars_region ms
 part_region (part.States us) = states_region us
 
+-- what parts declare in the region that they stand in
 abbrev pub parts_region : List Part → Region
 parts_region [] = []
 parts_region (p ∷ ps) = part_region p ++ parts_region ps
@@ -189,62 +199,72 @@ parts_region (p ∷ ps) = part_region p ++ parts_region ps
 abbrev pub spec_scope : Spec → Scope
 spec_scope s = record { own = parts_region s.parts ∷ []; around = []; bodies = [] }
 
--- the channel that a name means, where it means one
+-- the channel that is declared, where one is
 abbrev pub channel_in : Sort → Option Channel
 channel_in (channel c) = Some c
 channel_in _ = None
 
+-- the channel that a name means, where it means one
 abbrev pub channel_by : Meaning Declaration → Option Channel
 channel_by (seen d) = channel_in d.sort
 channel_by _ = None
 
--- which role a channel declares a name as, where it does
+-- which role is declared, where one is: the second, or the first
 abbrev pub role_in : Sort → Option Bool
 role_in (role second) = Some second
 role_in _ = None
 
+-- which role a name is declared as, where it is declared as one
 abbrev pub role_by : Option Declaration → Option Bool
 role_by None = None
 role_by (Some d) = role_in d.sort
 
+-- which role of a channel has this name, where one has
 abbrev pub role_named : Channel → Used → Option Bool
 role_named c u = role_by (declared_in (channel_region c) (spelled u))
 
--- the side of an interaction point whose channel and role mean this
+-- the side with this role of a channel, where it is a role
 abbrev pub side_with : Channel → Option Bool → Option Side
 side_with c None = None
 side_with c (Some second) = Some record { channel = c; is_second = second }
 
+-- the side with the role of this name, where there is a channel that has such a role
 abbrev pub side_by : Option Channel → Used → Option Side
 side_by None u = None
 side_by (Some c) u = side_with c (role_named c u)
 
+-- The side of an interaction point, where its channel and its role are such. The scope may be that around a body for its header, further in
+-- than the header: a name is looked up at its own place, and what the parts of a body in between declare stands behind that place, so it is
+-- not in force there. What such a body has of its own header may stand before it; no sentence has a body within a body.
 abbrev pub side_of : Scope → Point → Option Side
 side_of scope p = side_by (channel_by (meaning scope p.channel)) p.role
 
--- the interaction points of a header that stands in this scope
+-- the interaction points of a header that stands in this scope, or for which a body does, as `side_of` says
 abbrev pub points_region : Scope → List Point → Region
 points_region scope [] = []
 points_region scope (p ∷ ps) = declared_together p.names p.role.place (point p (side_of scope p)) ++ points_region scope ps
 
--- the names of the header that a name means
+-- the header that is declared, where one is
 abbrev pub header_in : Sort → Option Header
 header_in (header h) = Some h
 header_in _ = None
 
+-- the header that a name means, where it means one
 abbrev pub header_by : Meaning Declaration → Option Header
 header_by (seen d) = header_in d.sort
 header_by _ = None
 
+-- the names that a header gives to a body in this scope
 abbrev pub header_names : Scope → Option Header → Region
 header_names scope None = []
 header_names scope (Some h) = points_region scope h.points
 
--- the names that a body has of its header
+-- The names that a body has of its header. The header may stand further out than the body: its channels are looked up at their own
+-- places, as `side_of` says.
 abbrev pub header_region : Scope → Body → Region
 header_region scope b = header_names scope (header_by (meaning scope (out-Body b).header))
 
--- the region of a body has the names of its header, and what its parts declare
+-- the region of a body: the names of its header, and what its parts declare
 abbrev pub body_region : Scope → Body → Region
 body_region scope b = header_region scope b ++ parts_region (out-Body b).parts
 

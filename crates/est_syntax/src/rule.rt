@@ -3,41 +3,41 @@
 /// A rule, in the order of its number from 1.
 #[derive(Clone, Copy, Debug, PartialEq, Eq)]
 pub enum Rule {
-    /// Nothing in force declares the name.
+    /// No declaration that is in force where the name is used gives it a meaning.
     UnknownName,
-    /// The name is declared again in its region, record, channel, header or formals.
+    /// One region has two declarations of the name.
     DeclaredTwice,
-    /// The name means something of an enclosing body that a nested body does not see.
+    /// The name belongs to an outer body, which keeps such things to itself.
     NotSeenHere,
-    /// The name means another sort of thing than its place takes.
+    /// The name is known, but for a thing that cannot stand there, as a state for a channel.
     WrongSort,
-    /// The number is above the greatest integer.
+    /// A number exceeds `maxint`.
     NumberTooLarge,
-    /// The bounds of the range have different hosts, or the first is greater.
+    /// A subrange runs downwards, or from one type to another.
     WrongBounds,
-    /// A type, a choice or the variables of a block have too many scalars, values or levels.
+    /// A type, a choice by `any` or the variables of a block exceed a size that the profile fixes.
     TooLarge,
-    /// The kind is none that the place takes.
+    /// An expression, a constant or a type does not suit its use.
     WrongKind,
-    /// Arguments or subscripts are too few or too many.
+    /// The count of arguments or subscripts is not that of the declaration.
     WrongNumber,
-    /// The target is no variable that may be written here.
+    /// What would change may only be read here, or is no variable.
     NotWritable,
-    /// A function holds a procedure call or a statement of Estelle.
+    /// A function calls a procedure, or has a statement that only Estelle knows, as `output`.
     NotInFunction,
-    /// The interaction is none that the interaction point receives or sends.
+    /// By its role an interaction point cannot receive what is awaited there, or send what is output.
     WrongDirection,
-    /// A transition has `delay` and also `when` or `any`.
+    /// A delayed transition also awaits an interaction or makes a choice.
     DelayNotAlone,
-    /// A body has states and no `initialize to`.
+    /// A body declares states, but none of them is said to be the first.
     NoFirstState,
-    /// The header of a module variable has the wrong attribute for where it stands.
+    /// A specification has a variable for a module that is no system, or a body one for a system.
     WrongAttribute,
-    /// `init` names a body whose text has not ended or that is for another header.
+    /// A module would start with a body for another header than its own, or within that body itself.
     WrongBody,
-    /// The ends of a link are none that it takes, or do not fit each other.
+    /// Two interaction points cannot be linked: for where they belong, or for their channels or roles.
     WrongLink,
-    /// A constant stands twice in one `case`.
+    /// Two choices of one `case` have the same constant.
     CaseTwice,
 }
 

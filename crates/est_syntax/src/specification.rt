@@ -1,4 +1,5 @@
-//! The parts of a specification, its bodies and their transitions (ISO 9074, 7 and 8).
+//! The parts of a specification, its bodies and their transitions (ISO 9074, specification, module
+//! body definition and transition declaration).
 
 use crate::expression::{Access, Exprs, TypeTexts, VarDefs};
 use crate::name::{Used, UsedNames};

@@ -35,6 +35,7 @@ the_empty = []
 abbrev pub the_items : (X : Type 0) → List X → List X
 the_items X xs = xs
 
+-- and these are all that it holds
 pub the_items_listed : (X : Type 0) (xs : List X) → listed _ (children (the_former this) X xs) ≡ the_items X xs
 the_items_listed X xs = list-listed X xs
 
@@ -43,6 +44,7 @@ abbrev held : Former {0}
 held = via (std_vec.the_former this Global) Inside (λ X inside. inside.items) (λ X vec. record { items = vec }) (λ X inside. refl) (λ X vec. refl)
 
 module _ (One Other : RattleType) (change : One.Denot → Other.Denot) where
+  -- lists whose items lie alike in memory lie alike
   pub the_places : Alike One Other change → Alike (outer.the_row One) (outer.the_row Other) ((the_former this).map One.Denot Other.Denot change)
   the_places alike =
       view_places held (list this) view (λ X Y k u. refl) (λ X u. refl) One.Denot Other.Denot change
@@ -51,5 +53,6 @@ module _ (One Other : RattleType) (change : One.Denot → Other.Denot) where
       (struct_places (inner.the_type One) (inner.the_type Other) (std_vec.mapped change, tt) _ (λ d. refl) refl
       (laid _ _ _ (std_vec.the_places global.the_row ghosts One Other change alike), tt))
 
+  -- and a list whose items change into others of the same codes keeps its own code
   pub the_codes_placed : Recodes One Other change → Recodes (outer.the_row One) (outer.the_row Other) ((the_former this).map One.Denot Other.Denot change)
   the_codes_placed recodes xs = sym (code_map One.coded.code Other.coded.code change (λ x. sym (recodes x)) xs)
