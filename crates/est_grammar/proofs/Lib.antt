@@ -3,3 +3,4 @@ pub mod SkeletonFits
 pub mod Parsing
 pub mod Made
 pub mod Top
+pub mod Decided

@@ -4,3 +4,4 @@ pub mod Language
 pub mod Views
 pub mod Reading
 pub mod Answer
+pub mod Laws

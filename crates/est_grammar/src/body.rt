@@ -1,4 +1,4 @@
-//! Module bodies (ISO 9074, 7.5).
+//! Module bodies (ISO 9074, module body definition).
 
 ghost use Rattle.std.specs.Prelude.{◌≡◌, ◌≤◌, length};
 ghost use Rattle.est_lexer.specs.Places.{tokens_of};

@@ -1,4 +1,4 @@
-//! Channels (ISO 9074, 7.3).
+//! Channels (ISO 9074, channel definition).
 
 ghost use Rattle.std.specs.Prelude.{◌≡◌, ◌≤◌, length};
 ghost use Rattle.est_lexer.specs.Places.{tokens_of};

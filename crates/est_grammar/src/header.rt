@@ -1,4 +1,4 @@
-//! Module headers (ISO 9074, 7.4).
+//! Module headers (ISO 9074, module header definition).
 
 ghost use Rattle.std.specs.Prelude.{◌≡◌, ◌≤◌, length};
 ghost use Rattle.est_lexer.specs.Places.{tokens_of};

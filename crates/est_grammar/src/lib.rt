@@ -5,6 +5,7 @@ mod body;
 mod channel;
 mod error;
 mod header;
+pub mod laws;
 mod lists;
 mod parser;
 mod specification;

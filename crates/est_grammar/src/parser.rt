@@ -12,7 +12,7 @@ use est_syntax::specification::Spec;
 use std::alloc::Global;
 
 /// The words of skeleton specifications.
-const WORDS: [ReservedWord; 21] = [
+const SKELETON_WORDS: [ReservedWord; 21] = [
     ReservedWord::Begin,
     ReservedWord::Body,
     ReservedWord::By,
@@ -37,7 +37,7 @@ const WORDS: [ReservedWord; 21] = [
 ];
 
 /// The symbols of skeleton specifications but `(`.
-const SYMBOLS: [Symbol; 5] = [
+const SKELETON_SYMBOLS: [Symbol; 5] = [
     Symbol::RightParenthesis,
     Symbol::Comma,
     Symbol::Semicolon,
@@ -82,13 +82,13 @@ fn refusal(tokens: &Tokens, place: u32) -> ParseError
     }
 }
 
-// Whether a kind of token stands in the whole grammar alone, or is `(`.
+// Whether a kind of token is `(`, or a reserved word or symbol of the profile that skeletons lack.
 fn is_not_yet(kind: TokenKind) -> bool
     ensures { result ≡ kind_is_not_yet kind }
 {
     match kind {
-        TokenKind::Reserved(word) => !WORDS.contains(&word),
-        TokenKind::Symbol(symbol) => !SYMBOLS.contains(&symbol),
+        TokenKind::Reserved(word) => !SKELETON_WORDS.contains(&word),
+        TokenKind::Symbol(symbol) => !SKELETON_SYMBOLS.contains(&symbol),
         _ => false,
     }
 }

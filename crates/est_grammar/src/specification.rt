@@ -1,4 +1,4 @@
-//! Specifications (ISO 9074, 7.2).
+//! Specifications (ISO 9074, specification).
 
 ghost use Rattle.std.specs.Prelude.{◌≡◌, ◌≤◌, length, IfOk};
 ghost use Rattle.est_lexer.specs.Places.{tokens_of};

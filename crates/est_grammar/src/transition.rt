@@ -1,4 +1,4 @@
-//! Transitions (ISO 9074, 7.5).
+//! Transitions (ISO 9074, transition declaration).
 
 ghost use Rattle.std.specs.Prelude.{◌≡◌, ◌≤◌, length, IfOk};
 ghost use Rattle.est_lexer.specs.Places.{tokens_of};
