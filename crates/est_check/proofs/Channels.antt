@@ -8,25 +8,25 @@ use Rattle.est_syntax.specs.declared.rule.Rule.TheVariants.{DeclaredTwice}
 use Rattle.est_syntax.specs.declared.specification.InteractionDef.{InteractionDef}
 use Rattle.est_syntax.specs.declared.specification.ByPart.{ByPart}
 use Rattle.est_syntax.specs.declared.specification.Channel.{Channel}
-use Rattle.est_syntax.specs.Least.{least_with}
+use Rattle.est_check.specs.Least.{least_with}
 use Rattle.est_syntax.specs.Names.{is_name, spelled, Sort, role, interaction, Declaration, Region, declared_in, roles_region, other_roles, interactions_region, by_region, channel_region, role_named}
 use Rattle.est_syntax.specs.Names as names
 use Rattle.est_syntax.specs.Environment.{Environment, are_roles, has_role, is_known, is_role, channel_environment}
 use Rattle.est_syntax.specs.Environment as environment
 use Rattle.est_syntax.specs.Faults.{names_of, spellings_of, is_among, twice_faults, by_faults, channel_faults, broken_if}
-use Rattle.est_syntax.proofs.LeastLaws.{least_append}
+use Rattle.est_check.proofs.LeastLaws.{least_append}
 use Rattle.est_check.specs.declared.names.Entry.{Entry}
 use Rattle.est_check.specs.declared.names.Senders.{Senders}
-use Rattle.est_check.specs.declared.names.Standing.{Standing}
-use Rattle.est_check.specs.declared.names.Standing.TheVariants as stands
+use Rattle.est_check.specs.declared.names.Entity.{Entity}
+use Rattle.est_check.specs.declared.names.Entity.TheVariants as entities
 use Rattle.est_check.specs.declared.table.Members.{Members}
-use Rattle.est_check.specs.Entries.{Entries, State, entry_of, enter_roles, enter_by_parts, senders, senders_from, with_role}
+use Rattle.est_check.specs.Entries.{Entries, Declared, entry_of, senders, senders_from, with_role, enter_all}
 use Rattle.est_check.specs.Entries as entries
-use Rattle.est_check.specs.Tables.{first_of, member_entry, member_sort, sort_found, found_among, members_environment}
+use Rattle.est_check.specs.Declarations.{other_role_entries, role_entries, interaction_entries, by_entries}
+use Rattle.est_check.specs.Tables.{first_of, member_entry, look_up_member, sort_found, entry_found, members_environment}
 use Rattle.est_check.specs.Tables as tables
-use Rattle.est_check.specs.Passes.{channel_pass}
-use Rattle.est_check.proofs.Entering.{first, whole, whole-enter_list, noted-enter_list, first_of-none, Agree}
-use Rattle.est_check.proofs.Flat as flat
+use Rattle.est_check.specs.LeastFaults.{names_of_channel}
+use Rattle.est_check.proofs.Entering.{first, whole, whole-enter_all, noted-enter_all, first_of-none, Agree}
 use Rattle.est_check.proofs.Stands.{Both, Alike, alike-append, names_alike, first_alike, or_declared, declared_in-append, both_append}
 
 -- names that are declared again, in two regions one behind the other
@@ -61,37 +61,37 @@ pub agree_front : (R : Entry → Declaration → Type 0) (front : Entries) (ds :
 agree_front R front ds h n = among_region n ds ∙ both_some R (entry_of front n) (declared_in ds n) (h n) ∙ ap is_some (sym (first_of-none (entry_of front n)))
 
 -- roles and interactions
-abbrev pub MemberStands : Channel → Standing → Sort → Type 0
-MemberStands c (stands.Role second) (role other) = second ≡ other
-MemberStands c (stands.Interaction who) (interaction part i) =
+abbrev pub MemberStands : Channel → Entity → Sort → Type 0
+MemberStands c (entities.Role second) (role other) = second ≡ other
+MemberStands c (entities.Interaction who) (interaction part i) =
     who ≡ record { known = are_roles c part.roles; first = has_role c false part.roles; second = has_role c true part.roles }
 MemberStands c _ _ = ⊥
 
 abbrev pub MemberFor : Channel → Entry → Declaration → Type 0
-MemberFor c e d = MemberStands c e.stands d.sort
+MemberFor c e d = MemberStands c e.entity d.sort
 
-pub other_roles_alike : (c : Channel) (us : List Used) → Alike (MemberFor c) (flat.other_roles us) (other_roles us)
+pub other_roles_alike : (c : Channel) (us : List Used) → Alike (MemberFor c) (other_role_entries us) (other_roles us)
 other_roles_alike c [] = tt
 other_roles_alike c (u ∷ us) = (refl, refl, other_roles_alike c us)
 
-pub roles_alike : (c : Channel) (us : List Used) → Alike (MemberFor c) (flat.roles us) (roles_region us)
+pub roles_alike : (c : Channel) (us : List Used) → Alike (MemberFor c) (role_entries us) (roles_region us)
 roles_alike c [] = tt
 roles_alike c (u ∷ us) = (refl, refl, other_roles_alike c us)
 
 -- the table of the roles
-pub roles_table : (least : Option Fault) (us : List Used) (n : List ℕ) → entry_of (enter_roles ([], least) us).0 n ≡ first (flat.roles us) n
-roles_table least us n = ap (λ s. entry_of s.0 n) (flat.roles_is ([], least) us) ∙ whole-enter_list [] ([], least) (flat.roles us) n
+pub roles_table : (least : Option Fault) (us : List Used) (n : List ℕ) → entry_of (enter_all [] ([], least) (role_entries us)).0 n ≡ first (role_entries us) n
+roles_table least us n = whole-enter_all [] ([], least) (role_entries us) n
 
-pub role_stands : (c : Channel) (s : Standing) (t : Sort) → MemberStands c s t → entries.role_in s ≡ names.role_in t
-role_stands c (stands.Role second) (role other) h = ap Some h
-role_stands c (stands.Interaction who) (interaction part i) h = refl
+pub role_stands : (c : Channel) (s : Entity) (t : Sort) → MemberStands c s t → entries.role_in s ≡ names.role_in t
+role_stands c (entities.Role second) (role other) h = ap Some h
+role_stands c (entities.Interaction who) (interaction part i) h = refl
 role_stands c _ _ h = absurd h
 
 pub role_both : (c : Channel) (o : Option Entry) (p : Option Declaration) → Both (MemberFor c) o p → entries.role_by o ≡ names.role_by p
 role_both c None None h = refl
 role_both c None (Some d) h = absurd h
 role_both c (Some e) None h = absurd h
-role_both c (Some e) (Some d) h = role_stands c e.stands d.sort h
+role_both c (Some e) (Some d) h = role_stands c e.entity d.sort h
 
 -- interactions are no roles
 pub no_role_if : (b : Bool) (d : Declaration) (o : Option Declaration) → names.role_in d.sort ≡ None → names.role_by o ≡ None → names.role_by (if b then Some d else o) ≡ None
@@ -115,10 +115,10 @@ role_or (Some d) q h = refl
 abbrev pub RolesFor : Channel → Entries → Type 0
 RolesFor c front = (u : Used) → entries.role_by (entry_of front (spelled u)) ≡ role_named c u
 
-pub roles_for : (c : Channel) (least : Option Fault) → RolesFor c (enter_roles ([], least) c.roles).0
+pub roles_for : (c : Channel) (least : Option Fault) → RolesFor c (enter_all [] ([], least) (role_entries c.roles)).0
 roles_for c least u =
     ap entries.role_by (roles_table least c.roles (spelled u))
-    ∙ role_both c (first (flat.roles c.roles) (spelled u)) (declared_in (roles_region c.roles) (spelled u)) (first_alike (MemberFor c) (flat.roles c.roles) (roles_region c.roles) (spelled u) (roles_alike c c.roles))
+    ∙ role_both c (first (role_entries c.roles) (spelled u)) (declared_in (roles_region c.roles) (spelled u)) (first_alike (MemberFor c) (role_entries c.roles) (roles_region c.roles) (spelled u) (roles_alike c c.roles))
     ∙ sym (role_or (declared_in (roles_region c.roles) (spelled u)) (declared_in (by_region c.by) (spelled u)) (no_role c.by (spelled u)))
     ∙ ap names.role_by (sym (declared_in-append (roles_region c.roles) (by_region c.by) (spelled u)))
 
@@ -158,14 +158,14 @@ senders_for c front h a (u ∷ us) =
 
 pub interactions_alike : (c : Channel) (part : ByPart) (who : Senders) (is : List InteractionDef)
     → who ≡ record { known = are_roles c part.roles; first = has_role c false part.roles; second = has_role c true part.roles }
-    → Alike (MemberFor c) (flat.interactions who is) (interactions_region part is)
+    → Alike (MemberFor c) (interaction_entries who is) (interactions_region part is)
 interactions_alike c part who [] h = tt
 interactions_alike c part who (i ∷ is) h = (refl, h, interactions_alike c part who is h)
 
-pub by_alike : (c : Channel) (front : Entries) → RolesFor c front → (bs : List ByPart) → Alike (MemberFor c) (flat.by_parts front bs) (by_region bs)
+pub by_alike : (c : Channel) (front : Entries) → RolesFor c front → (bs : List ByPart) → Alike (MemberFor c) (by_entries front bs) (by_region bs)
 by_alike c front h [] = tt
 by_alike c front h (b ∷ bs) =
-    alike-append (MemberFor c) (flat.interactions (senders front b.roles) b.interactions) (interactions_region b b.interactions) (flat.by_parts front bs) (by_region bs)
+    alike-append (MemberFor c) (interaction_entries (senders front b.roles) b.interactions) (interactions_region b b.interactions) (by_entries front bs) (by_region bs)
     (interactions_alike c b (senders front b.roles) b.interactions (senders_for c front h record { known = true; first = false; second = false } b.roles))
     (by_alike c front h bs)
 
@@ -173,33 +173,32 @@ by_alike c front h (b ∷ bs) =
 abbrev pub MembersFor : Channel → Members → Type 0
 MembersFor c m = (n : List ℕ) → Both (MemberFor c) (member_entry m n) (declared_in (channel_region c) n)
 
-pub members_for : (c : Channel) (least : Option Fault) → MembersFor c (channel_pass least c).0
+pub members_for : (c : Channel) (least : Option Fault) → MembersFor c (names_of_channel least c).0
 members_for c least n =
-    let front : Entries = (enter_roles ([], least) c.roles).0 in
-    let state : State = ([], (enter_roles ([], least) c.roles).1) in
-    let is : member_entry (channel_pass least c).0 n ≡ first_of (first (flat.roles c.roles) n) (first (flat.by_parts front c.by) n) =
-    ap (λ s. whole front s.0 n) (flat.by_parts_is front state c.by)
-    ∙ whole-enter_list front state (flat.by_parts front c.by) n
-    ∙ ap (λ o. first_of o (first (flat.by_parts front c.by) n)) (first_of-none (entry_of front n) ∙ roles_table least c.roles n)
+    let front : Entries = (enter_all [] ([], least) (role_entries c.roles)).0 in
+    let state : Declared = ([], (enter_all [] ([], least) (role_entries c.roles)).1) in
+    let is : member_entry (names_of_channel least c).0 n ≡ first_of (first (role_entries c.roles) n) (first (by_entries front c.by) n) =
+    whole-enter_all front state (by_entries front c.by) n
+    ∙ ap (λ o. first_of o (first (by_entries front c.by) n)) (first_of-none (entry_of front n) ∙ roles_table least c.roles n)
     in subst (λ o. Both (MemberFor c) o (declared_in (channel_region c) n)) (sym is)
-    (subst (Both (MemberFor c) (first_of (first (flat.roles c.roles) n) (first (flat.by_parts front c.by) n))) (sym (declared_in-append (roles_region c.roles) (by_region c.by) n))
-    (both_append (MemberFor c) (first (flat.roles c.roles) n) (first (flat.by_parts front c.by) n) (declared_in (roles_region c.roles) n) (declared_in (by_region c.by) n)
-    (first_alike (MemberFor c) (flat.roles c.roles) (roles_region c.roles) n (roles_alike c c.roles))
-    (first_alike (MemberFor c) (flat.by_parts front c.by) (by_region c.by) n (by_alike c front (roles_for c least) c.by))))
+    (subst (Both (MemberFor c) (first_of (first (role_entries c.roles) n) (first (by_entries front c.by) n))) (sym (declared_in-append (roles_region c.roles) (by_region c.by) n))
+    (both_append (MemberFor c) (first (role_entries c.roles) n) (first (by_entries front c.by) n) (declared_in (roles_region c.roles) n) (declared_in (by_region c.by) n)
+    (first_alike (MemberFor c) (role_entries c.roles) (roles_region c.roles) n (roles_alike c c.roles))
+    (first_alike (MemberFor c) (by_entries front c.by) (by_region c.by) n (by_alike c front (roles_for c least) c.by))))
 
 -- the environment within a channel
-pub member_sort_stands : (c : Channel) (s : Standing) (t : Sort) → MemberStands c s t → tables.name_sort s ≡ environment.name_sort t
-member_sort_stands c (stands.Role second) (role other) h = refl
-member_sort_stands c (stands.Interaction who) (interaction part i) h = refl
+pub member_sort_stands : (c : Channel) (s : Entity) (t : Sort) → MemberStands c s t → tables.name_sort s ≡ environment.name_sort t
+member_sort_stands c (entities.Role second) (role other) h = refl
+member_sort_stands c (entities.Interaction who) (interaction part i) h = refl
 member_sort_stands c _ _ h = absurd h
 
-pub member_sort_both : (c : Channel) (o : Option Entry) (p : Option Declaration) → Both (MemberFor c) o p → sort_found (found_among o) ≡ environment.sort_declared p
+pub member_sort_both : (c : Channel) (o : Option Entry) (p : Option Declaration) → Both (MemberFor c) o p → sort_found (entry_found o) ≡ environment.sort_declared p
 member_sort_both c None None h = refl
 member_sort_both c None (Some d) h = absurd h
 member_sort_both c (Some e) None h = absurd h
-member_sort_both c (Some e) (Some d) h = ap names.seen (member_sort_stands c e.stands d.sort h)
+member_sort_both c (Some e) (Some d) h = ap names.seen (member_sort_stands c e.entity d.sort h)
 
-pub member_sort_for : (c : Channel) (m : Members) → MembersFor c m → (u : Used) → sort_found (member_sort m u) ≡ environment.member_sort c u
+pub member_sort_for : (c : Channel) (m : Members) → MembersFor c m → (u : Used) → sort_found (look_up_member m u) ≡ environment.member_sort c u
 member_sort_for c m h u = member_sort_both c (member_entry m (spelled u)) (declared_in (channel_region c) (spelled u)) (h (spelled u))
 
 pub channel_environment_is : (c : Channel) (m : Members) → MembersFor c m → members_environment m ≡ channel_environment c
@@ -210,32 +209,30 @@ channel_environment_is c m h = λ i. record {
 }
 
 -- the faults of a channel
-pub noted_roles : (c : Channel) (least : Option Fault) → (enter_roles ([], least) c.roles).1 ≡ least_with least (twice_faults [] (names_of (roles_region c.roles)))
+pub noted_roles : (c : Channel) (least : Option Fault) → (enter_all [] ([], least) (role_entries c.roles)).1 ≡ least_with least (twice_faults [] (names_of (roles_region c.roles)))
 noted_roles c least =
-    ap (λ s. s.1) (flat.roles_is ([], least) c.roles)
-    ∙ noted-enter_list [] [] ([], least) (flat.roles c.roles) (λ n. refl)
-    ∙ ap (λ l. least_with least (twice_faults [] l)) (names_alike (MemberFor c) (flat.roles c.roles) (roles_region c.roles) (roles_alike c c.roles))
+    noted-enter_all [] [] ([], least) (role_entries c.roles) (λ n. refl)
+    ∙ ap (λ l. least_with least (twice_faults [] l)) (names_alike (MemberFor c) (role_entries c.roles) (roles_region c.roles) (roles_alike c c.roles))
 
-pub noted_by : (c : Channel) (least : Option Fault) → let r : State = enter_roles ([], least) c.roles in
-    (enter_by_parts r.0 ([], r.1) c.by).1 ≡ least_with r.1 (twice_faults (spellings_of (roles_region c.roles)) (names_of (by_region c.by)))
+pub noted_by : (c : Channel) (least : Option Fault) → let r : Declared = enter_all [] ([], least) (role_entries c.roles) in
+    (enter_all r.0 ([], r.1) (by_entries r.0 c.by)).1 ≡ least_with r.1 (twice_faults (spellings_of (roles_region c.roles)) (names_of (by_region c.by)))
 noted_by c least =
-    let r : State = enter_roles ([], least) c.roles in
-    ap (λ s. s.1) (flat.by_parts_is r.0 ([], r.1) c.by)
-    ∙ noted-enter_list r.0 (spellings_of (roles_region c.roles)) ([], r.1) (flat.by_parts r.0 c.by)
+    let r : Declared = enter_all [] ([], least) (role_entries c.roles) in
+    noted-enter_all r.0 (spellings_of (roles_region c.roles)) ([], r.1) (by_entries r.0 c.by)
     (agree_front (MemberFor c) r.0 (roles_region c.roles) (λ n. subst (λ o. Both (MemberFor c) o (declared_in (roles_region c.roles) n)) (sym (roles_table least c.roles n))
-    (first_alike (MemberFor c) (flat.roles c.roles) (roles_region c.roles) n (roles_alike c c.roles))))
-    ∙ ap (λ l. least_with r.1 (twice_faults (spellings_of (roles_region c.roles)) l)) (names_alike (MemberFor c) (flat.by_parts r.0 c.by) (by_region c.by) (by_alike c r.0 (roles_for c least) c.by))
+    (first_alike (MemberFor c) (role_entries c.roles) (roles_region c.roles) n (roles_alike c c.roles))))
+    ∙ ap (λ l. least_with r.1 (twice_faults (spellings_of (roles_region c.roles)) l)) (names_alike (MemberFor c) (by_entries r.0 c.by) (by_region c.by) (by_alike c r.0 (roles_for c least) c.by))
 
-pub noted_channel : (c : Channel) (least : Option Fault) → (channel_pass least c).1 ≡ least_with least (channel_faults c)
+pub noted_channel : (c : Channel) (least : Option Fault) → (names_of_channel least c).1 ≡ least_with least (channel_faults c)
 noted_channel c least =
-    let r : State = enter_roles ([], least) c.roles in
+    let r : Declared = enter_all [] ([], least) (role_entries c.roles) in
     let one : List Fault = twice_faults [] (names_of (roles_region c.roles)) in
     let other : List Fault = twice_faults (spellings_of (roles_region c.roles)) (names_of (by_region c.by)) in
-    let noted : (enter_by_parts r.0 ([], r.1) c.by).1 ≡ least_with least (one ++ other) =
+    let noted : (enter_all r.0 ([], r.1) (by_entries r.0 c.by)).1 ≡ least_with least (one ++ other) =
     noted_by c least ∙ ap (λ l. least_with l other) (noted_roles c least) ∙ sym (least_append least one other)
     in
-    ap (λ l. least_with l (by_faults (members_environment (channel_pass least c).0) c.by)) noted
-    ∙ ap (λ env. least_with (least_with least (one ++ other)) (by_faults env c.by)) (channel_environment_is c (channel_pass least c).0 (members_for c least))
+    ap (λ l. least_with l (by_faults (members_environment (names_of_channel least c).0) c.by)) noted
+    ∙ ap (λ env. least_with (least_with least (one ++ other)) (by_faults env c.by)) (channel_environment_is c (names_of_channel least c).0 (members_for c least))
     ∙ sym (least_append least (one ++ other) (by_faults (channel_environment c) c.by))
     ∙ ap (λ l. least_with least (l ++ by_faults (channel_environment c) c.by)) (sym (twice-append [] (roles_region c.roles) (names_of (by_region c.by))))
     ∙ ap (λ l. least_with least (twice_faults [] l ++ by_faults (channel_environment c) c.by)) (sym (names_of-append (roles_region c.roles) (by_region c.by)))

@@ -1,21 +1,17 @@
 -- What a table has after names were entered, and which of them were declared twice.
 use Rattle.std.specs.Prelude.{if◌then◌else◌, ◌||◌, is_some}
 use Rattle.std.specs.Cmp.Lexicographic.{same_text}
-use Rattle.std.proofs.Common.{◌≡◌, refl, sym, ap, ◌∙◌, ℕ, Bool, true, false, List, [], ◌∷◌, ◌++◌, Option, Some, None}
+use Rattle.std.proofs.Common.{◌≡◌, refl, sym, ap, ◌∙◌, ℕ, ◌+◌, ◌<◌, Bool, true, false, List, [], ◌∷◌, ◌++◌, Option, Some, None, length, drop, get_or}
+use Rattle.std.proofs.lemmas.List.{drop_more}
 use Rattle.est_syntax.specs.declared.name.Used.{Used}
 use Rattle.est_syntax.specs.declared.rule.Rule.TheVariants.{DeclaredTwice}
-use Rattle.est_syntax.specs.Least.{least_with}
+use Rattle.est_check.specs.Least.{least_with}
 use Rattle.est_syntax.specs.Names.{is_name, spelled}
 use Rattle.est_syntax.specs.Faults.{broken_if, is_among, twice_faults}
-use Rattle.est_syntax.proofs.LeastLaws.{least_append}
+use Rattle.est_check.proofs.LeastLaws.{least_append}
 use Rattle.est_check.specs.declared.names.Entry.{Entry}
-use Rattle.est_check.specs.Entries.{Entries, State, entry_of, enter_by, behind_by, enter_behind}
+use Rattle.est_check.specs.Entries.{Entries, Declared, entry_of, enter_by, following_by, enter_following, enter_all}
 use Rattle.est_check.specs.Tables.{first_of}
-
--- names entered one by one behind a region in front
-abbrev pub enter_list : Entries → State → List (Used × Entry) → State
-enter_list front s [] = s
-enter_list front s (d ∷ ds) = enter_list front (enter_behind front s d.0 d.1) ds
 
 -- the first entry that a name gets
 abbrev pub first : List (Used × Entry) → List ℕ → Option Entry
@@ -30,9 +26,22 @@ names_in (d ∷ ds) = d.0 ∷ names_in ds
 abbrev pub whole : Entries → Entries → List ℕ → Option Entry
 whole front es n = first_of (entry_of front n) (entry_of es n)
 
-pub enter_list-append : (front : Entries) (s : State) (xs ys : List (Used × Entry)) → enter_list front s (xs ++ ys) ≡ enter_list front (enter_list front s xs) ys
-enter_list-append front s [] ys = refl
-enter_list-append front s (x ∷ xs) ys = enter_list-append front (enter_behind front s x.0 x.1) xs ys
+pub enter_all_append : (front : Entries) (s : Declared) (xs ys : List (Used × Entry)) → enter_all front s (xs ++ ys) ≡ enter_all front (enter_all front s xs) ys
+enter_all_append front s [] ys = refl
+enter_all_append front s (x ∷ xs) ys = enter_all_append front (enter_following front s x.0 x.1) xs ys
+
+-- a loop that enters what each item declares; items have numbers from 0 on
+pub enter_loop : {X : Type 0} (front : Entries) (F : ℕ → List X → List (Used × Entry)) (g : ℕ → X → List (Used × Entry)) (xs : List X) (i : ℕ) (x : X) (before after total : Declared)
+    → ((y : X) (ys : List X) → F i (y ∷ ys) ≡ g i y ++ F (i + 1) ys)
+    → i < length xs → x ≡ get_or xs i x → after ≡ enter_all front before (g i x)
+    → enter_all front before (F i (drop i xs)) ≡ total → enter_all front after (F (i + 1) (drop (i + 1) xs)) ≡ total
+enter_loop front F g xs i x before after total step within is done h =
+    ap (λ s. enter_all front s (F (i + 1) (drop (i + 1) xs))) done
+    ∙ sym (enter_all_append front before (g i x) (F (i + 1) (drop (i + 1) xs)))
+    ∙ ap (enter_all front before) (sym (step x (drop (i + 1) xs)))
+    ∙ ap (λ y. enter_all front before (F i (y ∷ drop (i + 1) xs))) is
+    ∙ ap (λ l. enter_all front before (F i l)) (sym (drop_more xs i x within))
+    ∙ h
 
 pub first_of-none : (o : Option Entry) → first_of o None ≡ o
 first_of-none None = refl
@@ -63,7 +72,7 @@ pub kept : (w : List ℕ → Option Entry) (u : List ℕ) (f e : Entry) (n : Lis
 kept w u f e n h = kept_by w u f e n (is_name n u) refl h
 
 -- one name more
-pub whole-enter : (front : Entries) (s : State) (u : Used) (e : Entry) (n : List ℕ) (o : Option Entry) → entry_of front (spelled u) ≡ None → entry_of s.0 (spelled u) ≡ o
+pub whole-enter : (front : Entries) (s : Declared) (u : Used) (e : Entry) (n : List ℕ) (o : Option Entry) → entry_of front (spelled u) ≡ None → entry_of s.0 (spelled u) ≡ o
     → whole front (enter_by o s u e).0 n ≡ first_of (whole front s.0 n) (if is_name n (spelled u) then Some e else None)
 whole-enter front s u e n None h k =
     ap (first_of (entry_of front n)) (entry_of-push s.0 (spelled u) e n)
@@ -71,16 +80,16 @@ whole-enter front s u e n None h k =
 whole-enter front s u e n (Some f) h k =
     kept (whole front s.0) (spelled u) f e n (ap (λ o. first_of o (entry_of s.0 (spelled u))) h ∙ k)
 
-pub whole-behind : (front : Entries) (s : State) (u : Used) (e : Entry) (n : List ℕ) (o : Option Entry) → entry_of front (spelled u) ≡ o
-    → whole front (behind_by o s u e).0 n ≡ first_of (whole front s.0 n) (if is_name n (spelled u) then Some e else None)
+pub whole-behind : (front : Entries) (s : Declared) (u : Used) (e : Entry) (n : List ℕ) (o : Option Entry) → entry_of front (spelled u) ≡ o
+    → whole front (following_by o s u e).0 n ≡ first_of (whole front s.0 n) (if is_name n (spelled u) then Some e else None)
 whole-behind front s u e n None h = whole-enter front s u e n (entry_of s.0 (spelled u)) h refl
 whole-behind front s u e n (Some f) h =
     kept (whole front s.0) (spelled u) f e n (ap (λ o. first_of o (entry_of s.0 (spelled u))) h)
 
-pub whole-enter_list : (front : Entries) (s : State) (ds : List (Used × Entry)) (n : List ℕ) → whole front (enter_list front s ds).0 n ≡ first_of (whole front s.0 n) (first ds n)
-whole-enter_list front s [] n = sym (first_of-none (whole front s.0 n))
-whole-enter_list front s (d ∷ ds) n =
-    whole-enter_list front (enter_behind front s d.0 d.1) ds n
+pub whole-enter_all : (front : Entries) (s : Declared) (ds : List (Used × Entry)) (n : List ℕ) → whole front (enter_all front s ds).0 n ≡ first_of (whole front s.0 n) (first ds n)
+whole-enter_all front s [] n = sym (first_of-none (whole front s.0 n))
+whole-enter_all front s (d ∷ ds) n =
+    whole-enter_all front (enter_following front s d.0 d.1) ds n
     ∙ ap (λ o. first_of o (first ds n)) (whole-behind front s d.0 d.1 n (entry_of front (spelled d.0)) refl)
     ∙ first_of-assoc (whole front s.0 n) (if is_name n (spelled d.0) then Some d.1 else None) (first ds n)
     ∙ ap (first_of (whole front s.0 n)) (first_of-if (is_name n (spelled d.0)) d.1 None (first ds n))
@@ -114,22 +123,22 @@ agree-push names w v m e agree is n =
     ∙ some-first_of (w n) (is_name n m) e
     ∙ ap is_some (sym (is n))
 
-pub noted-enter : (s : State) (u : Used) (e : Entry) (o : Option Entry) (b : Bool) → b ≡ is_some o → (enter_by o s u e).1 ≡ least_with s.1 (broken_if b u.place DeclaredTwice)
+pub noted-enter : (s : Declared) (u : Used) (e : Entry) (o : Option Entry) (b : Bool) → b ≡ is_some o → (enter_by o s u e).1 ≡ least_with s.1 (broken_if b u.place DeclaredTwice)
 noted-enter s u e None b h = ap (λ x. least_with s.1 (broken_if x u.place DeclaredTwice)) (sym h)
 noted-enter s u e (Some f) b h = ap (λ x. least_with s.1 (broken_if x u.place DeclaredTwice)) (sym h)
 
-pub noted-behind : (front : Entries) (s : State) (u : Used) (e : Entry) (o : Option Entry) (b : Bool) → b ≡ is_some (first_of o (entry_of s.0 (spelled u)))
-    → (behind_by o s u e).1 ≡ least_with s.1 (broken_if b u.place DeclaredTwice)
+pub noted-behind : (front : Entries) (s : Declared) (u : Used) (e : Entry) (o : Option Entry) (b : Bool) → b ≡ is_some (first_of o (entry_of s.0 (spelled u)))
+    → (following_by o s u e).1 ≡ least_with s.1 (broken_if b u.place DeclaredTwice)
 noted-behind front s u e None b h = noted-enter s u e (entry_of s.0 (spelled u)) b h
 noted-behind front s u e (Some f) b h = ap (λ x. least_with s.1 (broken_if x u.place DeclaredTwice)) (sym h)
 
 -- the names that were there already are those that are declared twice
-pub noted-enter_list : (front : Entries) (names : List (List ℕ)) (s : State) (ds : List (Used × Entry)) → Agree names (whole front s.0)
-    → (enter_list front s ds).1 ≡ least_with s.1 (twice_faults names (names_in ds))
-noted-enter_list front names s [] agree = refl
-noted-enter_list front names s (d ∷ ds) agree =
-    noted-enter_list front (names ++ spelled d.0 ∷ []) (enter_behind front s d.0 d.1) ds
-    (agree-push names (whole front s.0) (whole front (enter_behind front s d.0 d.1).0) (spelled d.0) d.1 agree
+pub noted-enter_all : (front : Entries) (names : List (List ℕ)) (s : Declared) (ds : List (Used × Entry)) → Agree names (whole front s.0)
+    → (enter_all front s ds).1 ≡ least_with s.1 (twice_faults names (names_in ds))
+noted-enter_all front names s [] agree = refl
+noted-enter_all front names s (d ∷ ds) agree =
+    noted-enter_all front (names ++ spelled d.0 ∷ []) (enter_following front s d.0 d.1) ds
+    (agree-push names (whole front s.0) (whole front (enter_following front s d.0 d.1).0) (spelled d.0) d.1 agree
     (λ n. whole-behind front s d.0 d.1 n (entry_of front (spelled d.0)) refl))
     ∙ ap (λ l. least_with l (twice_faults (names ++ spelled d.0 ∷ []) (names_in ds)))
     (noted-behind front s d.0 d.1 (entry_of front (spelled d.0)) (is_among (spelled d.0) names) (agree (spelled d.0)))

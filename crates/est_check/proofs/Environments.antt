@@ -12,16 +12,16 @@ use Rattle.est_syntax.specs.Environment.{Environment, are_roles, has_role, envir
 use Rattle.est_syntax.specs.Environment as environments
 use Rattle.est_check.specs.declared.names.Entry.{Entry}
 use Rattle.est_check.specs.declared.names.PointSide.{PointSide}
-use Rattle.est_check.specs.declared.names.Standing.{Standing}
-use Rattle.est_check.specs.declared.names.Standing.TheVariants as stands
+use Rattle.est_check.specs.declared.names.Entity.{Entity}
+use Rattle.est_check.specs.declared.names.Entity.TheVariants as entities
 use Rattle.est_check.specs.declared.table.Table.{Table}
 use Rattle.est_check.specs.declared.table.BodyNames.{BodyNames}
 use Rattle.est_check.specs.Entries.{entry, entry_of}
-use Rattle.est_check.specs.Tables.{first_of, member_entry, members_at, names_at, header_entry, own_entry, table_found, channel_number, side_found, sort_found, member_sort_at, may_send, table_environment}
+use Rattle.est_check.specs.Declarations.{together_entries}
+use Rattle.est_check.specs.Tables.{first_of, member_entry, members_at, names_at, header_entry, own_entry, look_up, channel_number, point_side, sort_found, member_sort_at, may_send, table_environment}
 use Rattle.est_check.specs.Tables as tables
-use Rattle.est_check.specs.Passes.{outside, table_side, header_number, front_of}
-use Rattle.est_check.specs.Passes as passes
-use Rattle.est_check.proofs.Flat as flat
+use Rattle.est_check.specs.LeastFaults.{outside, table_side, header_number, header_entries, point_entries}
+use Rattle.est_check.specs.LeastFaults as least_faults
 use Rattle.est_check.proofs.Stands.{Both, Alike, alike-append, SideFor, EntryFor, FoundFor, ChannelFor, HeaderFor, found_outside, sort_found_for, channel_for, side_for}
 use Rattle.est_check.proofs.Channels.{MemberStands, MemberFor, MembersFor, role_both, member_sort_for}
 
@@ -40,9 +40,9 @@ pub may_send_for : (c : Channel) (us : List Used) (b : Bool) → may_send b reco
 may_send_for c us true = refl
 may_send_for c us false = refl
 
-pub passage_stands : (side : Side) (second : Bool) (s : Standing) (t : Sort) → second ≡ side.is_second → MemberStands side.channel s t → tables.passage_in second s ≡ environments.passage_in side t
-passage_stands side second (stands.Role a) (role b) e h = refl
-passage_stands side second (stands.Interaction who) (interaction p i) e h =
+pub passage_stands : (side : Side) (second : Bool) (s : Entity) (t : Sort) → second ≡ side.is_second → MemberStands side.channel s t → tables.passage_in second s ≡ environments.passage_in side t
+passage_stands side second (entities.Role a) (role b) e h = refl
+passage_stands side second (entities.Interaction who) (interaction p i) e h =
     (λ j. environments.passage_with (h j).known (may_send (e j) (h j)) (may_send (not (e j)) (h j)))
     ∙ (λ j. environments.passage_with (are_roles side.channel p.roles) (may_send_for side.channel p.roles side.is_second j) (may_send_for side.channel p.roles (not side.is_second) j))
 passage_stands side second _ _ e h = absurd h
@@ -51,7 +51,7 @@ pub passage_both : (side : Side) (second : Bool) (o : Option Entry) (p : Option 
 passage_both side second None None e h = refl
 passage_both side second None (Some d) e h = absurd h
 passage_both side second (Some x) None e h = absurd h
-passage_both side second (Some x) (Some d) e h = passage_stands side second x.stands d.sort e h
+passage_both side second (Some x) (Some d) e h = passage_stands side second x.entity d.sort e h
 
 pub passage_for : (all : List Part) (t : Table) (q : Option PointSide) (side : Option Side) (u : Used) → ChannelsFor all t → SideFor all q side → tables.passage_at t q u ≡ environments.passage_at side u
 passage_for all t None None u channels h = refl
@@ -68,63 +68,63 @@ role_sort_for all t (Some k) None u channels h = absurd h
 role_sort_for all t (Some k) (Some c) u channels h = ap Some (member_sort_for c (members_at t.channels k) (channels k c h) u)
 
 -- where what is found is what is meant, the environments are one
-pub environment_is : (all : List Part) (t : Table) (b : BodyNames) (scope : Scope) → ChannelsFor all t → ((u : Used) → FoundFor all (table_found t b u) (meaning scope u)) → table_environment t b ≡ environment scope
+pub environment_is : (all : List Part) (t : Table) (b : BodyNames) (scope : Scope) → ChannelsFor all t → ((u : Used) → FoundFor all (look_up t b u) (meaning scope u)) → table_environment t b ≡ environment scope
 environment_is all t b scope channels means = λ i. record {
-  sort_of = λ u. sort_found_for all (table_found t b u) (meaning scope u) (means u) i;
-  role_of = λ at u. role_sort_for all t (channel_number (table_found t b at)) (channel_by (meaning scope at)) u channels (channel_for all (table_found t b at) (meaning scope at) (means at)) i;
-  passage_of = λ at u. passage_for all t (side_found (table_found t b at)) (environments.side_meant (meaning scope at)) u channels (side_for all (table_found t b at) (meaning scope at) (means at)) i;
+  sort_of = λ u. sort_found_for all (look_up t b u) (meaning scope u) (means u) i;
+  role_of = λ at u. role_sort_for all t (channel_number (look_up t b at)) (channel_by (meaning scope at)) u channels (channel_for all (look_up t b at) (meaning scope at) (means at)) i;
+  passage_of = λ at u. passage_for all t (point_side (look_up t b at)) (environments.side_meant (meaning scope at)) u channels (side_for all (look_up t b at) (meaning scope at) (means at)) i;
 }
 
 -- the scope of one region, with no body around
 abbrev pub alone : Region → Scope
 alone r = record { own = r ∷ []; around = []; bodies = [] }
 
-pub means_outside : (all : List Part) (r : Region) (t : Table) → OuterFor all r t → (u : Used) → FoundFor all (table_found t outside u) (meaning (alone r) u)
+pub means_outside : (all : List Part) (r : Region) (t : Table) → OuterFor all r t → (u : Used) → FoundFor all (look_up t outside u) (meaning (alone r) u)
 means_outside all r t outer u = found_outside all (is_predeclared (spelled u)) (entry_of t.outer (spelled u)) (declared_in r (spelled u)) u.place (outer (spelled u))
 
 pub environment_outside : (all : List Part) (r : Region) (t : Table) → OuterFor all r t → ChannelsFor all t → table_environment t outside ≡ environment (alone r)
 environment_outside all r t outer channels = environment_is all t outside (alone r) channels (means_outside all r t outer)
 
 -- sides
-pub side_with_for : (all : List Part) (k : ℕ) (c : Channel) (o : Option Bool) → ChannelFor all k c → SideFor all (passes.side_with k o) (names.side_with c o)
+pub side_with_for : (all : List Part) (k : ℕ) (c : Channel) (o : Option Bool) → ChannelFor all k c → SideFor all (least_faults.side_with k o) (names.side_with c o)
 side_with_for all k c None h = tt
 side_with_for all k c (Some second) h = (h, refl)
 
-pub side_by_for : (all : List Part) (t : Table) (o : Option ℕ) (p : Option Channel) (u : Used) → ChannelsFor all t → Both (ChannelFor all) o p → SideFor all (passes.side_by t o u) (names.side_by p u)
+pub side_by_for : (all : List Part) (t : Table) (o : Option ℕ) (p : Option Channel) (u : Used) → ChannelsFor all t → Both (ChannelFor all) o p → SideFor all (least_faults.side_by t o u) (names.side_by p u)
 side_by_for all t None None u channels h = tt
 side_by_for all t None (Some c) u channels h = absurd h
 side_by_for all t (Some k) None u channels h = absurd h
 side_by_for all t (Some k) (Some c) u channels h =
-    subst (λ o. SideFor all (passes.side_with k o) (names.side_by (Some c) u))
+    subst (λ o. SideFor all (least_faults.side_with k o) (names.side_by (Some c) u))
     (sym (role_both c (member_entry (members_at t.channels k) (spelled u)) (declared_in (channel_region c) (spelled u)) (channels k c h (spelled u))))
     (side_with_for all k c (role_named c u) h)
 
 pub side_outside : (all : List Part) (r : Region) (t : Table) → OuterFor all r t → ChannelsFor all t → (p : Point) → SideFor all (table_side t outside p) (side_of (alone r) p)
 side_outside all r t outer channels p =
-    side_by_for all t (channel_number (table_found t outside p.channel)) (channel_by (meaning (alone r) p.channel)) p.role channels
-    (channel_for all (table_found t outside p.channel) (meaning (alone r) p.channel) (means_outside all r t outer p.channel))
+    side_by_for all t (channel_number (look_up t outside p.channel)) (channel_by (meaning (alone r) p.channel)) p.role channels
+    (channel_for all (look_up t outside p.channel) (meaning (alone r) p.channel) (means_outside all r t outer p.channel))
 
 -- names that are declared together, and the interaction points of a header
-pub together_alike : (R : Entry → Declaration → Type 0) (us : List Used) (e : Entry) (last : ℕ) (s : Sort) → ((u : Used) → R e (declaration u last s)) → Alike R (flat.together us e) (declared_together us last s)
+pub together_alike : (R : Entry → Declaration → Type 0) (us : List Used) (e : Entry) (last : ℕ) (s : Sort) → ((u : Used) → R e (declaration u last s)) → Alike R (together_entries us e) (declared_together us last s)
 together_alike R [] e last s h = tt
 together_alike R (u ∷ us) e last s h = (refl, h u, together_alike R us e last s h)
 
-pub points_alike : (all : List Part) (r : Region) (t : Table) → OuterFor all r t → ChannelsFor all t → (ps : List Point) → Alike (EntryFor all) (flat.points t outside ps) (points_region (alone r) ps)
+pub points_alike : (all : List Part) (r : Region) (t : Table) → OuterFor all r t → ChannelsFor all t → (ps : List Point) → Alike (EntryFor all) (point_entries t outside ps) (points_region (alone r) ps)
 points_alike all r t outer channels [] = tt
 points_alike all r t outer channels (p ∷ ps) =
-    alike-append (EntryFor all) (flat.together p.names (entry p.role.place (stands.Point (table_side t outside p)))) (declared_together p.names p.role.place (names.point p (side_of (alone r) p)))
-    (flat.points t outside ps) (points_region (alone r) ps)
-    (together_alike (EntryFor all) p.names (entry p.role.place (stands.Point (table_side t outside p))) p.role.place (names.point p (side_of (alone r) p)) (λ u. (refl, side_outside all r t outer channels p)))
+    alike-append (EntryFor all) (together_entries p.names (entry p.role.place (entities.Point (table_side t outside p)))) (declared_together p.names p.role.place (names.point p (side_of (alone r) p)))
+    (point_entries t outside ps) (points_region (alone r) ps)
+    (together_alike (EntryFor all) p.names (entry p.role.place (entities.Point (table_side t outside p))) p.role.place (names.point p (side_of (alone r) p)) (λ u. (refl, side_outside all r t outer channels p)))
     (points_alike all r t outer channels ps)
 
 -- the names of a body's header
 pub header_both : (all : List Part) (scope : Scope) (t : Table) (o : Option ℕ) (p : Option Header) (n : List ℕ) → HeadersFor all scope t → Both (HeaderFor all) o p
-    → Both (EntryFor all) (entry_of (front_of t o) n) (declared_in (header_names scope p) n)
+    → Both (EntryFor all) (entry_of (header_entries t o) n) (declared_in (header_names scope p) n)
 header_both all scope t None None n headers h = tt
 header_both all scope t None (Some x) n headers h = absurd h
 header_both all scope t (Some k) None n headers h = absurd h
 header_both all scope t (Some k) (Some x) n headers h = headers k x h n
 
-pub header_entry_is : (t : Table) (o : Option ℕ) (n : List ℕ) → header_entry t o n ≡ entry_of (front_of t o) n
+pub header_entry_is : (t : Table) (o : Option ℕ) (n : List ℕ) → header_entry t o n ≡ entry_of (header_entries t o) n
 header_entry_is t None n = refl
 header_entry_is t (Some k) n = refl

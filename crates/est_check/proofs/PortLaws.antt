@@ -1,11 +1,8 @@
 -- The ports by the tables are those of the skeleton.
 use Rattle.std.specs.Prelude.{if◌then◌else◌, slice_get, not}
-use Rattle.std.proofs.Common.{◌≡◌, refl, sym, ap, ◌∙◌, subst, ℕ, zero, suc, Bool, true, false, List, [], ◌∷◌, ◌++◌, Option, Some, None, append_assoc, inl, inr}
-use Rattle.std.proofs.lemmas.List.{append-nil}
+use Rattle.std.proofs.Common.{◌≡◌, refl, sym, ap, ◌∙◌, subst, ℕ, zero, suc, Bool, true, false, List, [], ◌∷◌, ◌++◌, Option, Some, None, inl, inr}
 use Rattle.std.proofs.lemmas.Option.{none-some}
 use Rattle.est_syntax.specs.declared.name.Used.{Used}
-use Rattle.est_syntax.specs.declared.ports.Port.{Port}
-use Rattle.est_syntax.specs.declared.ports.Signal.{Signal}
 use Rattle.est_syntax.specs.declared.rule.Fault.{Fault}
 use Rattle.est_syntax.specs.declared.sort.NameSort.{NameSort}
 use Rattle.est_syntax.specs.declared.sort.NameSort.TheVariants as sort
@@ -28,15 +25,17 @@ use Rattle.est_syntax.specs.Environment.{environment, sort_by, name_sort, has_ro
 use Rattle.est_syntax.specs.Faults.{takes, used_as, use_faults, modvars_faults, statement_faults, names_of, twice_faults, part_faults}
 use Rattle.est_syntax.specs.Breaks.{outermost, outside, inside, IsGood, modvar_by, modvar_in}
 use Rattle.est_syntax.specs.Ports.{interaction_signals, by_signals, signals_of, named_ports, point_ports, header_ports, header_of_variable, header_started, ports_of}
-use Rattle.est_syntax.proofs.LeastLaws.{in_first, in_second}
+use Rattle.est_syntax.proofs.Members.{in_first, in_second}
 use Rattle.est_check.specs.declared.names.Senders.{Senders}
 use Rattle.est_check.specs.declared.names.PointSide.{PointSide}
 use Rattle.est_check.specs.declared.table.Table.{Table}
-use Rattle.est_check.specs.Entries.{Entries, State, senders, enter_parts}
+use Rattle.est_check.specs.Entries.{Entries, Declared, senders, enter_all}
+use Rattle.est_check.specs.Declarations.{parts_entries}
 use Rattle.est_check.specs.Tables.{members_by, members_at, may_send}
-use Rattle.est_check.specs.Passes as passes
-use Rattle.est_check.specs.Passes.{channel_part, channels_pass, table_side, tables}
-use Rattle.est_check.specs.PortPass.{signal, push_interactions, push_by_parts, signals_in, signals_at, port, push_named, push_points, ports_in}
+use Rattle.est_check.specs.LeastFaults as least_faults
+use Rattle.est_check.specs.LeastFaults.{names_of_channel_part, names_of_channels, table_side, tables}
+use Rattle.est_check.specs.TablePorts.{signals_in, signals_at, ports_in}
+use Rattle.est_check.specs.TablePorts as by_table
 use Rattle.est_check.specs.Skeleton.{IsInit, IsSkeleton, channel_parts}
 use Rattle.est_check.specs.Counts.{body_count}
 use Rattle.est_check.proofs.Stands.{SideFor, ChannelFor}
@@ -48,40 +47,37 @@ use Rattle.est_check.proofs.Sound.{IsYes, Known, KnownMeaning, known_meaning, al
 -- the roles of each channel's table
 pub roles_at_for : (least : Option Fault) (ps : List Part) (k : ℕ) (c : Channel) → ChannelFor ps k c → RolesFor c (members_by (slice_get (members_list least ps) k)).roles
 roles_at_for least [] k c h = absurd (none-some (part.Channel c) h)
-roles_at_for least (p ∷ ps) zero c h = subst (λ q. RolesFor c (channel_part least q).0.roles) (sym (ap (or_part p) h)) (roles_for c least)
-roles_at_for least (p ∷ ps) (suc k) c h = roles_at_for (channel_part least p).1 ps k c h
+roles_at_for least (p ∷ ps) zero c h = subst (λ q. RolesFor c (names_of_channel_part least q).0.roles) (sym (ap (or_part p) h)) (roles_for c least)
+roles_at_for least (p ∷ ps) (suc k) c h = roles_at_for (names_of_channel_part least p).1 ps k c h
 
 abbrev pub RolesAt : List Part → Table → Type 0
 RolesAt all t = (k : ℕ) (c : Channel) → ChannelFor all k c → RolesFor c (members_at t.channels k).roles
 
 pub roles_at : (ps : List Part) → RolesAt ps (tables None ps).0
 roles_at ps k c h =
-    let o : State = enter_parts ([], None) 0 ps in
+    let o : Declared = enter_all [] ([], None) (parts_entries 0 ps) in
     subst (λ ms. RolesFor c (members_by (slice_get ms k)).roles) (sym (members_are [] o.1 ps)) (roles_at_for o.1 ps k c h)
 
 -- signals
-pub push_interactions_is : (into : List Signal) (second : Bool) (who : Senders) (side : Side) (b : ByPart) (is : List InteractionDef)
+pub interaction_signals_are : (second : Bool) (who : Senders) (side : Side) (b : ByPart) (is : List InteractionDef)
     → may_send second who ≡ has_role side.channel side.is_second b.roles → may_send (not second) who ≡ has_role side.channel (not side.is_second) b.roles
-    → push_interactions into second who is ≡ into ++ interaction_signals side b is
-push_interactions_is into second who side b [] h k = sym (append-nil into)
-push_interactions_is into second who side b (i ∷ is) h k =
-    push_interactions_is (into ++ signal i.name second who ∷ []) second who side b is h k
-    ∙ append_assoc into (signal i.name second who ∷ []) (interaction_signals side b is)
-    ∙ (λ j. into ++ record { name = i.name.name; kinds = []; sends = h j; receives = k j } ∷ interaction_signals side b is)
+    → by_table.interaction_signals second who is ≡ interaction_signals side b is
+interaction_signals_are second who side b [] h k = refl
+interaction_signals_are second who side b (i ∷ is) h k =
+    λ j. record { name = i.name.name; kinds = []; sends = h j; receives = k j } ∷ interaction_signals_are second who side b is h k j
 
 pub senders_may : (c : Channel) (roles : Entries) → RolesFor c roles → (second : Bool) (us : List Used) → may_send second (senders roles us) ≡ has_role c second us
 senders_may c roles h second us =
     ap (may_send second) (senders_for c roles h record { known = true; first = false; second = false } us) ∙ may_send_for c us second
 
-pub push_by_parts_is : (into : List Signal) (roles : Entries) (second : Bool) (side : Side) (bs : List ByPart) → RolesFor side.channel roles → second ≡ side.is_second
-    → push_by_parts into roles second bs ≡ into ++ by_signals side bs
-push_by_parts_is into roles second side [] h e = sym (append-nil into)
-push_by_parts_is into roles second side (b ∷ bs) h e =
-    push_by_parts_is (push_interactions into second (senders roles b.roles) b.interactions) roles second side bs h e
-    ∙ ap (λ l. l ++ by_signals side bs) (push_interactions_is into second (senders roles b.roles) side b b.interactions
+pub by_signals_are : (roles : Entries) (second : Bool) (side : Side) (bs : List ByPart) → RolesFor side.channel roles → second ≡ side.is_second
+    → by_table.by_signals roles second bs ≡ by_signals side bs
+by_signals_are roles second side [] h e = refl
+by_signals_are roles second side (b ∷ bs) h e =
+    λ j. interaction_signals_are second (senders roles b.roles) side b b.interactions
     (senders_may side.channel roles h second b.roles ∙ ap (λ x. has_role side.channel x b.roles) e)
-    (senders_may side.channel roles h (not second) b.roles ∙ ap (λ x. has_role side.channel (not x) b.roles) e))
-    ∙ append_assoc into (interaction_signals side b b.interactions) (by_signals side bs)
+    (senders_may side.channel roles h (not second) b.roles ∙ ap (λ x. has_role side.channel (not x) b.roles) e) j
+    ++ by_signals_are roles second side bs h e j
 
 pub signals_at_is : (all : List Part) (t : Table) (q : Option PointSide) (side : Option Side) → RolesAt all t → SideFor all q side → signals_at t all q ≡ signals_of side
 signals_at_is all t None None roles h = refl
@@ -89,25 +85,17 @@ signals_at_is all t None (Some side) roles h = absurd h
 signals_at_is all t (Some q) None roles h = absurd h
 signals_at_is all t (Some q) (Some side) roles h =
     ap (signals_in t q.channel q.second) h.0
-    ∙ push_by_parts_is [] (members_at t.channels q.channel).roles q.second side side.channel.by (roles q.channel side.channel h.0) h.1
+    ∙ by_signals_are (members_at t.channels q.channel).roles q.second side side.channel.by (roles q.channel side.channel h.0) h.1
 
 -- ports
-pub push_named_is : (into : List Port) (signals : List Signal) (us : List Used) → push_named into signals us ≡ into ++ named_ports signals us
-push_named_is into signals [] = sym (append-nil into)
-push_named_is into signals (u ∷ us) =
-    push_named_is (into ++ port u signals ∷ []) signals us
-    ∙ append_assoc into (port u signals ∷ []) (named_ports signals us)
+pub point_ports_are : (all : List Part) (r : Region) (t : Table) → TableFor all r t → RolesAt all t → (ps : List Point)
+    → by_table.point_ports t all ps ≡ point_ports (alone r) ps
+point_ports_are all r t for roles [] = refl
+point_ports_are all r t for roles (p ∷ ps) =
+    λ j. named_ports (signals_at_is all t (table_side t least_faults.outside p) (side_of (alone r) p) roles (side_outside all r t for.outer for.channels p) j) p.names
+    ++ point_ports_are all r t for roles ps j
 
-pub push_points_is : (all : List Part) (r : Region) (t : Table) → TableFor all r t → RolesAt all t → (into : List Port) (ps : List Point)
-    → push_points into t passes.outside all ps ≡ into ++ point_ports (alone r) ps
-push_points_is all r t for roles into [] = sym (append-nil into)
-push_points_is all r t for roles into (p ∷ ps) =
-    push_points_is all r t for roles (push_named into (signals_at t all (table_side t passes.outside p)) p.names) ps
-    ∙ ap (λ l. l ++ point_ports (alone r) ps) (push_named_is into (signals_at t all (table_side t passes.outside p)) p.names
-    ∙ ap (λ l. into ++ named_ports l p.names) (signals_at_is all t (table_side t passes.outside p) (side_of (alone r) p) roles (side_outside all r t for.outer for.channels p)))
-    ∙ append_assoc into (named_ports (signals_of (side_of (alone r) p)) p.names) (point_ports (alone r) ps)
-
-pub ports_in_is : (t : Table) (all : List Part) (cs : List Channel) (h : Header) (ps : List Part) → ports_in t passes.outside all (channel_parts cs ++ part.Header h ∷ ps) ≡ push_points [] t passes.outside all h.points
+pub ports_in_is : (t : Table) (all : List Part) (cs : List Channel) (h : Header) (ps : List Part) → ports_in t all (channel_parts cs ++ part.Header h ∷ ps) ≡ by_table.point_ports t all h.points
 ports_in_is t all [] h ps = refl
 ports_in_is t all (c ∷ cs) h ps = ports_in_is t all cs h ps
 
@@ -193,12 +181,12 @@ started s sk good =
     (λ f i. good f.place f.rule (outside (in_second f (twice_faults [] (names_of (parts_region s.parts))) (statement_faults (environment (spec_scope s)) s.first) i)))
 
 -- the ports of a good skeleton
-pub ports_are : (s : Spec) → IsSkeleton s → IsGood s → ports_in (tables None s.parts).0 passes.outside s.parts s.parts ≡ ports_of s
+pub ports_are : (s : Spec) → IsSkeleton s → IsGood s → ports_in (tables None s.parts).0 s.parts s.parts ≡ ports_of s
 ports_are s sk good =
     let t : Table = (tables None s.parts).0 in
-    ap (ports_in t passes.outside s.parts) sk.parts
+    ap (ports_in t s.parts) sk.parts
     ∙ ports_in_is t s.parts sk.channels sk.header (part.Body sk.body ∷ part.Modvars (sk.variable ∷ []) ∷ [])
-    ∙ push_points_is s.parts (parts_region s.parts) t (table_for s.parts (all_flat sk)) (roles_at s.parts) [] sk.header.points
+    ∙ point_ports_are s.parts (parts_region s.parts) t (table_for s.parts (all_flat sk)) (roles_at s.parts) sk.header.points
     ∙ ap (header_ports (spec_scope s)) (sym (started s sk good))
 
 -- a skeleton has one body

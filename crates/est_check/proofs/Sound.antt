@@ -1,4 +1,4 @@
--- What the passes note is what a skeleton breaks.
+-- The faults by the tables are those of the skeleton.
 use Rattle.std.specs.Prelude.{if◌then◌else◌, slice_get, ◌⊎◌, nat_lt}
 use Rattle.std.proofs.Common.{◌≡◌, refl, sym, ap, ◌∙◌, subst, ℕ, Bool, true, false, List, [], ◌∷◌, ◌++◌, Option, Some, None, inl, inr}
 use Rattle.std.proofs.lemmas.Option.{none-some}
@@ -16,18 +16,21 @@ use Rattle.est_syntax.specs.declared.specification.Body.{Body, out-Body}
 use Rattle.est_syntax.specs.declared.specification.Part.{Part}
 use Rattle.est_syntax.specs.declared.specification.Part.TheVariants as part
 use Rattle.est_syntax.specs.declared.specification.Spec.{Spec}
-use Rattle.est_syntax.specs.Least.{least_with, IsIn, IsLeast}
+use Rattle.est_syntax.specs.Least.{IsIn, IsLeast}
+use Rattle.est_check.specs.Least.{least_with}
 use Rattle.est_syntax.specs.Names.{Sort, Declaration, Region, Scope, is_predeclared, Meaning, nothing, unseen, predeclared, seen, meaning, meaning_by, in_force, declared_in, spelled, is_name, header_in, header_by, parts_region, spec_scope}
 use Rattle.est_syntax.specs.Names as names
 use Rattle.est_syntax.specs.Environment.{environment}
 use Rattle.est_syntax.specs.Faults.{names_of, twice_faults, statement_faults, part_faults}
 use Rattle.est_syntax.specs.Breaks.{HasPart, outermost, nested, HasStatement, own, of_first_part, of_transition, Breaks, outside, inside, no_system, system_inside, other_header, around_itself, IsLeastFault, IsGood}
-use Rattle.est_syntax.proofs.LeastLaws.{least_append, least_is, in_first, in_second, into_either}
+use Rattle.est_syntax.proofs.Members.{in_first, in_second, into_either}
+use Rattle.est_check.proofs.LeastLaws.{least_append, least_is}
 use Rattle.est_check.specs.declared.table.Table.{Table}
 use Rattle.est_check.specs.declared.table.Members.{Members}
-use Rattle.est_check.specs.Entries.{Entries, State, enter_parts}
+use Rattle.est_check.specs.Entries.{Entries, Declared, enter_all}
+use Rattle.est_check.specs.Declarations.{parts_entries}
 use Rattle.est_check.specs.Tables.{members_by, names_by}
-use Rattle.est_check.specs.Passes.{channels_pass, parts_pass, tables, spec_pass}
+use Rattle.est_check.specs.LeastFaults.{names_of_channels, least_of_parts, tables, least_of_spec}
 use Rattle.est_syntax.specs.declared.specification.Group.{out-Group}
 use Rattle.est_check.specs.Skeleton.{AreStates, IsOne, IsPlain, IsPlainTransition, IsPlainBody, IsSkeleton, channel_parts}
 use Rattle.est_check.proofs.Stands.{ChannelFor, HeaderFor}
@@ -38,8 +41,8 @@ use Rattle.est_check.proofs.Parts.{IsFlat, AreFlat, each, of_channel, of_header,
 -- the tables of flat parts
 pub table_for : (ps : List Part) → AreFlat ps → TableFor ps (parts_region ps) (tables None ps).0
 table_for ps f =
-    let o : State = enter_parts ([], None) 0 ps in
-    let c : List Members × Option Fault = channels_pass ([], o.1) ps in
+    let o : Declared = enter_all [] ([], None) (parts_entries 0 ps) in
+    let c : List Members × Option Fault = names_of_channels ([], o.1) ps in
     let bare : Table = record { outer = o.0; channels = c.0; headers = [] } in
     let outer : OuterFor ps (parts_region ps) bare = outer_both None ps f in
     let channels : ChannelsFor ps bare = λ k x h. subst (λ ms. MembersFor x (members_by (slice_get ms k))) (sym (members_are [] o.1 ps)) (members_at_for o.1 ps k x h) in
@@ -50,7 +53,7 @@ table_for ps f =
           (sym (names_are bare [] c.1 ps)) (names_at_for ps (parts_region ps) bare outer channels c.1 ps k h is n);
     }
 
--- all faults of flat parts, pass by pass
+-- all faults of flat parts: of their names, channels, headers, bodies and module variables, and of the first statement
 abbrev pub all_faults : Spec → List Fault
 all_faults s =
     twice_faults [] (names_of (parts_region s.parts))
@@ -63,12 +66,12 @@ least_five l a b c d e =
     ∙ least_append (least_with (least_with l a) b) c (d ++ e)
     ∙ least_append (least_with (least_with (least_with l a) b) c) d e)
 
-pub noted_all : (s : Spec) → AreFlat s.parts → spec_pass s ≡ least_with None (all_faults s)
+pub noted_all : (s : Spec) → AreFlat s.parts → least_of_spec s ≡ least_with None (all_faults s)
 noted_all s f =
     let ps : List Part = s.parts in
     let r : Region = parts_region ps in
-    let o : State = enter_parts ([], None) 0 ps in
-    let c : List Members × Option Fault = channels_pass ([], o.1) ps in
+    let o : Declared = enter_all [] ([], None) (parts_entries 0 ps) in
+    let c : List Members × Option Fault = names_of_channels ([], o.1) ps in
     let bare : Table = record { outer = o.0; channels = c.0; headers = [] } in
     let t : Table = (tables None ps).0 in
     let for : TableFor ps r t = table_for ps f in
@@ -76,7 +79,7 @@ noted_all s f =
     let b : List Fault = each of_channel ps in
     let x : List Fault = each (of_header (alone r)) ps in
     let y : List Fault = each (of_rest (alone r)) ps in
-    ap (λ env. least_with (parts_pass t (tables None ps).1 ps) (statement_faults env s.first)) (environment_outside ps r t for.outer for.channels)
+    ap (λ env. least_with (least_of_parts t (tables None ps).1 ps) (statement_faults env s.first)) (environment_outside ps r t for.outer for.channels)
     ∙ ap (λ l. least_with l (statement_faults (environment (alone r)) s.first))
     (noted_parts ps r t for (tables None ps).1 ps f
     ∙ ap (λ l. least_with l y) (noted_headers ps r bare for.outer for.channels [] c.1 ps
@@ -107,7 +110,7 @@ pub from_each : (g : Part → List Fault) (f : Fault) (ps : List Part) → IsIn 
 from_each g f [] i = absurd i
 from_each g f (q ∷ ps) i = among_either g f q ps (right_of (from_each g f ps) (into_either f (g q) (each g ps) i))
 
--- a part's faults are noted by one of the passes
+-- a part's faults are those of a channel, of a header, or of a body or a module variable
 pub channel_inside : (scope : Scope) (f : Fault) (p : Part) → IsIn f (of_channel p) → IsIn f (part_faults scope p)
 channel_inside scope f (part.Channel c) i = i
 channel_inside scope f (part.Header h) i = absurd i
@@ -414,14 +417,14 @@ pub least_by : (s : Spec) (sk : IsSkeleton s) (o : Option Fault) → IsLeast (λ
 least_by s sk None h = λ f b. h f (broken_noted sk f.place f.rule b)
 least_by s sk (Some f) h = (noted_breaks s f h.0, λ g b. h.1 g (broken_noted sk g.place g.rule b))
 
-pub least_of : (s : Spec) → IsSkeleton s → (o : Option Fault) → o ≡ spec_pass s → IsLeast (Broken s) o
+pub least_of : (s : Spec) → IsSkeleton s → (o : Option Fault) → o ≡ least_of_spec s → IsLeast (Broken s) o
 least_of s sk o h =
     subst (IsLeast (Broken s)) (sym (h ∙ noted_all s (all_flat sk))) (least_by s sk (least_with None (all_faults s)) (least_is (all_faults s)))
 
-pub good : (s : Spec) → IsSkeleton s → (o : Option Fault) → o ≡ spec_pass s → o ≡ None → IsGood s
+pub good : (s : Spec) → IsSkeleton s → (o : Option Fault) → o ≡ least_of_spec s → o ≡ None → IsGood s
 good s sk o h none = λ place r b. subst (IsLeast (Broken s)) none (least_of s sk o h) record { place = place; rule = r } b
 
-pub least : (s : Spec) → IsSkeleton s → (o : Option Fault) (f : Fault) → o ≡ spec_pass s → o ≡ Some f → IsLeastFault s f.place f.rule
+pub least : (s : Spec) → IsSkeleton s → (o : Option Fault) (f : Fault) → o ≡ least_of_spec s → o ≡ Some f → IsLeastFault s f.place f.rule
 least s sk o f h some =
     let l : IsLeast (Broken s) (Some f) = subst (IsLeast (Broken s)) some (least_of s sk o h)
     in (l.0, λ p q b. l.1 record { place = p; rule = q } b)

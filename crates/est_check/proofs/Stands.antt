@@ -13,14 +13,14 @@ use Rattle.est_syntax.specs.Environment.{are_roles, has_role}
 use Rattle.est_syntax.specs.Faults.{names_of}
 use Rattle.est_check.specs.declared.names.Entry.{Entry}
 use Rattle.est_check.specs.declared.names.PointSide.{PointSide}
-use Rattle.est_check.specs.declared.names.Standing.{Standing}
-use Rattle.est_check.specs.declared.names.Standing.TheVariants as stands
+use Rattle.est_check.specs.declared.names.Entity.{Entity}
+use Rattle.est_check.specs.declared.names.Entity.TheVariants as entities
 use Rattle.est_check.specs.declared.table.Found.{Found}
 use Rattle.est_check.specs.declared.table.Found.TheVariants as found
 use Rattle.est_check.specs.Tables as tables
-use Rattle.est_check.specs.Tables.{first_of, found_by, undeclared, outer_found, sort_found, channel_number, side_found}
-use Rattle.est_check.specs.Passes as passes
-use Rattle.est_check.specs.Passes.{header_number}
+use Rattle.est_check.specs.Tables.{first_of, own_found, undeclared, outer_found, sort_found, channel_number, point_side}
+use Rattle.est_check.specs.LeastFaults as least_faults
+use Rattle.est_check.specs.LeastFaults.{header_number}
 use Rattle.est_check.proofs.Entering.{first, names_in}
 
 -- both are none, or R holds of what they have
@@ -89,17 +89,17 @@ SideFor all (Some q) None = ⊥
 SideFor all (Some q) (Some side) = (slice_get all q.channel ≡ Some (part.Channel side.channel)) × (q.second ≡ side.is_second)
 
 -- what a name of the specification or of a body stands for, where the parts of the specification have numbers
-abbrev pub StandsFor : List Part → Standing → Sort → Type 0
-StandsFor all (stands.Channel number) (channel c) = slice_get all number ≡ Some (part.Channel c)
-StandsFor all (stands.Header number) (header h) = slice_get all number ≡ Some (part.Header h)
-StandsFor all stands.Body (body b) = Unit {0}
-StandsFor all stands.ModuleVariable (module_variable m) = Unit {0}
-StandsFor all (stands.Point q) (point p side) = SideFor all q side
-StandsFor all stands.State state = Unit {0}
+abbrev pub StandsFor : List Part → Entity → Sort → Type 0
+StandsFor all (entities.Channel number) (channel c) = slice_get all number ≡ Some (part.Channel c)
+StandsFor all (entities.Header number) (header h) = slice_get all number ≡ Some (part.Header h)
+StandsFor all entities.Body (body b) = Unit {0}
+StandsFor all entities.ModuleVariable (module_variable m) = Unit {0}
+StandsFor all (entities.Point q) (point p side) = SideFor all q side
+StandsFor all entities.State state = Unit {0}
 StandsFor all _ _ = ⊥
 
 abbrev pub EntryFor : List Part → Entry → Declaration → Type 0
-EntryFor all e d = (e.last ≡ d.last) × StandsFor all e.stands d.sort
+EntryFor all e d = (e.last ≡ d.last) × StandsFor all e.entity d.sort
 
 abbrev pub FoundFor : List Part → Found → Meaning Declaration → Type 0
 FoundFor all found.Nothing nothing = Unit {0}
@@ -109,13 +109,13 @@ FoundFor all (found.Seen e) (seen d) = EntryFor all e d
 FoundFor all _ _ = ⊥
 
 -- a body sees as much of the one as of the other
-pub shared_for : (all : List Part) (s : Standing) (t : Sort) → StandsFor all s t → tables.is_shared s ≡ names.is_shared t
-shared_for all (stands.Channel number) (channel c) h = refl
-shared_for all (stands.Header number) (header x) h = refl
-shared_for all stands.Body (body b) h = refl
-shared_for all stands.ModuleVariable (module_variable m) h = refl
-shared_for all (stands.Point q) (point p side) h = refl
-shared_for all stands.State state h = refl
+pub shared_for : (all : List Part) (s : Entity) (t : Sort) → StandsFor all s t → tables.is_shared s ≡ names.is_shared t
+shared_for all (entities.Channel number) (channel c) h = refl
+shared_for all (entities.Header number) (header x) h = refl
+shared_for all entities.Body (body b) h = refl
+shared_for all entities.ModuleVariable (module_variable m) h = refl
+shared_for all (entities.Point q) (point p side) h = refl
+shared_for all entities.State state h = refl
 shared_for all _ _ h = absurd h
 
 -- what is found within no body
@@ -152,7 +152,7 @@ found_around all known None (Some d) place h = absurd h
 found_around all known (Some e) None place h = absurd h
 found_around all known (Some e) (Some d) place h =
     subst (λ n. FoundFor all (outer_found known true (Some e) place) (meaning_by known None (if nat_lt n place then Some d else None))) h.0
-    (around_by all known e d (nat_lt e.last place) (tables.is_shared e.stands) h (shared_for all e.stands d.sort h.1))
+    (around_by all known e d (nat_lt e.last place) (tables.is_shared e.entity) h (shared_for all e.entity d.sort h.1))
 
 pub own_by : (all : List Part) (known : Bool) (e : Entry) (d : Declaration) (b : Bool) (outer : Found) (around : Option Declaration) → EntryFor all e d → FoundFor all outer (meaning_by known None around)
     → FoundFor all (if b then found.Seen e else outer) (meaning_by known (if b then Some d else None) around)
@@ -160,81 +160,81 @@ own_by all known e d true outer around h k = h
 own_by all known e d false outer around h k = k
 
 pub found_inside : (all : List Part) (known : Bool) (o : Option Entry) (p : Option Declaration) (place : ℕ) (outer : Found) (around : Option Declaration) → Both (EntryFor all) o p
-    → FoundFor all outer (meaning_by known None around) → FoundFor all (found_by o place outer) (meaning_by known (force p place) around)
+    → FoundFor all outer (meaning_by known None around) → FoundFor all (own_found o place outer) (meaning_by known (force p place) around)
 found_inside all known None None place outer around h k = k
 found_inside all known None (Some d) place outer around h k = absurd h
 found_inside all known (Some e) None place outer around h k = absurd h
 found_inside all known (Some e) (Some d) place outer around h k =
-    subst (λ n. FoundFor all (found_by (Some e) place outer) (meaning_by known (if nat_lt n place then Some d else None) around)) h.0
+    subst (λ n. FoundFor all (own_found (Some e) place outer) (meaning_by known (if nat_lt n place then Some d else None) around)) h.0
     (own_by all known e d (nat_lt e.last place) outer around h k)
 
 -- the sort, the channel, the header and the side of what is found
-pub sort_for : (all : List Part) (s : Standing) (t : Sort) → StandsFor all s t → tables.name_sort s ≡ environment.name_sort t
-sort_for all (stands.Channel number) (channel c) h = refl
-sort_for all (stands.Header number) (header x) h = refl
-sort_for all stands.Body (body b) h = refl
-sort_for all stands.ModuleVariable (module_variable m) h = refl
-sort_for all (stands.Point q) (point p side) h = refl
-sort_for all stands.State state h = refl
+pub sort_for : (all : List Part) (s : Entity) (t : Sort) → StandsFor all s t → tables.name_sort s ≡ environment.name_sort t
+sort_for all (entities.Channel number) (channel c) h = refl
+sort_for all (entities.Header number) (header x) h = refl
+sort_for all entities.Body (body b) h = refl
+sort_for all entities.ModuleVariable (module_variable m) h = refl
+sort_for all (entities.Point q) (point p side) h = refl
+sort_for all entities.State state h = refl
 sort_for all _ _ h = absurd h
 
 pub sort_found_for : (all : List Part) (f : Found) (m : Meaning Declaration) → FoundFor all f m → sort_found f ≡ environment.sort_by m
 sort_found_for all found.Nothing nothing h = refl
 sort_found_for all found.Unseen unseen h = refl
 sort_found_for all found.Predeclared predeclared h = refl
-sort_found_for all (found.Seen e) (seen d) h = ap seen (sort_for all e.stands d.sort h.1)
+sort_found_for all (found.Seen e) (seen d) h = ap seen (sort_for all e.entity d.sort h.1)
 sort_found_for all _ _ h = absurd h
 
 abbrev pub ChannelFor : List Part → ℕ → Channel → Type 0
 ChannelFor all number c = slice_get all number ≡ Some (part.Channel c)
 
-pub channel_in_for : (all : List Part) (s : Standing) (t : Sort) → StandsFor all s t → Both (ChannelFor all) (tables.channel_in s) (names.channel_in t)
-channel_in_for all (stands.Channel number) (channel c) h = h
-channel_in_for all (stands.Header number) (header x) h = tt
-channel_in_for all stands.Body (body b) h = tt
-channel_in_for all stands.ModuleVariable (module_variable m) h = tt
-channel_in_for all (stands.Point q) (point p side) h = tt
-channel_in_for all stands.State state h = tt
+pub channel_in_for : (all : List Part) (s : Entity) (t : Sort) → StandsFor all s t → Both (ChannelFor all) (tables.channel_in s) (names.channel_in t)
+channel_in_for all (entities.Channel number) (channel c) h = h
+channel_in_for all (entities.Header number) (header x) h = tt
+channel_in_for all entities.Body (body b) h = tt
+channel_in_for all entities.ModuleVariable (module_variable m) h = tt
+channel_in_for all (entities.Point q) (point p side) h = tt
+channel_in_for all entities.State state h = tt
 channel_in_for all _ _ h = absurd h
 
 pub channel_for : (all : List Part) (f : Found) (m : Meaning Declaration) → FoundFor all f m → Both (ChannelFor all) (channel_number f) (names.channel_by m)
 channel_for all found.Nothing nothing h = tt
 channel_for all found.Unseen unseen h = tt
 channel_for all found.Predeclared predeclared h = tt
-channel_for all (found.Seen e) (seen d) h = channel_in_for all e.stands d.sort h.1
+channel_for all (found.Seen e) (seen d) h = channel_in_for all e.entity d.sort h.1
 channel_for all _ _ h = absurd h
 
 abbrev pub HeaderFor : List Part → ℕ → Header → Type 0
 HeaderFor all number h = slice_get all number ≡ Some (part.Header h)
 
-pub header_in_for : (all : List Part) (s : Standing) (t : Sort) → StandsFor all s t → Both (HeaderFor all) (passes.header_in s) (names.header_in t)
-header_in_for all (stands.Channel number) (channel c) h = tt
-header_in_for all (stands.Header number) (header x) h = h
-header_in_for all stands.Body (body b) h = tt
-header_in_for all stands.ModuleVariable (module_variable m) h = tt
-header_in_for all (stands.Point q) (point p side) h = tt
-header_in_for all stands.State state h = tt
+pub header_in_for : (all : List Part) (s : Entity) (t : Sort) → StandsFor all s t → Both (HeaderFor all) (least_faults.header_in s) (names.header_in t)
+header_in_for all (entities.Channel number) (channel c) h = tt
+header_in_for all (entities.Header number) (header x) h = h
+header_in_for all entities.Body (body b) h = tt
+header_in_for all entities.ModuleVariable (module_variable m) h = tt
+header_in_for all (entities.Point q) (point p side) h = tt
+header_in_for all entities.State state h = tt
 header_in_for all _ _ h = absurd h
 
 pub header_for : (all : List Part) (f : Found) (m : Meaning Declaration) → FoundFor all f m → Both (HeaderFor all) (header_number f) (names.header_by m)
 header_for all found.Nothing nothing h = tt
 header_for all found.Unseen unseen h = tt
 header_for all found.Predeclared predeclared h = tt
-header_for all (found.Seen e) (seen d) h = header_in_for all e.stands d.sort h.1
+header_for all (found.Seen e) (seen d) h = header_in_for all e.entity d.sort h.1
 header_for all _ _ h = absurd h
 
-pub side_in_for : (all : List Part) (s : Standing) (t : Sort) → StandsFor all s t → SideFor all (tables.side_in s) (environment.side_in t)
-side_in_for all (stands.Channel number) (channel c) h = tt
-side_in_for all (stands.Header number) (header x) h = tt
-side_in_for all stands.Body (body b) h = tt
-side_in_for all stands.ModuleVariable (module_variable m) h = tt
-side_in_for all (stands.Point q) (point p side) h = h
-side_in_for all stands.State state h = tt
+pub side_in_for : (all : List Part) (s : Entity) (t : Sort) → StandsFor all s t → SideFor all (tables.side_in s) (environment.side_in t)
+side_in_for all (entities.Channel number) (channel c) h = tt
+side_in_for all (entities.Header number) (header x) h = tt
+side_in_for all entities.Body (body b) h = tt
+side_in_for all entities.ModuleVariable (module_variable m) h = tt
+side_in_for all (entities.Point q) (point p side) h = h
+side_in_for all entities.State state h = tt
 side_in_for all _ _ h = absurd h
 
-pub side_for : (all : List Part) (f : Found) (m : Meaning Declaration) → FoundFor all f m → SideFor all (side_found f) (environment.side_meant m)
+pub side_for : (all : List Part) (f : Found) (m : Meaning Declaration) → FoundFor all f m → SideFor all (point_side f) (environment.side_meant m)
 side_for all found.Nothing nothing h = tt
 side_for all found.Unseen unseen h = tt
 side_for all found.Predeclared predeclared h = tt
-side_for all (found.Seen e) (seen d) h = side_in_for all e.stands d.sort h.1
+side_for all (found.Seen e) (seen d) h = side_in_for all e.entity d.sort h.1
 side_for all _ _ h = absurd h

@@ -8,7 +8,7 @@ use Rattle.est_check.specs.declared.counts.Counts.{Counts}
 use Rattle.est_check.specs.Counts.{body_count, transition_count}
 use Rattle.est_check.specs.Skeleton.{IsSkeleton}
 
--- the numbers of bodies, transitions and ports
+-- the numbers of bodies, transitions and ports of a specification
 abbrev pub counts_of : Spec → Counts
 counts_of s = record { bodies = body_count s.parts; transitions = transition_count s.parts; ports = length (ports_of s) }
 

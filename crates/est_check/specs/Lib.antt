@@ -1,9 +1,11 @@
 pub mod Answers
 pub mod Checked
 pub mod Counts
+pub mod Declarations
 pub mod Entries
-pub mod Passes
-pub mod PortPass
+pub mod Least
+pub mod LeastFaults
 pub mod Skeleton
 pub mod SkeletonRules
+pub mod TablePorts
 pub mod Tables

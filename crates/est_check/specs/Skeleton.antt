@@ -1,6 +1,7 @@
 -- The trees of skeletons: specifications with channels, one header, one body with states, and one module variable.
 use Rattle.std.specs.Prelude.{◌≡◌, ◌≤◌, true, List, [], ◌∷◌, ◌++◌, Some, None, length}
 use Rattle.est_syntax.specs.declared.name.Used.{Used}
+use Rattle.est_syntax.specs.declared.ports.Port.{Port}
 use Rattle.est_syntax.specs.declared.specification.InteractionDef.{InteractionDef}
 use Rattle.est_syntax.specs.declared.specification.ByPart.{ByPart}
 use Rattle.est_syntax.specs.declared.specification.Channel.{Channel}
@@ -95,13 +96,13 @@ abbrev pub AreClauses : List Clause → Type 0
 AreClauses (clause.From states place ∷ cs) = IsToWhen cs
 AreClauses cs = IsToWhen cs
 
--- a transition without a name
+-- a transition without a name, with at most one clause of each kind, and a block of one statement
 pub record IsPlainTransition (t : Transition) : Type 0 where
   pub name : t.name ≡ None
   pub clauses : AreClauses t.clauses
   pub block : IsPlainBlock t.block
 
--- an initialize part with a first state
+-- an initialize part with a first state, and a block of one statement
 pub record IsPlainFirst (f : FirstPart) : Type 0 where
   pub state : Used
   pub to : f.to ≡ Some state
@@ -130,3 +131,4 @@ pub record IsSkeleton (s : Spec) : Type 0 where
   pub init : IsInit s.first
   pub few_transitions : transition_count s.parts ≤ 1048576
   pub few_ports : length (ports_of s) ≤ 1048576
+  pub few_signals : (p : Port) → IsIn p (ports_of s) → length p.signals ≤ 1048576

@@ -25,45 +25,54 @@ IsSkeletonRule rule.WrongDirection = Unit {0}
 IsSkeletonRule rule.NoFirstState = Unit {0}
 IsSkeletonRule _ = ⊥
 
--- P holds of each name that a text looks up in its scope
+-- P holds of each of these names
 abbrev pub EachUsed : (Used → Type 0) → List Used → Type 0
 EachUsed P [] = Unit {0}
 EachUsed P (u ∷ us) = P u × EachUsed P us
 
+-- P holds of the state that a part leads to, if one
 abbrev pub EachState : (Used → Type 0) → Option Used → Type 0
 EachState P None = Unit {0}
 EachState P (Some u) = P u
 
+-- P holds of the interaction point of each sending
 abbrev pub EachSending : (Used → Type 0) → List Sending → Type 0
 EachSending P [] = Unit {0}
 EachSending P (o ∷ os) = P o.at.name × EachSending P os
 
+-- P holds of each name that a statement looks up in its scope
 abbrev pub InStatement : (Used → Type 0) → Statement → Type 0
 InStatement P (statement.Empty place) = Unit {0}
 InStatement P (statement.Output sendings place) = EachSending P sendings
 InStatement P (statement.Init target body arguments place) = P target.name × P body
 
+-- P holds of each name that these statements look up in their scope
 abbrev pub EachStatement : (Used → Type 0) → List Statement → Type 0
 EachStatement P [] = Unit {0}
 EachStatement P (st ∷ sts) = InStatement P st × EachStatement P sts
 
+-- P holds of each name that a clause looks up in its scope
 abbrev pub InClause : (Used → Type 0) → Clause → Type 0
 InClause P (clause.From states place) = EachUsed P states
 InClause P (clause.To state place) = EachState P state
 InClause P (clause.When at signal place) = P at.name
 
+-- P holds of each name that these clauses look up in their scope
 abbrev pub EachClause : (Used → Type 0) → List Clause → Type 0
 EachClause P [] = Unit {0}
 EachClause P (c ∷ cs) = InClause P c × EachClause P cs
 
+-- P holds of each name that these transitions look up in their scope
 abbrev pub EachTransition : (Used → Type 0) → List Transition → Type 0
 EachTransition P [] = Unit {0}
 EachTransition P (t ∷ ts) = EachClause P t.clauses × EachStatement P t.block.statements × EachTransition P ts
 
+-- P holds of each name that these groups of transitions look up in their scope
 abbrev pub EachGroup : (Used → Type 0) → List Group → Type 0
 EachGroup P [] = Unit {0}
 EachGroup P (g ∷ gs) = EachTransition P (out-Group g).transitions × EachGroup P gs
 
+-- P holds of each name that an initialize part looks up in its scope, if there is one
 abbrev pub InFirst : (Used → Type 0) → Option FirstPart → Type 0
 InFirst P None = Unit {0}
 InFirst P (Some f) = EachState P f.to × EachStatement P f.block.statements

@@ -2,14 +2,14 @@
 #![tactic(auto)]
 
 ghost use Rattle.std.specs.Prelude.{◌≡◌, [], OnOk, IfOk};
-ghost use Rattle.est_check.specs.Entries.{enter_parts, role_by};
-ghost use Rattle.est_check.specs.Tables.{table_found, member_entry, members_at};
-ghost use Rattle.est_check.specs.Passes.{outside, channel_pass, channel_part, channels_pass, side_with, side_by, table_side, enter_points, header_pass, header_part, headers_pass, tables};
+ghost use Rattle.est_check.specs.Entries.{enter_all, role_by};
+ghost use Rattle.est_check.specs.Declarations.{parts_entries};
+ghost use Rattle.est_check.specs.LeastFaults.{outside, names_of_channel, names_of_channel_part, names_of_channels, side_with, table_side, point_entries, names_of_header, names_of_header_part, names_of_headers, tables};
 
 use crate::constructs::{check_by_parts, check_points};
 use crate::declare::{enter_by_parts, enter_parts, enter_roles, enter_together};
 use crate::least::Least;
-use crate::names::{Entry, Names, PointSide, Standing};
+use crate::names::{Entity, Entry, Names, PointSide};
 use crate::table::{BodyNames, Members, Table, member_of};
 use est_items::Items;
 use est_syntax::name::Used;
@@ -29,24 +29,18 @@ impl BodyNames {
     }
 }
 
-/// The names of a channel.
+/// The names of a channel. Notes its faults.
 fn channel_members(
     alloc: Global,
     channel: &Channel,
     least: &mut Least,
 ) -> Result<Members, AllocError>
-    ensures { IfOk result (λ m. (m, least.new.at) ≡ channel_pass least.old.at channel.now) }
+    ensures { IfOk result (λ m. (m, least.new.at) ≡ names_of_channel least.old.at channel.now) }
 {
     let mut roles = Names::new(alloc);
-    enter_roles(alloc, &mut roles, channel.roles.as_slice(), least)?;
+    enter_roles(&mut roles, channel.roles.as_slice(), least)?;
     let mut interactions = Names::new(alloc);
-    enter_by_parts(
-        alloc,
-        &roles,
-        &mut interactions,
-        channel.by.as_slice(),
-        least,
-    )?;
+    enter_by_parts(&roles, &mut interactions, channel.by.as_slice(), least)?;
     let members = Members {
         roles,
         interactions,
@@ -55,8 +49,9 @@ fn channel_members(
     Ok(members)
 }
 
+/// The names of a part that is a channel; none of another part.
 fn part_members(alloc: Global, part: &Part, least: &mut Least) -> Result<Members, AllocError>
-    ensures { IfOk result (λ m. (m, least.new.at) ≡ channel_part least.old.at part.now) }
+    ensures { IfOk result (λ m. (m, least.new.at) ≡ names_of_channel_part least.old.at part.now) }
 {
     match part {
         Part::Channel(channel) => channel_members(alloc, channel, least),
@@ -67,13 +62,13 @@ fn part_members(alloc: Global, part: &Part, least: &mut Least) -> Result<Members
     }
 }
 
-/// The names of each part that is a channel.
+/// For each part, the names of the channel that it is; none where it is no channel.
 fn channel_tables(
     alloc: Global,
     parts: &[Part],
     least: &mut Least,
 ) -> Result<Items<Members>, AllocError>
-    ensures { IfOk result (λ c. (c, least.new.at) ≡ channels_pass ([], least.old.at) parts.now) }
+    ensures { IfOk result (λ c. (c, least.new.at) ≡ names_of_channels ([], least.old.at) parts.now) }
 {
     let mut channels = Items::new(alloc);
     for part in parts {
@@ -83,14 +78,14 @@ fn channel_tables(
     Ok(channels)
 }
 
-/// The side with a role of the channel of this number.
+/// The side of an interaction point of the channel of this number, where this entry is a role.
 fn side_with(number: usize, role: Option<Entry>) -> Option<PointSide>
     ensures { result ≡ side_with number (role_by role) }
 {
     match role {
         None => None,
-        Some(entry) => match entry.stands {
-            Standing::Role(second) => Some(PointSide {
+        Some(entry) => match entry.entity {
+            Entity::Role(second) => Some(PointSide {
                 channel: number,
                 second,
             }),
@@ -112,32 +107,28 @@ pub fn side_of(table: &Table, body: &BodyNames, point: &Point) -> Option<PointSi
     }
 }
 
+/// Enters the interaction points of a header.
 fn enter_points(
-    alloc: Global,
     table: &Table,
     body: &BodyNames,
     names: &mut Names,
     list: &[Point],
     least: &mut Least,
 ) -> Result<(), AllocError>
-    ensures { OnOk result ((names.new, least.new.at) ≡ enter_points table.now body.now (names.old, least.old.at) list.now) }
+    ensures { OnOk result ((names.new, least.new.at) ≡ enter_all [] (names.old, least.old.at) (point_entries table.now body.now list.now)) }
 {
     for item in list {
         enter_together(
-            alloc,
             names,
             item.names.as_slice(),
-            Entry {
-                last: item.role.place,
-                stands: Standing::Point(side_of(table, body, item)),
-            },
+            Entry::new(item.role.place, Entity::Point(side_of(table, body, item))),
             least,
         )?;
     }
     Ok(())
 }
 
-/// The names of a header.
+/// The names of a header. Notes its faults.
 fn header_names(
     alloc: Global,
     table: &Table,
@@ -145,21 +136,15 @@ fn header_names(
     header: &Header,
     least: &mut Least,
 ) -> Result<Names, AllocError>
-    ensures { IfOk result (λ n. (n, least.new.at) ≡ header_pass table.now body.now least.old.at header.now) }
+    ensures { IfOk result (λ n. (n, least.new.at) ≡ names_of_header table.now body.now least.old.at header.now) }
 {
     let mut names = Names::new(alloc);
-    enter_points(
-        alloc,
-        table,
-        body,
-        &mut names,
-        header.points.as_slice(),
-        least,
-    )?;
+    enter_points(table, body, &mut names, header.points.as_slice(), least)?;
     check_points(table, body, header.points.as_slice(), least);
     Ok(names)
 }
 
+/// The names of a part that is a header; none of another part.
 fn part_names(
     alloc: Global,
     table: &Table,
@@ -167,7 +152,7 @@ fn part_names(
     part: &Part,
     least: &mut Least,
 ) -> Result<Names, AllocError>
-    ensures { IfOk result (λ n. (n, least.new.at) ≡ header_part table.now body.now least.old.at part.now) }
+    ensures { IfOk result (λ n. (n, least.new.at) ≡ names_of_header_part table.now body.now least.old.at part.now) }
 {
     match part {
         Part::Header(header) => header_names(alloc, table, body, header, least),
@@ -175,7 +160,7 @@ fn part_names(
     }
 }
 
-/// The names of each part that is a header.
+/// For each part, the names of the header that it is; none where it is no header.
 fn header_tables(
     alloc: Global,
     table: &Table,
@@ -183,7 +168,7 @@ fn header_tables(
     parts: &[Part],
     least: &mut Least,
 ) -> Result<Items<Names>, AllocError>
-    ensures { IfOk result (λ h. (h, least.new.at) ≡ headers_pass table.now body.now ([], least.old.at) parts.now) }
+    ensures { IfOk result (λ h. (h, least.new.at) ≡ names_of_headers table.now body.now ([], least.old.at) parts.now) }
 {
     let mut headers = Items::new(alloc);
     for part in parts {
@@ -193,15 +178,17 @@ fn header_tables(
     Ok(headers)
 }
 
+/// The names that the parts of a specification declare. Notes those that are declared twice.
 fn outer_names(alloc: Global, parts: &[Part], least: &mut Least) -> Result<Names, AllocError>
-    ensures { IfOk result (λ n. (n, least.new.at) ≡ enter_parts ([], least.old.at) 0 parts.now) }
+    ensures { IfOk result (λ n. (n, least.new.at) ≡ enter_all [] ([], least.old.at) (parts_entries 0 parts.now)) }
 {
     let mut names = Names::new(alloc);
-    enter_parts(alloc, &mut names, parts, least)?;
+    enter_parts(&mut names, parts, least)?;
     Ok(names)
 }
 
-/// The tables of a specification with these parts.
+/// The tables of a specification with these parts. Notes the faults of its names, its channels and its headers;
+/// those of its bodies and module variables are left to the caller.
 pub fn tables(alloc: Global, parts: &[Part], least: &mut Least) -> Result<Table, AllocError>
     ensures { IfOk result (λ t. (t, least.new.at) ≡ tables least.old.at parts.now) }
 {

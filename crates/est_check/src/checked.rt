@@ -6,14 +6,14 @@ ghost use Rattle.est_syntax.specs.Breaks.{IsGood};
 ghost use Rattle.est_syntax.specs.Ports.{ports_of};
 ghost use Rattle.est_check.specs.Answers.{IsRefused};
 ghost use Rattle.est_check.specs.Checked.{counts_of};
-ghost use Rattle.est_check.specs.Passes.{tables};
+ghost use Rattle.est_check.specs.LeastFaults.{tables};
 ghost use Rattle.est_check.specs.Skeleton.{IsSkeleton};
 
 use crate::counts::Counts;
 use crate::error::CheckError;
 use crate::pass::outcome_of;
 use crate::ports::{body_count, ports, transition_count};
-use crate::table::{BodyNames, Table};
+use crate::table::Table;
 use est_syntax::ports::Ports;
 use est_syntax::specification::Spec;
 use std::alloc::{AllocError, Global};
@@ -67,15 +67,14 @@ impl Checked {
     }
 }
 
-/// A checked specification from a good one.
+/// A checked specification from a good one and its tables.
 fn finish(alloc: Global, spec: Spec, table: Table) -> Result<Checked, AllocError>
     requires skeleton { IsSkeleton spec }
     requires good { IsGood spec }
     requires table { table ≡ (tables None spec.parts).0 }
     ensures { IfOk result (λ c. c ≡ spec) }
 {
-    let outer = BodyNames::outside(alloc);
-    let ports = ports(alloc, &table, &outer, spec.parts.as_slice())?;
+    let ports = ports(alloc, &table, spec.parts.as_slice())?;
     let counts = Counts {
         bodies: body_count(spec.parts.as_slice()),
         transitions: transition_count(spec.parts.as_slice()),
@@ -88,7 +87,7 @@ fn finish(alloc: Global, spec: Spec, table: Table) -> Result<Checked, AllocError
     })
 }
 
-/// Checks a specification. The tree of one that is refused is dropped.
+/// Checks a specification. The tree of one that is refused, or for which memory is wanting, is dropped.
 pub fn check(alloc: Global, spec: Spec) -> Result<Checked, CheckError>
     requires { IsSkeleton spec }
 

@@ -1,22 +1,25 @@
 //! The faults of the parts of a specification.
-#![tactic(auto, using(est_syntax::proofs::LeastLaws::least_append))]
+#![tactic(auto, using(crate::proofs::LeastLaws::least_append))]
 
 ghost use Rattle.std.specs.Prelude.{◌≡◌};
-ghost use Rattle.est_syntax.specs.Least.{least_with};
+ghost use Rattle.est_syntax.specs.declared.specification.Body.{out-Body};
+ghost use Rattle.est_check.specs.Least.{least_with};
 ghost use Rattle.est_syntax.specs.Faults.{by_faults, point_faults, points_faults, modvars_faults, sendings_faults, statement_faults, statements_faults, state_faults, clause_faults, clauses_faults, transition_faults, transitions_faults, groups_faults, has_states, to_faults, first_faults, text_faults};
 ghost use Rattle.est_check.specs.Tables.{table_environment, members_environment};
 
 use crate::least::Least;
 use crate::table::{BodyNames, Members, Table};
-use crate::uses::{check_interaction, check_point_role, check_roles, check_use, check_uses};
+use crate::uses::{
+    check_point_role, check_received, check_roles, check_sent, check_use, check_uses,
+};
 use est_syntax::name::Used;
 use est_syntax::rule::Rule;
 use est_syntax::sort::NameSort;
 use est_syntax::specification::{
-    Body, ByPart, Clause, FirstPart, Group, ModvarDef, Part, Point, Sending, Statement, Transition,
+    Body, ByPart, Clause, Group, ModvarDef, Part, Point, Sending, Statement, Transition,
 };
 
-/// Checks the roles of the `by` parts of a channel.
+/// Checks that the `by` parts of a channel name roles of it.
 pub fn check_by_parts(members: &Members, list: &[ByPart], least: &mut Least)
     ensures { least.new.at ≡ least_with least.old.at (by_faults (members_environment members.now) list.now) }
 {
@@ -25,6 +28,7 @@ pub fn check_by_parts(members: &Members, list: &[ByPart], least: &mut Least)
     }
 }
 
+/// Checks the channel and the role of an interaction point.
 fn check_point(table: &Table, body: &BodyNames, point: &Point, least: &mut Least)
     ensures { least.new.at ≡ least_with least.old.at (point_faults (table_environment table.now body.now) point.now) }
 {
@@ -55,11 +59,12 @@ pub fn check_modvars(table: &Table, body: &BodyNames, list: &[ModvarDef], least:
     }
 }
 
+/// Checks what an `output` sends, and where.
 fn check_sendings(table: &Table, body: &BodyNames, list: &[Sending], least: &mut Least)
     ensures { least.new.at ≡ least_with least.old.at (sendings_faults (table_environment table.now body.now) list.now) }
 {
     for item in list {
-        check_interaction(table, body, true, &item.at.name, &item.signal, least);
+        check_sent(table, body, &item.at.name, &item.signal, least);
     }
 }
 
@@ -87,6 +92,7 @@ pub fn check_statement(table: &Table, body: &BodyNames, statement: &Statement, l
     }
 }
 
+/// Checks statements.
 fn check_statements(table: &Table, body: &BodyNames, list: &[Statement], least: &mut Least)
     ensures { least.new.at ≡ least_with least.old.at (statements_faults (table_environment table.now body.now) list.now) }
 {
@@ -95,6 +101,7 @@ fn check_statements(table: &Table, body: &BodyNames, list: &[Statement], least: 
     }
 }
 
+/// Checks the state of a `to` clause; nothing where it is `same`.
 fn check_next_state(table: &Table, body: &BodyNames, state: &Option<Used>, least: &mut Least)
     ensures { least.new.at ≡ least_with least.old.at (state_faults (table_environment table.now body.now) state.now) }
 {
@@ -103,6 +110,7 @@ fn check_next_state(table: &Table, body: &BodyNames, state: &Option<Used>, least
     }
 }
 
+/// Checks a clause of a transition.
 fn check_clause(table: &Table, body: &BodyNames, clause: &Clause, least: &mut Least)
     ensures { least.new.at ≡ least_with least.old.at (clause_faults (table_environment table.now body.now) clause.now) }
 {
@@ -119,10 +127,11 @@ fn check_clause(table: &Table, body: &BodyNames, clause: &Clause, least: &mut Le
             at,
             signal,
             place: _,
-        } => check_interaction(table, body, false, &at.name, signal, least),
+        } => check_received(table, body, &at.name, signal, least),
     }
 }
 
+/// Checks the clauses of a transition.
 fn check_clauses(table: &Table, body: &BodyNames, list: &[Clause], least: &mut Least)
     ensures { least.new.at ≡ least_with least.old.at (clauses_faults (table_environment table.now body.now) list.now) }
 {
@@ -131,6 +140,7 @@ fn check_clauses(table: &Table, body: &BodyNames, list: &[Clause], least: &mut L
     }
 }
 
+/// Checks a transition: its clauses and its block.
 fn check_transition(table: &Table, body: &BodyNames, transition: &Transition, least: &mut Least)
     ensures { least.new.at ≡ least_with least.old.at (transition_faults (table_environment table.now body.now) transition.now) }
 {
@@ -138,6 +148,7 @@ fn check_transition(table: &Table, body: &BodyNames, transition: &Transition, le
     check_statements(table, body, transition.block.statements.as_slice(), least);
 }
 
+/// Checks transitions.
 fn check_transitions(table: &Table, body: &BodyNames, list: &[Transition], least: &mut Least)
     ensures { least.new.at ≡ least_with least.old.at (transitions_faults (table_environment table.now body.now) list.now) }
 {
@@ -146,6 +157,7 @@ fn check_transitions(table: &Table, body: &BodyNames, list: &[Transition], least
     }
 }
 
+/// Checks groups of transitions.
 fn check_groups(table: &Table, body: &BodyNames, list: &[Group], least: &mut Least)
     ensures { least.new.at ≡ least_with least.old.at (groups_faults (table_environment table.now body.now) list.now) }
 {
@@ -154,6 +166,7 @@ fn check_groups(table: &Table, body: &BodyNames, list: &[Group], least: &mut Lea
     }
 }
 
+/// Whether a part is a `state` section.
 fn has_states(parts: &[Part]) -> bool
     ensures { result ≡ has_states parts.now }
 {
@@ -165,37 +178,33 @@ fn has_states(parts: &[Part]) -> bool
     false
 }
 
-fn check_to(
-    table: &Table,
-    body: &BodyNames,
-    place: u32,
-    states: bool,
-    to: &Option<Used>,
-    least: &mut Least,
-)
-    ensures { least.new.at ≡ least_with least.old.at (to_faults (table_environment table.now body.now) place states to.now) }
+/// Checks the first state of a body, which is there where the body has states.
+fn check_to(table: &Table, names: &BodyNames, body: &Body, to: &Option<Used>, least: &mut Least)
+    ensures { least.new.at ≡ least_with least.old.at (to_faults (table_environment table.now names.now) (out-Body body.now).name.place (has_states (out-Body body.now).parts) to.now) }
 {
     match to {
-        None => least.note_if(states, place, Rule::NoFirstState),
-        Some(used) => check_use(table, body, NameSort::State, used, least),
+        None => least.note_if(
+            has_states(body.parts.as_slice()),
+            body.name.place,
+            Rule::NoFirstState,
+        ),
+        Some(used) => check_use(table, names, NameSort::State, used, least),
     }
 }
 
-fn check_first(
-    table: &Table,
-    body: &BodyNames,
-    place: u32,
-    states: bool,
-    first: &Option<FirstPart>,
-    least: &mut Least,
-)
-    ensures { least.new.at ≡ least_with least.old.at (first_faults (table_environment table.now body.now) place states first.now) }
+/// Checks the initialize part of a body, which is there where the body has states.
+fn check_first(table: &Table, names: &BodyNames, body: &Body, least: &mut Least)
+    ensures { least.new.at ≡ least_with least.old.at (first_faults (table_environment table.now names.now) (out-Body body.now).name.place (has_states (out-Body body.now).parts) (out-Body body.now).first) }
 {
-    match first {
-        None => least.note_if(states, place, Rule::NoFirstState),
+    match &body.first {
+        None => least.note_if(
+            has_states(body.parts.as_slice()),
+            body.name.place,
+            Rule::NoFirstState,
+        ),
         Some(part) => {
-            check_to(table, body, place, states, &part.to, least);
-            check_statements(table, body, part.block.statements.as_slice(), least);
+            check_to(table, names, body, &part.to, least);
+            check_statements(table, names, part.block.statements.as_slice(), least);
         }
     }
 }
@@ -204,13 +213,6 @@ fn check_first(
 pub fn check_text(table: &Table, names: &BodyNames, body: &Body, least: &mut Least)
     ensures { least.new.at ≡ least_with least.old.at (text_faults (table_environment table.now names.now) body.now) }
 {
-    check_first(
-        table,
-        names,
-        body.name.place,
-        has_states(body.parts.as_slice()),
-        &body.first,
-        least,
-    );
+    check_first(table, names, body, least);
     check_groups(table, names, body.groups.as_slice(), least);
 }

@@ -1,21 +1,21 @@
 //! The names that each region declares.
 #![tactic(auto)]
 
-ghost use Rattle.std.specs.Prelude.{◌≡◌, [], OnOk, IfOk};
-ghost use Rattle.est_syntax.specs.Names.{text_last, vars_last, interactions_last, by_last, channel_last, points_last, header_last};
-ghost use Rattle.est_check.specs.Entries.{enter, enter_behind, enter_together, enter_other_roles, enter_roles, with_role, role_by, senders_from, senders, enter_interactions, enter_by_parts, enter_modvars, enter_part, enter_parts, enter_states, enter_state_part, enter_state_parts, entry_of};
+ghost use Rattle.std.specs.Prelude.{◌≡◌, [], OnOk};
+ghost use Rattle.est_syntax.specs.Names.{vars_last, interactions_last, by_last, channel_last, points_last, header_last};
+ghost use Rattle.est_check.specs.Entries.{entry_of, enter, enter_following, enter_all, role_by, with_role, senders_from, senders};
+ghost use Rattle.est_check.specs.Declarations.{together_entries, other_role_entries, role_entries, interaction_entries, by_entries, variable_entries, part_entries, parts_entries, state_entries, section_entries, body_entries};
 
 use crate::least::Least;
-use crate::names::{Entry, Names, Senders, Standing};
+use crate::names::{Entity, Entry, Names, Senders};
 use est_syntax::expression::{TypeText, VarDef};
 use est_syntax::name::Used;
 use est_syntax::rule::Rule;
 use est_syntax::specification::{ByPart, Channel, Header, InteractionDef, ModvarDef, Part, Point};
-use std::alloc::{AllocError, Global};
+use std::alloc::AllocError;
 
-/// Enters a name, or notes that it is there already.
+/// Enters a name; one that is there already keeps its entry, and is noted as declared twice.
 pub fn enter(
-    alloc: Global,
     names: &mut Names,
     used: &Used,
     entry: Entry,
@@ -25,67 +25,67 @@ pub fn enter(
 {
     match names.find(&used.name) {
         Some(_) => least.note(used.place, Rule::DeclaredTwice),
-        None => names.add(alloc, &used.name, entry)?,
+        None => names.add(&used.name, entry)?,
     }
     Ok(())
 }
 
-/// Enters a name in a region whose first names stand in another.
-fn enter_behind(
-    alloc: Global,
+/// Enters a name in the second part of a region whose first part is `front`.
+fn enter_following(
     front: &Names,
     names: &mut Names,
     used: &Used,
     entry: Entry,
     least: &mut Least,
 ) -> Result<(), AllocError>
-    ensures { OnOk result ((names.new, least.new.at) ≡ enter_behind front.now (names.old, least.old.at) used.now entry) }
+    ensures { OnOk result ((names.new, least.new.at) ≡ enter_following front.now (names.old, least.old.at) used.now entry) }
 {
     match front.find(&used.name) {
         Some(_) => {
             least.note(used.place, Rule::DeclaredTwice);
             Ok(())
         }
-        None => enter(alloc, names, used, entry, least),
+        None => enter(names, used, entry, least),
     }
 }
 
-/// Enters names that are declared together.
+/// Enters names that are declared together and stand for the same.
 pub fn enter_together(
-    alloc: Global,
     names: &mut Names,
     list: &[Used],
     entry: Entry,
     least: &mut Least,
 ) -> Result<(), AllocError>
-    ensures { OnOk result ((names.new, least.new.at) ≡ enter_together (names.old, least.old.at) list.now entry) }
+    ensures { OnOk result ((names.new, least.new.at) ≡ enter_all [] (names.old, least.old.at) (together_entries list.now entry)) }
 {
     for used in list {
-        enter(alloc, names, used, entry, least)?;
+        enter(names, used, entry, least)?;
     }
     Ok(())
 }
 
-/// The last name of a channel's parameters, or the place before them.
+/// The greatest of a place and of those of the type names of some parameters.
 fn vars_last(vars: &[VarDef], mut last: u32) -> u32
     ensures { result ≡ vars_last vars.now last }
 {
     for item in vars {
         let TypeText::Named(used) = &item.text;
-        last = used.place;
+        last = last.max(used.place);
     }
     last
 }
 
+/// The greatest of a place and of those of the names of some interactions and their parameters.
 fn interactions_last(interactions: &[InteractionDef], mut last: u32) -> u32
     ensures { result ≡ interactions_last interactions.now last }
 {
     for item in interactions {
-        last = vars_last(item.params.as_slice(), item.name.place);
+        last = vars_last(item.params.as_slice(), last.max(item.name.place));
     }
     last
 }
 
+/// The greatest of a place and of those of the names of the interactions of `by` parts.
 fn by_last(by: &[ByPart], mut last: u32) -> u32
     ensures { result ≡ by_last by.now last }
 {
@@ -95,21 +95,24 @@ fn by_last(by: &[ByPart], mut last: u32) -> u32
     last
 }
 
+/// The greatest place of an interaction or type name of a channel, or of its own name: it is in force behind it.
 fn channel_last(channel: &Channel) -> u32
     ensures { result ≡ channel_last channel.now }
 {
     by_last(channel.by.as_slice(), channel.name.place)
 }
 
+/// The greatest of a place and of those of the roles of some interaction points.
 fn points_last(points: &[Point], mut last: u32) -> u32
     ensures { result ≡ points_last points.now last }
 {
     for item in points {
-        last = item.role.place;
+        last = last.max(item.role.place);
     }
     last
 }
 
+/// The greatest place of a name of a header: it is in force behind it.
 fn header_last(header: &Header) -> u32
     ensures { result ≡ header_last header.now }
 {
@@ -120,23 +123,15 @@ fn header_last(header: &Header) -> u32
     )
 }
 
-fn enter_other_roles(
-    alloc: Global,
-    names: &mut Names,
-    roles: &[Used],
-    least: &mut Least,
-) -> Result<(), AllocError>
-    ensures { OnOk result ((names.new, least.new.at) ≡ enter_other_roles (names.old, least.old.at) roles.now) }
+/// Enters the roles of a channel behind the first one.
+fn enter_other_roles(names: &mut Names, roles: &[Used], least: &mut Least) -> Result<(), AllocError>
+    ensures { OnOk result ((names.new, least.new.at) ≡ enter_all [] (names.old, least.old.at) (other_role_entries roles.now)) }
 {
     for used in roles {
         enter(
-            alloc,
             names,
             used,
-            Entry {
-                last: used.place,
-                stands: Standing::Role(true),
-            },
+            Entry::new(used.place, Entity::Role(true)),
             least,
         )?;
     }
@@ -144,44 +139,37 @@ fn enter_other_roles(
 }
 
 /// Enters the roles of a channel.
-pub fn enter_roles(
-    alloc: Global,
-    names: &mut Names,
-    roles: &[Used],
-    least: &mut Least,
-) -> Result<(), AllocError>
-    ensures { OnOk result ((names.new, least.new.at) ≡ enter_roles (names.old, least.old.at) roles.now) }
+pub fn enter_roles(names: &mut Names, roles: &[Used], least: &mut Least) -> Result<(), AllocError>
+    ensures { OnOk result ((names.new, least.new.at) ≡ enter_all [] (names.old, least.old.at) (role_entries roles.now)) }
 {
     match roles {
         [] => Ok(()),
         [used, rest @ ..] => {
             enter(
-                alloc,
                 names,
                 used,
-                Entry {
-                    last: used.place,
-                    stands: Standing::Role(false),
-                },
+                Entry::new(used.place, Entity::Role(false)),
                 least,
             )?;
-            enter_other_roles(alloc, names, rest, least)
+            enter_other_roles(names, rest, least)
         }
     }
 }
 
+/// Which role of a channel a name is, if one.
 fn role_of(roles: &Names, used: &Used) -> Option<bool>
     ensures { result ≡ role_by (entry_of roles.now used.now.name.bytes) }
 {
     match roles.find(&used.name) {
         None => None,
-        Some(entry) => match entry.stands {
-            Standing::Role(second) => Some(second),
+        Some(entry) => match entry.entity {
+            Entity::Role(second) => Some(second),
             _ => None,
         },
     }
 }
 
+/// These senders, and one name more: a role, or none.
 fn with_role(senders: Senders, role: Option<bool>) -> Senders
     ensures { result ≡ with_role senders role }
 {
@@ -204,6 +192,7 @@ fn with_role(senders: Senders, role: Option<bool>) -> Senders
     }
 }
 
+/// These senders, and the roles that some names are.
 fn senders_from(roles: &Names, mut senders: Senders, list: &[Used]) -> Senders
     ensures { result ≡ senders_from roles.now senders list.now }
 {
@@ -213,7 +202,7 @@ fn senders_from(roles: &Names, mut senders: Senders, list: &[Used]) -> Senders
     senders
 }
 
-/// Which roles may send the interactions of a `by` part.
+/// Which roles may send the interactions of a `by` part that names these.
 pub fn senders(roles: &Names, list: &[Used]) -> Senders
     ensures { result ≡ senders roles.now list.now }
 {
@@ -228,191 +217,149 @@ pub fn senders(roles: &Names, list: &[Used]) -> Senders
     )
 }
 
+/// Enters the interactions of a `by` part behind the roles of the channel.
 fn enter_interactions(
-    alloc: Global,
     roles: &Names,
     names: &mut Names,
     who: Senders,
     list: &[InteractionDef],
     least: &mut Least,
 ) -> Result<(), AllocError>
-    ensures { OnOk result ((names.new, least.new.at) ≡ enter_interactions roles.now (names.old, least.old.at) who list.now) }
+    ensures { OnOk result ((names.new, least.new.at) ≡ enter_all roles.now (names.old, least.old.at) (interaction_entries who list.now)) }
 {
     for item in list {
-        enter_behind(
-            alloc,
+        enter_following(
             roles,
             names,
             &item.name,
-            Entry {
-                last: item.name.place,
-                stands: Standing::Interaction(who),
-            },
+            Entry::new(item.name.place, Entity::Interaction(who)),
             least,
         )?;
     }
     Ok(())
 }
 
-/// Enters the interactions of a channel.
+/// Enters the interactions of a channel behind its roles.
 pub fn enter_by_parts(
-    alloc: Global,
     roles: &Names,
     names: &mut Names,
     list: &[ByPart],
     least: &mut Least,
 ) -> Result<(), AllocError>
-    ensures { OnOk result ((names.new, least.new.at) ≡ enter_by_parts roles.now (names.old, least.old.at) list.now) }
+    ensures { OnOk result ((names.new, least.new.at) ≡ enter_all roles.now (names.old, least.old.at) (by_entries roles.now list.now)) }
 {
     for item in list {
         let who = senders(roles, item.roles.as_slice());
-        enter_interactions(
-            alloc,
-            roles,
-            names,
-            who,
-            item.interactions.as_slice(),
-            least,
-        )?;
+        enter_interactions(roles, names, who, item.interactions.as_slice(), least)?;
     }
     Ok(())
 }
 
-fn enter_modvars(
-    alloc: Global,
-    names: &mut Names,
-    list: &[ModvarDef],
-    least: &mut Least,
-) -> Result<(), AllocError>
-    ensures { OnOk result ((names.new, least.new.at) ≡ enter_modvars (names.old, least.old.at) list.now) }
+/// Enters the module variables of a `modvar` section.
+fn enter_modvars(names: &mut Names, list: &[ModvarDef], least: &mut Least) -> Result<(), AllocError>
+    ensures { OnOk result ((names.new, least.new.at) ≡ enter_all [] (names.old, least.old.at) (variable_entries list.now)) }
 {
     for item in list {
         enter_together(
-            alloc,
             names,
             item.names.as_slice(),
-            Entry {
-                last: item.header.place,
-                stands: Standing::ModuleVariable,
-            },
+            Entry::new(item.header.place, Entity::ModuleVariable),
             least,
         )?;
     }
     Ok(())
 }
 
+/// Enters what a part of a specification declares there; a `state` section declares nothing.
 fn enter_part(
-    alloc: Global,
     names: &mut Names,
     number: usize,
     part: &Part,
     least: &mut Least,
 ) -> Result<(), AllocError>
-    ensures { OnOk result ((names.new, least.new.at) ≡ enter_part (names.old, least.old.at) number part.now) }
+    ensures { OnOk result ((names.new, least.new.at) ≡ enter_all [] (names.old, least.old.at) (part_entries number part.now)) }
 {
     match part {
         Part::Channel(channel) => enter(
-            alloc,
             names,
             &channel.name,
-            Entry {
-                last: channel_last(channel),
-                stands: Standing::Channel(number),
-            },
+            Entry::new(channel_last(channel), Entity::Channel(number)),
             least,
         ),
         Part::Header(header) => enter(
-            alloc,
             names,
             &header.name,
-            Entry {
-                last: header_last(header),
-                stands: Standing::Header(number),
-            },
+            Entry::new(header_last(header), Entity::Header(number)),
             least,
         ),
         Part::Body(body) => enter(
-            alloc,
             names,
             &body.name,
-            Entry {
-                last: body.name.place,
-                stands: Standing::Body,
-            },
+            Entry::new(body.name.place, Entity::Body),
             least,
         ),
-        Part::Modvars(modvars) => enter_modvars(alloc, names, modvars.as_slice(), least),
+        Part::Modvars(modvars) => enter_modvars(names, modvars.as_slice(), least),
         Part::States(_) => Ok(()),
     }
 }
 
-/// Enters what the parts of a specification declare.
-pub fn enter_parts(
-    alloc: Global,
-    names: &mut Names,
-    parts: &[Part],
-    least: &mut Least,
-) -> Result<(), AllocError>
-    ensures { OnOk result ((names.new, least.new.at) ≡ enter_parts (names.old, least.old.at) 0 parts.now) }
+/// Enters what the parts of a specification declare, but for the states of `state` sections.
+pub fn enter_parts(names: &mut Names, parts: &[Part], least: &mut Least) -> Result<(), AllocError>
+    ensures { OnOk result ((names.new, least.new.at) ≡ enter_all [] (names.old, least.old.at) (parts_entries 0 parts.now)) }
 {
     for (number, part) in parts.iter().enumerate() {
-        enter_part(alloc, names, number, part, least)?;
+        enter_part(names, number, part, least)?;
     }
     Ok(())
 }
 
+/// Enters the states of a `state` section behind the names of the body's header.
 fn enter_states(
-    alloc: Global,
     front: &Names,
     names: &mut Names,
     list: &[Used],
     least: &mut Least,
 ) -> Result<(), AllocError>
-    ensures { OnOk result ((names.new, least.new.at) ≡ enter_states front.now (names.old, least.old.at) list.now) }
+    ensures { OnOk result ((names.new, least.new.at) ≡ enter_all front.now (names.old, least.old.at) (state_entries list.now)) }
 {
     for used in list {
-        enter_behind(
-            alloc,
+        enter_following(
             front,
             names,
             used,
-            Entry {
-                last: used.place,
-                stands: Standing::State,
-            },
+            Entry::new(used.place, Entity::State),
             least,
         )?;
     }
     Ok(())
 }
 
+/// Enters the states of a part that is a `state` section.
 fn enter_state_part(
-    alloc: Global,
     front: &Names,
     names: &mut Names,
     part: &Part,
     least: &mut Least,
 ) -> Result<(), AllocError>
-    ensures { OnOk result ((names.new, least.new.at) ≡ enter_state_part front.now (names.old, least.old.at) part.now) }
+    ensures { OnOk result ((names.new, least.new.at) ≡ enter_all front.now (names.old, least.old.at) (section_entries part.now)) }
 {
     match part {
-        Part::States(states) => enter_states(alloc, front, names, states.as_slice(), least),
+        Part::States(states) => enter_states(front, names, states.as_slice(), least),
         _ => Ok(()),
     }
 }
 
-/// Enters the states of a body, behind the names of its header.
+/// Enters the states of a body behind the names of its header.
 pub fn enter_state_parts(
-    alloc: Global,
     front: &Names,
     names: &mut Names,
     parts: &[Part],
     least: &mut Least,
 ) -> Result<(), AllocError>
-    ensures { OnOk result ((names.new, least.new.at) ≡ enter_state_parts front.now (names.old, least.old.at) parts.now) }
+    ensures { OnOk result ((names.new, least.new.at) ≡ enter_all front.now (names.old, least.old.at) (body_entries parts.now)) }
 {
     for part in parts {
-        enter_state_part(alloc, front, names, part, least)?;
+        enter_state_part(front, names, part, least)?;
     }
     Ok(())
 }

@@ -1,12 +1,13 @@
-//! The least fault of those that were met.
+//! The least of the faults that are noted.
 
 ghost use Rattle.std.specs.Prelude.{◌≡◌};
-ghost use Rattle.est_syntax.specs.Least.{number, is_before, lesser, least_with};
+ghost use Rattle.est_syntax.specs.Least.{number, is_before};
+ghost use Rattle.est_check.specs.Least.{lesser, least_with};
 ghost use Rattle.est_syntax.specs.Faults.{broken, broken_if};
 
 use est_syntax::rule::{Fault, Rule};
 
-/// The least fault so far.
+/// The least of the faults that were noted so far.
 #[derive(Debug, Drop)]
 pub struct Least {
     pub at: Option<Fault>,
@@ -38,7 +39,7 @@ fn number(rule: Rule) -> u8
     }
 }
 
-/// Whether one fault comes before another.
+/// Whether one fault comes before another: by place, and at one place by the number of the rule.
 fn is_before(one: Fault, other: Fault) -> bool
     ensures { result ≡ is_before one other }
 {
@@ -51,7 +52,7 @@ fn is_before(one: Fault, other: Fault) -> bool
     }
 }
 
-/// The lesser of what was met and a fault.
+/// The lesser of the least fault so far and another.
 fn lesser(least: Option<Fault>, fault: Fault) -> Option<Fault>
     ensures { result ≡ lesser least fault }
 {
@@ -73,7 +74,7 @@ impl Least {
         self.at = lesser(self.at, Fault { place, rule });
     }
 
-    /// Notes it where a test says so.
+    /// Notes that a rule is broken at a place where it is.
     pub fn note_if(&mut self, is_broken: bool, place: u32, rule: Rule)
         ensures { self.new.at ≡ least_with self.old.at (broken_if is_broken place rule) }
     {

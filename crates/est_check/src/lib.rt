@@ -1,18 +1,18 @@
 //! The rules that a specification must keep beyond its grammar (ISO 9074), and checked specifications.
 #![tactic(auto)]
 
-pub mod build;
+mod build;
 pub mod checked;
-pub mod constructs;
+mod constructs;
 pub mod counts;
-pub mod declare;
+mod declare;
 pub mod error;
-pub mod least;
-pub mod names;
-pub mod pass;
-pub mod ports;
-pub mod table;
-pub mod uses;
+mod least;
+mod names;
+mod pass;
+mod ports;
+mod table;
+mod uses;
 
 pub use checked::{Checked, check};
 pub use counts::Counts;

@@ -1,7 +1,7 @@
 //! The names of one region, in order of declaration.
 
 ghost use Rattle.std.specs.Prelude.{◌≡◌, [], ◌∷◌, ◌++◌, OnOk, IfOk, None};
-ghost use Rattle.est_check.specs.Entries.{entry_of};
+ghost use Rattle.est_check.specs.Entries.{entry, entry_of};
 
 use est_syntax::name::{Name, Used};
 use est_syntax::rule::Rule;
@@ -9,7 +9,7 @@ use indexmap::IndexMap;
 use std::alloc::{AllocError, Global};
 use std::marker::Model;
 
-/// Which roles of its channel may send an interaction, where the names of its `by` part are all roles.
+/// Which roles of its channel may send an interaction, and whether the names of its `by` part are all roles.
 #[derive(Clone, Copy, Debug, PartialEq, Eq)]
 pub struct Senders {
     pub known: bool,
@@ -17,16 +17,16 @@ pub struct Senders {
     pub second: bool,
 }
 
-/// The channel of an interaction point, by the number of its part, and the role.
+/// The channel of an interaction point, by the number of its part, and its role there.
 #[derive(Clone, Copy, Debug, PartialEq, Eq)]
 pub struct PointSide {
     pub channel: usize,
     pub second: bool,
 }
 
-/// What a name stands for. Channels and headers go by the numbers of their parts.
+/// What a name stands for. Channels and headers go by the numbers of their parts, counted from 0.
 #[derive(Clone, Copy, Debug, PartialEq, Eq)]
-pub enum Standing {
+pub enum Entity {
     Channel(usize),
     Header(usize),
     Body,
@@ -37,11 +37,20 @@ pub enum Standing {
     Interaction(Senders),
 }
 
-/// What a name stands for, and the last place where it is not yet in force.
+/// What a name stands for, and the last place where that is not yet in force.
 #[derive(Clone, Copy, Debug, PartialEq, Eq)]
 pub struct Entry {
     pub last: u32,
-    pub stands: Standing,
+    pub entity: Entity,
+}
+
+impl Entry {
+    /// The entry of a name that is in force behind a place.
+    pub fn new(last: u32, entity: Entity) -> Entry
+        ensures { result ≡ entry last entity }
+    {
+        Entry { last, entity }
+    }
 }
 
 /// The names of one region.
@@ -60,6 +69,7 @@ impl Model for Names {
 }
 
 impl Names {
+    /// No names.
     pub fn new(alloc: Global) -> Names
         ensures { result ≡ [] }
     {
@@ -68,7 +78,7 @@ impl Names {
         }
     }
 
-    /// The entry of a name.
+    /// The entry of a name, where it has one.
     pub fn find(&self, name: &Name) -> Option<Entry>
         ensures { result ≡ entry_of self.now name.now.bytes }
     {
@@ -76,10 +86,11 @@ impl Names {
     }
 
     /// Adds an entry of a name that is not there.
-    pub fn add(&mut self, alloc: Global, name: &Name, entry: Entry) -> Result<(), AllocError>
+    pub fn add(&mut self, name: &Name, entry: Entry) -> Result<(), AllocError>
         requires { entry_of self.old name.now.bytes ≡ None }
         ensures { OnOk result (self.new ≡ self.old ++ (name.now.bytes, entry) ∷ []) }
     {
+        let alloc = *self.under.allocator();
         let key = Vec::from_slice(alloc, name.bytes.as_slice())?;
         self.under.insert(key, entry)?;
         Ok(())

@@ -1,17 +1,18 @@
 //! The least fault of a specification.
-#![tactic(auto, using(est_syntax::proofs::LeastLaws::least_append))]
+#![tactic(auto, using(crate::proofs::LeastLaws::least_append))]
 
 ghost use Rattle.std.specs.Prelude.{◌≡◌, [], OnOk, IfOk, None};
-ghost use Rattle.est_syntax.specs.Least.{least_with};
-ghost use Rattle.est_check.specs.Entries.{enter_state_parts};
-ghost use Rattle.est_check.specs.Tables.{table_found};
-ghost use Rattle.est_check.specs.Passes.{outside, header_number, front_of, body_with, body_pass, part_pass, parts_pass, spec_pass, spec_after, tables};
+ghost use Rattle.est_check.specs.Least.{least_with};
+ghost use Rattle.est_check.specs.Entries.{enter_all};
+ghost use Rattle.est_check.specs.Declarations.{body_entries};
+ghost use Rattle.est_check.specs.Tables.{look_up};
+ghost use Rattle.est_check.specs.LeastFaults.{outside, header_number, header_entries, least_inside, least_of_body, least_of_part, least_of_parts, least_of_spec, tables};
 
 use crate::build::tables;
 use crate::constructs::{check_modvars, check_statement, check_text};
 use crate::declare::enter_state_parts;
 use crate::least::Least;
-use crate::names::{Names, Standing};
+use crate::names::{Entity, Names};
 use crate::table::{BodyNames, Found, Table};
 use crate::uses::check_use;
 use est_syntax::name::Used;
@@ -20,33 +21,34 @@ use est_syntax::sort::NameSort;
 use est_syntax::specification::{Body, Part, Spec};
 use std::alloc::{AllocError, Global};
 
-/// The number of the header that a name means, where it means one.
+/// The number of the header that a name means, if one.
 fn header_number(table: &Table, outer: &BodyNames, used: &Used) -> Option<usize>
-    ensures { result ≡ header_number (table_found table.now outer.now used.now) }
+    ensures { result ≡ header_number (look_up table.now outer.now used.now) }
 {
-    match table.found(outer, used) {
-        Found::Seen(entry) => match entry.stands {
-            Standing::Header(number) => Some(number),
+    match table.look_up(outer, used) {
+        Found::Seen(entry) => match entry.entity {
+            Entity::Header(number) => Some(number),
             _ => None,
         },
         _ => None,
     }
 }
 
-fn names_behind(
+/// The states of a body behind the names of its header. Notes those that are declared twice.
+fn state_names(
     alloc: Global,
     front: &Names,
     parts: &[Part],
     least: &mut Least,
 ) -> Result<Names, AllocError>
-    ensures { IfOk result (λ n. (n, least.new.at) ≡ enter_state_parts front.now ([], least.old.at) parts.now) }
+    ensures { IfOk result (λ n. (n, least.new.at) ≡ enter_all front.now ([], least.old.at) (body_entries parts.now)) }
 {
     let mut own = Names::new(alloc);
-    enter_state_parts(alloc, front, &mut own, parts, least)?;
+    enter_state_parts(front, &mut own, parts, least)?;
     Ok(own)
 }
 
-/// The names of a body behind those of the header of this number.
+/// The states of a body that has the header of this number. Notes those that are declared twice.
 fn own_names(
     alloc: Global,
     table: &Table,
@@ -54,17 +56,18 @@ fn own_names(
     parts: &[Part],
     least: &mut Least,
 ) -> Result<Names, AllocError>
-    ensures { IfOk result (λ n. (n, least.new.at) ≡ enter_state_parts (front_of table.now header) ([], least.old.at) parts.now) }
+    ensures { IfOk result (λ n. (n, least.new.at) ≡ enter_all (header_entries table.now header) ([], least.old.at) (body_entries parts.now)) }
 {
     match header {
-        None => names_behind(alloc, &Names::new(alloc), parts, least),
+        None => state_names(alloc, &Names::new(alloc), parts, least),
         Some(number) => match table.headers.as_slice().get(number) {
-            None => names_behind(alloc, &Names::new(alloc), parts, least),
-            Some(names) => names_behind(alloc, names, parts, least),
+            None => state_names(alloc, &Names::new(alloc), parts, least),
+            Some(names) => state_names(alloc, names, parts, least),
         },
     }
 }
 
+/// Checks the states, the initialize part and the transitions of a body that has the header of this number.
 fn check_inside(
     alloc: Global,
     table: &Table,
@@ -72,7 +75,7 @@ fn check_inside(
     body: &Body,
     least: &mut Least,
 ) -> Result<(), AllocError>
-    ensures { OnOk result (least.new.at ≡ body_with table.now header least.old.at body.now) }
+    ensures { OnOk result (least.new.at ≡ least_inside table.now header least.old.at body.now) }
 {
     let own = own_names(alloc, table, header, body.parts.as_slice(), least)?;
     let names = BodyNames {
@@ -84,6 +87,7 @@ fn check_inside(
     Ok(())
 }
 
+/// Checks a body and the name of its header.
 fn check_body(
     alloc: Global,
     table: &Table,
@@ -92,7 +96,7 @@ fn check_body(
     least: &mut Least,
 ) -> Result<(), AllocError>
     requires { outer.now ≡ outside }
-    ensures { OnOk result (least.new.at ≡ body_pass table.now least.old.at body.now) }
+    ensures { OnOk result (least.new.at ≡ least_of_body table.now least.old.at body.now) }
 {
     check_use(table, outer, NameSort::Header, &body.header, least);
     check_inside(
@@ -104,6 +108,7 @@ fn check_body(
     )
 }
 
+/// Checks a part that is a body or a `modvar` section; channels and headers are checked with the tables.
 fn check_part(
     alloc: Global,
     table: &Table,
@@ -112,7 +117,7 @@ fn check_part(
     least: &mut Least,
 ) -> Result<(), AllocError>
     requires { outer.now ≡ outside }
-    ensures { OnOk result (least.new.at ≡ part_pass table.now least.old.at part.now) }
+    ensures { OnOk result (least.new.at ≡ least_of_part table.now least.old.at part.now) }
 {
     match part {
         Part::Body(body) => return check_body(alloc, table, outer, body, least),
@@ -122,6 +127,7 @@ fn check_part(
     Ok(())
 }
 
+/// Checks the parts that are bodies or `modvar` sections.
 fn check_parts(
     alloc: Global,
     table: &Table,
@@ -130,7 +136,7 @@ fn check_parts(
     least: &mut Least,
 ) -> Result<(), AllocError>
     requires { outer.now ≡ outside }
-    ensures { OnOk result (least.new.at ≡ parts_pass table.now least.old.at parts.now) }
+    ensures { OnOk result (least.new.at ≡ least_of_parts table.now least.old.at parts.now) }
 {
     for part in parts {
         check_part(alloc, table, outer, part, least)?;
@@ -138,17 +144,18 @@ fn check_parts(
     Ok(())
 }
 
-/// The names of a specification and its least fault.
+/// The names of a specification, and the least fault that was noted.
 #[derive(Drop)]
 pub struct Outcome {
     pub table: Table,
     pub least: Option<Fault>,
 }
 
-/// Checks all rules.
+/// The names of a specification, and the least of the faults that a skeleton can have. A specification that is no
+/// skeleton may have others: bodies within bodies, and the links of modules, are not looked at.
 pub fn outcome_of(alloc: Global, spec: &Spec) -> Result<Outcome, AllocError>
     ensures table { IfOk result (λ o. o.table ≡ (tables None spec.now.parts).0) }
-    ensures least { IfOk result (λ o. o.least ≡ spec_pass spec.now) }
+    ensures least { IfOk result (λ o. o.least ≡ least_of_spec spec.now) }
 {
     let mut least = Least { at: None };
     let table = tables(alloc, spec.parts.as_slice(), &mut least)?;

@@ -1,8 +1,9 @@
 //! The ports of a specification, and how much it declares.
 #![tactic(auto)]
 
-ghost use Rattle.std.specs.Prelude.{◌≡◌, [], ◌≤◌, OnOk, IfOk, Some};
-ghost use Rattle.est_check.specs.PortPass.{push_interactions, push_by_parts, signals_in, signals_at, push_named, push_points, ports_in};
+ghost use Rattle.std.specs.Prelude.{◌≡◌, ◌++◌, ◌≤◌, OnOk, IfOk, Some};
+ghost use Rattle.est_syntax.specs.Ports.{named_ports};
+ghost use Rattle.est_check.specs.TablePorts.{interaction_signals, by_signals, signals_in, signals_at, point_ports, ports_in};
 ghost use Rattle.est_check.specs.Counts.{body_count, group_count, transition_count};
 
 use crate::build::side_of;
@@ -11,22 +12,12 @@ use crate::names::{Names, PointSide, Senders};
 use crate::table::{BodyNames, Table};
 use crate::uses::may_send;
 use est_items::Items;
-use est_syntax::name::{Name, Used};
+use est_syntax::name::Used;
 use est_syntax::ports::{Port, Ports, Signal, Signals};
 use est_syntax::specification::{ByPart, Group, InteractionDef, Part, Point};
 use std::alloc::{AllocError, Global};
 
-/// An equal name.
-fn copy_name(alloc: Global, name: &Name) -> Result<Name, AllocError>
-    ensures { IfOk result (λ n. n ≡ name.now) }
-{
-    Ok(Name {
-        bytes: Items {
-            items: Vec::from_slice(alloc, name.bytes.as_slice())?,
-        },
-    })
-}
-
+/// Pushes the interactions of a `by` part with these senders, at a port in this role.
 fn push_interactions(
     alloc: Global,
     into: &mut Signals,
@@ -34,11 +25,11 @@ fn push_interactions(
     who: Senders,
     list: &[InteractionDef],
 ) -> Result<(), AllocError>
-    ensures { OnOk result (into.new ≡ push_interactions into.old second who list.now) }
+    ensures { OnOk result (into.new ≡ into.old ++ interaction_signals second who list.now) }
 {
     for item in list {
         into.push(Signal {
-            name: copy_name(alloc, &item.name.name)?,
+            name: item.name.name.copy(alloc)?,
             kinds: Items::new(alloc),
             sends: may_send(second, who),
             receives: may_send(!second, who),
@@ -47,6 +38,7 @@ fn push_interactions(
     Ok(())
 }
 
+/// Pushes the interactions of the `by` parts of a channel with these roles, at a port in this role.
 fn push_by_parts(
     alloc: Global,
     into: &mut Signals,
@@ -54,7 +46,7 @@ fn push_by_parts(
     second: bool,
     list: &[ByPart],
 ) -> Result<(), AllocError>
-    ensures { OnOk result (into.new ≡ push_by_parts into.old roles.now second list.now) }
+    ensures { OnOk result (into.new ≡ into.old ++ by_signals roles.now second list.now) }
 {
     for item in list {
         let who = senders(roles, item.roles.as_slice());
@@ -63,20 +55,21 @@ fn push_by_parts(
     Ok(())
 }
 
+/// The interactions of the `by` parts of a channel with these roles, at a port in this role.
 fn by_signals(
     alloc: Global,
     roles: &Names,
     second: bool,
     list: &[ByPart],
 ) -> Result<Signals, AllocError>
-    ensures { IfOk result (λ s. s ≡ push_by_parts [] roles.now second list.now) }
+    ensures { IfOk result (λ s. s ≡ by_signals roles.now second list.now) }
 {
     let mut signals = Items::new(alloc);
     push_by_parts(alloc, &mut signals, roles, second, list)?;
     Ok(signals)
 }
 
-/// The signals of a point with a role of the channel of this number.
+/// The interactions of a channel, which is the part of this number, at a port in this role; none where the part is no channel.
 fn signals_in(
     alloc: Global,
     table: &Table,
@@ -95,6 +88,7 @@ fn signals_in(
     }
 }
 
+/// The interactions at a port of this side; none without a side.
 fn signals_at(
     alloc: Global,
     table: &Table,
@@ -112,19 +106,20 @@ fn signals_at(
     }
 }
 
+/// Pushes the ports of this side with these names.
 fn push_named(
-    alloc: Global,
     into: &mut Ports,
     table: &Table,
     parts: &[Part],
     side: Option<PointSide>,
     list: &[Used],
 ) -> Result<(), AllocError>
-    ensures { OnOk result (into.new ≡ push_named into.old (signals_at table.now parts.now side) list.now) }
+    ensures { OnOk result (into.new ≡ into.old ++ named_ports (signals_at table.now parts.now side) list.now) }
 {
+    let alloc = *into.items.allocator();
     for used in list {
         into.push(Port {
-            name: copy_name(alloc, &used.name)?,
+            name: used.name.copy(alloc)?,
             index_kinds: Items::new(alloc),
             index: Items::new(alloc),
             signals: signals_at(alloc, table, parts, side)?,
@@ -133,56 +128,44 @@ fn push_named(
     Ok(())
 }
 
+/// Pushes the ports that the interaction points of a header are.
 fn push_points(
     alloc: Global,
     into: &mut Ports,
     table: &Table,
-    outer: &BodyNames,
     parts: &[Part],
     list: &[Point],
 ) -> Result<(), AllocError>
-    ensures { OnOk result (into.new ≡ push_points into.old table.now outer.now parts.now list.now) }
+    ensures { OnOk result (into.new ≡ into.old ++ point_ports table.now parts.now list.now) }
 {
+    let outer = BodyNames::outside(alloc);
     for item in list {
         push_named(
-            alloc,
             into,
             table,
             parts,
-            side_of(table, outer, item),
+            side_of(table, &outer, item),
             item.names.as_slice(),
         )?;
     }
     Ok(())
 }
 
-/// The ports of the first header.
-pub fn ports(
-    alloc: Global,
-    table: &Table,
-    outer: &BodyNames,
-    parts: &[Part],
-) -> Result<Ports, AllocError>
-    ensures { IfOk result (λ p. p ≡ ports_in table.now outer.now parts.now parts.now) }
+/// The ports that the interaction points of the first header are; none without a header.
+pub fn ports(alloc: Global, table: &Table, parts: &[Part]) -> Result<Ports, AllocError>
+    ensures { IfOk result (λ p. p ≡ ports_in table.now parts.now parts.now) }
 {
     let mut all = Items::new(alloc);
     for part in parts {
         if let Part::Header(header) = part {
-            push_points(
-                alloc,
-                &mut all,
-                table,
-                outer,
-                parts,
-                header.points.as_slice(),
-            )?;
+            push_points(alloc, &mut all, table, parts, header.points.as_slice())?;
             return Ok(all);
         }
     }
     Ok(all)
 }
 
-/// The number of bodies.
+/// The number of bodies that these parts declare.
 pub fn body_count(parts: &[Part]) -> u32
     requires { body_count parts.now ≤ 1048576 }
     ensures { result ≡ body_count parts.now }
@@ -196,6 +179,7 @@ pub fn body_count(parts: &[Part]) -> u32
     count
 }
 
+/// The number of transitions of these groups.
 fn group_count(groups: &[Group]) -> u32
     requires { group_count groups.now ≤ 1048576 }
     ensures { result ≡ group_count groups.now }
@@ -207,7 +191,7 @@ fn group_count(groups: &[Group]) -> u32
     count
 }
 
-/// The number of transitions.
+/// The number of transitions of the bodies that these parts declare.
 pub fn transition_count(parts: &[Part]) -> u32
     requires { transition_count parts.now ≤ 1048576 }
     ensures { result ≡ transition_count parts.now }

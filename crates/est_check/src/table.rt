@@ -3,21 +3,21 @@
 ghost use Rattle.std.specs.Prelude.{◌≡◌};
 ghost use Rattle.est_syntax.specs.Names.{is_predeclared};
 ghost use Rattle.est_check.specs.Entries.{entry_of};
-ghost use Rattle.est_check.specs.Tables.{member_entry, members_at, names_at, header_entry, own_entry, is_shared, undeclared, outer_found, found_by, table_found, name_sort, member_sort, channel_number, side_found, member_sort_at};
+ghost use Rattle.est_check.specs.Tables.{member_entry, members_at, header_entry, own_entry, is_shared, undeclared, outer_found, look_up, look_up_member, name_sort, channel_number, point_side};
 
-use crate::names::{Entry, Names, PointSide, Standing};
+use crate::names::{Entity, Entry, Names, PointSide};
 use est_items::Items;
 use est_syntax::name::{Name, Used};
 use est_syntax::sort::NameSort;
 
-/// The names of a channel.
+/// The names of a channel: its roles, and the interactions that have no role's name.
 #[derive(Drop)]
 pub struct Members {
     pub roles: Names,
     pub interactions: Names,
 }
 
-/// The names of a specification: its own, and those of the channel or header that each part is.
+/// The names of a specification: its own, and, part for part, those of the channel or the header that the part is.
 #[derive(Drop)]
 pub struct Table {
     pub outer: Names,
@@ -25,7 +25,7 @@ pub struct Table {
     pub headers: Items<Names>,
 }
 
-/// The names of a body, where one is around: the number of its header, and its own names.
+/// The body around a place, if one: the number of its header's part, and the names of its states.
 #[derive(Drop)]
 pub struct BodyNames {
     pub within: bool,
@@ -33,7 +33,7 @@ pub struct BodyNames {
     pub own: Names,
 }
 
-/// What was found for a name.
+/// What a name means: nothing, something that the body around does not see, something predeclared, or this.
 #[derive(Clone, Copy, Debug, PartialEq, Eq)]
 pub enum Found {
     Nothing,
@@ -43,7 +43,7 @@ pub enum Found {
 }
 
 impl Members {
-    /// The entry of a role or an interaction.
+    /// The entry of a role, or else of an interaction.
     pub fn find(&self, name: &Name) -> Option<Entry>
         ensures { result ≡ member_entry self.now name.now.bytes }
     {
@@ -53,9 +53,9 @@ impl Members {
         }
     }
 
-    /// The sort of a role or an interaction.
-    pub fn sort_of(&self, used: &Used) -> Found
-        ensures { result ≡ member_sort self.now used.now }
+    /// What a name means within the channel.
+    pub fn look_up(&self, used: &Used) -> Found
+        ensures { result ≡ look_up_member self.now used.now }
     {
         match self.find(&used.name) {
             None => Found::Nothing,
@@ -64,30 +64,30 @@ impl Members {
     }
 }
 
-/// The sort of what a name stands for.
-pub fn name_sort(standing: Standing) -> NameSort
-    ensures { result ≡ name_sort standing }
+/// The sort of an entity.
+pub fn name_sort(entity: Entity) -> NameSort
+    ensures { result ≡ name_sort entity }
 {
-    match standing {
-        Standing::Channel(_) => NameSort::Channel,
-        Standing::Header(_) => NameSort::Header,
-        Standing::Body => NameSort::Body,
-        Standing::ModuleVariable => NameSort::ModuleVariable,
-        Standing::Point(_) => NameSort::Point,
-        Standing::State => NameSort::State,
-        Standing::Role(_) => NameSort::Role,
-        Standing::Interaction(_) => NameSort::Interaction,
+    match entity {
+        Entity::Channel(_) => NameSort::Channel,
+        Entity::Header(_) => NameSort::Header,
+        Entity::Body => NameSort::Body,
+        Entity::ModuleVariable => NameSort::ModuleVariable,
+        Entity::Point(_) => NameSort::Point,
+        Entity::State => NameSort::State,
+        Entity::Role(_) => NameSort::Role,
+        Entity::Interaction(_) => NameSort::Interaction,
     }
 }
 
-/// Whether a body sees what stands around it as this.
-fn is_shared(standing: Standing) -> bool
-    ensures { result ≡ is_shared standing }
+/// Whether a body sees such an entity around it.
+fn is_shared(entity: Entity) -> bool
+    ensures { result ≡ is_shared entity }
 {
-    match standing {
-        Standing::Channel(_) => true,
-        Standing::Header(_) => true,
-        Standing::Body => true,
+    match entity {
+        Entity::Channel(_) => true,
+        Entity::Header(_) => true,
+        Entity::Body => true,
         _ => false,
     }
 }
@@ -103,7 +103,7 @@ fn undeclared(name: &Name) -> Found
     }
 }
 
-/// What a name means that no body around it declares.
+/// What a name means by its entry outside of all bodies.
 fn outer_found(within: bool, entry: Option<Entry>, used: &Used) -> Found
     ensures { result ≡ outer_found (is_predeclared used.now.name.bytes) within entry used.now.place }
 {
@@ -113,7 +113,7 @@ fn outer_found(within: bool, entry: Option<Entry>, used: &Used) -> Found
             if entry.last >= used.place {
                 return undeclared(&used.name);
             }
-            if within && !is_shared(entry.stands) {
+            if within && !is_shared(entry.entity) {
                 return Found::Unseen;
             }
             Found::Seen(entry)
@@ -122,7 +122,7 @@ fn outer_found(within: bool, entry: Option<Entry>, used: &Used) -> Found
 }
 
 impl Table {
-    /// The entry of a name of a header.
+    /// The entry of a name in the header of this number.
     fn header_entry(&self, header: Option<usize>, name: &Name) -> Option<Entry>
         ensures { result ≡ header_entry self.now header name.now.bytes }
     {
@@ -135,7 +135,7 @@ impl Table {
         }
     }
 
-    /// The entry of a name in the own region of a body.
+    /// The entry of a name in the region of a body.
     fn own_entry(&self, body: &BodyNames, name: &Name) -> Option<Entry>
         ensures { result ≡ own_entry self.now body.now name.now.bytes }
     {
@@ -146,8 +146,8 @@ impl Table {
     }
 
     /// What a name means at its place.
-    pub fn found(&self, body: &BodyNames, used: &Used) -> Found
-        ensures { result ≡ table_found self.now body.now used.now }
+    pub fn look_up(&self, body: &BodyNames, used: &Used) -> Found
+        ensures { result ≡ look_up self.now body.now used.now }
     {
         if let Some(entry) = self.own_entry(body, &used.name) {
             if entry.last < used.place {
@@ -159,11 +159,11 @@ impl Table {
 
     /// The number of the channel that a name means, where it means one.
     pub fn channel_number(&self, body: &BodyNames, used: &Used) -> Option<usize>
-        ensures { result ≡ channel_number (table_found self.now body.now used.now) }
+        ensures { result ≡ channel_number (look_up self.now body.now used.now) }
     {
-        match self.found(body, used) {
-            Found::Seen(entry) => match entry.stands {
-                Standing::Channel(number) => Some(number),
+        match self.look_up(body, used) {
+            Found::Seen(entry) => match entry.entity {
+                Entity::Channel(number) => Some(number),
                 _ => None,
             },
             _ => None,
@@ -171,12 +171,12 @@ impl Table {
     }
 
     /// The side of the interaction point that a name means, where it has one.
-    pub fn side_found(&self, body: &BodyNames, used: &Used) -> Option<PointSide>
-        ensures { result ≡ side_found (table_found self.now body.now used.now) }
+    pub fn point_side(&self, body: &BodyNames, used: &Used) -> Option<PointSide>
+        ensures { result ≡ point_side (look_up self.now body.now used.now) }
     {
-        match self.found(body, used) {
-            Found::Seen(entry) => match entry.stands {
-                Standing::Point(side) => side,
+        match self.look_up(body, used) {
+            Found::Seen(entry) => match entry.entity {
+                Entity::Point(side) => side,
                 _ => None,
             },
             _ => None,
@@ -184,7 +184,7 @@ impl Table {
     }
 }
 
-/// The entry of a role or an interaction of the channel of this number.
+/// The entry of a role, or else of an interaction, of the channel of this number.
 pub fn member_of(channels: &[Members], number: usize, name: &Name) -> Option<Entry>
     ensures { result ≡ member_entry (members_at channels.now number) name.now.bytes }
 {

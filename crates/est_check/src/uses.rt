@@ -1,18 +1,19 @@
 //! The uses of names.
-#![tactic(auto, using(est_syntax::proofs::LeastLaws::least_append))]
+#![tactic(auto, using(crate::proofs::LeastLaws::least_append))]
 
-ghost use Rattle.std.specs.Prelude.{◌≡◌, Some, not};
-ghost use Rattle.est_syntax.specs.Least.{least_with};
+ghost use Rattle.std.specs.Prelude.{◌≡◌, Some, true, false, not};
+ghost use Rattle.est_check.specs.Least.{least_with};
 ghost use Rattle.est_syntax.specs.Faults.{takes, used_as, use_faults, uses_faults, direction_faults, passage_faults, interaction_faults, role_faults};
-ghost use Rattle.est_check.specs.Tables.{sort_found, may_send, passage_by, passage_in, passage_at, member_sort, member_sort_at, table_environment, members_environment, table_found, channel_number, side_found};
+ghost use Rattle.est_check.specs.Tables.{sort_found, may_send, passage_by, passage_at, member_sort_at, table_environment, members_environment};
 
 use crate::least::Least;
-use crate::names::{Entry, Senders, Standing};
+use crate::names::{Entity, Entry, PointSide, Senders};
 use crate::table::{BodyNames, Found, Members, Table, member_of, name_sort};
 use est_syntax::name::Used;
 use est_syntax::rule::Rule;
 use est_syntax::sort::NameSort;
 
+/// Whether a thing of this sort stands where that sort is wanted.
 fn takes(wanted: NameSort, sort: NameSort) -> bool
     ensures { result ≡ takes wanted sort }
 {
@@ -29,7 +30,7 @@ fn takes(wanted: NameSort, sort: NameSort) -> bool
     }
 }
 
-/// Checks that what was found for a name is of the wanted sort.
+/// Checks that what a name means is of the wanted sort.
 fn check_found(wanted: NameSort, place: u32, found: Found, least: &mut Least)
     ensures { least.new.at ≡ least_with least.old.at (used_as wanted place (sort_found found)) }
 {
@@ -37,20 +38,20 @@ fn check_found(wanted: NameSort, place: u32, found: Found, least: &mut Least)
         Found::Nothing => least.note(place, Rule::UnknownName),
         Found::Unseen => least.note(place, Rule::NotSeenHere),
         Found::Predeclared => least.note(place, Rule::WrongSort),
-        Found::Seen(entry) => if !takes(wanted, name_sort(entry.stands)) {
+        Found::Seen(entry) => if !takes(wanted, name_sort(entry.entity)) {
             least.note(place, Rule::WrongSort)
         },
     }
 }
 
-/// Checks the use of a name.
+/// Checks that a name means something of the wanted sort.
 pub fn check_use(table: &Table, body: &BodyNames, wanted: NameSort, used: &Used, least: &mut Least)
     ensures { least.new.at ≡ least_with least.old.at (use_faults (table_environment table.now body.now) wanted used.now) }
 {
-    check_found(wanted, used.place, table.found(body, used), least);
+    check_found(wanted, used.place, table.look_up(body, used), least);
 }
 
-/// Checks the uses of names.
+/// Checks that each of these names means something of the wanted sort.
 pub fn check_uses(
     table: &Table,
     body: &BodyNames,
@@ -65,13 +66,14 @@ pub fn check_uses(
     }
 }
 
+/// Checks that a name within a channel means something of the wanted sort.
 fn check_member(members: &Members, wanted: NameSort, used: &Used, least: &mut Least)
     ensures { least.new.at ≡ least_with least.old.at (use_faults (members_environment members.now) wanted used.now) }
 {
-    check_found(wanted, used.place, members.sort_of(used), least);
+    check_found(wanted, used.place, members.look_up(used), least);
 }
 
-/// Checks the roles of a `by` part, which are looked up in their channel.
+/// Checks that each of these names within a channel means something of the wanted sort.
 pub fn check_roles(members: &Members, wanted: NameSort, list: &[Used], least: &mut Least)
     ensures { least.new.at ≡ least_with least.old.at (uses_faults (members_environment members.now) wanted list.now) }
 {
@@ -80,7 +82,7 @@ pub fn check_roles(members: &Members, wanted: NameSort, list: &[Used], least: &m
     }
 }
 
-/// Checks the role of an interaction point, where its channel is one.
+/// Checks the role of an interaction point in the channel of this number; nothing without a channel.
 pub fn check_point_role(table: &Table, channel: Option<usize>, used: &Used, least: &mut Least)
     ensures { least.new.at ≡ least_with least.old.at (role_faults used.now.place (member_sort_at table.now channel used.now)) }
 {
@@ -92,13 +94,14 @@ pub fn check_point_role(table: &Table, channel: Option<usize>, used: &Used, leas
     }
 }
 
+/// Whether the first role of a channel, or the second (true), may send an interaction.
 pub fn may_send(second: bool, who: Senders) -> bool
     ensures { result ≡ may_send second who }
 {
     if second { who.second } else { who.first }
 }
 
-/// Checks that a point of this role sends or receives an interaction.
+/// Checks that an interaction point in this role may send an interaction, or receive it.
 fn check_direction(sending: bool, place: u32, second: bool, who: Senders, least: &mut Least)
     ensures { least.new.at ≡ least_with least.old.at (direction_faults sending place (may_send second who) (may_send (not second) who)) }
 {
@@ -112,13 +115,15 @@ fn check_direction(sending: bool, place: u32, second: bool, who: Senders, least:
     }
 }
 
+/// Checks the entry of a name that an interaction point in this role sends or receives.
+/// Without an entry the name is unknown, and what is no interaction is of a wrong sort.
 fn check_passage(sending: bool, place: u32, second: bool, entry: Option<Entry>, least: &mut Least)
     ensures { least.new.at ≡ least_with least.old.at (passage_faults sending place (Some (passage_by second entry))) }
 {
     match entry {
         None => least.note(place, Rule::UnknownName),
-        Some(entry) => match entry.stands {
-            Standing::Interaction(who) => if who.known {
+        Some(entry) => match entry.entity {
+            Entity::Interaction(who) => if who.known {
                 check_direction(sending, place, second, who, least)
             },
             _ => least.note(place, Rule::WrongSort),
@@ -126,33 +131,34 @@ fn check_passage(sending: bool, place: u32, second: bool, entry: Option<Entry>, 
     }
 }
 
+/// Checks an interaction that a point of this side sends or receives; nothing without a side.
 fn check_passage_at(
     table: &Table,
-    body: &BodyNames,
+    side: Option<PointSide>,
     sending: bool,
-    at: &Used,
     used: &Used,
     least: &mut Least,
 )
-    ensures { least.new.at ≡ least_with least.old.at (passage_faults sending used.now.place (passage_at table.now (side_found (table_found table.now body.now at.now)) used.now)) }
+    ensures { least.new.at ≡ least_with least.old.at (passage_faults sending used.now.place (passage_at table.now side used.now)) }
 {
-    if let Some(side) = table.side_found(body, at) {
+    if let Some(side) = side {
         let entry = member_of(table.channels.as_slice(), side.channel, &used.name);
         check_passage(sending, used.place, side.second, entry, least);
     }
 }
 
-/// Checks an interaction that is sent or received at an interaction point.
-pub fn check_interaction(
-    table: &Table,
-    body: &BodyNames,
-    sending: bool,
-    at: &Used,
-    used: &Used,
-    least: &mut Least,
-)
-    ensures { least.new.at ≡ least_with least.old.at (interaction_faults (table_environment table.now body.now) sending at.now used.now) }
+/// Checks an interaction that is sent at an interaction point.
+pub fn check_sent(table: &Table, body: &BodyNames, at: &Used, used: &Used, least: &mut Least)
+    ensures { least.new.at ≡ least_with least.old.at (interaction_faults (table_environment table.now body.now) true at.now used.now) }
 {
     check_use(table, body, NameSort::Point, at, least);
-    check_passage_at(table, body, sending, at, used, least);
+    check_passage_at(table, table.point_side(body, at), true, used, least);
+}
+
+/// Checks an interaction that is received at an interaction point.
+pub fn check_received(table: &Table, body: &BodyNames, at: &Used, used: &Used, least: &mut Least)
+    ensures { least.new.at ≡ least_with least.old.at (interaction_faults (table_environment table.now body.now) false at.now used.now) }
+{
+    check_use(table, body, NameSort::Point, at, least);
+    check_passage_at(table, table.point_side(body, at), false, used, least);
 }

@@ -1,16 +1,20 @@
--- A sentence has no more transitions and interaction points than tokens.
+-- A sentence has no more transitions, interaction points and interactions of a channel than tokens.
 use Rattle.std.proofs.Common.{◌≡◌, ◌≤◌, ◌+◌, ℕ, suc, Bool, true, false, List, [], ◌∷◌, ◌++◌, Option, Some, None, length, map, arith, refl, ap}
 use Rattle.std.specs.Prelude.{sum_by}
 use Rattle.std.proofs.lemmas.List.Sums.{sum_by-cons}
 use Rattle.est_lexer.specs.declared.kind.Token.{Token}
 use Rattle.est_lexer.specs.declared.kind.Symbol.TheVariants.{Comma}
+use Rattle.est_language.proofs.Trees.{tree_inside}
 use Rattle.est_language.specs.Grammar.{rep, rule, chain, nothing, placed, both, t_word, t_here, t_seq, t_rule, t_rep_out, t_rep_in, t_token}
-use Rattle.est_grammar.specs.Skeleton.{Rule, header, body, point, transition, listed, name, sign}
+use Rattle.est_grammar.specs.Skeleton.{Rule, channel, by, header, body, point, transition, interaction, several, listed, name, sign}
 use Rattle.est_grammar.specs.Answer.{HasOneTree}
-use Rattle.est_grammar.specs.Views.{Shape, used_shape, names_shape, point_shape, points_shape, header_shape, group_shape, body_shape, modvar_shape, one_transition, without, without_some, where_true, initialization_shape}
+use Rattle.est_grammar.specs.Language.{skeleton}
+use Rattle.est_grammar.specs.Views.{Shape, channel_shape, two_names, by_parts_shape, by_shape, one_name, interactions_shape, interaction_shape, used_shape, names_shape, point_shape, points_shape, header_shape, group_shape, body_shape, modvar_shape, one_transition, without, without_some, where_true, initialization_shape}
 use Rattle.est_syntax.specs.declared.expression.TypeText.{TypeText}
 use Rattle.est_syntax.specs.declared.expression.VarDef.{VarDef}
 use Rattle.est_syntax.specs.declared.name.Used.{Used}
+use Rattle.est_syntax.specs.declared.specification.InteractionDef.{InteractionDef}
+use Rattle.est_syntax.specs.declared.specification.ByPart.{ByPart}
 use Rattle.est_syntax.specs.declared.specification.Point.{Point}
 use Rattle.est_syntax.specs.declared.specification.Channel.{Channel}
 use Rattle.est_syntax.specs.declared.specification.Header.{Header}
@@ -24,7 +28,7 @@ use Rattle.est_syntax.specs.declared.specification.Part.TheVariants as part
 use Rattle.est_syntax.specs.declared.specification.Spec.{Spec}
 use Rattle.est_check.specs.Counts.{group_count, transition_count}
 use Rattle.est_check.specs.Skeleton.{channel_parts}
-use Rattle.est_specification.proofs.Sentences.{HasAt, Last, forward, none, IsBody, body_split, IsSplit, sentence_split}
+use Rattle.est_specification.proofs.Sentences.{HasAt, Last, Roles, forward, none, IsBody, body_split, IsSplit, sentence_split}
 
 -- the interaction points that one declaration has
 abbrev pub names_in : Point → ℕ
@@ -38,6 +42,10 @@ points_of _ = 0
 -- the interaction points of the parts
 abbrev pub port_sum : List Part → ℕ
 port_sum ps = sum_by points_of ps
+
+-- the interactions of one part of a channel
+abbrev pub signals_in : ByPart → ℕ
+signals_in b = length b.interactions
 
 -- the transitions of one group
 abbrev transitions_in : Group → ℕ
@@ -97,6 +105,57 @@ module _ (text : List ℕ) (tokens : List Token) where
       let first : a + 1 ≤ m = name_long x d a m one in
       let rest : m + sum_by (λ y. 1) xs ≤ b = rep_long (λ y. 1) used_shape (sign Comma name) d (λ y i j h. comma_name_long y d i j h) xs m b more in
       let count : sum_by (λ y. 1) xs ≡ length xs = ones xs in
+      omega arith
+
+  -- a repetition that is not empty
+  several_long : {X : Type 0} (f : X → ℕ) (view : X → Shape) (g : Rule) (d : ℕ) → ((x : X) (a b : ℕ) → Has g d a b (view x) → a + f x ≤ b)
+      → (xs : List X) (a b : ℕ) → Has (several g) d a b (chain (map view xs) nothing) → a + sum_by f xs ≤ b
+  several_long f view g d turn [] a b h = elim h [ ]
+  several_long f view g d turn (x ∷ xs) a b (t_seq {b = m} one more) =
+      let first : a + f x ≤ m = turn x a m one in
+      let rest : m + sum_by f xs ≤ b = rep_long f view g d turn xs m b more in
+      omega (arith, sum_by-cons f x xs)
+
+  -- an interaction
+  interaction_long : (i : InteractionDef) (d a b : ℕ) → Has interaction d a b (interaction_shape i) → a + 1 ≤ b
+  interaction_long i d a b h = bare i.params h
+    where
+      bare : (params : List VarDef) → Has interaction d a b (without params (both (used_shape i.name) nothing)) → a + 1 ≤ b
+      bare [] (t_seq {b = m} named rest) =
+          let long : a + 1 ≤ m = name_long i.name d a m named in
+          let on : m ≤ b = forward text tokens rest in
+          omega arith
+      bare (x ∷ xs) h = elim h [ ]
+
+  -- the interactions of a part of a channel
+  by_long : (x : ByPart) (d a b : ℕ) → Has (rule by) d a b (by_shape x) → a + signals_in x ≤ b
+  by_long x d a b h = one x.roles h
+    where
+      one : (us : List Used) → Has (rule by) d a b (one_name us (interactions_shape x.interactions)) → a + length x.interactions ≤ b
+      one [] h = absurd (none text tokens by h)
+      one (u ∷ []) (t_rule (t_word k i e (t_seq {b = m} named (t_word k' i' e' h)))) =
+          let to_m : suc a ≤ m = forward text tokens named in
+          let long : suc m + sum_by (λ y. 1) x.interactions ≤ b = several_long (λ y. 1) interaction_shape interaction d (λ y j l t. interaction_long y d j l t) x.interactions (suc m) b h in
+          let count : sum_by (λ y. 1) x.interactions ≡ length x.interactions = ones x.interactions in
+          omega arith
+      one (u ∷ v ∷ us) h = absurd (none text tokens by h)
+
+  -- the interactions of a channel
+  roles_long : (bs : List ByPart) (us : List Used) (d a b : ℕ) → Has Roles d a b (two_names us (by_parts_shape bs)) → a + sum_by signals_in bs ≤ b
+  roles_long bs [] d a b h = elim h [ ]
+  roles_long bs (u ∷ []) d a b h = elim h [ ]
+  roles_long bs (u ∷ v ∷ w ∷ us) d a b h = elim h [ ]
+  roles_long bs (u ∷ v ∷ []) d a b (t_seq {b = m} one (t_word k i e (t_seq {b = q} other (t_word k' i' e' (t_word k'' i'' e'' h))))) =
+      let to_m : a ≤ m = forward text tokens one in
+      let to_q : suc m ≤ q = forward text tokens other in
+      let long : suc (suc q) + sum_by signals_in bs ≤ b = several_long signals_in by_shape (rule by) d (λ y j l t. by_long y d j l t) bs (suc (suc q)) b h in
+      omega arith
+
+  -- a channel of a sentence has no more interactions than the sentence has tokens
+  pub channel_few : (c : Channel) (d a b : ℕ) → Has (rule channel) d a b (channel_shape c) → sum_by signals_in c.by ≤ length tokens
+  channel_few c d a b (t_rule (t_word k i e (t_seq {b = m} named (t_word k' i' e' h)))) =
+      let long : suc m + sum_by signals_in c.by ≤ b = roles_long c.by c.roles d (suc m) b h in
+      let within : b ≤ length tokens = tree_inside (skeleton text) tokens (length tokens) h (omega arith) in
       omega arith
 
   -- a declaration of interaction points

@@ -1,99 +1,45 @@
--- A specification has no more ports than its headers have interaction points.
-use Rattle.std.proofs.Common.{◌≡◌, ◌≤◌, ◌+◌, ℕ, Bool, true, false, List, [], ◌∷◌, ◌++◌, Option, Some, None, length, arith, refl}
-use Rattle.std.specs.Prelude.{sum_by, if◌then◌else◌}
-use Rattle.std.proofs.Common.{length-append}
+-- A specification has no more ports than its headers have interaction points, and its ports have no more signals than channels have interactions.
+use Rattle.std.proofs.Common.{◌≡◌, ◌≤◌, ℕ, List, [], ◌∷◌, ◌++◌, ◌⊎◌, inl, inr, Option, Some, None, length, length-append, arith, refl, ap}
+use Rattle.std.specs.Prelude.{sum_by}
 use Rattle.std.proofs.lemmas.List.Sums.{sum_by-cons}
 use Rattle.est_syntax.specs.declared.name.Used.{Used}
+use Rattle.est_syntax.specs.declared.ports.Port.{Port}
 use Rattle.est_syntax.specs.declared.ports.Signal.{Signal}
+use Rattle.est_syntax.specs.declared.specification.InteractionDef.{InteractionDef}
+use Rattle.est_syntax.specs.declared.specification.ByPart.{ByPart}
+use Rattle.est_syntax.specs.declared.specification.Channel.{Channel}
 use Rattle.est_syntax.specs.declared.specification.Point.{Point}
 use Rattle.est_syntax.specs.declared.specification.Header.{Header}
 use Rattle.est_syntax.specs.declared.specification.ModvarDef.{ModvarDef}
 use Rattle.est_syntax.specs.declared.specification.Statement.{Statement}
 use Rattle.est_syntax.specs.declared.specification.Statement.TheVariants as statement
-use Rattle.est_syntax.specs.declared.specification.Part.{Part}
 use Rattle.est_syntax.specs.declared.specification.Part.TheVariants as part
 use Rattle.est_syntax.specs.declared.specification.Spec.{Spec}
-use Rattle.est_syntax.specs.Names.{module_variable, Declaration, Region, Scope, declared_in, in_force, meaning, meaning_by, side_of, header_in, header_by, declared_together, states_region, modvars_region, part_region, parts_region, spec_scope, spelled, is_name, is_predeclared}
-use Rattle.est_syntax.specs.Ports.{header_of_variable, header_started, named_ports, point_ports, header_ports, ports_of, signals_of}
+use Rattle.est_syntax.specs.Least.{IsIn}
+use Rattle.est_syntax.specs.Names.{Scope, Side, meaning, side_of, spec_scope}
+use Rattle.est_syntax.specs.Ports.{header_of_variable, header_started, interaction_signals, by_signals, named_ports, point_ports, header_ports, ports_of, signals_of}
 use Rattle.est_syntax.specs.Breaks.{modvar_by}
-use Rattle.est_specification.proofs.CountLaws.{names_in, points_of, port_sum}
+use Rattle.est_syntax.proofs.Members.{into_either}
+use Rattle.est_syntax.proofs.Declared.{header_meant, side_meant}
+use Rattle.est_specification.proofs.CountLaws.{names_in, points_of, port_sum, signals_in}
 
--- a header, where there is one, has so many interaction points at most
-abbrev Fits : ℕ → Option Header → Type 0
-Fits n None = Unit {0}
-Fits n (Some h) = sum_by names_in h.points ≤ n
+-- what one item counts is part of the sum
+sum_member : {X : Type 0} (f : X → ℕ) (x : X) (xs : List X) → IsIn x xs → f x ≤ sum_by f xs
+sum_member f x [] i = absurd i
+sum_member f x (y ∷ ys) (inl e) = omega (arith, ap f e, sum_by-cons f y ys)
+sum_member f x (y ∷ ys) (inr i) = let more : f x ≤ sum_by f ys = sum_member f x ys i in omega (arith, sum_by-cons f y ys)
 
-abbrev FitsFound : ℕ → Option Declaration → Type 0
-FitsFound n None = Unit {0}
-FitsFound n (Some d) = Fits n (header_in d.sort)
+-- the header of the module that is started is one of the parts
+of_variable : (s : Spec) (o : Option ModvarDef) (h : Header) → header_of_variable (spec_scope s) o ≡ Some h → IsIn (part.Header h) s.parts
+of_variable s None h e = cc
+of_variable s (Some m) h e = header_meant s m.header h e
 
--- and so has each header that a region declares
-abbrev AllFit : ℕ → Region → Type 0
-AllFit n [] = Unit {0}
-AllFit n (d ∷ ds) = Fits n (header_in d.sort) × AllFit n ds
+of_statement : (s : Spec) (st : Statement) (h : Header) → header_started (spec_scope s) st ≡ Some h → IsIn (part.Header h) s.parts
+of_statement s (statement.Init target named arguments place) h e = of_variable s (modvar_by (meaning (spec_scope s) target.name)) h e
+of_statement s (statement.Empty place) h e = cc
+of_statement s (statement.Output sendings place) h e = cc
 
-fit-append : (n : ℕ) (xs ys : Region) → AllFit n xs → AllFit n ys → AllFit n (xs ++ ys)
-fit-append n [] ys fits more = more
-fit-append n (x ∷ xs) ys fits more = (fits.0, fit-append n xs ys fits.1 more)
-
-either_fits : (n : ℕ) (b : Bool) (d : Declaration) (o : Option Declaration) → Fits n (header_in d.sort) → FitsFound n o → FitsFound n (if b then Some d else o)
-either_fits n true d o one other = one
-either_fits n false d o one other = other
-
-found_fits : (n : ℕ) (ds : Region) (name : List ℕ) → AllFit n ds → FitsFound n (declared_in ds name)
-found_fits n [] name fits = tt
-found_fits n (d ∷ ds) name fits = either_fits n (is_name name (spelled d.name)) d (declared_in ds name) fits.0 (found_fits n ds name fits.1)
-
-states_fit : (n : ℕ) (us : List Used) → AllFit n (states_region us)
-states_fit n [] = tt
-states_fit n (u ∷ us) = (tt, states_fit n us)
-
-together_fit : (n : ℕ) (us : List Used) (last : ℕ) (m : ModvarDef) → AllFit n (declared_together us last (module_variable m))
-together_fit n [] last m = tt
-together_fit n (u ∷ us) last m = (tt, together_fit n us last m)
-
-modvars_fit : (n : ℕ) (ms : List ModvarDef) → AllFit n (modvars_region ms)
-modvars_fit n [] = tt
-modvars_fit n (m ∷ ms) = fit-append n (declared_together m.names m.header.place (module_variable m)) (modvars_region ms) (together_fit n m.names m.header.place m) (modvars_fit n ms)
-
-part_fits : (n : ℕ) (p : Part) → points_of p ≤ n → AllFit n (part_region p)
-part_fits n (part.Channel c) few = (tt, tt)
-part_fits n (part.Header h) few = (few, tt)
-part_fits n (part.Body b) few = (tt, tt)
-part_fits n (part.Modvars ms) few = modvars_fit n ms
-part_fits n (part.States us) few = states_fit n us
-
-parts_fit : (n : ℕ) (ps : List Part) → sum_by points_of ps ≤ n → AllFit n (parts_region ps)
-parts_fit n [] few = tt
-parts_fit n (p ∷ ps) few =
-    let sum : sum_by points_of (p ∷ ps) ≡ points_of p + sum_by points_of ps = sum_by-cons points_of p ps in
-    fit-append n (part_region p) (parts_region ps) (part_fits n p (omega arith)) (parts_fit n ps (omega arith))
-
--- the header that a name means at the outermost place
-forced_fits : (n : ℕ) (o : Option Declaration) (place : ℕ) → FitsFound n o → FitsFound n (in_force o place None)
-forced_fits n None place fits = tt
-forced_fits n (Some d) place fits = either_fits n _ d None fits tt
-
-module _ (s : Spec) where
-  abbrev n : ℕ
-  n = port_sum s.parts
-
-  meant_by_fits : (known : Bool) (o : Option Declaration) → FitsFound n o → Fits n (header_by (meaning_by known o None))
-  meant_by_fits true None fits = tt
-  meant_by_fits false None fits = tt
-  meant_by_fits known (Some d) fits = fits
-
-  meant_fits : (u : Used) → Fits n (header_by (meaning (spec_scope s) u))
-  meant_fits u = meant_by_fits (is_predeclared (spelled u)) (in_force (declared_in (parts_region s.parts) (spelled u)) u.place None) (forced_fits n (declared_in (parts_region s.parts) (spelled u)) u.place (found_fits n (parts_region s.parts) (spelled u) (parts_fit n s.parts (omega arith))))
-
-  variable_fits : (o : Option ModvarDef) → Fits n (header_of_variable (spec_scope s) o)
-  variable_fits None = tt
-  variable_fits (Some m) = meant_fits m.header
-
-  started_fits : (st : Statement) → Fits n (header_started (spec_scope s) st)
-  started_fits (statement.Init target of arguments place) = variable_fits (modvar_by (meaning (spec_scope s) target.name))
-  started_fits (statement.Empty place) = tt
-  started_fits (statement.Output sendings place) = tt
+-- PORTS
 
 length-named_ports : (signals : List Signal) (us : List Used) → length (named_ports signals us) ≡ length us
 length-named_ports signals [] = refl
@@ -106,10 +52,56 @@ length-point_ports scope (p ∷ ps) =
     let rest : length (point_ports scope ps) ≡ sum_by names_in ps = length-point_ports scope ps in
     omega (arith, length-append (named_ports (signals_of (side_of scope p)) p.names) (point_ports scope ps), sum_by-cons names_in p ps)
 
-length-header_ports : (n : ℕ) (scope : Scope) (o : Option Header) → Fits n o → length (header_ports scope o) ≤ n
-length-header_ports n scope None fits = omega arith
-length-header_ports n scope (Some h) fits = omega (arith, length-point_ports scope h.points, fits)
+length-header_ports : (s : Spec) (o : Option Header) → ((h : Header) → o ≡ Some h → IsIn (part.Header h) s.parts) → length (header_ports (spec_scope s) o) ≤ port_sum s.parts
+length-header_ports s None at = omega arith
+length-header_ports s (Some h) at = omega (arith, length-point_ports (spec_scope s) h.points, sum_member points_of (part.Header h) s.parts (at h refl))
 
 -- a specification has no more ports than interaction points
 pub length-ports_of : (s : Spec) → length (ports_of s) ≤ port_sum s.parts
-length-ports_of s = length-header_ports (port_sum s.parts) (spec_scope s) (header_started (spec_scope s) s.first) (started_fits s s.first)
+length-ports_of s = length-header_ports s (header_started (spec_scope s) s.first) (of_statement s s.first)
+
+-- SIGNALS
+
+length-interaction_signals : (side : Side) (b : ByPart) (is : List InteractionDef) → length (interaction_signals side b is) ≡ length is
+length-interaction_signals side b [] = refl
+length-interaction_signals side b (i ∷ is) = let rest : length (interaction_signals side b is) ≡ length is = length-interaction_signals side b is in omega arith
+
+length-by_signals : (side : Side) (bs : List ByPart) → length (by_signals side bs) ≡ sum_by signals_in bs
+length-by_signals side [] = refl
+length-by_signals side (b ∷ bs) =
+    let first : length (interaction_signals side b b.interactions) ≡ length b.interactions = length-interaction_signals side b b.interactions in
+    let rest : length (by_signals side bs) ≡ sum_by signals_in bs = length-by_signals side bs in
+    omega (arith, length-append (interaction_signals side b b.interactions) (by_signals side bs), sum_by-cons signals_in b bs)
+
+-- each port has at most so many signals
+abbrev pub HaveFew : ℕ → List Port → Type 0
+HaveFew n ports = (p : Port) → IsIn p ports → length p.signals ≤ n
+
+few-append : (n : ℕ) (xs ys : List Port) → HaveFew n xs → HaveFew n ys → HaveFew n (xs ++ ys)
+few-append n xs ys h k p i = either (into_either p xs ys i)
+  where
+    either : IsIn p xs ⊎ IsIn p ys → length p.signals ≤ n
+    either (inl j) = h p j
+    either (inr j) = k p j
+
+side_few : (n : ℕ) (o : Option Side) → ((side : Side) → o ≡ Some side → sum_by signals_in side.channel.by ≤ n) → length (signals_of o) ≤ n
+side_few n None few = omega arith
+side_few n (Some side) few = omega (arith, length-by_signals side side.channel.by, few side refl)
+
+named_few : (n : ℕ) (signals : List Signal) → length signals ≤ n → (us : List Used) → HaveFew n (named_ports signals us)
+named_few n signals few [] p i = absurd i
+named_few n signals few (u ∷ us) p (inl e) = omega (arith, ap (λ (q : Port). length q.signals) e, few)
+named_few n signals few (u ∷ us) p (inr i) = named_few n signals few us p i
+
+points_few : (n : ℕ) (scope : Scope) → ((p : Point) (side : Side) → side_of scope p ≡ Some side → sum_by signals_in side.channel.by ≤ n) → (ps : List Point) → HaveFew n (point_ports scope ps)
+points_few n scope few [] = λ p i. absurd i
+points_few n scope few (q ∷ qs) =
+    few-append n (named_ports (signals_of (side_of scope q)) q.names) (point_ports scope qs) (named_few n (signals_of (side_of scope q)) (side_few n (side_of scope q) (few q)) q.names) (points_few n scope few qs)
+
+header_few : (n : ℕ) (s : Spec) → ((c : Channel) → IsIn (part.Channel c) s.parts → sum_by signals_in c.by ≤ n) → (o : Option Header) → HaveFew n (header_ports (spec_scope s) o)
+header_few n s few None = λ p i. absurd i
+header_few n s few (Some h) = points_few n (spec_scope s) (λ p side e. few side.channel (side_meant s p side e)) h.points
+
+-- where each channel has at most so many interactions, each port has at most so many signals
+pub ports_few : (n : ℕ) (s : Spec) → ((c : Channel) → IsIn (part.Channel c) s.parts → sum_by signals_in c.by ≤ n) → HaveFew n (ports_of s)
+ports_few n s few = header_few n s few (header_started (spec_scope s) s.first)

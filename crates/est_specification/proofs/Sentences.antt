@@ -1,11 +1,11 @@
 -- The parts of a skeleton sentence, taken out of its tree.
 use Rattle.std.proofs.Common.{◌≡◌, ◌≤◌, ℕ, suc, List, [], ◌∷◌, ◌++◌, Option, Some, None, length, arith, refl, ap}
 use Rattle.est_lexer.specs.declared.kind.Token.{Token}
-use Rattle.est_lexer.specs.declared.kind.Symbol.TheVariants.{Semicolon}
+use Rattle.est_lexer.specs.declared.kind.Symbol.TheVariants.{Comma, RightParenthesis, Semicolon}
 use Rattle.est_lexer.specs.declared.kind.ReservedWord.TheVariants.{Begin, End, Modvar}
 use Rattle.est_language.specs.Grammar.{done, here, seq, rep, rule, nothing, placed, both, Tree, t_word, t_here, t_seq, t_rule}
 use Rattle.est_language.proofs.Trees.{tree_forward}
-use Rattle.est_grammar.specs.Skeleton.{Rule, Production, specification, channel, by, header, point, body, transition, output, sign, said, states, first_part, clauses, block, module_variable, initialization}
+use Rattle.est_grammar.specs.Skeleton.{Rule, Production, specification, channel, by, header, point, body, transition, output, name, several, sign, said, states, first_part, clauses, block, module_variable, initialization}
 use Rattle.est_grammar.specs.Language.{skeleton}
 use Rattle.est_grammar.specs.Views.{Shape, used_shape, header_shape, groups_shape, transition_shape, block_shape, clauses_shape, statement_shape, body_shape, modvar_shape, one_statement, last_parts, behind_channels, channels_shape, spec_shape, without, without_some, states_shape, first_shape, initialization_shape}
 use Rattle.est_syntax.specs.declared.name.Used.{Used}
@@ -29,6 +29,10 @@ HasAt text tokens g d a b t = Tree (skeleton text) tokens (length tokens) g d a 
 -- what stands behind the channels
 abbrev pub Last : Rule
 Last = seq (rule header) (seq (rule body) (said Modvar (seq module_variable (sign Semicolon initialization))))
+
+-- the two roles of a channel, and what each may send
+abbrev pub Roles : Rule
+Roles = seq name (sign Comma (seq name (sign RightParenthesis (sign Semicolon (several (rule by))))))
 
 -- a block of one statement
 abbrev pub block_of : Rule → Rule

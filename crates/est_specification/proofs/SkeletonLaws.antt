@@ -1,7 +1,8 @@
 -- The tree of a skeleton sentence is that of a skeleton.
 use Rattle.std.proofs.Common.{◌≡◌, ◌≤◌, ℕ, Bool, true, false, List, [], ◌∷◌, ◌++◌, Option, Some, None, length, map, arith, refl, ap, ◌∙◌, subst, inl, inr}
+use Rattle.std.specs.Prelude.{sum_by}
 use Rattle.est_lexer.specs.declared.kind.Token.{Token}
-use Rattle.est_lexer.specs.declared.kind.Symbol.TheVariants.{Comma, Semicolon, RightParenthesis}
+use Rattle.est_lexer.specs.declared.kind.Symbol.TheVariants.{Comma}
 use Rattle.est_lexer.specs.declared.kind.ReservedWord.TheVariants.{Begin, End}
 use Rattle.est_language.specs.Grammar.{Grammar, here, seq, rep, rule, chain, nothing, placed, some, left, both, t_word, t_here, t_seq, t_rule, t_rep_in, t_opt_in}
 use Rattle.est_grammar.specs.Skeleton.{Rule, Production, specification, channel, by, header, point, body, transition, sign, said, name, several, listed, interaction, states, first_part, empty_block, to_clause, when_clause, clauses, dotted, statement as a_statement, module_variable, init, initialization}
@@ -31,9 +32,9 @@ use Rattle.est_syntax.specs.Least.{IsIn}
 use Rattle.est_check.specs.Skeleton.{channel_parts, AreStates, IsOne, IsPlainChannel, IsPlainHeader, IsPlainVariable, IsPlainSending, IsPlain, IsInit, IsPlainBlock, IsWhen, IsToWhen, AreClauses, IsPlainTransition, IsPlainFirst, IsPlainBody, IsSkeleton}
 use Rattle.est_check.specs.Counts.{transition_count}
 use Rattle.est_grammar.specs.Answer.{HasOneTree}
-use Rattle.est_specification.proofs.Sentences.{HasAt, Last, none, IsSplit, split}
-use Rattle.est_specification.proofs.CountLaws.{port_sum, sentence_few}
-use Rattle.est_specification.proofs.PortBounds.{length-ports_of}
+use Rattle.est_specification.proofs.Sentences.{HasAt, Last, Roles, none, IsSplit, split}
+use Rattle.est_specification.proofs.CountLaws.{port_sum, signals_in, channel_few, sentence_few}
+use Rattle.est_specification.proofs.PortBounds.{length-ports_of, ports_few}
 
 -- a `by` part of one role, and interactions without parameters
 abbrev pub IsPlainBy : ByPart → Type 0
@@ -98,9 +99,6 @@ module _ (text : List ℕ) (tokens : List Token) where
       one (u ∷ v ∷ us) h = absurd ((something by) _ _ _ h)
 
   -- the channels
-  abbrev Roles : Rule
-  Roles = seq name (sign Comma (seq name (sign RightParenthesis (sign Semicolon (several (rule by))))))
-
   plain_channel : (c : Channel) (d a b : ℕ) → Has (rule channel) d a b (channel_shape c) → IsPlainChannel c
   plain_channel c d a b (t_rule (t_word k i e (t_seq named (t_word k' i' e' h)))) = two c.roles refl h
     where
@@ -328,6 +326,22 @@ module _ (text : List ℕ) (tokens : List Token) where
       ap channels_shape x.split.parts ∙ channels_are x.split.channels x.split.header_of (part.Body x.split.body_of ∷ part.Modvars (x.split.variable ∷ []) ∷ []) in
       each_several IsPlainChannel (rule channel) channel_shape plain_channel x.split.channels (subst (Has (several (rule channel)) 0 x.first x.last) is x.channels)
 
+  -- no channel has more interactions than there are tokens
+  pub few_interactions : (spec : Spec) {b : ℕ} (x : IsSentence spec b) → (c : Channel) → IsIn c x.split.channels → sum_by signals_in c.by ≤ length tokens
+  few_interactions spec x =
+      let is : channels_shape spec.parts ≡ chain (map channel_shape x.split.channels) nothing =
+      ap channels_shape x.split.parts ∙ channels_are x.split.channels x.split.header_of (part.Body x.split.body_of ∷ part.Modvars (x.split.variable ∷ []) ∷ []) in
+      each_several (λ c. sum_by signals_in c.by ≤ length tokens) (rule channel) channel_shape (channel_few text tokens) x.split.channels (subst (Has (several (rule channel)) 0 x.first x.last) is x.channels)
+
+-- a channel among the parts is one of the channels
+channel_among : (c : Channel) (cs : List Channel) (h : Header) (x : Body) (ms : List ModvarDef) → IsIn (part.Channel c) (channel_parts cs ++ part.Header h ∷ part.Body x ∷ part.Modvars ms ∷ []) → IsIn c cs
+channel_among c [] h x ms (inl e) = cc
+channel_among c [] h x ms (inr (inl e)) = cc
+channel_among c [] h x ms (inr (inr (inl e))) = cc
+channel_among c [] h x ms (inr (inr (inr i))) = absurd i
+channel_among c (d ∷ cs) h x ms (inl e) = inl cc
+channel_among c (d ∷ cs) h x ms (inr i) = inr (channel_among c cs h x ms i)
+
 -- the tree of a sentence of so many tokens is that of a skeleton
 pub sentence_is_skeleton : (text : List ℕ) (tokens : List Token) (spec : Spec) → HasOneTree text tokens spec → length tokens ≤ 1048576 → IsSkeleton spec
 sentence_is_skeleton text tokens spec tree few =
@@ -335,6 +349,9 @@ sentence_is_skeleton text tokens spec tree few =
     let x : IsSentence text tokens spec n = sentence text tokens spec tree.0 in
     let y : IsSplit text tokens spec.parts (initialization_shape spec.first) 0 x.last n = x.split in
     let last : IsPlainHeader y.header_of × IsPlainBody y.body_of × IsPlainVariable y.variable × IsInit spec.first = of_last text tokens y.header_of y.body_of y.variable spec.first y.tree in
+    let few_signals : (c : Channel) → IsIn (part.Channel c) spec.parts → sum_by signals_in c.by ≤ n =
+    λ c i. few_interactions text tokens spec x c (channel_among c y.channels y.header_of y.body_of (y.variable ∷ []) (subst (IsIn (part.Channel c)) y.parts i))
+    in
     let sizes : (port_sum spec.parts ≤ n) × (transition_count spec.parts ≤ n) = sentence_few text tokens spec tree in
     record {
       channels = y.channels;
@@ -351,4 +368,5 @@ sentence_is_skeleton text tokens spec tree few =
       init = last.3;
       few_transitions = omega (arith, sizes.1, few);
       few_ports = omega (arith, length-ports_of spec, sizes.0, few);
+      few_signals = λ p i. let signals : length p.signals ≤ n = ports_few n spec few_signals p i in omega arith;
     }

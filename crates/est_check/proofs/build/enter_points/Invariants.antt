@@ -1,6 +1,7 @@
-use Rattle.std.proofs.Common.{◌≡◌, drop}
-use Rattle.est_check.specs.Passes.{enter_points}
+use Rattle.std.proofs.Common.{◌≡◌, drop, []}
+use Rattle.est_check.specs.Entries.{enter_all}
+use Rattle.est_check.specs.LeastFaults.{point_entries}
 use Rattle.est_check.proofs.build.enter_points.Given as goal
 
 abbrev pub invariant-loop-item : goal.invariant-loop-item
-invariant-loop-item l = enter_points l.table l.body (l.names, l.least.at) (drop l.item-index l.list) ≡ enter_points l.table l.body (l.fn.names, l.fn.least.at) l.list
+invariant-loop-item l = enter_all [] (l.names, l.least.at) (point_entries l.table l.body (drop l.item-index l.list)) ≡ enter_all [] (l.fn.names, l.fn.least.at) (point_entries l.table l.body l.list)

@@ -1,6 +1,7 @@
 use Rattle.std.proofs.Common.{◌≡◌, drop}
-use Rattle.est_check.specs.Entries.{enter_states}
+use Rattle.est_check.specs.Entries.{enter_all}
+use Rattle.est_check.specs.Declarations.{state_entries}
 use Rattle.est_check.proofs.declare.enter_states.Given as goal
 
 abbrev pub invariant-loop-used : goal.invariant-loop-used
-invariant-loop-used l = enter_states l.front (l.names, l.least.at) (drop l.used-index l.list) ≡ enter_states l.front (l.fn.names, l.fn.least.at) l.list
+invariant-loop-used l = enter_all l.front (l.names, l.least.at) (state_entries (drop l.used-index l.list)) ≡ enter_all l.front (l.fn.names, l.fn.least.at) (state_entries l.list)
