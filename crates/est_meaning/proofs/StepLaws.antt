@@ -41,7 +41,7 @@ limit_done s outs e = cc
 pub fault_done : (g : BlockFault) (s : Situation) (outs : List Event) → Fault g ≡ Done s outs → ⊥
 fault_done g s outs e = cc
 
-done_situation : (s t : Situation) (outs others : List Event) → Done s outs ≡ Done t others → s ≡ t
+pub done_situation : (s t : Situation) (outs others : List Event) → Done s outs ≡ Done t others → s ≡ t
 done_situation s t outs others e = cc
 
 done_outs : (s t : Situation) (outs others : List Event) → Done s outs ≡ Done t others → outs ≡ others

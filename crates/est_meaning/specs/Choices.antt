@@ -87,7 +87,7 @@ pub data IsAncestor (s : Situation) (ancestor : ℕ) : ℕ → Type 0 where
   parent : (number : ℕ) (row : Row) → row_of s number ≡ Some row → row.parent ≡ ancestor → IsAncestor s ancestor number
   beyond : (number : ℕ) (row : Row) → row_of s number ≡ Some row → IsAncestor s ancestor row.parent → IsAncestor s ancestor number
 
--- a firing may be tried where the situation is settled, the choice is offered, no due choice of its instance outranks it and no ancestor has a due choice; that only due choices block is this profile (ISO 9074, 5, selection of transitions)
+-- in a settled situation an offered choice may be tried, unless a choice that is due goes before it: one of the same instance that outranks it, or any of an instance above (ISO 9074, 5, selection of transitions; that a choice which is offered and not due stops nothing is profile)
 pub record CanFire (limit : ℕ) (spec : Spec) (s : Situation) (f : Firing) : Type 0 where
   pub settled : IsSettled limit spec s
   pub offered : IsTrue (is_offered limit spec s f)

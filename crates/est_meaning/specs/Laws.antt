@@ -1,13 +1,14 @@
 -- What holds of steps, runs and their order.
-use Rattle.std.specs.Prelude.{◌≡◌, ◌≢◌, ◌≤◌, ◌+◌, ◌^◌, ◌⊎◌, ℕ, List, [], ◌++◌, Some}
+use Rattle.std.specs.Prelude.{◌≡◌, ◌≢◌, ◌<◌, ◌≤◌, ◌+◌, ◌^◌, ◌↔◌, ◌⊎◌, ℕ, List, [], ◌∷◌, ◌++◌, Some, length}
 use Rattle.est_syntax.specs.declared.specification.Body.{Body}
 use Rattle.est_syntax.specs.declared.specification.Spec.{Spec}
 use Rattle.est_meaning.specs.declared.event.Event.{Event}
 use Rattle.est_meaning.specs.declared.run.Firing.{Firing}
 use Rattle.est_meaning.specs.declared.run.BlockFault.{BlockFault}
 use Rattle.est_meaning.specs.declared.run.Move.{Move}
+use Rattle.est_meaning.specs.declared.run.Move.TheVariants.{Take, Fire}
 use Rattle.est_meaning.specs.Text.{root_of}
-use Rattle.est_meaning.specs.Situation.{Situation}
+use Rattle.est_meaning.specs.Situation.{Row, Situation}
 use Rattle.est_meaning.specs.Choices.{IsPossible}
 use Rattle.est_meaning.specs.Blocks.{Fault}
 use Rattle.est_meaning.specs.Step.{IsStep, outcome, start_of}
@@ -27,7 +28,32 @@ RunsAreUnique = (c : Setup) (run : List Move) (p q : Place) → IsRun c run p �
 abbrev pub BoundedRunsBeginBounded : Type 0
 BoundedRunsBeginBounded = (c : Setup) (later earlier : List Move) (p : Place) → IsBoundedRun c (later ++ earlier) p → (q : Place) × IsBoundedRun c earlier q
 
--- a run that yields k yields each smaller number, and the run without moves yields 0
+-- behind a run a firing is a step without an outside event
+pub record IsSilentFiring (c : Setup) (earlier : List Move) (f : Firing) : Type 0 where
+  pub place : Place
+  pub is_run : IsRun c earlier place
+  pub next : Situation
+  pub step : IsStep c.limit c.spec place.situation f next []
+
+-- behind a run a move is a silent firing: to take an event is none
+abbrev pub IsSilent : Setup → List Move → Move → Type 0
+IsSilent c earlier Take = ⊥
+IsSilent c earlier (Fire f) = IsSilentFiring c earlier f
+
+-- behind a run all these moves, one after the other, are silent firings
+abbrev pub AreSilent : Setup → List Move → List Move → Type 0
+AreSilent c earlier [] = Unit {0}
+AreSilent c earlier (m ∷ moves) = IsSilent c (moves ++ earlier) m × AreSilent c earlier moves
+
+-- nowhere in a run are more moves in a row silent firings than the setup allows
+abbrev pub HasFewInARow : Setup → List Move → Type 0
+HasFewInARow c run = (later moves earlier : List Move) → run ≡ later ++ (moves ++ earlier) → length moves ≡ c.silent + 1 → AreSilent c earlier moves → ⊥
+
+-- the bounded runs are the runs with few silent firings in a row
+abbrev pub BoundedMeansFewInARow : Type 0
+BoundedMeansFewInARow = (c : Setup) (run : List Move) (p : Place) → IsBoundedRun c run p ↔ (IsRun c run p × HasFewInARow c run)
+
+-- what a run yields has no gaps below it, and a run without moves yields at least 0
 pub record YieldsAllBelow : Type 0 where
   pub smaller : (c : Setup) (run : List Move) (k j : ℕ) → j ≤ k → Yields c run k → Yields c run j
   pub start : (c : Setup) → Yields c [] 0
@@ -42,6 +68,20 @@ pub record RunOrderIsStrictTotal : Type 0 where
 abbrev pub ClockStaysBounded : Type 0
 ClockStaysBounded = (c : Setup) (run : List Move) (p : Place) → IsBegun c → IsAllowedTrace c.spec c.trace → IsRun c run p
     → (p.situation.clock ≤ 10 ^ 15) × ((q : Place) (taken : Takes c p q) → p.situation.clock + units_of taken.event ≤ 10 ^ 15)
+
+-- the first row is that of the root
+abbrev pub BeginsWithRoot : List Row → Type 0
+BeginsWithRoot [] = ⊥
+BeginsWithRoot (r ∷ rs) = (r.number ≡ 1) × (r.parent ≡ 0)
+
+-- the numbers of these rows ascend, from one number on and up to another that none of them has
+abbrev pub AreAscending : ℕ → ℕ → List Row → Type 0
+AreAscending from to [] = Unit {0}
+AreAscending from to (r ∷ rs) = (from ≤ r.number) × (r.number < to) × AreAscending (r.number + 1) to rs
+
+-- in each situation of a run the rows begin with the root's, and their numbers ascend from 1 and lie below that of the next instance
+abbrev pub RowsAreInOrder : Type 0
+RowsAreInOrder = (c : Setup) (run : List Move) (p : Place) → IsBegun c → IsRun c run p → BeginsWithRoot p.situation.rows × AreAscending 1 p.situation.next p.situation.rows
 
 -- no possible firing faults, nor does the start of a specification whose root has a body
 pub record BlocksDoNotFault : Type 0 where

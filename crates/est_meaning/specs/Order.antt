@@ -2,6 +2,7 @@
 --
 -- Runs are read from their last move back to the first, so that `m ∷ earlier` is the run `earlier` with one more move m.
 use Rattle.std.specs.Prelude.{◌≡◌, ◌<◌, ◌≤◌, ◌⊎◌, ℕ, List, [], ◌∷◌, ◌++◌, map, length}
+use Rattle.est_syntax.specs.Least.{IsIn}
 use Rattle.est_meaning.specs.declared.run.Firing.{Firing}
 use Rattle.est_meaning.specs.declared.run.Move.{Move}
 use Rattle.est_meaning.specs.declared.run.Move.TheVariants.{Take, Fire}
@@ -21,11 +22,6 @@ IsBeforeAll f (g ∷ gs) = FiringBefore f g × IsBeforeAll f gs
 abbrev pub IsAscending : List Firing → Type 0
 IsAscending [] = Unit {0}
 IsAscending (f ∷ fs) = IsBeforeAll f fs × IsAscending fs
-
--- a list has this item
-abbrev pub IsAmong : {X : Type 0} → X → List X → Type 0
-IsAmong x [] = ⊥
-IsAmong x (y ∷ ys) = (x ≡ y) ⊎ IsAmong x ys
 
 -- MARKS
 
@@ -60,14 +56,14 @@ marks_of = map mark_of
 abbrev pub StartsWith : {X : Type 0} → List X → List X → Type 0
 StartsWith {X} run start = (later : List X) × (run ≡ later ++ start)
 
--- two lists of marks are compared at their first difference, and one comes before its extensions
+-- of two lists of marks the first mark in which they differ decides, and where one is the beginning of the other, it is the earlier
 pub data Before (x y : List Mark) : Type 0 where
   longer : (m : Mark) → StartsWith y (m ∷ x) → Before x y
   differs : (common : List Mark) (m n : Mark) → MarkBefore m n → StartsWith x (m ∷ common) → StartsWith y (n ∷ common) → Before x y
 
 -- RUNS
 
--- a run comes before its extensions, Take before Fire, and firings go by instance, transition and choice
+-- two runs are ordered as the lists of their marks are
 abbrev pub RunBefore : List Move → List Move → Type 0
 RunBefore x y = Before (marks_of x) (marks_of y)
 
@@ -85,19 +81,19 @@ pub record IsFirst (P : List Move → Type 0) (run : List Move) : Type 0 where
 -- runs in descending order, so that no two are the same
 abbrev pub IsDescending : List (List Move) → Type 0
 IsDescending [] = Unit {0}
-IsDescending (x ∷ xs) = ((y : List Move) → IsAmong y xs → RunBefore y x) × IsDescending xs
+IsDescending (x ∷ xs) = ((y : List Move) → IsIn y xs → RunBefore y x) × IsDescending xs
 
 -- n of the runs that have P
 pub record HasMany (P : List Move → Type 0) (n : ℕ) : Type 0 where
   pub runs : List (List Move)
   pub count : length runs ≡ n
   pub distinct : IsDescending runs
-  pub each : (x : List Move) → IsAmong x runs → P x
+  pub each : (x : List Move) → IsIn x runs → P x
 
 -- exactly n runs have P
 pub record HasExactly (P : List Move → Type 0) (n : ℕ) : Type 0 where
   pub many : HasMany P n
-  pub all : (x : List Move) → P x → IsAmong x many.runs
+  pub all : (x : List Move) → P x → IsIn x many.runs
 
 -- at most n
 abbrev pub HasAtMost : (List Move → Type 0) → ℕ → Type 0

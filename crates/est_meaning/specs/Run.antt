@@ -15,7 +15,7 @@ use Rattle.est_meaning.specs.Blocks.{Outcome, Done, Fault, Limit}
 use Rattle.est_meaning.specs.Step.{IsStep, outcome, after_event, start_of}
 use Rattle.est_meaning.specs.Order.{NotAfter}
 
--- what a run is a run of
+-- what a run is a run of; it is one of the specification where the setup is begun (`IsBegun`)
 pub record Setup : Type 0 where
   pub spec : Spec
   -- the limit of statements
@@ -37,11 +37,11 @@ pub record Place : Type 0 where
   -- of the start and of the moves so far, in order
   pub events : List Event
   -- how many silent firings stand last, in a row
-  pub row : ℕ
+  pub silent_in_row : ℕ
 
 -- where the run without moves stands
 abbrev pub first_place : Setup → Place
-first_place c = record { situation = c.start; events = c.start_outs; row = 0 }
+first_place c = record { situation = c.start; events = c.start_outs; silent_in_row = 0 }
 
 -- MOVES
 
@@ -53,9 +53,9 @@ IsFromOutside (event.Passes units) = Unit {0}
 
 -- where a run stands behind a taken event
 abbrev pub after_taking : Setup → Place → Event → Place
-after_taking c p e = record { situation = after_event c.spec p.situation e; events = p.events ++ e ∷ []; row = 0 }
+after_taking c p e = record { situation = after_event c.spec p.situation e; events = p.events ++ e ∷ []; silent_in_row = 0 }
 
--- the events so far are a proper prefix of the trace, and the next event is an arrival or time and happens
+-- the trace goes on behind the events so far with an arrival or a passing of time, and this event happens
 pub record Takes (c : Setup) (p q : Place) : Type 0 where
   pub event : Event
   pub rest : List Event
@@ -63,14 +63,14 @@ pub record Takes (c : Setup) (p q : Place) : Type 0 where
   pub next : c.trace ≡ p.events ++ event ∷ rest
   pub leads : q ≡ after_taking c p event
 
--- a silent firing makes the row longer, and one with an outside event ends it
-abbrev pub row_after : ℕ → List Event → ℕ
-row_after row [] = row + 1
-row_after row (e ∷ es) = 0
+-- how many silent firings stand last behind one more firing: a silent one adds one, and one with an outside event leaves none
+abbrev pub silent_after : ℕ → List Event → ℕ
+silent_after many [] = many + 1
+silent_after many (e ∷ es) = 0
 
 -- where a run stands behind a step
 abbrev pub after_firing : Place → Situation → List Event → Place
-after_firing p s outs = record { situation = s; events = p.events ++ outs; row = row_after p.row outs }
+after_firing p s outs = record { situation = s; events = p.events ++ outs; silent_in_row = silent_after p.silent_in_row outs }
 
 -- the firing is a step
 pub record Fires (c : Setup) (p : Place) (f : Firing) (q : Place) : Type 0 where
@@ -94,11 +94,15 @@ IsRun c (m ∷ earlier) p = (q : Place) × IsRun c earlier q × Moves c q m p
 -- a run in which nowhere too many silent firings stand in a row
 abbrev pub IsBoundedRun : Setup → List Move → Place → Type 0
 IsBoundedRun c [] p = p ≡ first_place c
-IsBoundedRun c (m ∷ earlier) p = (q : Place) × IsBoundedRun c earlier q × Moves c q m p × (p.row ≤ c.silent)
+IsBoundedRun c (m ∷ earlier) p = (q : Place) × IsBoundedRun c earlier q × Moves c q m p × (p.silent_in_row ≤ c.silent)
 
--- the events are, one for one, a prefix of the trace
+-- a list begins with these items
+abbrev pub IsPrefix : {X : Type 0} → List X → List X → Type 0
+IsPrefix {X} part whole = (rest : List X) × (whole ≡ part ++ rest)
+
+-- the trace begins with the events so far
 abbrev pub Follows : Setup → Place → Type 0
-Follows c p = (rest : List Event) × (c.trace ≡ p.events ++ rest)
+Follows c p = IsPrefix p.events c.trace
 
 -- the events are exactly the trace
 pub record Explains (c : Setup) (run : List Move) : Type 0 where
@@ -156,6 +160,6 @@ PassesLimit c run = IsTrialWith c run Limit
 abbrev pub IsUnsettledAfter : Setup → List Move → Type 0
 IsUnsettledAfter c run = (p : Place) × IsInner c run p × (IsSettled c.limit c.spec p.situation → ⊥)
 
--- the trials that stand before a run or at one of its own firings
+-- a trial that is this run or comes before it
 abbrev pub IsTrialUpTo : Setup → List Move → List Move → Type 0
 IsTrialUpTo c run x = IsTrial c x × NotAfter x run

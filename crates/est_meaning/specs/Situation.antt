@@ -1,6 +1,6 @@
 -- The situation of a system: what its instances, links, queues and clock are at one moment.
 --
--- It speaks by names, over flat lists and finite maps. An instance is known by its number.
+-- It speaks by names, over flat lists and maps. An instance is known by its number.
 use Rattle.std.specs.Prelude.{ℕ, ℤ, Bool, false, ◌&&◌, nat_eq, List, [], find, map, Option, Some, None, if◌then◌else◌}
 use Rattle.std.specs.Ordering.{int_eq}
 use Rattle.std.specs.Cmp.Lexicographic.{pointwise}
@@ -9,7 +9,7 @@ use Rattle.est_syntax.specs.declared.kind.Value.{Value}
 use Rattle.est_syntax.specs.declared.specification.Body.{Body}
 use Rattle.est_meaning.specs.Text.{is_name}
 
--- a finite map: it gives some value at finitely many keys, and none at all others
+-- for each key some value, or none
 abbrev pub Map : Type 0 → Type 0 → Type 0
 Map Key Thing = Key → Option Thing
 
@@ -50,10 +50,6 @@ pub record ModuleElement : Type 0 where
   pub name : Name
   pub index : List ℤ
 
--- an element holds the number of an instance, or none; it is empty where it holds none or a number without a row
-abbrev pub Holding : Type 0
-Holding = Option ℕ
-
 -- a living instance: its parent is 0 for the root (ISO 9074, 5, module instances)
 pub record Row : Type 0 where
   pub number : ℕ
@@ -63,7 +59,8 @@ pub record Row : Type 0 where
   -- the values of variables and parameters
   pub variables : Map Name Value
   pub exported : Map Name Value
-  pub children : Map ModuleElement Holding
+  -- the numbers of the instances that the elements of module variables hold
+  pub children : Map ModuleElement ℕ
 
 -- a transition of an instance, both by their numbers
 pub record Clocked : Type 0 where
@@ -72,7 +69,7 @@ pub record Clocked : Type 0 where
 
 -- a situation (ISO 9074, 5, global situations)
 pub record Situation : Type 0 where
-  -- one row for each living instance, in ascending number
+  -- one row for each living instance
   pub rows : List Row
   -- both directions of each connection
   pub peer : Map InteractionPoint InteractionPoint

@@ -1,6 +1,7 @@
 -- What a world says of itself.
 use Rattle.std.specs.Prelude.{◌≡◌, ℕ, List, [], ◌∷◌}
 use Rattle.est_syntax.specs.declared.specification.Spec.{Spec}
+use Rattle.est_syntax.specs.Least.{IsIn}
 use Rattle.est_meaning.specs.declared.event.Event.{Event}
 use Rattle.est_meaning.specs.declared.run.Firing.{Firing}
 use Rattle.est_meaning.specs.declared.run.Started.{Started}
@@ -13,7 +14,7 @@ use Rattle.est_meaning.specs.Situation.{Situation}
 use Rattle.est_meaning.specs.Choices.{IsSettled, IsPossible}
 use Rattle.est_meaning.specs.Blocks.{Outcome, Done, Fault, Limit}
 use Rattle.est_meaning.specs.Step.{start_of}
-use Rattle.est_meaning.specs.Order.{IsAscending, IsAmong}
+use Rattle.est_meaning.specs.Order.{IsAscending}
 
 -- the situations that a world can go back to: the current one, and those below it, the latest first
 pub record Stack : Type 0 where
@@ -41,8 +42,8 @@ SameStack speaks stack old new = (spec : Spec) → speaks old spec → stack new
 -- these are exactly the possible firings, in order
 pub record AreOptions (limit : ℕ) (spec : Spec) (s : Situation) (firings : List Firing) : Type 0 where
   pub ascending : IsAscending firings
-  pub sound : (f : Firing) → IsAmong f firings → IsPossible limit spec s f
-  pub complete : (f : Firing) → IsPossible limit spec s f → IsAmong f firings
+  pub sound : (f : Firing) → IsIn f firings → IsPossible limit spec s f
+  pub complete : (f : Firing) → IsPossible limit spec s f → IsIn f firings
 
 -- a settled situation with its possible firings, or one that is not settled with none
 abbrev pub OffersAre : ℕ → Spec → Situation → Offers → List Firing → Type 0

@@ -1,5 +1,5 @@
 //! Laws of steps and runs. Each function does nothing; its clause is the law.
-ghost use Rattle.est_meaning.specs.Laws.{StepsAreUnique, RunsAreUnique, BoundedRunsBeginBounded, YieldsAllBelow, RunOrderIsStrictTotal, ClockStaysBounded, BlocksDoNotFault};
+ghost use Rattle.est_meaning.specs.Laws.{StepsAreUnique, RunsAreUnique, BoundedRunsBeginBounded, BoundedMeansFewInARow, YieldsAllBelow, RunOrderIsStrictTotal, ClockStaysBounded, RowsAreInOrder, BlocksDoNotFault};
 
 /// A firing is a step in one way at most.
 pub fn steps_are_unique()
@@ -16,6 +16,11 @@ pub fn bounded_runs_begin_bounded()
     ensures { BoundedRunsBeginBounded }
 {}
 
+/// A run is bounded just where nowhere too many moves in a row are silent firings.
+pub fn bounded_runs_have_few_silent_in_a_row()
+    ensures { BoundedMeansFewInARow }
+{}
+
 /// A run yields each number below one that it yields.
 pub fn yields_all_below()
     ensures { YieldsAllBelow }
@@ -29,6 +34,11 @@ pub fn run_order_is_strict_total()
 /// No trace within its limits breaks the bound of the clock.
 pub fn clock_stays_bounded()
     ensures { ClockStaysBounded }
+{}
+
+/// In each situation of a run the numbers of instances ascend.
+pub fn rows_are_in_order()
+    ensures { RowsAreInOrder }
 {}
 
 /// A block is done or passes its limit, and so does a start whose root has a body.

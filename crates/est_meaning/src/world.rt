@@ -36,14 +36,14 @@ pub trait World {
     fn fire(
         &mut self,
         alloc: Global,
-        what: &Firing,
+        firing: &Firing,
         outs: &mut Vec<Event>,
     ) -> Result<Fired, AllocError>
-        requires possible { (spec : Spec) → speaks self.old spec → IsPossible (limit self.old) spec (stack self.old spec).now what.now }
+        requires possible { (spec : Spec) → speaks self.old spec → IsPossible (limit self.old) spec (stack self.old spec).now firing.now }
         requires room { fired self.old < 2 ^ 64 - 1 }
         ensures keeps { Keeps speaks limit self.old self.new }
         ensures fired { fired self.new ≡ fired self.old + 1 }
-        ensures answer { IfOk result (λ answer. (spec : Spec) → speaks self.old spec → FiredAs (outcome (limit self.old) spec (stack self.old spec).now what.now) answer outs.new.items (stack self.old spec) (stack self.new spec)) }
+        ensures answer { IfOk result (λ answer. (spec : Spec) → speaks self.old spec → FiredAs (outcome (limit self.old) spec (stack self.old spec).now firing.now) answer outs.new.items (stack self.old spec) (stack self.new spec)) }
         ensures err { OnErr result (SameStack speaks stack self.old self.new × (outs.new.items ≡ [])) };
 
     /// Lets an interaction arrive that its port can receive.

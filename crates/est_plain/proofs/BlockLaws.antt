@@ -29,7 +29,7 @@ use Rattle.est_meaning.specs.Links.{port_point, port_number, outside, rest_of, p
 use Rattle.est_meaning.specs.Blocks.{Outcome, Done, Limit, Sent, signal_number, departing, delivered, sent, all_sent, block_meaning}
 use Rattle.est_meaning.specs.Step.{without_awaited, arrived_as, arrived_at, arrived}
 use Rattle.est_plain.specs.declared.situation.Waiting.{Waiting}
-use Rattle.est_plain.specs.Flat.{queues_for, is_port, point_named, queue_named, item_of, waits_in, queued, without_first, bare, signal_in, leaving, departures, sent_in, block_in, taken_in, arrival_as, arrival_at, arrival_in}
+use Rattle.est_plain.specs.PlainSituation.{queues_for, is_port, point_named, queue_named, item_of, waits_in, queued, without_first, bare, signal_in, leaving, departures, sent_in, block_in, taken_in, arrival_as, arrival_at, arrival_in}
 use Rattle.est_plain.proofs.SituationLaws.{true_false, queue_is}
 
 -- POSITIONS

@@ -7,14 +7,15 @@ use Rattle.std.proofs.lemmas.Option.{slice_get-map, slice_get_read}
 use Rattle.std.specs.Borrow.{Bor}
 use Rattle.std.specs.Option.{option_map}
 use Rattle.est_syntax.specs.declared.specification.Transition.{Transition}
+use Rattle.est_syntax.specs.Least.{IsIn}
 use Rattle.est_meaning.specs.declared.event.Interaction.{Interaction}
 use Rattle.est_meaning.specs.declared.run.Firing.{Firing}
 use Rattle.est_meaning.specs.Text.{numbered}
-use Rattle.est_meaning.specs.Order.{FiringBefore, IsBeforeAll, IsAscending, IsAmong}
+use Rattle.est_meaning.specs.Order.{FiringBefore, IsBeforeAll, IsAscending}
 use Rattle.est_syntax.specs.declared.ports.Port.{Port}
 use Rattle.est_syntax.specs.declared.ports.Signal.{Signal}
 use Rattle.est_plain.specs.declared.situation.Waiting.{Waiting}
-use Rattle.est_plain.specs.Flat.{seen, choice_in, firing_at, ListsFirst, arrival_in, arrival_at, arrival_as}
+use Rattle.est_plain.specs.PlainSituation.{referred, choice_in, firing_at, ListsFirst, arrival_in, arrival_at, arrival_as}
 
 -- CHOICES
 
@@ -29,8 +30,8 @@ pub choice_is : (ts : List Transition) (f : Firing) → f.choice ≡ 1 → f.ins
 choice_is ts f a b le = rw (eq_true f.choice 1 a, eq_true f.instance 1 b) (sym (numbered_at ts f.transition le))
 
 -- the transition that a list of references has at an index
-pub seen_at : (xs : List (Bor Transition)) (i : ℕ) (x : Bor Transition) → i < length xs → x ≡ get_or xs i x → slice_get (seen xs) i ≡ Some x.now
-seen_at xs i x lt e = slice_get-map (λ (y : Bor Transition). y.now) xs i ∙ ap (option_map (λ (y : Bor Transition). y.now)) (slice_get_read xs (length xs) i x refl lt e)
+pub referred_at : (xs : List (Bor Transition)) (i : ℕ) (x : Bor Transition) → i < length xs → x ≡ get_or xs i x → slice_get (referred xs) i ≡ Some x.now
+referred_at xs i x lt e = slice_get-map (λ (y : Bor Transition). y.now) xs i ∙ ap (option_map (λ (y : Bor Transition). y.now)) (slice_get_read xs (length xs) i x refl lt e)
 
 -- ARRIVALS
 
@@ -46,15 +47,15 @@ arrival_one ports i ws port signal e f = ap (λ o. ws ++ arrival_as port i o) f 
 
 -- LISTS OF FIRINGS
 
-among_snoc : (f g : Firing) (fs : List Firing) → IsAmong f (fs ++ g ∷ []) → IsAmong f fs ⊎ (f ≡ g)
-among_snoc f g [] a = elim a [ inl e ↦ inr e | inr b ↦ inl b ]
+among_snoc : (f g : Firing) (fs : List Firing) → IsIn f (fs ++ g ∷ []) → IsIn f fs ⊎ (f ≡ g)
+among_snoc f g [] a = elim a [ inl e ↦ inr (sym e) | inr b ↦ inl b ]
 among_snoc f g (x ∷ fs) a = elim a [ inl e ↦ inl (inl e) | inr b ↦ elim (among_snoc f g fs b) [ inl c ↦ inl (inr c) | inr e ↦ inr e ] ]
 
-among_front : (f g : Firing) (fs : List Firing) → IsAmong f fs → IsAmong f (fs ++ g ∷ [])
+among_front : (f g : Firing) (fs : List Firing) → IsIn f fs → IsIn f (fs ++ g ∷ [])
 among_front f g [] a = absurd a
 among_front f g (x ∷ fs) a = elim a [ inl e ↦ inl e | inr b ↦ inr (among_front f g fs b) ]
 
-among_last : (g : Firing) (fs : List Firing) → IsAmong g (fs ++ g ∷ [])
+among_last : (g : Firing) (fs : List Firing) → IsIn g (fs ++ g ∷ [])
 among_last g [] = inl refl
 among_last g (x ∷ fs) = inr (among_last g fs)
 
@@ -62,7 +63,7 @@ before_snoc : (f g : Firing) (fs : List Firing) → IsBeforeAll f fs → FiringB
 before_snoc f g [] b lt = (lt, tt)
 before_snoc f g (x ∷ fs) b lt = (b.0, before_snoc f g fs b.1 lt)
 
-ascending_snoc : (g : Firing) (fs : List Firing) → IsAscending fs → ((f : Firing) → IsAmong f fs → FiringBefore f g) → IsAscending (fs ++ g ∷ [])
+ascending_snoc : (g : Firing) (fs : List Firing) → IsAscending fs → ((f : Firing) → IsIn f fs → FiringBefore f g) → IsAscending (fs ++ g ∷ [])
 ascending_snoc g [] a lt = (tt, tt)
 ascending_snoc g (x ∷ fs) a lt = (before_snoc x g fs a.0 (lt x (inl refl)), ascending_snoc g fs a.1 (λ f b. lt f (inr b)))
 
@@ -86,7 +87,7 @@ module _ (test : Transition → Bool) (ts : List Transition) where
           | inr q ↦ (n, omega arith, q, (t, here, is))
         ];
         complete = λ k u lt got passes. elim (last_or_less k n (omega arith)) [
-          | inl q ↦ subst (λ w. IsAmong (firing_at w) (fs ++ firing_at n ∷ [])) (sym q) (among_last (firing_at n) fs)
+          | inl q ↦ subst (λ w. IsIn (firing_at w) (fs ++ firing_at n ∷ [])) (sym q) (among_last (firing_at n) fs)
           | inr less ↦ among_front (firing_at k) (firing_at n) fs (l.complete k u less got passes)
         ];
       })

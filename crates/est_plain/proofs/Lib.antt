@@ -1,6 +1,7 @@
-pub mod ListLaws
-pub mod UndoLaws
-pub mod ChoiceLaws
-pub mod SituationLaws
 pub mod BlockLaws
+pub mod ChoiceLaws
+pub mod FewLaws
+pub mod ListLaws
+pub mod SituationLaws
+pub mod UndoLaws
 pub mod WorldLaws

@@ -1,4 +1,4 @@
--- What flat situations stand for.
+-- What plain situations stand for.
 use Rattle.std.proofs.Common.{◌≡◌, ℕ, Bool, true, false, ◌&&◌, cond, if◌then◌else◌, nat_eq, List, [], ◌∷◌, map, filter, find, Option, Some, None, option_and_then, refl, sym, ap, subst, ◌∙◌}
 use Rattle.std.specs.Option.{option_map, option_map_or}
 use Rattle.est_syntax.specs.declared.name.Name.{Name}
@@ -16,7 +16,7 @@ use Rattle.est_meaning.specs.Choices.{Choice, choice_of, head_of, came_through, 
 use Rattle.est_meaning.specs.Step.{root_row}
 use Rattle.est_plain.specs.declared.situation.PointQueue.{PointQueue}
 use Rattle.est_plain.specs.declared.situation.Waiting.{Waiting}
-use Rattle.est_plain.specs.Flat.{Held, is_common, queue_for, queues_for, has_name, point_named, queue_named, item_of, waits_in, queued, bare, situation_of, head_matches, arrived_in, is_enabled_in, choice_in}
+use Rattle.est_plain.specs.PlainSituation.{Held, is_common, queue_for, queues_for, has_name, point_named, queue_named, item_of, waits_in, queued, bare, situation_of, head_matches, arrived_in, is_enabled_in, choice_in}
 
 -- TESTS
 
@@ -71,20 +71,20 @@ head_is : (name signal : Name) (o : Option Waiting) → option_map_or (came_thro
 head_is name signal None = refl
 head_is name signal (Some x) = ap (λ b. b && is_name signal x.signal) (and_true (is_name name x.at))
 
-module _ (spec : Spec) (body : Body) (flat : Held) where
-  arrived_is : (w : Option Awaited) → has_arrived spec (situation_of (queues_for spec body) body flat) 1 w ≡ arrived_in (queues_for spec body) flat.waiting w
+module _ (spec : Spec) (body : Body) (plain : Held) where
+  arrived_is : (w : Option Awaited) → has_arrived spec (situation_of (queues_for spec body) body plain) 1 w ≡ arrived_in (queues_for spec body) plain.waiting w
   arrived_is None = refl
   arrived_is (Some w) =
       let points = queues_for spec body in
-      let ws = flat.waiting in
+      let ws = plain.waiting in
       let name = w.at.name.name in
       let signal = w.signal.name in
-      ap (λ q. option_map_or (came_through (point_named name) signal) (head_of (queued points ws q)) false) (queue_is spec body flat.state (queued points ws) flat.clock name)
+      ap (λ q. option_map_or (came_through (point_named name) signal) (head_of (queued points ws q)) false) (queue_is spec body plain.state (queued points ws) plain.clock name)
       ∙ ap (λ o. option_map_or (came_through (point_named name) signal) o false) (head_filter (waits_in points (queue_named points name)) ws)
       ∙ head_is name signal (find (waits_in points (queue_named points name)) ws)
 
-  enabled_is : (t : Transition) → is_enabled_choice spec (situation_of (queues_for spec body) body flat) (record { row = record (root_row body) { state = flat.state }; transition = t }) ≡ is_enabled_in (queues_for spec body) flat t
-  enabled_is t = ap (λ b. fits_state (from_of t) flat.state && b) (arrived_is (when_of t))
+  enabled_is : (t : Transition) → is_enabled_choice spec (situation_of (queues_for spec body) body plain) (record { row = record (root_row body) { state = plain.state }; transition = t }) ≡ is_enabled_in (queues_for spec body) plain t
+  enabled_is t = ap (λ b. fits_state (from_of t) plain.state && b) (arrived_is (when_of t))
 
 -- CHOICES
 
@@ -101,15 +101,15 @@ chosen_by spec body state n false b = refl
 pub choice_is : (spec : Spec) (body : Body) (state : Option Name) (queues : QueueName → List Item) (clock : ℕ) (f : Firing) → choice_of spec (bare body state queues clock) f ≡ option_map (chosen body state) (choice_in (transitions_of body) f)
 choice_is spec body state queues clock f = chosen_by spec body state f.transition (nat_eq f.choice 1) (nat_eq f.instance 1)
 
-module _ (spec : Spec) (body : Body) (flat : Held) where
-  passes : (t : Option Transition) → option_map_or (is_enabled_choice spec (situation_of (queues_for spec body) body flat)) (option_map (chosen body flat.state) t) false ≡ option_map_or (is_enabled_in (queues_for spec body) flat) t false
+module _ (spec : Spec) (body : Body) (plain : Held) where
+  passes : (t : Option Transition) → option_map_or (is_enabled_choice spec (situation_of (queues_for spec body) body plain)) (option_map (chosen body plain.state) t) false ≡ option_map_or (is_enabled_in (queues_for spec body) plain) t false
   passes None = refl
-  passes (Some t) = enabled_is spec body flat t
+  passes (Some t) = enabled_is spec body plain t
 
-  pub offered_is : (limit : ℕ) (f : Firing) → is_offered limit spec (situation_of (queues_for spec body) body flat) f ≡ option_map_or (is_enabled_in (queues_for spec body) flat) (choice_in (transitions_of body) f) false
+  pub offered_is : (limit : ℕ) (f : Firing) → is_offered limit spec (situation_of (queues_for spec body) body plain) f ≡ option_map_or (is_enabled_in (queues_for spec body) plain) (choice_in (transitions_of body) f) false
   offered_is limit f =
       let points = queues_for spec body in
-      ap (λ o. option_map_or (is_enabled_choice spec (situation_of points body flat)) o false) (choice_is spec body flat.state (queued points flat.waiting) flat.clock f)
+      ap (λ o. option_map_or (is_enabled_choice spec (situation_of points body plain)) o false) (choice_is spec body plain.state (queued points plain.waiting) plain.clock f)
       ∙ passes (choice_in (transitions_of body) f)
 
 -- POSSIBLE FIRINGS
@@ -143,24 +143,24 @@ false_true : false ≡ true → ⊥
 false_true e = cc
 
 -- a firing whose clauses hold is possible, since the root has no ancestor and no transition a priority
-pub possible_of : (limit : ℕ) (spec : Spec) (body : Body) (flat : Held) (f : Firing) → option_map_or (is_enabled_in (queues_for spec body) flat) (choice_in (transitions_of body) f) false ≡ true → IsPossible limit spec (situation_of (queues_for spec body) body flat) f
+pub possible_of : (limit : ℕ) (spec : Spec) (body : Body) (plain : Held) (f : Firing) → option_map_or (is_enabled_in (queues_for spec body) plain) (choice_in (transitions_of body) f) false ≡ true → IsPossible limit spec (situation_of (queues_for spec body) body plain) f
 unfolding IsPossible IsSettled
-possible_of limit spec body flat f e =
+possible_of limit spec body plain f e =
     let points = queues_for spec body in
-    let queues = queued points flat.waiting in
+    let queues = queued points plain.waiting in
     record {
       settled = tt;
-      offered = offered_is spec body flat limit f ∙ e;
-      unranked = λ g same due out. unranked_by _ _ (no_priority (choice_of spec (situation_of points body flat) g)) out;
+      offered = offered_is spec body plain limit f ∙ e;
+      unranked = λ g same due out. unranked_by _ _ (no_priority (choice_of spec (situation_of points body plain) g)) out;
       unpreceded = λ g above due.
-          (let nobody = no_choice (transitions_of body) g (not_one g.instance (ancestor_zero body flat.state queues flat.clock g.instance f.instance above)) in
-          false_true (sym (offered_is spec body flat limit g ∙ ap (λ o. option_map_or (is_enabled_in points flat) o false) nobody) ∙ due));
+          (let nobody = no_choice (transitions_of body) g (not_one g.instance (ancestor_zero body plain.state queues plain.clock g.instance f.instance above)) in
+          false_true (sym (offered_is spec body plain limit g ∙ ap (λ o. option_map_or (is_enabled_in points plain) o false) nobody) ∙ due));
     }
 
 -- and the clauses of a possible firing hold
-pub enabled_of : (limit : ℕ) (spec : Spec) (body : Body) (flat : Held) (f : Firing) → IsPossible limit spec (situation_of (queues_for spec body) body flat) f → option_map_or (is_enabled_in (queues_for spec body) flat) (choice_in (transitions_of body) f) false ≡ true
+pub enabled_of : (limit : ℕ) (spec : Spec) (body : Body) (plain : Held) (f : Firing) → IsPossible limit spec (situation_of (queues_for spec body) body plain) f → option_map_or (is_enabled_in (queues_for spec body) plain) (choice_in (transitions_of body) f) false ≡ true
 unfolding IsPossible
-enabled_of limit spec body flat f p = sym (offered_is spec body flat limit f) ∙ p.offered
+enabled_of limit spec body plain f p = sym (offered_is spec body plain limit f) ∙ p.offered
 
 -- STAMPS
 

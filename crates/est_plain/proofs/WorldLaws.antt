@@ -24,13 +24,13 @@ use Rattle.est_meaning.specs.Situation.{QueueName, Item}
 use Rattle.est_meaning.specs.Choices.{IsSettled, restamped}
 use Rattle.est_meaning.specs.Blocks.{Outcome, Done, Fault, Limit, block_meaning}
 use Rattle.est_meaning.specs.Step.{with_state, completed, fired_by, outcome, initialized, made, begun, start_of, after_event}
-use Rattle.est_meaning.specs.Order.{IsAmong}
+use Rattle.est_syntax.specs.Least.{IsIn}
 use Rattle.est_meaning.specs.Stack.{Stack, pushed, OffersAre, FiredAs}
 use Rattle.est_plain.specs.declared.situation.PointQueue.{PointQueue}
 use Rattle.est_syntax.specs.declared.ports.Port.{Port}
 use Rattle.est_syntax.specs.Ports.{ports_of}
 use Rattle.est_plain.specs.declared.situation.Waiting.{Waiting}
-use Rattle.est_plain.specs.Flat.{Held, EndsAs, seen, queues_for, queued, bare, situation_of, is_enabled_in, choice_in, block_in, taken_in, next_in, stepped, joined, begun_with, arrival_as, arrival_at, arrival_in, FirstIs, firing_at, ListsFirst}
+use Rattle.est_plain.specs.PlainSituation.{Held, EndsAs, referred, queues_for, queued, bare, situation_of, is_enabled_in, choice_in, block_in, taken_in, next_in, stepped, joined, begun_with, arrival_as, arrival_at, arrival_in, FirstIs, firing_at, ListsFirst}
 use Rattle.est_plain.specs.Trail.{Trail, onto, only, stack_of}
 use Rattle.est_meaning.specs.Allowed.{IsReceivable}
 use Rattle.est_plain.proofs.SituationLaws.{choice_is, chosen, possible_of, enabled_of, restamped_is}
@@ -77,64 +77,64 @@ passes_at test ts f k t is got e =
     ap (λ w. option_map_or test (choice_in ts w) false) is ∙ ap (λ o. option_map_or test o false) (next_number ts k ∙ got) ∙ e
 
 -- the list of a plain world is that of the possible firings
-pub offers_own : (limit : ℕ) (spec : Spec) (body : Body) (flat : Held) (fs : List Firing) → ListsFirst (is_enabled_in (queues_for spec body) flat) (transitions_of body) (length (transitions_of body)) fs → OffersAre limit spec (situation_of (queues_for spec body) body flat) Settled fs
+pub offers_own : (limit : ℕ) (spec : Spec) (body : Body) (plain : Held) (fs : List Firing) → ListsFirst (is_enabled_in (queues_for spec body) plain) (transitions_of body) (length (transitions_of body)) fs → OffersAre limit spec (situation_of (queues_for spec body) body plain) Settled fs
 unfolding IsSettled
-offers_own limit spec body flat fs l =
-    let test = is_enabled_in (queues_for spec body) flat in
+offers_own limit spec body plain fs l =
+    let test = is_enabled_in (queues_for spec body) plain in
     let ts = transitions_of body in (
       tt,
       record {
         ascending = l.ascending;
-        sound = λ f a. (let s = l.sound f a in possible_of limit spec body flat f (passes_at test ts f s.0 s.3.0 s.2 s.3.1 s.3.2));
-        complete = λ f p. (let c = passing test ts f (enabled_of limit spec body flat f p) in
-            subst (λ w. IsAmong w fs) (sym c.is) (l.complete c.at c.transition (slice_get_within ts c.at c.transition c.got) c.got c.passes));
+        sound = λ f a. (let s = l.sound f a in possible_of limit spec body plain f (passes_at test ts f s.0 s.3.0 s.2 s.3.1 s.3.2));
+        complete = λ f p. (let c = passing test ts f (enabled_of limit spec body plain f p) in
+            subst (λ w. IsIn w fs) (sym c.is) (l.complete c.at c.transition (slice_get_within ts c.at c.transition c.got) c.got c.passes));
       },
     )
 
-pub offers_are : (limit : ℕ) (own spec : Spec) (body : Body) (points : List PointQueue) (ts : List Transition) (n : ℕ) (flat : Held) (fs : List Firing) → own ≡ spec → points ≡ queues_for own body → ts ≡ transitions_of body → n ≡ length ts
-    → ListsFirst (is_enabled_in points flat) ts n fs → OffersAre limit spec (situation_of points body flat) Settled fs
-offers_are limit own spec body points ts n flat fs same are ts_are all l =
-    let l2 = subst (λ m. ListsFirst (is_enabled_in points flat) ts m fs) all l in
-    let l3 = subst (λ us. ListsFirst (is_enabled_in points flat) us (length us) fs) ts_are l2 in
-    let l4 = subst (λ ps. ListsFirst (is_enabled_in ps flat) (transitions_of body) (length (transitions_of body)) fs) are l3 in
-    subst (λ s. OffersAre limit s (situation_of points body flat) Settled fs) same
-    (subst (λ ps. OffersAre limit own (situation_of ps body flat) Settled fs) (sym are) (offers_own limit own body flat fs l4))
+pub offers_are : (limit : ℕ) (own spec : Spec) (body : Body) (points : List PointQueue) (ts : List Transition) (n : ℕ) (plain : Held) (fs : List Firing) → own ≡ spec → points ≡ queues_for own body → ts ≡ transitions_of body → n ≡ length ts
+    → ListsFirst (is_enabled_in points plain) ts n fs → OffersAre limit spec (situation_of points body plain) Settled fs
+offers_are limit own spec body points ts n plain fs same are ts_are all l =
+    let l2 = subst (λ m. ListsFirst (is_enabled_in points plain) ts m fs) all l in
+    let l3 = subst (λ us. ListsFirst (is_enabled_in points plain) us (length us) fs) ts_are l2 in
+    let l4 = subst (λ ps. ListsFirst (is_enabled_in ps plain) (transitions_of body) (length (transitions_of body)) fs) are l3 in
+    subst (λ s. OffersAre limit s (situation_of points body plain) Settled fs) same
+    (subst (λ ps. OffersAre limit own (situation_of ps body plain) Settled fs) (sym are) (offers_own limit own body plain fs l4))
 
 -- FIRING
 
-module _ (limit : ℕ) (spec : Spec) (body : Body) (flat : Held) (f : Firing) where
-  outcome_at : (o : Option Transition) → choice_in (transitions_of body) f ≡ o → outcome limit spec (situation_of (queues_for spec body) body flat) f ≡ option_map_or (fired_by limit spec (situation_of (queues_for spec body) body flat) f) (option_map (chosen body flat.state) o) (Fault NoModule)
+module _ (limit : ℕ) (spec : Spec) (body : Body) (plain : Held) (f : Firing) where
+  outcome_at : (o : Option Transition) → choice_in (transitions_of body) f ≡ o → outcome limit spec (situation_of (queues_for spec body) body plain) f ≡ option_map_or (fired_by limit spec (situation_of (queues_for spec body) body plain) f) (option_map (chosen body plain.state) o) (Fault NoModule)
   unfolding outcome
   outcome_at o e =
-      let s = situation_of (queues_for spec body) body flat in
-      ap (λ c. option_map_or (fired_by limit spec s f) c (Fault NoModule)) (choice_is spec body flat.state (queued (queues_for spec body) flat.waiting) flat.clock f ∙ ap (option_map (chosen body flat.state)) e)
+      let s = situation_of (queues_for spec body) body plain in
+      ap (λ c. option_map_or (fired_by limit spec s f) c (Fault NoModule)) (choice_is spec body plain.state (queued (queues_for spec body) plain.waiting) plain.clock f ∙ ap (option_map (chosen body plain.state)) e)
 
   abbrev taken_queues : Transition → (QueueName → List Item)
-  taken_queues t = queued (queues_for spec body) (taken_in (queues_for spec body) flat.waiting (when_of t))
+  taken_queues t = queued (queues_for spec body) (taken_in (queues_for spec body) plain.waiting (when_of t))
 
-  fired_is : (t : Transition) → fired_by limit spec (situation_of (queues_for spec body) body flat) f (chosen body flat.state t)
-      ≡ completed limit spec (Some f) 1 (to_of t) (ended spec body flat.state (taken_queues t) flat.clock (block_in (ports_of spec) t.block.statements limit []))
+  fired_is : (t : Transition) → fired_by limit spec (situation_of (queues_for spec body) body plain) f (chosen body plain.state t)
+      ≡ completed limit spec (Some f) 1 (to_of t) (ended spec body plain.state (taken_queues t) plain.clock (block_in (ports_of spec) t.block.statements limit []))
   fired_is t =
-      ap (λ s. completed limit spec (Some f) 1 (to_of t) (block_meaning spec 1 t.block.statements limit s [])) (taken_is spec body flat.state flat.clock flat.waiting (when_of t))
-      ∙ ap (completed limit spec (Some f) 1 (to_of t)) (block_is spec body flat.state (taken_queues t) flat.clock t.block.statements limit [])
+      ap (λ s. completed limit spec (Some f) 1 (to_of t) (block_meaning spec 1 t.block.statements limit s [])) (taken_is spec body plain.state plain.clock plain.waiting (when_of t))
+      ∙ ap (completed limit spec (Some f) 1 (to_of t)) (block_is spec body plain.state (taken_queues t) plain.clock t.block.statements limit [])
 
-  pub outcome_none : choice_in (transitions_of body) f ≡ None → outcome limit spec (situation_of (queues_for spec body) body flat) f ≡ Fault NoModule
+  pub outcome_none : choice_in (transitions_of body) f ≡ None → outcome limit spec (situation_of (queues_for spec body) body plain) f ≡ Fault NoModule
   outcome_none e = outcome_at None e
 
-  pub outcome_limit : (t : Transition) → choice_in (transitions_of body) f ≡ Some t → block_in (ports_of spec) t.block.statements limit [] ≡ None → outcome limit spec (situation_of (queues_for spec body) body flat) f ≡ Limit
-  outcome_limit t e b = outcome_at (Some t) e ∙ fired_is t ∙ ap (λ o. completed limit spec (Some f) 1 (to_of t) (ended spec body flat.state (taken_queues t) flat.clock o)) b
+  pub outcome_limit : (t : Transition) → choice_in (transitions_of body) f ≡ Some t → block_in (ports_of spec) t.block.statements limit [] ≡ None → outcome limit spec (situation_of (queues_for spec body) body plain) f ≡ Limit
+  outcome_limit t e b = outcome_at (Some t) e ∙ fired_is t ∙ ap (λ o. completed limit spec (Some f) 1 (to_of t) (ended spec body plain.state (taken_queues t) plain.clock o)) b
 
-  state_set : (queues : QueueName → List Item) (to : Option Used) → with_state (bare body flat.state queues flat.clock) 1 to ≡ bare body (next_in flat.state to) queues flat.clock
+  state_set : (queues : QueueName → List Item) (to : Option Used) → with_state (bare body plain.state queues plain.clock) 1 to ≡ bare body (next_in plain.state to) queues plain.clock
   state_set queues None = refl
   state_set queues (Some u) = refl
 
   pub outcome_done : (t : Transition) (outs : List Event) → choice_in (transitions_of body) f ≡ Some t → block_in (ports_of spec) t.block.statements limit [] ≡ Some outs
-      → outcome limit spec (situation_of (queues_for spec body) body flat) f ≡ Done (bare body (next_in flat.state (to_of t)) (taken_queues t) flat.clock) outs
+      → outcome limit spec (situation_of (queues_for spec body) body plain) f ≡ Done (bare body (next_in plain.state (to_of t)) (taken_queues t) plain.clock) outs
   outcome_done t outs e b =
       outcome_at (Some t) e ∙ fired_is t
-      ∙ ap (λ o. completed limit spec (Some f) 1 (to_of t) (ended spec body flat.state (taken_queues t) flat.clock o)) b
+      ∙ ap (λ o. completed limit spec (Some f) 1 (to_of t) (ended spec body plain.state (taken_queues t) plain.clock o)) b
       ∙ ap (λ s. Done (restamped limit spec (Some f) s) outs) (state_set (taken_queues t) (to_of t))
-      ∙ ap (λ s. Done s outs) (restamped_is limit spec (Some f) body (next_in flat.state (to_of t)) (taken_queues t) flat.clock)
+      ∙ ap (λ s. Done s outs) (restamped_is limit spec (Some f) body (next_in plain.state (to_of t)) (taken_queues t) plain.clock)
 
 -- the events of a block that is done
 pub ends_done : (o : Option (List Event)) (outs : List Event) → EndsAs o true outs → o ≡ Some outs
@@ -147,26 +147,26 @@ ends_limit (Some events) outs e = absurd e
 ends_limit None outs e = refl
 
 -- what a plain world answers to a firing
-module _ (limit : ℕ) (own spec : Spec) (body : Body) (points : List PointQueue) (ports : List Port) (ts : List Transition) (same : own ≡ spec) (are : points ≡ queues_for own body) (ports_are : ports ≡ ports_of own) (ts_are : ts ≡ transitions_of body) (flat : Held) (f : Firing) where
-  to_own : (o : Outcome) → outcome limit own (situation_of (queues_for own body) body flat) f ≡ o → outcome limit spec (situation_of points body flat) f ≡ o
-  to_own o e = subst (λ s. outcome limit s (situation_of points body flat) f ≡ o) same (subst (λ ps. outcome limit own (situation_of ps body flat) f ≡ o) (sym are) e)
+module _ (limit : ℕ) (own spec : Spec) (body : Body) (points : List PointQueue) (ports : List Port) (ts : List Transition) (same : own ≡ spec) (are : points ≡ queues_for own body) (ports_are : ports ≡ ports_of own) (ts_are : ts ≡ transitions_of body) (plain : Held) (f : Firing) where
+  to_own : (o : Outcome) → outcome limit own (situation_of (queues_for own body) body plain) f ≡ o → outcome limit spec (situation_of points body plain) f ≡ o
+  to_own o e = subst (λ s. outcome limit s (situation_of points body plain) f ≡ o) same (subst (λ ps. outcome limit own (situation_of ps body plain) f ≡ o) (sym are) e)
 
-  pub answers_none : (events : List Event) (old new : Stack) → None ≡ choice_in ts f → events ≡ [] → new ≡ old → FiredAs (outcome limit spec (situation_of points body flat) f) (fired.Fault NoModule) events old new
+  pub answers_none : (events : List Event) (old new : Stack) → None ≡ choice_in ts f → events ≡ [] → new ≡ old → FiredAs (outcome limit spec (situation_of points body plain) f) (fired.Fault NoModule) events old new
   answers_none events old new c none stays =
-      subst (λ o. FiredAs o (fired.Fault NoModule) events old new) (sym (to_own (Fault NoModule) (outcome_none limit own body flat f (sym (ap (λ us. choice_in us f) ts_are) ∙ sym c)))) (refl, none, stays)
+      subst (λ o. FiredAs o (fired.Fault NoModule) events old new) (sym (to_own (Fault NoModule) (outcome_none limit own body plain f (sym (ap (λ us. choice_in us f) ts_are) ∙ sym c)))) (refl, none, stays)
 
-  pub answers_limit : (t : Transition) (events : List Event) (old new : Stack) → Some t ≡ choice_in ts f → block_in ports t.block.statements limit [] ≡ None → events ≡ [] → new ≡ old → FiredAs (outcome limit spec (situation_of points body flat) f) fired.Limit events old new
+  pub answers_limit : (t : Transition) (events : List Event) (old new : Stack) → Some t ≡ choice_in ts f → block_in ports t.block.statements limit [] ≡ None → events ≡ [] → new ≡ old → FiredAs (outcome limit spec (situation_of points body plain) f) fired.Limit events old new
   answers_limit t events old new c b none stays =
       subst (λ o. FiredAs o fired.Limit events old new)
-      (sym (to_own Limit (outcome_limit limit own body flat f t (sym (ap (λ us. choice_in us f) ts_are) ∙ sym c) (subst (λ ps. block_in ps t.block.statements limit [] ≡ None) ports_are b)))) (none, stays)
+      (sym (to_own Limit (outcome_limit limit own body plain f t (sym (ap (λ us. choice_in us f) ts_are) ∙ sym c) (subst (λ ps. block_in ps t.block.statements limit [] ≡ None) ports_are b)))) (none, stays)
 
-  pub answers_done : (t : Transition) (events : List Event) (old new : Trail) → Some t ≡ choice_in ts f → block_in ports t.block.statements limit [] ≡ Some events → old.now ≡ flat → new ≡ onto (stepped points t old.now) old
-      → FiredAs (outcome limit spec (situation_of points body flat) f) fired.Done events (stack_of points body old) (stack_of points body new)
+  pub answers_done : (t : Transition) (events : List Event) (old new : Trail) → Some t ≡ choice_in ts f → block_in ports t.block.statements limit [] ≡ Some events → old.now ≡ plain → new ≡ onto (stepped points t old.now) old
+      → FiredAs (outcome limit spec (situation_of points body plain) f) fired.Done events (stack_of points body old) (stack_of points body new)
   answers_done t events old new c b now e =
-      let done : outcome limit spec (situation_of points body flat) f ≡ Done (situation_of points body (stepped points t flat)) events =
-      to_own (Done (situation_of points body (stepped points t flat)) events)
-      (outcome_done limit own body flat f t events (sym (ap (λ us. choice_in us f) ts_are) ∙ sym c) (subst (λ ps. block_in ps t.block.statements limit [] ≡ Some events) ports_are b)
-      ∙ ap (λ ps. Done (situation_of ps body (stepped ps t flat)) events) (sym are)) in
+      let done : outcome limit spec (situation_of points body plain) f ≡ Done (situation_of points body (stepped points t plain)) events =
+      to_own (Done (situation_of points body (stepped points t plain)) events)
+      (outcome_done limit own body plain f t events (sym (ap (λ us. choice_in us f) ts_are) ∙ sym c) (subst (λ ps. block_in ps t.block.statements limit [] ≡ Some events) ports_are b)
+      ∙ ap (λ ps. Done (situation_of ps body (stepped ps t plain)) events) (sym are)) in
       subst (λ o. FiredAs o fired.Done events (stack_of points body old) (stack_of points body new)) (sym done)
       (refl, ap (stack_of points body) e ∙ ap (λ h. pushed (situation_of points body (stepped points t h)) (stack_of points body old)) now)
 
@@ -178,11 +178,11 @@ pub arrival_pushed : (own spec : Spec) (body : Body) (points : List PointQueue) 
     → stack_of points body new ≡ pushed (after_event spec (situation_of points body old.now) (event.Arrives i)) (stack_of points body old)
 unfolding after_event
 arrival_pushed own spec body points ports old new i w same are ports_are item e =
-    let flat = old.now in
-    let own_is : after_event own (situation_of (queues_for own body) body flat) (event.Arrives i) ≡ situation_of (queues_for own body) body (joined w flat) =
-    arrival_is own body flat.state flat.clock flat.waiting i ∙ ap (λ ws. bare body flat.state (queued (queues_for own body) (flat.waiting ++ ws)) flat.clock) (ap (λ ps. arrival_in ps i) (sym ports_are) ∙ sym item) in
-    let is = subst (λ s. after_event s (situation_of points body flat) (event.Arrives i) ≡ situation_of points body (joined w flat)) same
-    (subst (λ ps. after_event own (situation_of ps body flat) (event.Arrives i) ≡ situation_of ps body (joined w flat)) (sym are) own_is) in
+    let plain = old.now in
+    let own_is : after_event own (situation_of (queues_for own body) body plain) (event.Arrives i) ≡ situation_of (queues_for own body) body (joined w plain) =
+    arrival_is own body plain.state plain.clock plain.waiting i ∙ ap (λ ws. bare body plain.state (queued (queues_for own body) (plain.waiting ++ ws)) plain.clock) (ap (λ ps. arrival_in ps i) (sym ports_are) ∙ sym item) in
+    let is = subst (λ s. after_event s (situation_of points body plain) (event.Arrives i) ≡ situation_of points body (joined w plain)) same
+    (subst (λ ps. after_event own (situation_of ps body plain) (event.Arrives i) ≡ situation_of ps body (joined w plain)) (sym are) own_is) in
     ap (stack_of points body) e ∙ ap (λ s. pushed s (stack_of points body old)) (sym is)
 
 -- an interaction that can be received has something that waits
@@ -257,5 +257,5 @@ started_done limit left own spec body points ports o state outs trail same root 
     subst (λ s. start_of limit s ≡ Done (stack_of points body trail).now outs) same
     (start_done limit own body root left state outs e first ∙ ap (λ ps. Done (bare body state (queued ps []) 0) outs) (sym are) ∙ ap (λ t. Done (stack_of points body t).now outs) (sym now))
 
-pub as_many : (xs : List (Bor Transition)) → length xs ≡ length (seen xs)
+pub as_many : (xs : List (Bor Transition)) → length xs ≡ length (referred xs)
 as_many xs = sym (length_by (λ (x : Bor Transition). x.now) xs)

@@ -4,10 +4,10 @@ use Rattle.est_syntax.specs.declared.specification.Body.{Body}
 use Rattle.est_meaning.specs.Stack.{Stack}
 use Rattle.est_plain.specs.declared.situation.PointQueue.{PointQueue}
 use Rattle.est_plain.specs.declared.history.History.{History}
-use Rattle.est_plain.specs.Flat.{Held, held, situation_of}
+use Rattle.est_plain.specs.PlainSituation.{Held, held, situation_of}
 use Rattle.est_plain.specs.Undo.{befores}
 
--- flat situations: the current one, and those below it, the latest first
+-- plain situations: the current one, and those below it, the latest first
 pub record Trail : Type 0 where
   pub now : Held
   pub below : List Held

@@ -1,11 +1,10 @@
 -- What undoes moves.
 use Rattle.std.specs.Prelude.{◌≤◌, ◌<◌, ◌-◌, ℕ, List, [], ◌∷◌, Option, Some, None, length, take, insert, ⊤}
-use Rattle.std.specs.Coded.{×_prop, Unit-prop, le_prop}
 use Rattle.est_plain.specs.declared.situation.Waiting.{Waiting}
 use Rattle.est_plain.specs.declared.undo.Taken.{Taken}
 use Rattle.est_plain.specs.declared.undo.Undo.{Undo}
 use Rattle.est_plain.specs.declared.undo.Undo.TheVariants as undo
-use Rattle.est_plain.specs.Flat.{Held}
+use Rattle.est_plain.specs.PlainSituation.{Held}
 
 -- the items with the one that was taken where it stood
 abbrev pub put_back : Option Taken → List Waiting → List Waiting
@@ -38,16 +37,3 @@ CanUndo room (undo.Fired state taken) h = HasPlace room taken h.waiting
 abbrev pub CanUndoAll : ℕ → Held → List Undo → Type 0
 CanUndoAll room h [] = ⊤
 CanUndoAll room h (u ∷ us) = CanUndo room u h × CanUndoAll room (undone u h) us
-
-HasPlace-prop : (room : ℕ) (taken : Option Taken) (ws : List Waiting) → IsProp (HasPlace room taken ws)
-HasPlace-prop room None ws = Unit-prop
-HasPlace-prop room (Some t) ws = ×_prop le_prop le_prop
-
-CanUndo-prop : (room : ℕ) (u : Undo) (h : Held) → IsProp (CanUndo room u h)
-CanUndo-prop room undo.Arrived h = Unit-prop
-CanUndo-prop room (undo.Passed clock) h = Unit-prop
-CanUndo-prop room (undo.Fired state taken) h = HasPlace-prop room taken h.waiting
-
-pub CanUndoAll-prop : (room : ℕ) (h : Held) (us : List Undo) → IsProp (CanUndoAll room h us)
-CanUndoAll-prop room h [] = Unit-prop
-CanUndoAll-prop room h (u ∷ us) = ×_prop (CanUndo-prop room u h) (CanUndoAll-prop room (undone u h) us)

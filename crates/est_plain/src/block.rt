@@ -1,16 +1,16 @@
 //! Choices and blocks of the one instance.
 
-ghost use Rattle.std.specs.Prelude.{◌≡◌, ◌<◌, ◌^◌, ◌++◌, [], length, slice_get, IsTrue, IfOk, OnOk, option_copied, option_to_list};
+ghost use Rattle.std.specs.Prelude.{◌≡◌, ◌<◌, ◌^◌, ◌++◌, [], length, slice_get, IfOk, OnOk, option_copied, option_to_list};
 ghost use Rattle.std.specs.List.{position};
 ghost use Rattle.std.specs.VecDeque.{deque_capacity};
 ghost use Rattle.est_meaning.specs.Text.{to_of, when_of};
 ghost use Rattle.est_meaning.specs.Blocks.{is_signal};
-ghost use Rattle.est_plain.specs.Flat.{held, HasFew, is_port, leaving, sent_in, entered_in, block_in, EndsAs, arrived_in, is_enabled_in, head_matches, taken_in, next_in, arrival_in, FirstIs, ListsFirst, choice_in, seen};
+ghost use Rattle.est_plain.specs.PlainSituation.{held, HasFew, is_port, leaving, sent_in, entered_in, block_in, EndsAs, arrived_in, is_enabled_in, head_matches, taken_in, next_in, arrival_in, FirstIs, ListsFirst, choice_in, referred};
 ghost use Rattle.est_plain.specs.Undo.{put_back, HasPlace};
 
 use crate::clauses::{awaited, fits_state, next_state};
 use crate::queue::{head, take_head};
-use crate::situation::{Flat, PointQueue, Waiting, copy_state};
+use crate::situation::{PlainSituation, PointQueue, Waiting, copy_state};
 use crate::text::same_name;
 use crate::undo::Taken;
 use est_meaning::event::{Event, Interaction};
@@ -22,9 +22,6 @@ use est_syntax::ports::{Port, Signal, Signals};
 use est_syntax::specification::{FirstPart, Sendings, Statement, Statements, Transition};
 use std::alloc::{AllocError, Global};
 use std::collections::VecDeque;
-
-/// The greatest number of 32 bits.
-const MOST: usize = 4_294_967_295;
 
 /// Whether an item came through an interaction point and is of a name.
 fn matches(item: Option<&Waiting>, at: &Name, signal: &Name) -> bool
@@ -53,11 +50,11 @@ fn has_arrived(points: &[PointQueue], waiting: &VecDeque<Waiting>, transition: &
 }
 
 /// Whether all clauses of a transition hold.
-pub fn is_enabled(points: &[PointQueue], flat: &Flat, transition: &Transition) -> bool
-    ensures { result ≡ is_enabled_in points.now (held flat.now) transition.now }
+pub fn is_enabled(points: &[PointQueue], plain: &PlainSituation, transition: &Transition) -> bool
+    ensures { result ≡ is_enabled_in points.now (held plain.now) transition.now }
 {
-    if fits_state(transition, &flat.state) {
-        has_arrived(points, &flat.waiting, transition)
+    if fits_state(transition, &plain.state) {
+        has_arrived(points, &plain.waiting, transition)
     } else {
         false
     }
@@ -270,15 +267,15 @@ pub fn run_first(
 pub fn list_enabled(
     points: &[PointQueue],
     transitions: &[&Transition],
-    flat: &Flat,
+    plain: &PlainSituation,
     into: &mut Vec<Firing>,
 ) -> Result<(), AllocError>
     requires few { length transitions.now < 2 ^ 32 }
     requires empty { into.old.items ≡ [] }
-    ensures { OnOk result (ListsFirst (is_enabled_in points.now (held flat.now)) (seen transitions.now) (length transitions.now) into.new.items) }
+    ensures { OnOk result (ListsFirst (is_enabled_in points.now (held plain.now)) (referred transitions.now) (length transitions.now) into.new.items) }
 {
     for (index, transition) in transitions.iter().enumerate() {
-        if is_enabled(points, flat, transition) {
+        if is_enabled(points, plain, transition) {
             into.push(Firing {
                 instance: 1,
                 transition: index as u32 + 1,
@@ -291,35 +288,18 @@ pub fn list_enabled(
 
 /// The transition at an index.
 fn transition_at<'c>(transitions: &[&'c Transition], index: usize) -> Option<&'c Transition>
-    ensures { option_copied result ≡ slice_get (seen transitions.now) index }
+    ensures { option_copied result ≡ slice_get (referred transitions.now) index }
 {
     transitions.get(index).copied()
 }
 
 /// The transition of a firing.
-pub fn choice<'c>(transitions: &[&'c Transition], what: &Firing) -> Option<&'c Transition>
-    ensures { option_copied result ≡ choice_in (seen transitions.now) what.now }
+pub fn choice<'c>(transitions: &[&'c Transition], firing: &Firing) -> Option<&'c Transition>
+    ensures { option_copied result ≡ choice_in (referred transitions.now) firing.now }
 {
-    if what.choice == 1 && what.instance == 1 && 1 <= what.transition {
-        transition_at(transitions, what.transition as usize - 1)
+    if firing.choice == 1 && firing.instance == 1 && 1 <= firing.transition {
+        transition_at(transitions, firing.transition as usize - 1)
     } else {
         None
     }
-}
-
-/// Whether ports, interactions and transitions have numbers of 32 bits.
-pub fn has_few(ports: &[Port], transitions: &[&Transition]) -> bool
-    ensures few { IsTrue result → HasFew ports.now }
-    ensures transitions { IsTrue result → length transitions.now < 2 ^ 32 }
-    ensures only { HasFew ports.now → length transitions.now < 2 ^ 32 → IsTrue result }
-{
-    if ports.len() > MOST || transitions.len() > MOST {
-        return false;
-    }
-    for port in ports {
-        if port.signals.len() > MOST {
-            return false;
-        }
-    }
-    true
 }

@@ -2,11 +2,12 @@
 
 ghost use Rattle.std.specs.Prelude.{◌≡◌, ◌<◌, ◌+◌, ◌^◌, length, reverse, OnOk, OnErr};
 ghost use Rattle.std.specs.VecDeque.{deque_capacity};
-ghost use Rattle.est_plain.specs.Flat.{held, begun_with, joined, delayed, stepped};
-ghost use Rattle.est_plain.specs.Undo.{CanUndoAll, CanUndoAll-prop};
+ghost use Rattle.est_plain.specs.PlainSituation.{held, begun_with, joined, delayed, stepped};
+ghost use Rattle.est_plain.specs.Undo.{CanUndoAll};
+ghost use Rattle.est_plain.specs.UndoProps.{CanUndoAll-prop};
 
 use crate::block::{state_after, take_awaited};
-use crate::situation::{Flat, PointQueue, Waiting, copy_state};
+use crate::situation::{PlainSituation, PointQueue, Waiting, copy_state};
 use crate::undo::{Undo, take_back};
 use est_syntax::name::Name;
 use est_syntax::specification::Transition;
@@ -17,7 +18,7 @@ use std::mem;
 /// A situation that moves change in place, with what undoes each of them, the latest last.
 #[derive(Drop)]
 pub struct History {
-    pub current: Flat,
+    pub current: PlainSituation,
     undos: Vec<Undo>,
     ghost room: { CanUndoAll (deque_capacity current.waiting) (held current) (reverse undos.items) } by { CanUndoAll-prop (deque_capacity current.waiting) (held current) (reverse undos.items) },
 }
@@ -30,7 +31,7 @@ impl History {
         ensures { trail result ≡ only (begun_with state) }
     {
         History {
-            current: Flat {
+            current: PlainSituation {
                 state,
                 waiting: VecDeque::new(alloc),
                 clock: 0,

@@ -1,12 +1,12 @@
-//! Runs a specification by names over flat lists, in one situation that moves change and undo.
+//! Runs a specification by names over lists, in one situation that moves change and undo.
 #![tactic(auto)]
 
-pub mod block;
-pub mod clauses;
-pub mod history;
-pub mod outline;
-pub mod queue;
-pub mod situation;
-pub mod text;
-pub mod undo;
+mod block;
+mod clauses;
+mod history;
+mod outline;
+mod queue;
+mod situation;
+mod text;
+mod undo;
 pub mod world;

@@ -1,9 +1,9 @@
-//! The text of a specification as flat lists.
+//! The text of a specification as lists.
 
 ghost use Rattle.std.specs.Prelude.{◌≡◌, ◌∷◌, ◌++◌, map, IfOk, OnOk};
 ghost use Rattle.est_syntax.specs.declared.specification.Group.{out-Group};
 ghost use Rattle.est_meaning.specs.Text.{declared_in, points_of, discipline, transitions_of};
-ghost use Rattle.est_plain.specs.Flat.{queue_for, is_common, seen};
+ghost use Rattle.est_plain.specs.PlainSituation.{queue_for, is_common, referred};
 
 use crate::situation::PointQueue;
 use est_syntax::name::Used;
@@ -68,7 +68,7 @@ pub fn queues_of(alloc: Global, spec: &Spec, header: &Header) -> Result<Vec<Poin
 
 /// Appends the transitions behind one `trans`.
 fn push_transitions<'c>(group: &'c Group, into: &mut Vec<&'c Transition>) -> Result<(), AllocError>
-    ensures { OnOk result (seen into.new.items ≡ seen into.old.items ++ (out-Group group.now).transitions) }
+    ensures { OnOk result (referred into.new.items ≡ referred into.old.items ++ (out-Group group.now).transitions) }
 {
     for transition in group.transitions.as_slice() {
         into.push(transition)?;
@@ -78,7 +78,7 @@ fn push_transitions<'c>(group: &'c Group, into: &mut Vec<&'c Transition>) -> Res
 
 /// The transitions of a body.
 pub fn transitions_of(alloc: Global, body: &Body) -> Result<Vec<&Transition>, AllocError>
-    ensures { IfOk result (λ transitions. seen transitions.items ≡ transitions_of body.now) }
+    ensures { IfOk result (λ transitions. referred transitions.items ≡ transitions_of body.now) }
 {
     let mut transitions = Vec::new(alloc);
     for group in body.groups.as_slice() {

@@ -1,4 +1,4 @@
-//! Situations of one instance, as flat lists.
+//! Plain situations: those of one instance, as lists.
 
 ghost use Rattle.std.specs.Prelude.{◌≡◌, IfOk};
 
@@ -22,9 +22,9 @@ pub struct Waiting {
     pub values: Values,
 }
 
-/// A situation of the one instance: its state, all that waits in order of arrival, and the clock.
+/// A plain situation of the one instance: its state, all that waits in order of arrival, and the clock.
 #[derive(Debug, Drop)]
-pub struct Flat {
+pub struct PlainSituation {
     pub state: Option<Name>,
     pub waiting: VecDeque<Waiting>,
     pub clock: u64,

@@ -2,10 +2,10 @@
 
 ghost use Rattle.std.specs.Prelude.{◌≡◌, ◌≤◌};
 ghost use Rattle.std.specs.VecDeque.{deque_capacity};
-ghost use Rattle.est_plain.specs.Flat.{held};
+ghost use Rattle.est_plain.specs.PlainSituation.{held};
 ghost use Rattle.est_plain.specs.Undo.{put_back, undone, HasPlace, CanUndo};
 
-use crate::situation::{Flat, Waiting};
+use crate::situation::{PlainSituation, Waiting};
 use est_syntax::name::Name;
 use std::collections::VecDeque;
 
@@ -44,7 +44,7 @@ fn put_back(waiting: &mut VecDeque<Waiting>, taken: Option<Taken>)
 }
 
 /// Undoes the last move.
-pub fn take_back(now: &mut Flat, last: Undo)
+pub fn take_back(now: &mut PlainSituation, last: Undo)
     requires { CanUndo (deque_capacity now.old.waiting) last (held now.old) }
     ensures held { held now.new ≡ undone last (held now.old) }
     ensures capacity { deque_capacity now.old.waiting ≤ deque_capacity now.new.waiting }

@@ -2,11 +2,12 @@
 
 ghost use Rattle.std.specs.Prelude.{◌≡◌, ◌<◌, ◌^◌, ◌+◌, refl, length, Some, IfOk};
 ghost use Rattle.est_syntax.specs.Ports.{ports_of};
+ghost use Rattle.est_check.specs.Skeleton.{IsSkeleton};
 ghost use Rattle.est_meaning.specs.Text.{root_of, transitions_of};
 ghost use Rattle.est_meaning.specs.Stack.{StartedAs};
-ghost use Rattle.est_plain.specs.Flat.{queues_for, seen, HasFew};
+ghost use Rattle.est_plain.specs.PlainSituation.{queues_for, referred, HasFew};
 
-use crate::block::{arrival, choice, has_few, list_enabled, run_block, run_first};
+use crate::block::{arrival, choice, list_enabled, run_block, run_first};
 use crate::history::History;
 use crate::outline::{queues_of, transitions_of};
 use crate::situation::PointQueue;
@@ -33,7 +34,7 @@ pub struct PlainWorld<'c> {
     ghost root_is: { root_of spec.now ≡ Some root.now },
     ghost ports_are: { ports.now ≡ ports_of spec.now },
     ghost points_are: { points.items ≡ queues_for spec.now root.now },
-    ghost transitions_are: { seen transitions.items ≡ transitions_of root.now },
+    ghost transitions_are: { referred transitions.items ≡ transitions_of root.now },
     ghost few: { HasFew ports.now },
     ghost few_transitions: { length transitions.items < 2 ^ 32 },
 }
@@ -66,13 +67,13 @@ impl<'c> World for PlainWorld<'c> {
     fn fire(
         &mut self,
         alloc: Global,
-        what: &Firing,
+        firing: &Firing,
         outs: &mut Vec<Event>,
     ) -> Result<Fired, AllocError> {
         self.fired += 1;
         outs.clear();
         let mut sent = Vec::new(alloc);
-        match choice(self.transitions.as_slice(), what) {
+        match choice(self.transitions.as_slice(), firing) {
             None => Ok(Fired::Fault(BlockFault::NoModule)),
             Some(transition) => {
                 let statements = &transition.block.statements;
@@ -149,13 +150,12 @@ impl<'c> PlainWorld<'c> {
         requires ports { ports.now ≡ ports_of spec.now }
         requires root { root_of spec.now ≡ Some root.now }
         requires left { left + 1 < 2 ^ 32 }
+        requires few { HasFew ports.now }
+        requires few_transitions { length (transitions_of root.now) < 2 ^ 32 }
         ensures { IfOk result (λ started. StartedAs ⟦<PlainWorld<'c> as World>⟧.speaks ⟦<PlainWorld<'c> as World>⟧.stack ⟦<PlainWorld<'c> as World>⟧.limit ⟦<PlainWorld<'c> as World>⟧.fired (left + 1) spec.now started) }
     {
         let points = queues_for(alloc, spec, root)?;
         let transitions = transitions_of(alloc, root)?;
-        if !has_few(ports.as_slice(), transitions.as_slice()) {
-            return Err(AllocError);
-        }
         let mut outs = Vec::new(alloc);
         match run_first(alloc, ports.as_slice(), left, &root.first, &mut outs)? {
             None => Ok(Started::Limit),
@@ -193,7 +193,8 @@ impl<'c> PlainWorld<'c> {
         ports: &'c Ports,
         statements: u32,
     ) -> Result<Started<PlainWorld<'c>>, AllocError>
-        requires { ports.now ≡ ports_of spec.now }
+        requires ports { ports.now ≡ ports_of spec.now }
+        requires skeleton { IsSkeleton spec.now }
         ensures { IfOk result (λ started. StartedAs ⟦<PlainWorld<'c> as World>⟧.speaks ⟦<PlainWorld<'c> as World>⟧.stack ⟦<PlainWorld<'c> as World>⟧.limit ⟦<PlainWorld<'c> as World>⟧.fired statements spec.now started) }
     {
         if statements == 0 {

@@ -1,7 +1,7 @@
 use Rattle.std.proofs.Common.{◌∙◌}
-use Rattle.est_plain.specs.Flat.{seen}
+use Rattle.est_plain.specs.PlainSituation.{referred}
 use Rattle.est_plain.proofs.ChoiceLaws.{choice_is}
 use Rattle.est_plain.proofs.block.choice.Goals as goal
 
-pub returns-then-what-ge1 : goal.returns-then-what-ge1
-returns-then-what-ge1 c = c.transition_at.ensures ∙ choice_is (seen c.args.transitions.now) c.args.what.now c.if-what-eq1.true c.if-what-eq1-2.true c.if-what-ge1.true
+pub returns-then-firing-ge1 : goal.returns-then-firing-ge1
+returns-then-firing-ge1 c = c.transition_at.ensures ∙ choice_is (referred c.args.transitions.now) c.args.firing.now c.if-firing-eq1.true c.if-firing-eq1-2.true c.if-firing-ge1.true

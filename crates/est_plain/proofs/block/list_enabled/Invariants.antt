@@ -1,5 +1,5 @@
-use Rattle.est_plain.specs.Flat.{ListsFirst, is_enabled_in, held, seen}
+use Rattle.est_plain.specs.PlainSituation.{ListsFirst, is_enabled_in, held, referred}
 use Rattle.est_plain.proofs.block.list_enabled.Given as goal
 
 abbrev pub invariant-loop-index : goal.invariant-loop-index
-invariant-loop-index l = ListsFirst (is_enabled_in l.points (held l.flat)) (seen l.transitions) l.index l.into.items
+invariant-loop-index l = ListsFirst (is_enabled_in l.points (held l.plain)) (referred l.transitions) l.index l.into.items

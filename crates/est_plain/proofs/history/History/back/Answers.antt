@@ -1,5 +1,5 @@
 use Rattle.std.proofs.Common.{refl}
-use Rattle.est_plain.specs.Flat.{held}
+use Rattle.est_plain.specs.PlainSituation.{held}
 use Rattle.est_plain.specs.Undo.{undone}
 use Rattle.est_plain.proofs.UndoLaws.{room_popped, room_kept}
 use Rattle.est_plain.proofs.history.History.back.Goals as goal

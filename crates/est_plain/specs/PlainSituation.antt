@@ -1,4 +1,4 @@
--- Flat lists, and what they stand for.
+-- Plain situations, and what they stand for.
 use Rattle.std.specs.Prelude.{◌≡◌, ◌<◌, ◌^◌, ◌+◌, ◌&&◌, ℕ, zero, suc, Bool, true, false, List, [], ◌∷◌, ◌++◌, map, filter, find, length, Option, Some, None, nat_eq, slice_get, if◌then◌else◌}
 use Rattle.std.specs.Borrow.{Bor}
 use Rattle.std.specs.List.{position}
@@ -14,17 +14,18 @@ use Rattle.est_syntax.specs.declared.specification.Statement.TheVariants as stat
 use Rattle.est_syntax.specs.declared.specification.Transition.{Transition}
 use Rattle.est_syntax.specs.declared.specification.Body.{Body}
 use Rattle.est_syntax.specs.declared.specification.Spec.{Spec}
+use Rattle.est_syntax.specs.Least.{IsIn}
 use Rattle.est_meaning.specs.declared.event.Event.{Event}
 use Rattle.est_meaning.specs.declared.event.Event.TheVariants as event
 use Rattle.est_meaning.specs.declared.run.Firing.{Firing}
 use Rattle.est_meaning.specs.Text.{Declared, Awaited, is_name, discipline, points_in, header_of, numbered, from_of, to_of, when_of}
 use Rattle.est_meaning.specs.Situation.{nothing, InteractionPoint, QueueName, Own, Shared, is_queue, Item, Situation}
-use Rattle.est_meaning.specs.Order.{IsAscending, IsAmong}
+use Rattle.est_meaning.specs.Order.{IsAscending}
 use Rattle.est_meaning.specs.declared.event.Interaction.{Interaction}
 use Rattle.est_syntax.specs.declared.specification.FirstPart.{FirstPart}
 use Rattle.est_meaning.specs.Choices.{fits_state}
 use Rattle.est_meaning.specs.Step.{root_row}
-use Rattle.est_plain.specs.declared.situation.Flat.{Flat}
+use Rattle.est_plain.specs.declared.situation.PlainSituation.{PlainSituation}
 use Rattle.est_plain.specs.declared.situation.PointQueue.{PointQueue}
 use Rattle.est_syntax.specs.declared.ports.Port.{Port}
 use Rattle.est_syntax.specs.declared.ports.Signal.{Signal}
@@ -33,15 +34,15 @@ use Rattle.est_meaning.specs.Links.{port_point}
 use Rattle.est_meaning.specs.Blocks.{is_signal}
 use Rattle.est_plain.specs.declared.situation.Waiting.{Waiting}
 
--- what a flat situation holds: its state, all that waits in order of arrival, and the clock
+-- what a plain situation holds: its state, all that waits in order of arrival, and the clock
 pub record Held : Type 0 where
   pub state : Option Name
   pub waiting : List Waiting
   pub clock : ℕ
 
 -- what this one holds
-abbrev pub held : Flat → Held
-held flat = record { state = flat.state; waiting = flat.waiting.items; clock = flat.clock }
+abbrev pub held : PlainSituation → Held
+held plain = record { state = plain.state; waiting = plain.waiting.items; clock = plain.clock }
 
 -- THE TEXT AS LISTS
 
@@ -59,8 +60,8 @@ abbrev pub queues_for : Spec → Body → List PointQueue
 queues_for spec body = map (queue_for spec) (points_in (header_of spec body))
 
 -- the transitions that references point to
-abbrev pub seen : List (Bor Transition) → List Transition
-seen xs = map (λ (x : Bor Transition). x.now) xs
+abbrev pub referred : List (Bor Transition) → List Transition
+referred xs = map (λ (x : Bor Transition). x.now) xs
 
 -- the awaited interaction that two references point to
 abbrev pub awaited_by : Bor Access × Bor Used → Awaited
@@ -73,7 +74,7 @@ pub record HasFew (ports : List Port) : Type 0 where
 
 -- QUEUES
 
--- a flat interaction point has this name
+-- an interaction point has this name
 abbrev pub has_name : Name → PointQueue → Bool
 has_name name point = is_name name point.name
 
@@ -89,7 +90,7 @@ point_named name = record { instance = 1; name = name; index = [] }
 abbrev pub queue_named : List PointQueue → Name → QueueName
 queue_named points name = if shares points name then Shared 1 else Own (point_named name)
 
--- what a flat item stands for
+-- what an interaction that waits stands for
 abbrev pub item_of : Waiting → Item
 item_of w = record { at = point_named w.at; signal = w.signal; values = w.values }
 
@@ -113,7 +114,7 @@ abbrev pub bare : Body → Option Name → (QueueName → List Item) → ℕ →
 bare body state queues clock =
     record { rows = record (root_row body) { state = state } ∷ []; peer = nothing; down = nothing; queues = queues; stamps = nothing; clock = clock; next = 2 }
 
--- what a flat situation stands for
+-- what a plain situation stands for
 abbrev pub situation_of : List PointQueue → Body → Held → Situation
 situation_of points body h = bare body h.state (queued points h.waiting) h.clock
 
@@ -133,7 +134,7 @@ abbrev pub arrived_in : List PointQueue → List Waiting → Option Awaited → 
 arrived_in points waiting None = true
 arrived_in points waiting (Some w) = head_matches w.at.name.name w.signal.name (find (waits_in points (queue_named points w.at.name.name)) waiting)
 
--- the clauses of a transition hold in a flat situation
+-- the clauses of a transition hold in a plain situation
 abbrev pub is_enabled_in : List PointQueue → Held → Transition → Bool
 is_enabled_in points h t = fits_state (from_of t) h.state && arrived_in points h.waiting (when_of t)
 
@@ -239,5 +240,5 @@ firing_at k = record { instance = 1; transition = k + 1; choice = 1 }
 -- the firings of the first n transitions that pass a test, in order
 pub record ListsFirst (test : Transition → Bool) (transitions : List Transition) (n : ℕ) (firings : List Firing) : Type 0 where
   pub ascending : IsAscending firings
-  pub sound : (f : Firing) → IsAmong f firings → (k : ℕ) × (k < n) × (f ≡ firing_at k) × ((t : Transition) × (slice_get transitions k ≡ Some t) × (test t ≡ true))
-  pub complete : (k : ℕ) (t : Transition) → k < n → slice_get transitions k ≡ Some t → test t ≡ true → IsAmong (firing_at k) firings
+  pub sound : (f : Firing) → IsIn f firings → (k : ℕ) × (k < n) × (f ≡ firing_at k) × ((t : Transition) × (slice_get transitions k ≡ Some t) × (test t ≡ true))
+  pub complete : (k : ℕ) (t : Transition) → k < n → slice_get transitions k ≡ Some t → test t ≡ true → IsIn (firing_at k) firings
