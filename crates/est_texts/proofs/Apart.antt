@@ -11,8 +11,8 @@ use Rattle.est_language.specs.Grammar.{Grammar, meets}
 use Rattle.est_language.specs.Marks.{disjoint}
 use Rattle.est_language.specs.Marks as marks
 use Rattle.est_language.proofs.Members.{and_left, and_right, clear}
-use Rattle.est_texts.specs.Kinds.{is_spelled, is_number}
-use Rattle.est_texts.specs.Tests.{Test, spelled, number, holds, value_in, apart, language}
+use Rattle.est_texts.specs.Kinds.{is_identifier, is_spelled, is_number}
+use Rattle.est_texts.specs.Tests.{Test, spelled, named, number, holds, value_in, apart, language}
 
 not_true : (a : Bool) → not a ≡ true → a ≡ true → ⊥
 not_true true h q = cc
@@ -27,6 +27,16 @@ spelled_or_number (LeftOut token) h k = cc
 spelled_or_number Number h k = cc
 spelled_or_number Character h k = cc
 spelled_or_number Bad h k = cc
+
+-- nor is an identifier a number
+named_or_number : (kind : TokenKind) → is_identifier kind ≡ true → is_number kind ≡ true → ⊥
+named_or_number Identifier h k = cc
+named_or_number (Reserved word) h k = cc
+named_or_number (Symbol symbol) h k = cc
+named_or_number (LeftOut token) h k = cc
+named_or_number Number h k = cc
+named_or_number Character h k = cc
+named_or_number Bad h k = cc
 
 -- two words that one text spells are one word
 pub words_equal : (word other bytes : List ℕ) → bytes_eq word bytes ≡ true → bytes_eq other bytes ≡ true → bytes_eq word other ≡ true
@@ -44,6 +54,11 @@ within low high text token h =
 -- no token meets two tests that are apart
 pub apart-holds : (text : List ℕ) (x y : Test) (token : Token) → apart x y ≡ true → holds text x token ≡ true → holds text y token ≡ true → ⊥
 apart-holds text (spelled word) (spelled other) token e h k = not_true _ e (words_equal word other (str_to_ascii_lowercase (spelling text token)) (and_right (is_spelled token.kind) _ h) (and_right (is_spelled token.kind) _ k))
+apart-holds text (spelled word) (named name) token e h k = not_true _ e (words_equal word name (str_to_ascii_lowercase (spelling text token)) (and_right (is_spelled token.kind) _ h) (and_right (is_identifier token.kind) _ k))
+apart-holds text (named name) (spelled word) token e h k = not_true _ e (words_equal name word (str_to_ascii_lowercase (spelling text token)) (and_right (is_identifier token.kind) _ h) (and_right (is_spelled token.kind) _ k))
+apart-holds text (named name) (named other) token e h k = not_true _ e (words_equal name other (str_to_ascii_lowercase (spelling text token)) (and_right (is_identifier token.kind) _ h) (and_right (is_identifier token.kind) _ k))
+apart-holds text (named name) (number low high) token e h k = named_or_number token.kind (and_left (is_identifier token.kind) _ h) (and_left (is_number token.kind) _ k)
+apart-holds text (number low high) (named name) token e h k = named_or_number token.kind (and_left (is_identifier token.kind) _ k) (and_left (is_number token.kind) _ h)
 apart-holds text (spelled word) (number low high) token e h k = spelled_or_number token.kind (and_left (is_spelled token.kind) _ h) (and_left (is_number token.kind) _ k)
 apart-holds text (number low high) (spelled word) token e h k = spelled_or_number token.kind (and_left (is_spelled token.kind) _ k) (and_left (is_number token.kind) _ h)
 apart-holds text (number low high) (number from to) token e h k =
@@ -56,7 +71,7 @@ apart-holds text (number low high) (number from to) token e h k =
 pub far : {P : Type 0} (production : P → Grammar Test P) (text : List ℕ) (xs ys : List Test) → disjoint apart xs ys ≡ true → marks.Apart (language production text) xs ys
 far production text xs ys e = clear (language production text) apart (apart-holds text) xs ys e
 
--- a token that is spelled as two words shows that they are one
-pub one_word : (text word other : List ℕ) (o : Option Token) → meets (holds text) (spelled word) o ≡ true → meets (holds text) (spelled other) o ≡ true → bytes_eq word other ≡ true
-one_word text word other None h k = cc
-one_word text word other (Some token) h k = words_equal word other (str_to_ascii_lowercase (spelling text token)) (and_right (is_spelled token.kind) _ h) (and_right (is_spelled token.kind) _ k)
+-- an identifier that is spelled as two names shows that they are one
+pub one_name : (text name other : List ℕ) (o : Option Token) → meets (holds text) (named name) o ≡ true → meets (holds text) (named other) o ≡ true → bytes_eq name other ≡ true
+one_name text name other None h k = cc
+one_name text name other (Some token) h k = words_equal name other (str_to_ascii_lowercase (spelling text token)) (and_right (is_identifier token.kind) _ h) (and_right (is_identifier token.kind) _ k)

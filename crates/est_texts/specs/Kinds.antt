@@ -1,7 +1,17 @@
--- Which kinds of tokens are known by their spelling, and which by their value.
+-- Which kinds of tokens are names, which are known by their spelling, and which by their value.
 use Rattle.std.specs.Prelude.{Bool, true, false}
 use Rattle.est_lexer.specs.declared.kind.TokenKind.{TokenKind}
 use Rattle.est_lexer.specs.declared.kind.TokenKind.TheVariants.{Identifier, Reserved, LeftOut, Number, Character, Symbol, Bad}
+
+-- an identifier
+abbrev pub is_identifier : TokenKind → Bool
+is_identifier Identifier = true
+is_identifier (Reserved word) = false
+is_identifier (Symbol symbol) = false
+is_identifier (LeftOut token) = false
+is_identifier Number = false
+is_identifier Character = false
+is_identifier Bad = false
 
 -- a word or a symbol
 abbrev pub is_spelled : TokenKind → Bool

@@ -5,16 +5,16 @@ use Rattle.est_lexer.specs.declared.tokens.Tokens.{Tokens}
 use Rattle.est_lexer.specs.Places.{text_of, tokens_of}
 use Rattle.est_language.specs.Grammar.{meets}
 use Rattle.est_texts.specs.declared.token.BadToken.{BadToken}
-use Rattle.est_texts.specs.Tests.{Test, spelled, number, holds, value_in}
+use Rattle.est_texts.specs.Tests.{Test, named, number, holds, value_in}
 
 -- whether a token that meets the test stands at the place
 abbrev pub stands : Tokens → ℕ → Test → Bool
 stands tokens at test = meets (holds (text_of tokens)) test (slice_get (tokens_of tokens) at)
 
--- the word or symbol at the place is this in lower case, or none stands there
-abbrev pub IsSpelledAt : Tokens → ℕ → Option (List ℕ) → Type 0
-IsSpelledAt tokens at (Some bytes) = (at < length (tokens_of tokens)) × ((word : List ℕ) → stands tokens at (spelled word) ≡ bytes_eq word bytes)
-IsSpelledAt tokens at None = (word : List ℕ) → stands tokens at (spelled word) ≡ false
+-- the identifier at the place is this in lower case, or none stands there
+abbrev pub IsNamedAt : Tokens → ℕ → Option (List ℕ) → Type 0
+IsNamedAt tokens at (Some bytes) = (at < length (tokens_of tokens)) × ((name : List ℕ) → stands tokens at (named name) ≡ bytes_eq name bytes)
+IsNamedAt tokens at None = (name : List ℕ) → stands tokens at (named name) ≡ false
 
 -- the place behind the token, or the place where none stands that meets the test
 abbrev pub Takes : Test → Tokens → ℕ → Result ℕ BadToken → Type 0

@@ -4,9 +4,9 @@ ghost use Rattle.std.specs.Prelude.{◌≡◌, ◌≤◌, ◌<◌, true, length,
 ghost use Rattle.std.specs.Option.{option_map};
 ghost use Rattle.std.specs.Str.{str_to_ascii_lowercase};
 ghost use Rattle.est_lexer.specs.Places.{tokens_of};
-ghost use Rattle.est_texts.specs.Kinds.{is_spelled as has_spelling, is_number as is_numeric};
+ghost use Rattle.est_texts.specs.Kinds.{is_identifier as is_a_name, is_spelled as has_spelling, is_number as is_numeric};
 ghost use Rattle.est_texts.specs.Tests.{spelled, number, value_of};
-ghost use Rattle.est_texts.specs.Takes.{stands, IsSpelledAt, Takes, FindsNumber, TakesNumber};
+ghost use Rattle.est_texts.specs.Takes.{stands, IsNamedAt, Takes, FindsNumber, TakesNumber};
 
 use est_lexer::kind::TokenKind;
 use est_lexer::tokens::Tokens;
@@ -16,6 +16,16 @@ use std::alloc::{AllocError, Global};
 #[derive(Clone, Copy, Debug, PartialEq, Eq)]
 pub struct BadToken {
     pub place: u32,
+}
+
+// Whether a token of this kind is an identifier.
+fn is_identifier(kind: TokenKind) -> bool
+    ensures { result ≡ is_a_name kind }
+{
+    match kind {
+        TokenKind::Identifier => true,
+        _ => false,
+    }
 }
 
 // Whether a token of this kind is a word or a symbol.
@@ -71,14 +81,14 @@ pub fn word_is(tokens: &Tokens, at: u32, word: &[u8]) -> bool
     }
 }
 
-/// The spelling in lower case of the word or symbol at the place, where one stands there.
-pub fn word_at(alloc: Global, tokens: &Tokens, at: u32) -> Result<Option<Vec<u8>>, AllocError>
-    ensures { IfOk result (λ found. IsSpelledAt tokens.now at (option_map (λ bytes. bytes.items) found)) }
+/// The spelling in lower case of the identifier at the place, where one stands there.
+pub fn name_at(alloc: Global, tokens: &Tokens, at: u32) -> Result<Option<Vec<u8>>, AllocError>
+    ensures { IfOk result (λ found. IsNamedAt tokens.now at (option_map (λ bytes. bytes.items) found)) }
 {
     match tokens.token_at(at) {
-        Some(token) if is_spelled(token.kind) => {
-            let word = tokens.spelled(at).to_ascii_lowercase(alloc)?;
-            Ok(Some(word))
+        Some(token) if is_identifier(token.kind) => {
+            let name = tokens.spelled(at).to_ascii_lowercase(alloc)?;
+            Ok(Some(name))
         }
         _ => Ok(None),
     }

@@ -21,8 +21,8 @@ no_values ports xs h = λ k d l. no_value ports (get_or xs k d) (h k d l)
 
 allowed : (s : Spec) (e : Event) → IsAtPorts (ports_of s) e → IsAllowed s e
 unfolding IsReceivable IsSendable
-allowed s (Arrives i) h = (h.port, h.signal, record { port_is = h.port_is; signal_is = h.signal_is; fits = (h.no_parameters, h.no_values) }, h.way_is)
-allowed s (Leaves i) h = (h.port, h.signal, record { port_is = h.port_is; signal_is = h.signal_is; fits = (h.no_parameters, h.no_values) }, h.way_is)
+allowed s (Arrives i) h = (h.port, h.signal, record { port_is = h.port_is; signal_is = h.signal_is; fits = (h.no_parameters, h.no_values) }, h.direction_is)
+allowed s (Leaves i) h = (h.port, h.signal, record { port_is = h.port_is; signal_is = h.signal_is; fits = (h.no_parameters, h.no_values) }, h.direction_is)
 allowed s (Passes units) h = h
 
 pub all_allowed : (s : Spec) (xs : List Event) → AreAtPorts (ports_of s) xs → length xs ≤ 200000 → IsAllowedTrace s xs

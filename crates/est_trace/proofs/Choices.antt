@@ -10,8 +10,8 @@ use Rattle.est_lexer.specs.Places.{text_of, tokens_of}
 use Rattle.est_language.specs.Grammar.{word, when}
 use Rattle.est_language.proofs.Laws as laws
 use Rattle.est_language.proofs.Exits.{not_met}
-use Rattle.est_texts.specs.Tests.{spelled, holds}
-use Rattle.est_texts.specs.Takes.{stands, IsSpelledAt}
+use Rattle.est_texts.specs.Tests.{named, holds}
+use Rattle.est_texts.specs.Takes.{stands, IsNamedAt}
 use Rattle.est_trace.specs.Grammar.{Rule, tracing, marks}
 use Rattle.est_trace.specs.Skeletons.{HaveDifferentNames}
 use Rattle.est_trace.specs.Tables.{IsNumberOf}
@@ -47,26 +47,26 @@ names_more f xs i x e = ap (map f) (take_more xs i x (slice_get_within xs i x e)
 -- alternatives that begin with names
 module _ {A : Type 0} (name : A → List ℕ) (allowed : A → Bool) (rest : A → Rule) (xs : List A) (tokens : Tokens) (at : ℕ) where
   abbrev alternative : A → Rule
-  alternative x = when (allowed x) (word (spelled (name x)) (rest x))
+  alternative x = when (allowed x) (word (named (name x)) (rest x))
 
-  spelled_so : (bytes : List ℕ) (x : A) → IsSpelledAt tokens at (Some bytes) → stands tokens at (spelled (name x)) ≡ bytes_eq (name x) bytes
-  spelled_so bytes x s = s.1 (name x)
+  named_so : (bytes : List ℕ) (x : A) → IsNamedAt tokens at (Some bytes) → stands tokens at (named (name x)) ≡ bytes_eq (name x) bytes
+  named_so bytes x s = s.1 (name x)
 
-  pub chosen : (bytes : List ℕ) (i : ℕ) (x : A) → IsSpelledAt tokens at (Some bytes) → slice_get xs i ≡ Some x → name x ≡ bytes → allowed x ≡ true → IsChosen alternative xs tokens at (Some i)
-  chosen bytes i x s e n w = (x, e, laws.when_meets (holds (text_of tokens)) marks (allowed x) (word (spelled (name x)) (rest x)) (slice_get (tokens_of tokens) at) w (inl (spelled_so bytes x s ∙ (bytes_eq-Decides (name x) bytes).1 n)))
+  pub chosen : (bytes : List ℕ) (i : ℕ) (x : A) → IsNamedAt tokens at (Some bytes) → slice_get xs i ≡ Some x → name x ≡ bytes → allowed x ≡ true → IsChosen alternative xs tokens at (Some i)
+  chosen bytes i x s e n w = (x, e, laws.when_meets (holds (text_of tokens)) marks (allowed x) (word (named (name x)) (rest x)) (slice_get (tokens_of tokens) at) w (inl (named_so bytes x s ∙ (bytes_eq-Decides (name x) bytes).1 n)))
 
-  none_chosen : ((j : ℕ) (y : A) → slice_get xs j ≡ Some y → allowed y ≡ true → stands tokens at (spelled (name y)) ≡ true → ⊥) → IsChosen alternative xs tokens at None
+  none_chosen : ((j : ℕ) (y : A) → slice_get xs j ≡ Some y → allowed y ≡ true → stands tokens at (named (name y)) ≡ true → ⊥) → IsChosen alternative xs tokens at None
   none_chosen h m =
       let r = laws.one_of_begins (tracing (text_of tokens)) marks alternative xs (slice_get (tokens_of tokens) at) m in
-      let b = laws.when_begins (holds (text_of tokens)) marks (allowed r.1) (word (spelled (name r.1)) (rest r.1)) (slice_get (tokens_of tokens) at) r.3 in
-      h r.0 r.1 r.2 b.0 (only_one (text_of tokens) (spelled (name r.1)) (slice_get (tokens_of tokens) at) b.1)
+      let b = laws.when_begins (holds (text_of tokens)) marks (allowed r.1) (word (named (name r.1)) (rest r.1)) (slice_get (tokens_of tokens) at) r.3 in
+      h r.0 r.1 r.2 b.0 (only_one (text_of tokens) (named (name r.1)) (slice_get (tokens_of tokens) at) b.1)
 
-  pub no_word : IsSpelledAt tokens at None → IsChosen alternative xs tokens at None
+  pub no_word : IsNamedAt tokens at None → IsChosen alternative xs tokens at None
   no_word s = none_chosen (λ j y e w k. not_met (s (name y)) k)
 
-  module _ (bytes : List ℕ) (s : IsSpelledAt tokens at (Some bytes)) where
+  module _ (bytes : List ℕ) (s : IsNamedAt tokens at (Some bytes)) where
     none_named : ((j : ℕ) (y : A) → slice_get xs j ≡ Some y → allowed y ≡ true → name y ≡ bytes → ⊥) → IsChosen alternative xs tokens at None
-    none_named h = none_chosen (λ j y e w k. h j y e w ((bytes_eq-Decides (name y) bytes).0 (sym (spelled_so bytes y s) ∙ k)))
+    none_named h = none_chosen (λ j y e w k. h j y e w ((bytes_eq-Decides (name y) bytes).0 (sym (named_so bytes y s) ∙ k)))
 
     pub no_name : (names : List (List ℕ)) → names ≡ map name xs → IsNumberOf bytes names None → IsChosen alternative xs tokens at None
     no_name names q n = none_named (λ j y e w k. n j (subst (λ v. slice_get v j ≡ Some bytes) (sym q) (image_at name xs j y e ∙ ap Some k)))

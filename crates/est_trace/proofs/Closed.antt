@@ -4,17 +4,17 @@ use Rattle.est_language.specs.Grammar.{alt, word, done, one_of}
 use Rattle.est_language.proofs.Laws.{IsClosed, closed_alt, closed_when, closed_one_of}
 use Rattle.est_syntax.specs.declared.ports.Signal.{Signal}
 use Rattle.est_syntax.specs.declared.ports.Port.{Port}
-use Rattle.est_texts.specs.Tests.{said, spelled}
-use Rattle.est_trace.specs.declared.way.Way.{Way}
-use Rattle.est_trace.specs.declared.way.Way.TheVariants.{In, Out}
+use Rattle.est_texts.specs.Tests.{said, named}
+use Rattle.est_trace.specs.declared.direction.Direction.{Direction}
+use Rattle.est_trace.specs.declared.direction.Direction.TheVariants.{In, Out}
 use Rattle.est_trace.specs.Grammar.{passes, some_pass, signal, port_signal, port, time, event, tracing, marks}
 
 module _ (text : List ℕ) where
-  signal_closed : (way : Way) (x : Signal) → IsClosed (tracing text) marks (signal way x)
-  signal_closed way x = closed_when (tracing text) marks (passes way x) (word (spelled x.name.bytes) done) (λ o m. m)
+  signal_closed : (direction : Direction) (x : Signal) → IsClosed (tracing text) marks (signal direction x)
+  signal_closed direction x = closed_when (tracing text) marks (passes direction x) (word (named x.name.bytes) done) (λ o m. m)
 
-  pub port_closed : (way : Way) (p : Port) → IsClosed (tracing text) marks (port way p)
-  port_closed way p = closed_when (tracing text) marks (some_pass way p.signals) (word (spelled p.name.bytes) (port_signal way p)) (closed_one_of (tracing text) marks (signal way) p.signals (signal_closed way))
+  pub port_closed : (direction : Direction) (p : Port) → IsClosed (tracing text) marks (port direction p)
+  port_closed direction p = closed_when (tracing text) marks (some_pass direction p.signals) (word (named p.name.bytes) (port_signal direction p)) (closed_one_of (tracing text) marks (signal direction) p.signals (signal_closed direction))
 
   pub event_closed : (ports : List Port) → IsClosed (tracing text) marks (event ports)
   event_closed ports =

@@ -9,9 +9,9 @@ use Rattle.est_language.proofs.Parts as parts
 use Rattle.est_language.proofs.Flat.{flat, found_any, refused_any, too_deep_any}
 use Rattle.est_syntax.specs.declared.ports.Signal.{Signal}
 use Rattle.est_syntax.specs.declared.ports.Port.{Port}
-use Rattle.est_texts.specs.Tests.{said, spelled, holds}
-use Rattle.est_trace.specs.declared.way.Way.{Way}
-use Rattle.est_trace.specs.declared.way.Way.TheVariants.{In, Out}
+use Rattle.est_texts.specs.Tests.{said, named, holds}
+use Rattle.est_trace.specs.declared.direction.Direction.{Direction}
+use Rattle.est_trace.specs.declared.direction.Direction.TheVariants.{In, Out}
 use Rattle.est_trace.specs.Grammar.{Rule, passes, some_pass, signal, port_signal, port, event, tracing, marks, event_starts}
 use Rattle.est_trace.specs.Shapes.{Shape, nested}
 use Rattle.est_trace.proofs.Closed.{event_closed}
@@ -31,11 +31,11 @@ when_flat : (w : Bool) (g : Rule) → flat g ≡ true → flat (when w g) ≡ tr
 when_flat true g h = h
 when_flat false g h = refl
 
-signal_flat : (way : Way) (x : Signal) → flat (signal way x) ≡ true
-signal_flat way x = when_flat (passes way x) (word (spelled x.name.bytes) done) refl
+signal_flat : (direction : Direction) (x : Signal) → flat (signal direction x) ≡ true
+signal_flat direction x = when_flat (passes direction x) (word (named x.name.bytes) done) refl
 
-port_flat : (way : Way) (p : Port) → flat (port way p) ≡ true
-port_flat way p = when_flat (some_pass way p.signals) (word (spelled p.name.bytes) (port_signal way p)) (one_of_flat (signal way) p.signals (signal_flat way))
+port_flat : (direction : Direction) (p : Port) → flat (port direction p) ≡ true
+port_flat direction p = when_flat (some_pass direction p.signals) (word (named p.name.bytes) (port_signal direction p)) (one_of_flat (signal direction) p.signals (signal_flat direction))
 
 pub event_flat : (ports : List Port) → flat (event ports) ≡ true
 event_flat ports = both_true _ _ (one_of_flat (port In) ports (port_flat In)) (both_true _ _ (one_of_flat (port Out) ports (port_flat Out)) refl)

@@ -6,7 +6,7 @@ use Rattle.est_lexer.specs.declared.tokens.Tokens.{Tokens}
 use Rattle.est_lexer.specs.Places.{text_of, tokens_of}
 use Rattle.est_language.specs.Grammar.{At, seq, rule, deeper, nothing, some, both, Tree, t_rule, t_opt_in, t_opt_out, t_deeper, t_seq, Partial, p_rule, p_opt, p_deeper, p_first, p_second, p_word}
 use Rattle.est_language.specs.Places.{HasPartial}
-use Rattle.est_language.specs.Answers.{Refuses, Explains, wrong_at, too_deep_at}
+use Rattle.est_language.specs.Answers.{Refuses, SaysWhy, wrong_at, too_deep_at}
 use Rattle.est_language.proofs.Laws as laws
 use Rattle.est_language.proofs.Exits as exits
 use Rattle.est_language.proofs.Trees as trees
@@ -93,7 +93,7 @@ module _ (tokens : Tokens) (ports : List Port) where
       let q : b ≡ 2 = omega (arith, p, y.1) in
       ((x.0, subst (λ o. At (tracing (text_of tokens)) (tokens_of tokens) o (number 1 1)) p y.0), subst (λ o. IsFullAfter ports d (text_of tokens) (tokens_of tokens) o place) q h)
 
-  not_full : (place : ℕ) → Explains (tracing (text_of tokens)) (trace ports) 200000 (tokens_of tokens) (wrong_at place) → IsFull ports 200000 (text_of tokens) (tokens_of tokens) place → ⊥
+  not_full : (place : ℕ) → SaysWhy (tracing (text_of tokens)) (trace ports) 200000 (tokens_of tokens) (wrong_at place) → IsFull ports 200000 (text_of tokens) (tokens_of tokens) place → ⊥
   not_full place h f = let g = full_trace_goes_on 200000 place f in h.1 g.0 (suc 200000) g.1
 
   -- From what is found of the whole to the answer.

@@ -1,5 +1,5 @@
 -- The ports of a checked skeleton are plain.
-use Rattle.std.proofs.Common.{◌≡◌, ℕ, zero, suc, Bool, true, false, ◌||◌, List, [], ◌∷◌, ◌++◌, length, map, refl, sym, ap, ◌∙◌, subst, Option, Some, None, slice_get, inl, inr, nat_lt, if◌then◌else◌}
+use Rattle.std.proofs.Common.{◌≡◌, ℕ, zero, suc, Bool, true, false, ◌||◌, List, [], ◌∷◌, ◌++◌, length, map, refl, sym, ap, ◌∙◌, subst, Option, Some, None, slice_get, inl, inr}
 use Rattle.std.proofs.lemmas.List.{map-append}
 use Rattle.std.proofs.lemmas.Slice.Eq.{bytes_eq-Decides}
 use Rattle.est_syntax.specs.declared.name.Used.{Used}
@@ -10,7 +10,6 @@ use Rattle.est_syntax.specs.declared.specification.InteractionDef.{InteractionDe
 use Rattle.est_syntax.specs.declared.specification.ByPart.{ByPart}
 use Rattle.est_syntax.specs.declared.specification.Channel.{Channel}
 use Rattle.est_syntax.specs.declared.specification.Point.{Point}
-use Rattle.est_syntax.specs.declared.specification.ModvarDef.{ModvarDef}
 use Rattle.est_syntax.specs.declared.specification.Header.{Header}
 use Rattle.est_syntax.specs.declared.specification.Part.{Part}
 use Rattle.est_syntax.specs.declared.specification.Part.TheVariants as part
@@ -22,10 +21,11 @@ use Rattle.est_syntax.specs.Environment.{environment, channel_environment}
 use Rattle.est_syntax.specs.Least.{IsIn}
 use Rattle.est_syntax.specs.Breaks.{IsGood, inside, outermost}
 use Rattle.est_syntax.specs.Ports.{interaction_signals, by_signals, signals_of, named_ports, point_ports, header_ports, ports_of}
-use Rattle.est_syntax.proofs.LeastLaws.{in_first, in_second}
+use Rattle.est_syntax.proofs.Members.{in_first, in_second, in_at}
+use Rattle.est_syntax.proofs.Declared.{side_meant}
 use Rattle.est_check.specs.Skeleton.{IsSkeleton, channel_parts}
 use Rattle.est_check.proofs.PortLaws.{NoFault, started}
-use Rattle.est_trace.specs.Skeletons.{HaveDifferentNames, IsPlainPort, ArePlain}
+use Rattle.est_trace.specs.Skeletons.{HaveDifferentNames, ArePlain}
 use Rattle.est_trace.specs.Directories.{signal_name, port_name}
 use Rattle.est_trace.proofs.Lists.{some_same, image_at}
 
@@ -155,100 +155,23 @@ side_different (Some side) h =
     let split = new_behind [] (spellings (roles_region c.roles)) (spellings (by_region c.by)) (subst (AreNew []) (spellings-append (roles_region c.roles) (by_region c.by)) all) in
     different_by signal_name (by_signals side c.by) split.0 (subst (AreNew split.0) (sym (signal_names side c.by)) split.1)
 
+-- a port that is plain, whatever the number of its signals
+abbrev IsBare : Port → Type 0
+IsBare p = (p.index_kinds ≡ []) × HaveDifferentNames signal_name p.signals × ((i : ℕ) (x : Signal) → slice_get p.signals i ≡ Some x → HasNone x)
+
 -- ports of one point
-named_plain : (signals : List Signal) → HaveDifferentNames signal_name signals → ((i : ℕ) (x : Signal) → slice_get signals i ≡ Some x → HasNone x) → (us : List Used) (i : ℕ) (p : Port) → slice_get (named_ports signals us) i ≡ Some p → IsPlainPort p
-named_plain signals d n [] i p e = cc
-named_plain signals d n (u ∷ us) zero p e = subst IsPlainPort (some_same e) (record { no_subscripts = refl; different = d; no_parameters = n })
-named_plain signals d n (u ∷ us) (suc i) p e = named_plain signals d n us i p e
+named_bare : (signals : List Signal) → HaveDifferentNames signal_name signals → ((i : ℕ) (x : Signal) → slice_get signals i ≡ Some x → HasNone x) → (us : List Used) (i : ℕ) (p : Port) → slice_get (named_ports signals us) i ≡ Some p → IsBare p
+named_bare signals d n [] i p e = cc
+named_bare signals d n (u ∷ us) zero p e = subst IsBare (some_same e) (refl, d, n)
+named_bare signals d n (u ∷ us) (suc i) p e = named_bare signals d n us i p e
 
-points_plain : (scope : Scope) → ((p : Point) (side : Side) → side_of scope p ≡ Some side → NoFault (channel_faults side.channel)) → (ps : List Point) (i : ℕ) (p : Port) → slice_get (point_ports scope ps) i ≡ Some p → IsPlainPort p
-points_plain scope h [] i p e = cc
-points_plain scope h (q ∷ qs) i p e = each-append IsPlainPort (named_ports (signals_of (side_of scope q)) q.names) (point_ports scope qs) (named_plain (signals_of (side_of scope q)) (side_different (side_of scope q) (h q)) (side_plain (side_of scope q)) q.names) (points_plain scope h qs) i p e
-
--- A channel that a name means is one of the parts.
-abbrev Comes : List Part → Sort → Type 0
-Comes all (names.channel c) = IsIn (part.Channel c) all
-Comes all _ = Unit {0}
-
-abbrev AllCome : List Part → Region → Type 0
-AllCome all [] = Unit {0}
-AllCome all (d ∷ ds) = Comes all d.sort × AllCome all ds
-
-abbrev OneComes : List Part → Option Declaration → Type 0
-OneComes all None = Unit {0}
-OneComes all (Some d) = Comes all d.sort
-
-come-append : (all : List Part) (xs ys : Region) → AllCome all xs → AllCome all ys → AllCome all (xs ++ ys)
-come-append all [] ys h k = k
-come-append all (x ∷ xs) ys h k = (h.0, come-append all xs ys h.1 k)
-
-come_if : (all : List Part) (b : Bool) (d : Declaration) (o : Option Declaration) → Comes all d.sort → OneComes all o → OneComes all (if b then Some d else o)
-come_if all true d o h k = h
-come_if all false d o h k = k
-
-come_declared : (all : List Part) (ds : Region) (n : List ℕ) → AllCome all ds → OneComes all (declared_in ds n)
-come_declared all [] n h = tt
-come_declared all (d ∷ ds) n h = come_if all (is_name n (spelled d.name)) d (declared_in ds n) h.0 (come_declared all ds n h.1)
-
-come_force : (all : List Part) (o : Option Declaration) (place : ℕ) → OneComes all o → OneComes all (in_force o place None)
-come_force all None place h = tt
-come_force all (Some d) place h = come_if all (nat_lt d.last place) d None h tt
-
-come_together : (all : List Part) (us : List Used) (last : ℕ) (m : ModvarDef) → AllCome all (declared_together us last (names.module_variable m))
-come_together all [] last m = tt
-come_together all (u ∷ us) last m = (tt, come_together all us last m)
-
-come_modvars : (all : List Part) (ms : List ModvarDef) → AllCome all (modvars_region ms)
-come_modvars all [] = tt
-come_modvars all (m ∷ ms) = come-append all (declared_together m.names m.header.place (names.module_variable m)) (modvars_region ms) (come_together all m.names m.header.place m) (come_modvars all ms)
-
-come_states : (all : List Part) (us : List Used) → AllCome all (states_region us)
-come_states all [] = tt
-come_states all (u ∷ us) = (tt, come_states all us)
-
-come_part : (all : List Part) (p : Part) → IsIn p all → AllCome all (part_region p)
-come_part all (part.Channel c) h = (h, tt)
-come_part all (part.Header k) h = (tt, tt)
-come_part all (part.Body b) h = (tt, tt)
-come_part all (part.Modvars ms) h = come_modvars all ms
-come_part all (part.States us) h = come_states all us
-
-come_parts : (all ps : List Part) → ((p : Part) → IsIn p ps → IsIn p all) → AllCome all (parts_region ps)
-come_parts all [] h = tt
-come_parts all (p ∷ ps) h = come-append all (part_region p) (parts_region ps) (come_part all p (h p (inl refl))) (come_parts all ps (λ q i. h q (inr i)))
-
-channel_comes : (all : List Part) (t : Sort) (c : Channel) → Comes all t → channel_in t ≡ Some c → IsIn (part.Channel c) all
-channel_comes all (names.channel d) c h e = subst (λ v. IsIn (part.Channel v) all) (some_same e) h
-channel_comes all (names.header k) c h e = cc
-channel_comes all (names.body b) c h e = cc
-channel_comes all (names.module_variable m) c h e = cc
-channel_comes all (names.point p side) c h e = cc
-channel_comes all names.state c h e = cc
-channel_comes all (names.role b) c h e = cc
-channel_comes all (names.interaction b i) c h e = cc
-
-seen_comes : (all : List Part) (known : Bool) (o : Option Declaration) (c : Channel) → OneComes all o → channel_by (meaning_by known o None) ≡ Some c → IsIn (part.Channel c) all
-seen_comes all true None c h e = cc
-seen_comes all false None c h e = cc
-seen_comes all known (Some d) c h e = channel_comes all d.sort c h e
-
-channel_of_side : (o : Option Channel) (u : Used) (side : Side) → side_by o u ≡ Some side → o ≡ Some side.channel
-channel_of_side None u side e = cc
-channel_of_side (Some c) u side e = by (role_named c u) e
-  where
-    by : (r : Option Bool) → side_with c r ≡ Some side → Some c ≡ Some side.channel
-    by None z = cc
-    by (Some second) z = ap (λ v. Some v.channel) (some_same z)
+points_bare : (scope : Scope) → ((p : Point) (side : Side) → side_of scope p ≡ Some side → NoFault (channel_faults side.channel)) → (ps : List Point) (i : ℕ) (p : Port) → slice_get (point_ports scope ps) i ≡ Some p → IsBare p
+points_bare scope h [] i p e = cc
+points_bare scope h (q ∷ qs) i p e = each-append IsBare (named_ports (signals_of (side_of scope q)) q.names) (point_ports scope qs) (named_bare (signals_of (side_of scope q)) (side_different (side_of scope q) (h q)) (side_plain (side_of scope q)) q.names) (points_bare scope h qs) i p e
 
 module _ (s : Spec) (sk : IsSkeleton s) (good : IsGood s) where
   side_fine : (p : Point) (side : Side) → side_of (spec_scope s) p ≡ Some side → NoFault (channel_faults side.channel)
-  side_fine p side e =
-      let r : Region = parts_region s.parts in
-      let c = channel_of_side (channel_by (meaning (spec_scope s) p.channel)) p.role side e in
-      let o = in_force (declared_in r (spelled p.channel)) p.channel.place None in
-      let h = come_force s.parts (declared_in r (spelled p.channel)) p.channel.place (come_declared s.parts r (spelled p.channel) (come_parts s.parts s.parts (λ q i. i))) in
-      let i = seen_comes s.parts (is_predeclared (spelled p.channel)) o side.channel h c in
-      λ f k. good f.place f.rule (inside (spec_scope s) (part.Channel side.channel) (outermost i) k)
+  side_fine p side e = λ f k. good f.place f.rule (inside (spec_scope s) (part.Channel side.channel) (outermost (side_meant s p side e)) k)
 
   header_part : (cs : List Channel) (h : Header) (rest : List Part) → IsIn (part.Header h) (channel_parts cs ++ part.Header h ∷ rest)
   header_part [] h rest = inl refl
@@ -264,4 +187,12 @@ module _ (s : Spec) (sk : IsSkeleton s) (good : IsGood s) where
 
   -- the ports of a good skeleton are plain
   pub ports_plain : ArePlain (ports_of s)
-  ports_plain = subst ArePlain (sym (ap (header_ports (spec_scope s)) (started s sk good))) (record { different = points_different; each = points_plain (spec_scope s) side_fine sk.header.points })
+  ports_plain =
+      let are : ports_of s ≡ point_ports (spec_scope s) sk.header.points = ap (header_ports (spec_scope s)) (started s sk good) in
+      record {
+        different = subst (HaveDifferentNames port_name) (sym are) points_different;
+        few = sk.few_ports;
+        each = λ i p e.
+            let bare : IsBare p = points_bare (spec_scope s) side_fine sk.header.points i p (subst (λ ps. slice_get ps i ≡ Some p) are e) in
+            record { no_subscripts = bare.0; different = bare.1; few = sk.few_signals p (in_at (ports_of s) i p e); no_parameters = bare.2 };
+      }

@@ -11,12 +11,12 @@ use Rattle.est_language.proofs.Exits as exits
 use Rattle.est_syntax.specs.declared.ports.Signal.{Signal}
 use Rattle.est_syntax.specs.declared.ports.Port.{Port}
 use Rattle.est_texts.specs.declared.token.BadToken.{BadToken as NoSuchToken}
-use Rattle.est_texts.specs.Tests.{said, spelled, holds}
+use Rattle.est_texts.specs.Tests.{said, named, holds}
 use Rattle.est_texts.specs.Takes.{Takes, stands}
 use Rattle.est_texts.proofs.Taken as taken
 use Rattle.est_trace.specs.declared.error.TraceError.{TraceError}
-use Rattle.est_trace.specs.declared.way.Way.{Way}
-use Rattle.est_trace.specs.declared.way.Way.TheVariants.{In, Out}
+use Rattle.est_trace.specs.declared.direction.Direction.{Direction}
+use Rattle.est_trace.specs.declared.direction.Direction.TheVariants.{In, Out}
 use Rattle.est_trace.specs.Grammar.{Rule, passes, some_pass, signal, port_signal, port, time, event, events, tracing, marks}
 use Rattle.est_trace.specs.Shapes.{Shape}
 use Rattle.est_trace.specs.Skeletons.{IsPlainPort, ArePlain}
@@ -50,33 +50,33 @@ pub chosen_inside : {A : Type 0} (tokens : Tokens) (at : ℕ) (f : A → Rule) (
 chosen_inside tokens at f x h = laws.some_inside (tracing (text_of tokens)) (tokens_of tokens) at _ h
 
 -- a port that was chosen, and what comes behind its name
-module _ (tokens : Tokens) (a : ℕ) (way : Way) (ports : List Port) (g : ArePlain ports) (i : ℕ) (p : Port) (e : slice_get ports i ≡ Some p) (r : IsChosen (port way) ports tokens a (Some i)) where
-  begun : (some_pass way p.signals ≡ true) × MeetsOne (holds (text_of tokens)) (slice_get (tokens_of tokens) a) (spelled p.name.bytes ∷ [])
-  begun = laws.when_begins (holds (text_of tokens)) marks (some_pass way p.signals) (word (spelled p.name.bytes) (port_signal way p)) (slice_get (tokens_of tokens) a) (chosen_at (port way) ports tokens a i p e r)
+module _ (tokens : Tokens) (a : ℕ) (direction : Direction) (ports : List Port) (g : ArePlain ports) (i : ℕ) (p : Port) (e : slice_get ports i ≡ Some p) (r : IsChosen (port direction) ports tokens a (Some i)) where
+  begun : (some_pass direction p.signals ≡ true) × MeetsOne (holds (text_of tokens)) (slice_get (tokens_of tokens) a) (named p.name.bytes ∷ [])
+  begun = laws.when_begins (holds (text_of tokens)) marks (some_pass direction p.signals) (word (named p.name.bytes) (port_signal direction p)) (slice_get (tokens_of tokens) a) (chosen_at (port direction) ports tokens a i p e r)
 
-  pub port_found : (b : ℕ) (t : Shape) → Finds tokens (port_signal way p) 0 (a + 1) b t → Finds tokens (one_of (port way) ports) 0 a b (pick i t)
-  port_found b t h = laws.one_of_found (fits (text_of tokens)) (port way) (port_solid way) ports i p (ports_distinct (text_of tokens) way ports g) e (laws.when_found begun.0 (laws.word_found (fits (text_of tokens)) (only_one (text_of tokens) (spelled p.name.bytes) (slice_get (tokens_of tokens) a) begun.1) h))
+  pub port_found : (b : ℕ) (t : Shape) → Finds tokens (port_signal direction p) 0 (a + 1) b t → Finds tokens (one_of (port direction) ports) 0 a b (pick i t)
+  port_found b t h = laws.one_of_found (fits (text_of tokens)) (port direction) (port_solid direction) ports i p (ports_distinct (text_of tokens) direction ports g) e (laws.when_found begun.0 (laws.word_found (fits (text_of tokens)) (only_one (text_of tokens) (named p.name.bytes) (slice_get (tokens_of tokens) a) begun.1) h))
 
-  pub port_refused : (j : ℕ) (z : Bool) → Fails tokens (port_signal way p) 0 (a + 1) j z → Fails tokens (one_of (port way) ports) 0 a j z
-  port_refused j z h = laws.one_of_refused (fits (text_of tokens)) (port way) (port_solid way) ports i p (ports_distinct (text_of tokens) way ports g) e (chosen_at (port way) ports tokens a i p e r) (laws.when_refused begun.0 (laws.word_refused (fits (text_of tokens)) (only_one (text_of tokens) (spelled p.name.bytes) (slice_get (tokens_of tokens) a) begun.1) h))
+  pub port_refused : (j : ℕ) (z : Bool) → Fails tokens (port_signal direction p) 0 (a + 1) j z → Fails tokens (one_of (port direction) ports) 0 a j z
+  port_refused j z h = laws.one_of_refused (fits (text_of tokens)) (port direction) (port_solid direction) ports i p (ports_distinct (text_of tokens) direction ports g) e (chosen_at (port direction) ports tokens a i p e r) (laws.when_refused begun.0 (laws.word_refused (fits (text_of tokens)) (only_one (text_of tokens) (named p.name.bytes) (slice_get (tokens_of tokens) a) begun.1) h))
 
 -- no port was chosen
-pub no_port : (tokens : Tokens) (a : ℕ) (way : Way) (ports : List Port) → a ≤ length (tokens_of tokens) → IsChosen (port way) ports tokens a None → Fails tokens (one_of (port way) ports) 0 a a false
-no_port tokens a way ports l r = laws.refused_here (fits (text_of tokens)) (laws.one_of_solid (tracing (text_of tokens)) marks (port way) ports (port_solid way)) l r
+pub no_port : (tokens : Tokens) (a : ℕ) (direction : Direction) (ports : List Port) → a ≤ length (tokens_of tokens) → IsChosen (port direction) ports tokens a None → Fails tokens (one_of (port direction) ports) 0 a a false
+no_port tokens a direction ports l r = laws.refused_here (fits (text_of tokens)) (laws.one_of_solid (tracing (text_of tokens)) marks (port direction) ports (port_solid direction)) l r
 
 -- a signal that was chosen
-pub signal_found : (tokens : Tokens) (a : ℕ) (way : Way) (p : Port) → IsPlainPort p → (i : ℕ) → IsChosen (signal way) p.signals tokens a (Some i) → Finds tokens (one_of (signal way) p.signals) 0 a (a + 1) (pick i nothing)
-signal_found tokens a way p g i r =
-    let begun = laws.when_begins (holds (text_of tokens)) marks (passes way r.0) (word (spelled r.0.name.bytes) done) (slice_get (tokens_of tokens) a) r.2 in
-    laws.one_of_found (fits (text_of tokens)) (signal way) (signal_solid way) p.signals i r.0 (signals_distinct (text_of tokens) way p g) r.1 (laws.when_found begun.0 (laws.word_end (fits (text_of tokens)) (only_one (text_of tokens) (spelled r.0.name.bytes) (slice_get (tokens_of tokens) a) begun.1)))
+pub signal_found : (tokens : Tokens) (a : ℕ) (direction : Direction) (p : Port) → IsPlainPort p → (i : ℕ) → IsChosen (signal direction) p.signals tokens a (Some i) → Finds tokens (one_of (signal direction) p.signals) 0 a (a + 1) (pick i nothing)
+signal_found tokens a direction p g i r =
+    let begun = laws.when_begins (holds (text_of tokens)) marks (passes direction r.0) (word (named r.0.name.bytes) done) (slice_get (tokens_of tokens) a) r.2 in
+    laws.one_of_found (fits (text_of tokens)) (signal direction) (signal_solid direction) p.signals i r.0 (signals_distinct (text_of tokens) direction p g) r.1 (laws.when_found begun.0 (laws.word_end (fits (text_of tokens)) (only_one (text_of tokens) (named r.0.name.bytes) (slice_get (tokens_of tokens) a) begun.1)))
 
--- a signal that a token begins passes this way
-pub signal_passes : (tokens : Tokens) (a : ℕ) (way : Way) (x : Signal) → Begins tokens a (signal way x) → passes way x ≡ true
-signal_passes tokens a way x h = (laws.when_begins (holds (text_of tokens)) marks (passes way x) (word (spelled x.name.bytes) done) (slice_get (tokens_of tokens) a) h).0
+-- a signal that a token begins passes in this direction
+pub signal_passes : (tokens : Tokens) (a : ℕ) (direction : Direction) (x : Signal) → Begins tokens a (signal direction x) → passes direction x ≡ true
+signal_passes tokens a direction x h = (laws.when_begins (holds (text_of tokens)) marks (passes direction x) (word (named x.name.bytes) done) (slice_get (tokens_of tokens) a) h).0
 
 -- no signal was chosen
-pub no_signal : (tokens : Tokens) (a : ℕ) (way : Way) (p : Port) → a ≤ length (tokens_of tokens) → IsChosen (signal way) p.signals tokens a None → Fails tokens (one_of (signal way) p.signals) 0 a a false
-no_signal tokens a way p l r = laws.refused_here (fits (text_of tokens)) (laws.one_of_solid (tracing (text_of tokens)) marks (signal way) p.signals (signal_solid way)) l r
+pub no_signal : (tokens : Tokens) (a : ℕ) (direction : Direction) (p : Port) → a ≤ length (tokens_of tokens) → IsChosen (signal direction) p.signals tokens a None → Fails tokens (one_of (signal direction) p.signals) 0 a a false
+no_signal tokens a direction p l r = laws.refused_here (fits (text_of tokens)) (laws.one_of_solid (tracing (text_of tokens)) marks (signal direction) p.signals (signal_solid direction)) l r
 
 -- an event
 module _ (tokens : Tokens) (a : ℕ) (ports : List Port) where

@@ -5,17 +5,17 @@ use Rattle.est_syntax.specs.declared.ports.Port.{Port}
 use Rattle.est_meaning.specs.declared.event.Interaction.{Interaction}
 use Rattle.est_meaning.specs.declared.event.Event.{Event}
 use Rattle.est_meaning.specs.declared.event.Event.TheVariants.{Arrives, Leaves, Passes}
-use Rattle.est_trace.specs.declared.way.Way.{Way}
-use Rattle.est_trace.specs.declared.way.Way.TheVariants.{In, Out}
+use Rattle.est_trace.specs.declared.direction.Direction.{Direction}
+use Rattle.est_trace.specs.declared.direction.Direction.TheVariants.{In, Out}
 use Rattle.est_trace.specs.Grammar.{passes}
 
--- the interaction is of one of the ports and of one of its signals, which passes it this way and has no parameters, and it has no values
-pub record IsAtPort (way : Way) (ports : List Port) (interaction : Interaction) : Type 0 where
+-- the interaction is of one of the ports and of one of its signals, which passes it in this direction and has no parameters, and it has no values
+pub record IsAtPort (direction : Direction) (ports : List Port) (interaction : Interaction) : Type 0 where
   pub port : Port
   pub signal : Signal
   pub port_is : slice_get ports interaction.port ≡ Some port
   pub signal_is : slice_get port.signals interaction.signal ≡ Some signal
-  pub way_is : passes way signal ≡ true
+  pub direction_is : passes direction signal ≡ true
   pub no_parameters : signal.kinds ≡ []
   pub no_values : interaction.values ≡ []
 

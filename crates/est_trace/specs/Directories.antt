@@ -2,10 +2,10 @@
 use Rattle.std.specs.Prelude.{◌≡◌, ℕ, Bool, List, map}
 use Rattle.est_syntax.specs.declared.ports.Signal.{Signal}
 use Rattle.est_syntax.specs.declared.ports.Port.{Port}
-use Rattle.est_trace.specs.declared.lookup.Row.{Row}
+use Rattle.est_trace.specs.declared.lookup.PortRow.{PortRow}
 use Rattle.est_trace.specs.declared.lookup.Directory.{Directory}
-use Rattle.est_trace.specs.declared.way.Way.{Way}
-use Rattle.est_trace.specs.declared.way.Way.TheVariants.{In, Out}
+use Rattle.est_trace.specs.declared.direction.Direction.{Direction}
+use Rattle.est_trace.specs.declared.direction.Direction.TheVariants.{In, Out}
 use Rattle.est_trace.specs.Grammar.{some_pass}
 use Rattle.est_trace.specs.Skeletons.{ArePlain}
 use Rattle.est_trace.specs.Tables.{names_in}
@@ -23,11 +23,11 @@ abbrev pub kept_of : Port → Bool × Bool × List (List ℕ)
 kept_of p = (some_pass In p.signals, some_pass Out p.signals, map signal_name p.signals)
 
 -- what a row tells of a port
-abbrev pub told_by : Row → Bool × Bool × List (List ℕ)
+abbrev pub told_by : PortRow → Bool × Bool × List (List ℕ)
 told_by row = (row.receives, row.sends, names_in row.signals)
 
--- whether a row tells that some signal passes the port this way
-abbrev pub passed_by : Way → Row → Bool
+-- whether a row tells that some signal passes the port in this direction
+abbrev pub passed_by : Direction → PortRow → Bool
 passed_by In row = row.receives
 passed_by Out row = row.sends
 

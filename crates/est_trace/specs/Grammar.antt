@@ -6,34 +6,34 @@ use Rattle.est_language.specs.Grammar.{Grammar, Language, done, word, token, seq
 use Rattle.est_language.specs.Marks.{Marks}
 use Rattle.est_syntax.specs.declared.ports.Signal.{Signal}
 use Rattle.est_syntax.specs.declared.ports.Port.{Port}
-use Rattle.est_texts.specs.Tests.{Test, said, spelled, number, language}
-use Rattle.est_trace.specs.declared.way.Way.{Way}
-use Rattle.est_trace.specs.declared.way.Way.TheVariants.{In, Out}
+use Rattle.est_texts.specs.Tests.{Test, said, named, number, language}
+use Rattle.est_trace.specs.declared.direction.Direction.{Direction}
+use Rattle.est_trace.specs.declared.direction.Direction.TheVariants.{In, Out}
 
 -- The productions are named by lists of ports.
 abbrev pub Rule : Type 0
 Rule = Grammar Test (List Port)
 
--- whether a signal passes its port this way: the port receives it, or sends it
-abbrev pub passes : Way → Signal → Bool
+-- whether a signal passes its port in this direction: the port receives it, or sends it
+abbrev pub passes : Direction → Signal → Bool
 passes In signal = signal.receives
 passes Out signal = signal.sends
 
--- whether some signal passes its port this way
-abbrev pub some_pass : Way → List Signal → Bool
-some_pass way signals = list_any (passes way) signals
+-- whether some signal passes its port in this direction
+abbrev pub some_pass : Direction → List Signal → Bool
+some_pass direction signals = list_any (passes direction) signals
 
--- a signal that passes this way: its name. The ports of skeletons have no parameters, so no value stands behind it.
-abbrev pub signal : Way → Signal → Rule
-signal way x = when (passes way x) (word (spelled x.name.bytes) done)
+-- a signal that passes in this direction: its name. The ports of skeletons have no parameters, so no value stands behind it.
+abbrev pub signal : Direction → Signal → Rule
+signal direction x = when (passes direction x) (word (named x.name.bytes) done)
 
 -- the signal of a port, behind "."
-abbrev pub port_signal : Way → Port → Rule
-port_signal way p = word (said ".") (one_of (signal way) p.signals)
+abbrev pub port_signal : Direction → Port → Rule
+port_signal direction p = word (said ".") (one_of (signal direction) p.signals)
 
--- a port that some signal passes this way, "." and such a signal. The ports of skeletons are elements of no array, so no subscript stands behind the name.
-abbrev pub port : Way → Port → Rule
-port way p = when (some_pass way p.signals) (word (spelled p.name.bytes) (port_signal way p))
+-- a port that some signal passes in this direction, "." and such a signal. The ports of skeletons are elements of no array, so no subscript stands behind the name.
+abbrev pub port : Direction → Port → Rule
+port direction p = when (some_pass direction p.signals) (word (named p.name.bytes) (port_signal direction p))
 
 -- "time" number
 abbrev pub time : Rule

@@ -6,7 +6,7 @@ use Rattle.est_language.specs.Grammar.{one_of}
 use Rattle.est_language.specs.Marks.{MeetsOne, can_begin}
 use Rattle.est_syntax.specs.declared.ports.Port.{Port}
 use Rattle.est_texts.specs.Tests.{holds}
-use Rattle.est_trace.specs.declared.way.Way.{Way}
+use Rattle.est_trace.specs.declared.direction.Direction.{Direction}
 use Rattle.est_trace.specs.Grammar.{Rule, marks, signal}
 
 -- the token at the place begins g
@@ -19,5 +19,5 @@ IsChosen {A} f xs tokens at (Some i) = (x : A) × (slice_get xs i ≡ Some x) ×
 IsChosen f xs tokens at None = Begins tokens at (one_of f xs) → ⊥
 
 -- the number of the signal of a port that the token at the place begins, or none where it begins no signal of the port
-abbrev pub ChoosesSignal : List Port → ℕ → Tokens → ℕ → Way → Option ℕ → Type 0
-ChoosesSignal ports port tokens at way chosen = (p : Port) → slice_get ports port ≡ Some p → IsChosen (signal way) p.signals tokens at chosen
+abbrev pub ChoosesSignal : List Port → ℕ → Tokens → ℕ → Direction → Option ℕ → Type 0
+ChoosesSignal ports port tokens at direction chosen = (p : Port) → slice_get ports port ≡ Some p → IsChosen (signal direction) p.signals tokens at chosen

@@ -1,5 +1,5 @@
 -- The ports of skeletons.
-use Rattle.std.specs.Prelude.{◌≡◌, ℕ, List, [], Some, slice_get}
+use Rattle.std.specs.Prelude.{◌≡◌, ℕ, ◌≤◌, List, [], length, Some, slice_get}
 use Rattle.est_syntax.specs.declared.ports.Signal.{Signal}
 use Rattle.est_syntax.specs.declared.ports.Port.{Port}
 
@@ -7,13 +7,15 @@ use Rattle.est_syntax.specs.declared.ports.Port.{Port}
 abbrev pub HaveDifferentNames : {A : Type 0} → (A → List ℕ) → List A → Type 0
 HaveDifferentNames {A} name xs = (i j : ℕ) (x y : A) → slice_get xs i ≡ Some x → slice_get xs j ≡ Some y → name x ≡ name y → i ≡ j
 
--- a port that is no element of an array, with signals without parameters whose names differ
+-- a port that is no element of an array, with few signals, without parameters, whose names differ
 pub record IsPlainPort (p : Port) : Type 0 where
   pub no_subscripts : p.index_kinds ≡ []
   pub different : HaveDifferentNames (λ (x : Signal). x.name.bytes) p.signals
+  pub few : length p.signals ≤ 1048576
   pub no_parameters : (i : ℕ) (x : Signal) → slice_get p.signals i ≡ Some x → x.kinds ≡ []
 
--- the ports of a skeleton: plain ports whose names differ
+-- the ports of a skeleton: few plain ports whose names differ
 pub record ArePlain (ports : List Port) : Type 0 where
   pub different : HaveDifferentNames (λ (p : Port). p.name.bytes) ports
+  pub few : length ports ≤ 1048576
   pub each : (i : ℕ) (p : Port) → slice_get ports i ≡ Some p → IsPlainPort p

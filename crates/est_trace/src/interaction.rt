@@ -9,9 +9,9 @@ ghost use Rattle.est_trace.specs.Directories.{IsDirectory};
 ghost use Rattle.est_trace.specs.AtPorts.{IsAtPort};
 ghost use Rattle.est_trace.specs.Reading.{Reads, Onward};
 
+use crate::direction::Direction;
 use crate::error::TraceError;
 use crate::lookup::{Directory, find_port, find_signal};
-use crate::way::Way;
 use est_lexer::tokens::Tokens;
 use est_meaning::event::Interaction;
 use est_syntax::kind::Values;
@@ -24,19 +24,19 @@ pub fn interaction(
     directory: &Directory,
     tokens: &Tokens,
     at: u32,
-    way: Way,
+    direction: Direction,
 ) -> Result<(Interaction, u32), TraceError>
     requires inside { at ≤ length (tokens_of tokens.now) }
     requires directory { IsDirectory directory.now }
-    ensures reads { Reads tokens.now (one_of (a_port way) directory.now.ports.now) 0 at interaction_shape result }
+    ensures reads { Reads tokens.now (one_of (a_port direction) directory.now.ports.now) 0 at interaction_shape result }
     ensures onward { Onward tokens.now at result }
-    ensures at_port { IfOk result (λ x. IsAtPort way directory.now.ports.now x.0) }
+    ensures at_port { IfOk result (λ x. IsAtPort direction directory.now.ports.now x.0) }
 {
-    let Some(port) = find_port(alloc, directory, tokens, at, way)? else {
+    let Some(port) = find_port(alloc, directory, tokens, at, direction)? else {
         return Err(TraceError::BadToken { place: at });
     };
     let at_signal = expect_word(tokens, at + 1, b".")?;
-    let Some(signal) = find_signal(alloc, directory, port, tokens, at_signal, way)? else {
+    let Some(signal) = find_signal(alloc, directory, port, tokens, at_signal, direction)? else {
         return Err(TraceError::BadToken { place: at_signal });
     };
     let values = Values::new(alloc);

@@ -1,6 +1,7 @@
 //! Traces: what happens at the outside ports of a specification.
 #![tactic(auto)]
 
+mod direction;
 pub mod error;
 mod interaction;
 mod lookup;
@@ -8,4 +9,3 @@ mod table;
 #[cfg(test)]
 mod tests;
 pub mod trace;
-mod way;

@@ -1,23 +1,23 @@
 //! Ports and signals by their names.
 
 ghost use Rattle.std.specs.Prelude.{◌≡◌, ◌<◌, length, map, IfOk};
-ghost use Rattle.est_trace.specs.declared.way.Way.TheVariants.{In as Coming, Out as Going};
+ghost use Rattle.est_trace.specs.declared.direction.Direction.TheVariants.{In as Coming, Out as Going};
 ghost use Rattle.est_trace.specs.Grammar.{passes as does_pass, some_pass as some_do_pass, port as a_port};
 ghost use Rattle.est_trace.specs.Skeletons.{ArePlain, HaveDifferentNames};
 ghost use Rattle.est_trace.specs.Tables.{names_in};
 ghost use Rattle.est_trace.specs.Directories.{signal_name, passed_by, IsDirectory};
 ghost use Rattle.est_trace.specs.Lookups.{IsChosen, ChoosesSignal};
 
+use crate::direction::Direction;
 use crate::table::NameTable;
-use crate::way::Way;
 use est_lexer::tokens::Tokens;
 use est_syntax::ports::{Port, Ports, Signal};
-use est_texts::token::word_at;
+use est_texts::token::name_at;
 use std::alloc::{AllocError, Global};
 
 /// What a directory keeps of a port.
 #[derive(Drop)]
-struct Row {
+struct PortRow {
     receives: bool,
     sends: bool,
     signals: NameTable,
@@ -28,7 +28,7 @@ struct Row {
 pub struct Directory<'p> {
     pub ports: &'p [Port],
     names: NameTable,
-    rows: Vec<Row>,
+    rows: Vec<PortRow>,
 }
 
 /// The directory of these ports.
@@ -53,7 +53,7 @@ pub fn directory_of<'p>(alloc: Global, ports: &'p Ports) -> Result<Directory<'p>
 }
 
 // What is kept of a port with these signals.
-fn row_of(alloc: Global, signals: &[Signal]) -> Result<Row, AllocError>
+fn row_of(alloc: Global, signals: &[Signal]) -> Result<PortRow, AllocError>
     requires { HaveDifferentNames signal_name signals.now }
     ensures receives { IfOk result (λ row. row.receives ≡ some_do_pass Coming signals.now) }
     ensures sends { IfOk result (λ row. row.sends ≡ some_do_pass Going signals.now) }
@@ -63,97 +63,85 @@ fn row_of(alloc: Global, signals: &[Signal]) -> Result<Row, AllocError>
     for signal in signals.iter() {
         names.add(alloc, signal.name.bytes.as_slice())?;
     }
-    Ok(Row {
-        receives: some_pass(signals, Way::In),
-        sends: some_pass(signals, Way::Out),
+    Ok(PortRow {
+        receives: some_pass(signals, Direction::In),
+        sends: some_pass(signals, Direction::Out),
         signals: names,
     })
 }
 
-// Whether the signal passes its port this way.
-fn passes(signal: &Signal, way: Way) -> bool
-    ensures { result ≡ does_pass way signal.now }
+// Whether the signal passes its port in this direction.
+fn passes(signal: &Signal, direction: Direction) -> bool
+    ensures { result ≡ does_pass direction signal.now }
 {
-    match way {
-        Way::In => signal.receives,
-        Way::Out => signal.sends,
+    match direction {
+        Direction::In => signal.receives,
+        Direction::Out => signal.sends,
     }
 }
 
-// Whether some signal passes its port this way.
-fn some_pass(signals: &[Signal], way: Way) -> bool
-    ensures { result ≡ some_do_pass way signals.now }
+// Whether some signal passes its port in this direction.
+fn some_pass(signals: &[Signal], direction: Direction) -> bool
+    ensures { result ≡ some_do_pass direction signals.now }
 {
-    signals.iter().any(|signal| passes(signal, way))
+    signals.iter().any(|signal| passes(signal, direction))
 }
 
-// Whether some signal of the port passes it this way.
-fn is_passed(row: &Row, way: Way) -> bool
-    ensures { result ≡ passed_by way row.now }
+// Whether some signal of the port passes it in this direction.
+fn is_passed(row: &PortRow, direction: Direction) -> bool
+    ensures { result ≡ passed_by direction row.now }
 {
-    match way {
-        Way::In => row.receives,
-        Way::Out => row.sends,
+    match direction {
+        Direction::In => row.receives,
+        Direction::Out => row.sends,
     }
 }
 
-// The number in 32 bits. A list with more items than those count is more than memory holds.
-fn narrow(number: usize) -> Result<u32, AllocError>
-    ensures { IfOk result (λ narrowed. narrowed ≡ number) }
-{
-    match u32::try_from(number) {
-        Ok(narrowed) => Ok(narrowed),
-        Err(_) => Err(AllocError),
-    }
-}
-
-/// The number of the port that stands at the place and that some signal passes this way.
+/// The number of the port that stands at the place and that some signal passes in this direction.
 pub fn find_port(
     alloc: Global,
     directory: &Directory,
     tokens: &Tokens,
     at: u32,
-    way: Way,
+    direction: Direction,
 ) -> Result<Option<u32>, AllocError>
     requires { IsDirectory directory.now }
-    ensures { IfOk result (λ found. IsChosen (a_port way) directory.now.ports.now tokens.now at found) }
+    ensures { IfOk result (λ found. IsChosen (a_port direction) directory.now.ports.now tokens.now at found) }
 {
-    let Some(name) = word_at(alloc, tokens, at)? else {
+    let Some(name) = name_at(alloc, tokens, at)? else {
         return Ok(None);
     };
     let Some(port) = directory.names.number_of(&name) else {
         return Ok(None);
     };
-    if !is_passed(&directory.rows[port], way) {
+    if !is_passed(&directory.rows[port], direction) {
         return Ok(None);
     }
-    let number = narrow(port)?;
-    Ok(Some(number))
+    Ok(Some(port as u32))
 }
 
-/// The number of the signal that stands at the place and passes the port this way.
+/// The number of the signal that stands at the place and passes the port in this direction.
 pub fn find_signal(
     alloc: Global,
     directory: &Directory,
     port: u32,
     tokens: &Tokens,
     at: u32,
-    way: Way,
+    direction: Direction,
 ) -> Result<Option<u32>, AllocError>
     requires directory { IsDirectory directory.now }
     requires inside { port < length directory.now.ports.now }
-    ensures { IfOk result (λ found. ChoosesSignal directory.now.ports.now port tokens.now at way found) }
+    ensures { IfOk result (λ found. ChoosesSignal directory.now.ports.now port tokens.now at direction found) }
 {
-    let Some(name) = word_at(alloc, tokens, at)? else {
+    let Some(name) = name_at(alloc, tokens, at)? else {
         return Ok(None);
     };
     let Some(signal) = directory.rows[port as usize].signals.number_of(&name) else {
         return Ok(None);
     };
     let signals = directory.ports[port as usize].signals.as_slice();
-    if !passes(&signals[signal], way) {
+    if !passes(&signals[signal], direction) {
         return Ok(None);
     }
-    let number = narrow(signal)?;
-    Ok(Some(number))
+    Ok(Some(signal as u32))
 }

@@ -15,10 +15,10 @@ ghost use Rattle.est_trace.specs.Directories.{IsDirectory};
 ghost use Rattle.est_trace.specs.AtPorts.{IsAtPorts, AreAtPorts};
 ghost use Rattle.est_trace.specs.Reading.{Reads, Onward, CountsEvents, CountsTrace, ReadsTrace};
 
+use crate::direction::Direction;
 use crate::error::TraceError;
 use crate::interaction::interaction;
 use crate::lookup::{Directory, directory_of};
-use crate::way::Way;
 use est_check::Checked;
 use est_lexer::tokens::Tokens;
 use est_meaning::event::{Event, Trace};
@@ -133,10 +133,10 @@ fn event(
     ensures at_ports { IfOk result (λ x. IsAtPorts directory.now.ports.now x.0) }
 {
     if word_is(tokens, at, b"in") {
-        let (arrival, end) = interaction(alloc, directory, tokens, at + 1, Way::In)?;
+        let (arrival, end) = interaction(alloc, directory, tokens, at + 1, Direction::In)?;
         Ok((Event::Arrives(arrival), end))
     } else if word_is(tokens, at, b"out") {
-        let (departure, end) = interaction(alloc, directory, tokens, at + 1, Way::Out)?;
+        let (departure, end) = interaction(alloc, directory, tokens, at + 1, Direction::Out)?;
         Ok((Event::Leaves(departure), end))
     } else {
         let at_units = expect_word(tokens, at, b"time")?;

@@ -1,9 +1,8 @@
-use Rattle.std.proofs.Common.{rules, ◌≡◌, ℕ, zero, suc, ◌≤◌, ◌^◌, Bool, true, false, List, [], ◌∷◌, ◌++◌, length, refl, sym, ap, ◌∙◌, subst, arith, Some, slice_get}
+use Rattle.std.proofs.Common.{◌≡◌, ℕ, zero, suc, ◌≤◌, false, List, [], ◌∷◌, ◌++◌, length, refl, sym, ap, ◌∙◌, subst, arith, Some, slice_get}
 use Rattle.std.specs.Prelude.{codes, bytes_eq}
 use Rattle.std.proofs.lemmas.Slice.Eq.{bytes_eq-Decides}
 use Rattle.est_language.proofs.Exits.{not_met}
 use Rattle.est_syntax.specs.declared.ports.Signal.{Signal}
-use Rattle.est_syntax.specs.declared.ports.Port.{Port}
 use Rattle.est_trace.specs.Skeletons.{HaveDifferentNames, IsPlainPort, ArePlain}
 use Rattle.est_trace.specs.Directories.{signal_name, port_name}
 use Rattle.est_trace.proofs.tests.two_ports.Goals as goal
@@ -55,14 +54,17 @@ returns c =
     let plain_p : IsPlainPort p = record {
       no_subscripts = pp.1;
       different = subst (λ v. HaveDifferentNames signal_name v) (sym both) (two_differ signal_name go left (names_differ signal_name go left (codes "go") (codes "left") c.in_ok-go.ensures.0 c.in_ok-left.ensures.0 (texts_differ (codes "go") (codes "left") refl)));
+      few = subst (λ v. length v ≤ 1048576) (sym both) (omega arith);
       no_parameters = subst (λ v. (i : ℕ) (x : Signal) → slice_get v i ≡ Some x → x.kinds ≡ []) (sym both) (two_each (λ x. x.kinds ≡ []) go left c.in_ok-go.ensures.1 c.in_ok-left.ensures.1);
     } in
     let plain_q : IsPlainPort q = record {
       no_subscripts = qq.1;
       different = subst (λ v. HaveDifferentNames signal_name v) (sym one) (one_differs signal_name up);
+      few = subst (λ v. length v ≤ 1048576) (sym one) (omega arith);
       no_parameters = subst (λ v. (i : ℕ) (x : Signal) → slice_get v i ≡ Some x → x.kinds ≡ []) (sym one) (one_each (λ x. x.kinds ≡ []) up c.in_ok-up.ensures.1);
     } in
     subst ArePlain (sym ports) (record {
       different = two_differ port_name p q (names_differ port_name p q (codes "p") (codes "q") pp.0 qq.0 (texts_differ (codes "p") (codes "q") refl));
+      few = omega arith;
       each = two_each IsPlainPort p q plain_p plain_q;
     })

@@ -1,8 +1,8 @@
-//! The two ways of an interaction.
+//! The two directions of an interaction.
 
 /// Whether an interaction comes in at a port or goes out.
 #[derive(Clone, Copy, Debug, PartialEq, Eq)]
-pub enum Way {
+pub enum Direction {
     In,
     Out,
 }
