@@ -9,19 +9,19 @@ use Rattle.est_meaning.specs.declared.run.Move.TheVariants.{Take, Fire}
 use Rattle.est_meaning.specs.Choices.{IsSettled, IsPossible}
 use Rattle.est_meaning.specs.Blocks.{Outcome, Done, Fault, Limit}
 use Rattle.est_meaning.specs.Step.{outcome, start_of}
-use Rattle.est_meaning.specs.Run.{Setup, Place, first_place, after_firing, Fires, Moves, IsBoundedRun, Follows, FollowsBefore, Yields}
+use Rattle.est_meaning.specs.Run.{IsPrefix, Setup, Place, first_place, after_firing, Fires, Moves, IsBoundedRun, Follows, FollowsBefore, Yields}
 use Rattle.est_meaning.proofs.StepLaws.{possible_settled, limit_done, fault_done}
 use Rattle.est_meaning.proofs.RunLaws.{Grows, follows_grows, moves_one, one_place, explains_follows}
 use Rattle.est_replay.specs.declared.verdict.Why.{Why}
 use Rattle.est_replay.specs.declared.verdict.Why.TheVariants as why
 use Rattle.est_replay.specs.declared.verdict.Replayed.{Replayed}
 use Rattle.est_replay.specs.declared.verdict.Replayed.TheVariants.{Confirmed, Rejected}
-use Rattle.est_replay.specs.Replay.{IsPrefix, Agrees, FiringFails, MoveFails, IsPassed, IsAnswer, AnswersFrom, OneAnswer}
+use Rattle.est_replay.specs.Replay.{Agrees, FiringFails, MoveFails, IsPassed, IsAnswer, AnswersFrom, OneAnswer}
 
 -- AGREEING
 
 -- what begins with a prefix of the trace and is no longer is one too
-pub prefix_before : (trace more less : List Event) → IsPrefix trace (less ++ more) → IsPrefix trace less
+pub prefix_before : (trace more less : List Event) → IsPrefix (less ++ more) trace → IsPrefix less trace
 prefix_before trace more less p = (more ++ p.0, p.1 ∙ append_assoc less more p.0)
 
 -- a place that follows the trace agrees with it, whatever moves are left
@@ -36,7 +36,7 @@ follows_agrees c claim (m ∷ left) p f = f
 -- the move passes every check
 pub record Passes (c : Setup) (agrees : Place → Type 0) (p : Place) (m : Move) (q : Place) : Type 0 where
   pub moves : Moves c p m q
-  pub bounded : q.row ≤ c.silent
+  pub bounded : q.silent_in_row ≤ c.silent
   pub agreed : agrees q
 
 fires_done : (c : Setup) (p : Place) (f : Firing) (q : Place) (t : Fires c p f q) (o : Outcome) → outcome c.limit c.spec p.situation f ≡ o → Done t.situation t.outs ≡ o
@@ -56,7 +56,7 @@ firing_passes c agrees p f q why.WrongOutput t fails =
     fails.2 (subst agrees e t.agreed)
 firing_passes c agrees p f q why.TooSilent t fails =
     let e : q ≡ fails.0 = moves_one c p (Fire f) q fails.0 t.moves fails.1 in
-    let row : q.row ≡ fails.0.row = ap (λ (x : Place). x.row) e in
+    let row : q.silent_in_row ≡ fails.0.silent_in_row = ap (λ (x : Place). x.silent_in_row) e in
     let few = t.bounded in
     let many = fails.3 in
     absurd (omega arith)

@@ -6,20 +6,20 @@ use Rattle.std.proofs.lemmas.Bool.Decides.{Decides-eqb}
 use Rattle.std.proofs.lemmas.List.{take-append-drop, take_all, take-take, take-append-le, length-append, length-take-le, append_cancel_left, get_or_append_left, drop_more}
 use Rattle.est_meaning.specs.declared.event.Event.{Event}
 use Rattle.est_meaning.specs.declared.run.Firing.{Firing}
-use Rattle.est_meaning.specs.Order.{IsAmong}
-use Rattle.est_replay.specs.Replay.{IsPrefix}
+use Rattle.est_syntax.specs.Least.{IsIn}
+use Rattle.est_meaning.specs.Run.{IsPrefix}
 
 -- BEGINNINGS
 
-pub begins_whole : (trace events : List Event) (n : ℕ) → length events ≤ n → take n events ≡ take n trace → IsPrefix trace events
+pub begins_whole : (trace events : List Event) (n : ℕ) → length events ≤ n → take n events ≡ take n trace → IsPrefix events trace
 begins_whole trace events n le same = (drop n trace, sym (take-append-drop n trace) ∙ ap (λ w. w ++ drop n trace) (sym same ∙ take_all n events le))
 
-pub no_longer : (trace events : List Event) → length trace < length events → IsPrefix trace events → ⊥
+pub no_longer : (trace events : List Event) → length trace < length events → IsPrefix events trace → ⊥
 no_longer trace events lt p =
     let e : length trace ≡ length events + length p.0 = ap length p.1 ∙ length-append events p.0 in
     absurd (omega arith)
 
-pub no_difference : (trace events : List Event) (k : ℕ) (d : Event) → k < length events → (get_or events k d ≡ get_or trace k d → ⊥) → IsPrefix trace events → ⊥
+pub no_difference : (trace events : List Event) (k : ℕ) (d : Event) → k < length events → (get_or events k d ≡ get_or trace k d → ⊥) → IsPrefix events trace → ⊥
 no_difference trace events k d lt differs p = differs (sym (ap (λ w. get_or w k d) p.1 ∙ get_or_append_left events p.0 d k lt))
 
 -- FROM A PLACE ON
@@ -38,7 +38,7 @@ taken_short trace outs so asked within lt =
     take-append-le asked (take so trace) outs le ∙ take-take asked so trace (omega arith)
 
 -- the events from there on begin the rest of the trace, just where all events up to so many begin the trace
-pub agrees_on : (trace outs : List Event) (so asked : ℕ) → so ≤ length trace → IsPrefix (drop so trace) (take (asked - so) outs) → IsPrefix trace (take asked (take so trace ++ outs))
+pub agrees_on : (trace outs : List Event) (so asked : ℕ) → so ≤ length trace → IsPrefix (take (asked - so) outs) (drop so trace) → IsPrefix (take asked (take so trace ++ outs)) trace
 agrees_on trace outs so asked within p =
     elim (cases_lt asked so) [
       | inl lt ↦ (drop asked trace, sym (take-append-drop asked trace) ∙ ap (λ w. w ++ drop asked trace) (sym (taken_short trace outs so asked within lt)))
@@ -49,10 +49,10 @@ agrees_on trace outs so asked within p =
       )
     ]
 
-pub agrees_back : (trace outs : List Event) (so asked : ℕ) → so ≤ length trace → IsPrefix trace (take asked (take so trace ++ outs)) → IsPrefix (drop so trace) (take (asked - so) outs)
+pub agrees_back : (trace outs : List Event) (so asked : ℕ) → so ≤ length trace → IsPrefix (take asked (take so trace ++ outs)) trace → IsPrefix (take (asked - so) outs) (drop so trace)
 agrees_back trace outs so asked within p =
     elim (cases_lt asked so) [
-      | inl lt ↦ (let none : 0 ≡ asked - so = omega arith in subst (λ n. IsPrefix (drop so trace) (take n outs)) none (drop so trace, refl))
+      | inl lt ↦ (let none : 0 ≡ asked - so = omega arith in subst (λ n. IsPrefix (take n outs) (drop so trace)) none (drop so trace, refl))
       | inr le ↦ (
         p.0,
         append_cancel_left (take so trace) (drop so trace) (take (asked - so) outs ++ p.0)
@@ -66,9 +66,9 @@ next_of trace n e lt at = sym (take-append-drop n trace) ∙ ap (λ w. take n tr
 
 -- AMONG
 
-pub among_at : {X : Type 0} (x : X) (xs : List X) (k : ℕ) (d : X) → k < length xs → get_or xs k d ≡ x → IsAmong x xs
+pub among_at : {X : Type 0} (x : X) (xs : List X) (k : ℕ) (d : X) → k < length xs → get_or xs k d ≡ x → IsIn x xs
 among_at x [] k d lt e = absurd (omega arith)
-among_at x (y ∷ ys) zero d lt e = inl (sym e)
+among_at x (y ∷ ys) zero d lt e = inl e
 among_at x (y ∷ ys) (suc k) d lt e = inr (among_at x ys k d (omega arith) e)
 
 both_true : (a b : Bool) → true ≡ (a && b) → (a ≡ true) × (b ≡ true)

@@ -17,16 +17,16 @@ use Rattle.est_meaning.specs.Blocks.{Outcome, Done, Fault, Limit}
 use Rattle.est_meaning.specs.Step.{outcome, after_event}
 use Rattle.est_meaning.specs.Stack.{Stack, pushed, OffersAre, FiredAs}
 use Rattle.est_meaning.specs.Allowed.{IsAllowed, IsArrival, units_of}
-use Rattle.est_meaning.specs.Order.{IsAmong}
-use Rattle.est_meaning.specs.Run.{Setup, IsFromOutside, after_taking, after_firing, Takes, Follows}
+use Rattle.est_syntax.specs.Least.{IsIn}
+use Rattle.est_meaning.specs.Run.{IsPrefix, Setup, IsFromOutside, after_taking, after_firing, Takes, Follows}
 use Rattle.est_meaning.proofs.StackLaws.{fired_done, fired_fault, fired_limit}
 use Rattle.est_meaning.proofs.RunLaws.{bounded_is_run}
 use Rattle.est_meaning.proofs.ClockLaws.{clock_bounded}
 use Rattle.est_replay.specs.declared.verdict.Why.TheVariants as why
 use Rattle.est_replay.specs.declared.replay.Standing.{Standing}
 use Rattle.est_replay.specs.declared.replay.Moved.{Moved}
-use Rattle.est_replay.specs.declared.replay.Moved.TheVariants.{On, Off}
-use Rattle.est_replay.specs.Replay.{IsPrefix, HasNoEvent, MoveFails}
+use Rattle.est_replay.specs.declared.replay.Moved.TheVariants.{Passed, Failed}
+use Rattle.est_replay.specs.Replay.{HasNoEvent, MoveFails}
 use Rattle.est_replay.specs.Standing.{IsReady, AgreesUpTo, HasMoved, HasLanded, place_of}
 use Rattle.est_replay.proofs.Checks.{follows_agrees}
 use Rattle.est_replay.proofs.Events.{next_of}
@@ -56,7 +56,7 @@ module _ (c : Setup) (spec : Spec) (limit silent : ℕ) (trace : List Event) (st
   next_takes e lt is outside = record { event = e; rest = drop (at.events + 1) trace; outside = outside; next = r.suits.trace_is ∙ next_of trace at.events e lt is; leads = refl }
 
   pub next_taken : (asked : ℕ) (e : Event) (s : Situation) → at.events < length trace → get_or trace at.events e ≡ e → IsFromOutside e → after_event spec stack.now e ≡ s
-      → HasMoved c asked (place_of stack trace at) Take s (On (record { events = at.events + 1; row = 0 }))
+      → HasMoved c asked (place_of stack trace at) Take s (Passed (record { events = at.events + 1; silent_in_row = 0 }))
   unfolding next_takes
   next_taken asked e s lt is outside after =
       let p = place_of stack trace at in
@@ -72,7 +72,7 @@ module _ (c : Setup) (spec : Spec) (limit silent : ℕ) (trace : List Event) (st
         record {
           situation_is = ap (λ x. after_event x stack.now e) r.suits.spec_is ∙ after;
           many = length_push (take at.events trace) e ∙ ap (λ n. n + 1) many;
-          row_is = refl;
+          silent_in_row_is = refl;
         },
       )
 
@@ -104,10 +104,10 @@ module _ (c : Setup) (spec : Spec) (limit silent : ℕ) (trace : List Event) (st
     pub fails_unsettled : OffersAre limit spec stack.now Unsettled fs → MoveFails c (AgreesUpTo c asked) (place_of stack trace at) (Fire f) why.Limit
     fails_unsettled h = inl (offered Unsettled fs h).0
 
-    pub fails_not_offered : OffersAre limit spec stack.now Settled fs → (IsAmong f fs → ⊥) → MoveFails c (AgreesUpTo c asked) (place_of stack trace at) (Fire f) why.NotOffered
+    pub fails_not_offered : OffersAre limit spec stack.now Settled fs → (IsIn f fs → ⊥) → MoveFails c (AgreesUpTo c asked) (place_of stack trace at) (Fire f) why.NotOffered
     fails_not_offered h away = (let o = offered Settled fs h in (o.0, λ possible. away (o.1.complete f possible)))
 
-    pub possible_of : OffersAre limit spec stack.now Settled fs → IsAmong f fs → IsPossible c.limit c.spec stack.now f
+    pub possible_of : OffersAre limit spec stack.now Settled fs → IsIn f fs → IsPossible c.limit c.spec stack.now f
     possible_of h among = (offered Settled fs h).1.sound f among
 
     outcome_is : (o : Outcome) (limit' : ℕ) (mid : Stack) → limit' ≡ limit → mid ≡ stack → outcome limit' spec mid.now f ≡ o → outcome c.limit c.spec stack.now f ≡ o
@@ -115,7 +115,7 @@ module _ (c : Setup) (spec : Spec) (limit silent : ℕ) (trace : List Event) (st
         ap (λ x. outcome c.limit x stack.now f) r.suits.spec_is ∙ ap (λ n. outcome n spec stack.now f) (r.suits.limit_is ∙ sym l)
         ∙ ap (λ (x : Stack). outcome limit' spec x.now f) (sym m) ∙ e
 
-    module _ (limit' : ℕ) (mid new : Stack) (outs : List Event) (limit_same : limit' ≡ limit) (stack_same : mid ≡ stack) (h : OffersAre limit spec stack.now Settled fs) (among : IsAmong f fs) where
+    module _ (limit' : ℕ) (mid new : Stack) (outs : List Event) (limit_same : limit' ≡ limit) (stack_same : mid ≡ stack) (h : OffersAre limit spec stack.now Settled fs) (among : IsIn f fs) where
       pub fails_fault : (g : BlockFault) → FiredAs (outcome limit' spec mid.now f) (fired.Fault g) outs mid new → MoveFails c (AgreesUpTo c asked) (place_of stack trace at) (Fire f) (why.Fault g)
       fails_fault g a =
           (possible_of h among, outcome_is (Fault g) limit' mid limit_same stack_same (fired_fault (outcome limit' spec mid.now f) g outs mid new a).0)
@@ -125,41 +125,41 @@ module _ (c : Setup) (spec : Spec) (limit silent : ℕ) (trace : List Event) (st
           inr (possible_of h among, outcome_is Limit limit' mid limit_same stack_same (fired_limit (outcome limit' spec mid.now f) outs mid new a).0)
 
       landed : (s : Situation) → outcome limit' spec mid.now f ≡ Done s outs → new ≡ pushed s mid → at.events ≤ length trace → (moved : Moved) → HasLanded trace silent asked at outs moved → HasMoved c asked (place_of stack trace at) (Fire f) new.now moved
-      landed s done new_is within (On next) l =
+      landed s done new_is within (Passed next) l =
           let p = place_of stack trace at in
           let q = after_firing p s outs in
           let many = length-take-le at.events trace within in
-          let row : q.row ≡ next.row = sym l.2 in
-          let few : next.row ≤ silent = l.3 in (
+          let row : q.silent_in_row ≡ next.silent_in_row = sym l.2 in
+          let few : next.silent_in_row ≤ silent = l.3 in (
             q,
             record { situation = s; outs = outs; step = record { possible = possible_of h among; done = outcome_is (Done s outs) limit' mid limit_same stack_same done }; leads = refl },
-            subst (λ n. q.row ≤ n) (sym r.suits.silent_is) (subst (λ n. n ≤ silent) (sym row) few),
-            subst (λ w. IsPrefix w (take asked q.events)) (sym r.suits.trace_is) l.0,
+            subst (λ n. q.silent_in_row ≤ n) (sym r.suits.silent_is) (subst (λ n. n ≤ silent) (sym row) few),
+            subst (λ w. IsPrefix (take asked q.events) w) (sym r.suits.trace_is) l.0,
             record {
               situation_is = ap (λ (x : Stack). x.now) (sym new_is);
               many = length-append (take at.events trace) outs ∙ ap (λ n. n + length outs) many ∙ sym l.1;
-              row_is = row;
+              silent_in_row_is = row;
             },
           )
-      landed s done new_is within (Off why.WrongOutput) l =
+      landed s done new_is within (Failed why.WrongOutput) l =
           let q = after_firing (place_of stack trace at) s outs in (
             q,
             record { situation = s; outs = outs; step = record { possible = possible_of h among; done = outcome_is (Done s outs) limit' mid limit_same stack_same done }; leads = refl },
-            λ a. l (subst (λ w. IsPrefix w (take asked q.events)) r.suits.trace_is a),
+            λ a. l (subst (λ w. IsPrefix (take asked q.events) w) r.suits.trace_is a),
           )
-      landed s done new_is within (Off why.TooSilent) l =
+      landed s done new_is within (Failed why.TooSilent) l =
           let q = after_firing (place_of stack trace at) s outs in (
             q,
             record { situation = s; outs = outs; step = record { possible = possible_of h among; done = outcome_is (Done s outs) limit' mid limit_same stack_same done }; leads = refl },
-            subst (λ w. IsPrefix w (take asked q.events)) (sym r.suits.trace_is) l.0,
-            subst (λ n. n < q.row) (sym r.suits.silent_is) l.1,
+            subst (λ w. IsPrefix (take asked q.events) w) (sym r.suits.trace_is) l.0,
+            subst (λ n. n < q.silent_in_row) (sym r.suits.silent_is) l.1,
           )
-      landed s done new_is within (Off (why.NoStart g)) l = absurd l
-      landed s done new_is within (Off why.Limit) l = absurd l
-      landed s done new_is within (Off why.NoEvent) l = absurd l
-      landed s done new_is within (Off why.NotOffered) l = absurd l
-      landed s done new_is within (Off (why.Fault g)) l = absurd l
-      landed s done new_is within (Off why.NotAll) l = absurd l
+      landed s done new_is within (Failed (why.NoStart g)) l = absurd l
+      landed s done new_is within (Failed why.Limit) l = absurd l
+      landed s done new_is within (Failed why.NoEvent) l = absurd l
+      landed s done new_is within (Failed why.NotOffered) l = absurd l
+      landed s done new_is within (Failed (why.Fault g)) l = absurd l
+      landed s done new_is within (Failed why.NotAll) l = absurd l
 
       pub fired_lands : FiredAs (outcome limit' spec mid.now f) fired.Done outs mid new → at.events ≤ length trace → (moved : Moved) → HasLanded trace silent asked at outs moved → HasMoved c asked (place_of stack trace at) (Fire f) new.now moved
       fired_lands a within moved l = (let d = fired_done (outcome limit' spec mid.now f) outs mid new a in landed d.0 d.1 d.2 within moved l)

@@ -8,22 +8,23 @@ use Rattle.est_meaning.specs.declared.run.Move.{Move}
 use Rattle.est_meaning.specs.declared.run.Move.TheVariants.{Take, Fire}
 use Rattle.est_meaning.specs.Situation.{Situation}
 use Rattle.est_meaning.specs.Stack.{Stack, Keeps}
-use Rattle.est_meaning.specs.Run.{Setup, Place, first_place, IsBoundedRun, Follows, Yields}
+use Rattle.est_meaning.specs.Run.{IsPrefix, Setup, Place, first_place, IsBoundedRun, Follows, Yields}
 use Rattle.est_meaning.proofs.RunLaws.{one_place}
 use Rattle.est_replay.specs.declared.verdict.Why.{Why}
 use Rattle.est_replay.specs.declared.verdict.Why.TheVariants as why
-use Rattle.est_replay.specs.declared.verdict.Replayed.TheVariants.{Confirmed}
+use Rattle.est_replay.specs.declared.verdict.Replayed.{Replayed}
+use Rattle.est_replay.specs.declared.verdict.Replayed.TheVariants.{Confirmed, Rejected}
 use Rattle.est_replay.specs.declared.replay.Standing.{Standing}
 use Rattle.est_replay.specs.declared.replay.Moved.{Moved}
-use Rattle.est_replay.specs.declared.replay.Moved.TheVariants.{On, Off}
-use Rattle.est_replay.specs.Replay.{IsPrefix, Agrees, FiringFails, MoveFails, IsPassed, IsRejected, IsAnswer, ClaimsBeyondAskAll}
-use Rattle.est_replay.specs.Standing.{Suits, IsSetup, IsReady, AgreesUpTo, HasMoved, IsStanding, IsMet, asked_of, place_of}
+use Rattle.est_replay.specs.declared.replay.Moved.TheVariants.{Passed, Failed}
+use Rattle.est_replay.specs.Replay.{Agrees, FiringFails, MoveFails, IsPassed, IsRejected, IsAnswer, ClaimsBeyondAskAll}
+use Rattle.est_replay.specs.Standing.{Suits, IsSetup, IsReady, AgreesUpTo, HasMoved, IsStanding, IsMet, IsEnding, asked_of, place_of}
 use Rattle.est_replay.proofs.Checks.{Passes, follows_agrees, one_on}
 
 -- WHAT IS COMPARED
 
 -- events that begin the trace up to more than it has are no more than it has
-prefix_of_all : (trace events : List Event) (claim : ℕ) → length trace < claim → IsPrefix trace (take claim events) → IsPrefix trace events
+prefix_of_all : (trace events : List Event) (claim : ℕ) → length trace < claim → IsPrefix (take claim events) trace → IsPrefix events trace
 prefix_of_all trace events claim lt p =
     let taken = take claim events in
     let a : length trace ≡ length taken + length p.0 = ap length p.1 ∙ length-append taken p.0 in
@@ -31,7 +32,7 @@ prefix_of_all trace events claim lt p =
     let few : length events ≤ claim = omega arith in
     (p.0, p.1 ∙ ap (λ w. w ++ p.0) (take_all claim events few))
 
-whole_prefix : (trace events : List Event) → IsPrefix trace (take (length trace + 1) events) → IsPrefix trace events
+whole_prefix : (trace events : List Event) → IsPrefix (take (length trace + 1) events) trace → IsPrefix events trace
 whole_prefix trace events p = (let lt : length trace < length trace + 1 = omega arith in prefix_of_all trace events (length trace + 1) lt p)
 
 pub beyond_asks_all : ClaimsBeyondAskAll
@@ -62,27 +63,27 @@ fails_alike c A B there back p (Fire f) w h = firing_fails_alike c A B there bac
 -- THE START
 
 pub rejects_start : (c : Setup) (spec : Spec) (limit silent : ℕ) (trace : List Event) (stack : Stack) (outs : List Event) (moves : List Move) (claim : ℕ)
-    → IsSetup c spec limit silent trace stack outs → (IsPrefix trace (take (asked_of (length trace) claim moves) outs) → ⊥) → IsRejected c moves claim 0 why.WrongOutput
+    → IsSetup c spec limit silent trace stack outs → (IsPrefix (take (asked_of (length trace) claim moves) outs) trace → ⊥) → IsRejected c moves claim 0 why.WrongOutput
 rejects_start c spec limit silent trace stack outs moves claim s off =
     inl (record {
       at_is = refl;
       why_is = refl;
-      differs = λ a. off (subst (λ es. IsPrefix trace (take (asked_of (length trace) claim moves) es)) s.outs_are
-          (subst (λ w. IsPrefix w (take (asked_of (length w) claim moves) c.start_outs)) s.suits.trace_is (agrees_asked c claim moves (first_place c) a)));
+      differs = λ a. off (subst (λ es. IsPrefix (take (asked_of (length trace) claim moves) es) trace) s.outs_are
+          (subst (λ w. IsPrefix (take (asked_of (length w) claim moves) c.start_outs) w) s.suits.trace_is (agrees_asked c claim moves (first_place c) a)));
     })
 
 pub stands_first : (c : Setup) (spec : Spec) (limit silent : ℕ) (trace : List Event) (stack : Stack) (outs : List Event) (moves : List Move) (claim : ℕ)
-    → IsSetup c spec limit silent trace stack outs → IsPrefix trace (take (asked_of (length trace) claim moves) outs) → IsStanding c claim moves 0 stack.now (record { events = length outs; row = 0 })
+    → IsSetup c spec limit silent trace stack outs → IsPrefix (take (asked_of (length trace) claim moves) outs) trace → IsStanding c claim moves 0 stack.now (record { events = length outs; silent_in_row = 0 })
 stands_first c spec limit silent trace stack outs moves claim s on = (
   first_place c,
   record {
     is_run = refl;
     before = tt;
     agrees = agrees_left c claim moves (first_place c)
-        (subst (λ w. IsPrefix w (take (asked_of (length w) claim moves) c.start_outs)) (sym s.suits.trace_is)
-        (subst (λ es. IsPrefix trace (take (asked_of (length trace) claim moves) es)) (sym s.outs_are) on));
+        (subst (λ w. IsPrefix (take (asked_of (length w) claim moves) c.start_outs) w) (sym s.suits.trace_is)
+        (subst (λ es. IsPrefix (take (asked_of (length trace) claim moves) es) trace) (sym s.outs_are) on));
   },
-  record { situation_is = s.start_is; many = ap length s.outs_are; row_is = refl },
+  record { situation_is = s.start_is; many = ap length s.outs_are; silent_in_row_is = refl },
 )
 
 -- A MOVE
@@ -109,9 +110,9 @@ module _ (c : Setup) (claim : ℕ) (moves : List Move) (made : ℕ) (s : Situati
   there_is : (stack : Stack) → stack.now ≡ s → standing.0 ≡ place_of stack c.trace at
   there_is stack e =
       let p = standing.0 in
-      ap (λ x. let r : Place = record { situation = x; events = p.events; row = p.row } in r) (standing.2.situation_is ∙ sym e)
-      ∙ ap (λ x. let r : Place = record { situation = stack.now; events = x; row = p.row } in r) events_are
-      ∙ ap (λ x. let r : Place = record { situation = stack.now; events = take at.events c.trace; row = x } in r) standing.2.row_is
+      ap (λ x. let r : Place = record { situation = x; events = p.events; silent_in_row = p.silent_in_row } in r) (standing.2.situation_is ∙ sym e)
+      ∙ ap (λ x. let r : Place = record { situation = stack.now; events = x; silent_in_row = p.silent_in_row } in r) events_are
+      ∙ ap (λ x. let r : Place = record { situation = stack.now; events = take at.events c.trace; silent_in_row = x } in r) standing.2.silent_in_row_is
 
   ready_there : (spec : Spec) (limit silent : ℕ) (trace : List Event) (stack : Stack) → stack.now ≡ s → Suits c spec limit silent trace → IsReady c spec limit silent trace stack at
   ready_there spec limit silent trace stack e suits =
@@ -129,7 +130,7 @@ module _ (c : Setup) (claim : ℕ) (moves : List Move) (made : ℕ) (s : Situati
   run_is = ap reverse (take_more moves made m lt ∙ ap (λ x. take made moves ++ x ∷ []) is) ∙ reverse-append (take made moves) (m ∷ [])
 
   stands_on : (stack : Stack) (asked : ℕ) (t : Situation) (next : Standing) → stack.now ≡ s → asked ≡ asked_of (length c.trace) claim (drop (made + 1) moves)
-      → HasMoved c asked (place_of stack c.trace at) m t (On next) → IsStanding c claim moves (made + 1) t next
+      → HasMoved c asked (place_of stack c.trace at) m t (Passed next) → IsStanding c claim moves (made + 1) t next
   stands_on stack asked t next e a h =
       let left = drop (made + 1) moves in
       let pass : Passes c (Agrees c claim left) (place_of stack c.trace at) m h.0 =
@@ -137,7 +138,7 @@ module _ (c : Setup) (claim : ℕ) (moves : List Move) (made : ℕ) (s : Situati
       (h.0, subst (λ r. IsPassed c claim r left h.0) (sym run_is) (one_on c claim m (reverse (take made moves)) left (place_of stack c.trace at) h.0 (passed_there stack e) pass), h.4)
 
   rejects_move : (stack : Stack) (asked : ℕ) (t : Situation) (w : Why) → stack.now ≡ s → asked ≡ asked_of (length c.trace) claim (drop (made + 1) moves)
-      → HasMoved c asked (place_of stack c.trace at) m t (Off w) → IsRejected c moves claim (made + 1) w
+      → HasMoved c asked (place_of stack c.trace at) m t (Failed w) → IsRejected c moves claim (made + 1) w
   rejects_move stack asked t w e a h =
       let left = drop (made + 1) moves in
       let many : length (take made moves) ≡ made = length-take-le made moves (omega arith) in
@@ -177,11 +178,11 @@ module _ (c : Setup) (claim : ℕ) (moves : List Move) (made : ℕ) (at : Standi
     moved_there : (o : Moved) → HasMoved c asked (place_of stack trace at) next_move t o → HasMoved c asked (place_of stack c.trace at) next_move t o
     moved_there o h = subst (λ w. HasMoved c asked (place_of stack w at) next_move t o) (sym suits.trace_is) h
 
-    pub stands_call : (next : Standing) → HasMoved c asked (place_of stack trace at) next_move t (On next) → IsStanding c claim moves (made + 1) t next
-    stands_call next h = stands_on c claim moves made stack.now at standing next_move lt next_is stack asked t next refl asked_is (moved_there (On next) h)
+    pub stands_call : (next : Standing) → HasMoved c asked (place_of stack trace at) next_move t (Passed next) → IsStanding c claim moves (made + 1) t next
+    stands_call next h = stands_on c claim moves made stack.now at standing next_move lt next_is stack asked t next refl asked_is (moved_there (Passed next) h)
 
-    pub rejects_call : (w : Why) → HasMoved c asked (place_of stack trace at) next_move t (Off w) → IsRejected c moves claim (made + 1) w
-    rejects_call w h = rejects_move c claim moves made stack.now at standing next_move lt next_is stack asked t w refl asked_is (moved_there (Off w) h)
+    pub rejects_call : (w : Why) → HasMoved c asked (place_of stack trace at) next_move t (Failed w) → IsRejected c moves claim (made + 1) w
+    rejects_call w h = rejects_move c claim moves made stack.now at standing next_move lt next_is stack asked t w refl asked_is (moved_there (Failed w) h)
 
 -- calls one after the other keep what each of them keeps
 pub keeps_both : {W : Type 0} (speaks : W → Spec → Type 0) (limit : W → ℕ) (a b d : W) → Keeps speaks limit a b → Keeps speaks limit b d → Keeps speaks limit a d
@@ -254,8 +255,12 @@ module _ (c : Setup) (claim : ℕ) (moves : List Move) (made : ℕ) (s : Situati
   standing_last : IsStanding c claim moves (length moves) s at
   standing_last = subst (λ n. IsStanding c claim moves n s at) all standing
 
-  pub confirms_call : IsMet claim (length trace) at.events → IsAnswer c moves claim (Confirmed claim)
+  confirms_call : IsMet claim (length trace) at.events → IsAnswer c moves claim (Confirmed claim)
   confirms_call met = confirms c claim moves s at standing_last (subst (λ w. IsMet claim (length w) at.events) (sym suits.trace_is) met)
 
-  pub rejects_last : (IsMet claim (length trace) at.events → ⊥) → IsRejected c moves claim (length moves + 1) why.NotAll
+  rejects_last : (IsMet claim (length trace) at.events → ⊥) → IsRejected c moves claim (length moves + 1) why.NotAll
   rejects_last unmet = rejects_end c claim moves s at standing_last (λ met. unmet (subst (λ w. IsMet claim (length w) at.events) suits.trace_is met))
+
+  pub ends_call : (answer : Replayed) → IsEnding claim (length trace) (length moves) at.events answer → IsAnswer c moves claim answer
+  ends_call (Confirmed k) h = (h.0, (confirms_call h.1).1)
+  ends_call (Rejected number w) h = subst (λ n. IsRejected c moves claim n w) (sym h.0) (subst (λ v. IsRejected c moves claim (length moves + 1) v) (sym h.1) (rejects_last h.2))

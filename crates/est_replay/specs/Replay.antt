@@ -14,7 +14,7 @@ use Rattle.est_meaning.specs.Choices.{IsSettled, IsPossible}
 use Rattle.est_meaning.specs.Blocks.{Outcome, Done, Fault, Limit}
 use Rattle.est_meaning.specs.Step.{outcome, start_of}
 use Rattle.est_meaning.specs.Stack.{Stack}
-use Rattle.est_meaning.specs.Run.{Setup, Place, first_place, Takes, Fires, IsBoundedRun, Follows, FollowsBefore, Yields}
+use Rattle.est_meaning.specs.Run.{IsPrefix, Setup, Place, first_place, Takes, Fires, IsBoundedRun, Follows, FollowsBefore, Yields}
 use Rattle.est_replay.specs.declared.verdict.Why.{Why}
 use Rattle.est_replay.specs.declared.verdict.Why.TheVariants as why
 use Rattle.est_replay.specs.declared.verdict.Replayed.{Replayed}
@@ -22,13 +22,9 @@ use Rattle.est_replay.specs.declared.verdict.Replayed.TheVariants.{Confirmed, Re
 
 -- CHECKS
 
--- the events are, one for one, a prefix of the trace
-abbrev pub IsPrefix : List Event → List Event → Type 0
-IsPrefix trace events = (rest : List Event) × (trace ≡ events ++ rest)
-
 -- the events agree with the trace where these moves are left: all of them, and behind the last move those up to the claim (which asks again for all where the claim is above the number of the trace's events)
 abbrev pub Agrees : Setup → ℕ → List Move → Place → Type 0
-Agrees c claim [] p = IsPrefix c.trace (take claim p.events)
+Agrees c claim [] p = IsPrefix (take claim p.events) c.trace
 Agrees c claim (m ∷ left) p = Follows c p
 
 -- no next event is there to be taken: the next one is a departure, or there is none
@@ -41,7 +37,7 @@ FiringFails c agrees p f why.Limit = (IsSettled c.limit c.spec p.situation → �
 FiringFails c agrees p f why.NotOffered = IsSettled c.limit c.spec p.situation × (IsPossible c.limit c.spec p.situation f → ⊥)
 FiringFails c agrees p f (why.Fault fault) = IsPossible c.limit c.spec p.situation f × (outcome c.limit c.spec p.situation f ≡ Fault fault)
 FiringFails c agrees p f why.WrongOutput = (q : Place) × Fires c p f q × (agrees q → ⊥)
-FiringFails c agrees p f why.TooSilent = (q : Place) × Fires c p f q × agrees q × (c.silent < q.row)
+FiringFails c agrees p f why.TooSilent = (q : Place) × Fires c p f q × agrees q × (c.silent < q.silent_in_row)
 FiringFails c agrees p f (why.NoStart fault) = ⊥
 FiringFails c agrees p f why.NoEvent = ⊥
 FiringFails c agrees p f why.NotAll = ⊥
@@ -84,6 +80,7 @@ pub record FailsAtEnd (c : Setup) (moves : List Move) (claim at : ℕ) (w : Why)
   pub passed : IsPassed c claim (reverse moves) [] place
   pub unyielded : Yields c (reverse moves) claim → ⊥
 
+-- a check fails at the start, at a move or at the end, and all before it pass
 abbrev pub IsRejected : Setup → List Move → ℕ → ℕ → Why → Type 0
 IsRejected c moves claim at w = FailsAtStart c moves claim at w ⊎ (FailsAtMove c moves claim at w ⊎ FailsAtEnd c moves claim at w)
 

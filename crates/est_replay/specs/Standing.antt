@@ -6,12 +6,14 @@ use Rattle.est_meaning.specs.declared.run.Move.{Move}
 use Rattle.est_meaning.specs.Situation.{Situation}
 use Rattle.est_meaning.specs.Stack.{Stack}
 use Rattle.est_meaning.specs.Allowed.{IsAllowedTrace}
-use Rattle.est_meaning.specs.Run.{Setup, Place, IsBegun, Moves, IsBoundedRun, row_after}
+use Rattle.est_meaning.specs.Run.{IsPrefix, Setup, Place, IsBegun, Moves, IsBoundedRun, silent_after}
 use Rattle.est_replay.specs.declared.verdict.Why.TheVariants as why
+use Rattle.est_replay.specs.declared.verdict.Replayed.{Replayed}
+use Rattle.est_replay.specs.declared.verdict.Replayed.TheVariants.{Confirmed, Rejected}
 use Rattle.est_replay.specs.declared.replay.Standing.{Standing}
 use Rattle.est_replay.specs.declared.replay.Moved.{Moved}
-use Rattle.est_replay.specs.declared.replay.Moved.TheVariants.{On, Off}
-use Rattle.est_replay.specs.Replay.{IsPrefix, MoveFails, IsPassed}
+use Rattle.est_replay.specs.declared.replay.Moved.TheVariants.{Passed, Failed}
+use Rattle.est_replay.specs.Replay.{MoveFails, IsPassed}
 
 -- the setup is of these, its start is ready and its trace within its limits
 pub record Suits (c : Setup) (spec : Spec) (limit silent : ℕ) (trace : List Event) : Type 0 where
@@ -30,7 +32,7 @@ pub record IsSetup (c : Setup) (spec : Spec) (limit silent : ℕ) (trace : List 
 
 -- the place where the events so far are the first of the trace
 abbrev pub place_of : Stack → List Event → Standing → Place
-place_of stack trace at = record { situation = stack.now; events = take at.events trace; row = at.row }
+place_of stack trace at = record { situation = stack.now; events = take at.events trace; silent_in_row = at.silent_in_row }
 
 -- a bounded run leads there
 pub record IsReady (c : Setup) (spec : Spec) (limit silent : ℕ) (trace : List Event) (stack : Stack) (at : Standing) : Type 0 where
@@ -42,7 +44,7 @@ pub record IsReady (c : Setup) (spec : Spec) (limit silent : ℕ) (trace : List 
 pub record StandsAt (s : Situation) (at : Standing) (p : Place) : Type 0 where
   pub situation_is : p.situation ≡ s
   pub many : length p.events ≡ at.events
-  pub row_is : p.row ≡ at.row
+  pub silent_in_row_is : p.silent_in_row ≡ at.silent_in_row
 
 -- how many events are compared at most where these moves are left: one more than the trace has stands for all
 abbrev pub asked_of : ℕ → ℕ → List Move → ℕ
@@ -51,24 +53,24 @@ asked_of many claim (m ∷ left) = many + 1
 
 -- the events up to so many are a prefix of the trace
 abbrev pub AgreesUpTo : Setup → ℕ → Place → Type 0
-AgreesUpTo c asked p = IsPrefix c.trace (take asked p.events)
+AgreesUpTo c asked p = IsPrefix (take asked p.events) c.trace
 
 -- what came of a move: a place at which the replay then stands, or the first check that fails
 abbrev pub HasMoved : Setup → ℕ → Place → Move → Situation → Moved → Type 0
-HasMoved c asked p m s (On at) = (q : Place) × Moves c p m q × (q.row ≤ c.silent) × AgreesUpTo c asked q × StandsAt s at q
-HasMoved c asked p m s (Off w) = MoveFails c (AgreesUpTo c asked) p m w
+HasMoved c asked p m s (Passed at) = (q : Place) × Moves c p m q × (q.silent_in_row ≤ c.silent) × AgreesUpTo c asked q × StandsAt s at q
+HasMoved c asked p m s (Failed w) = MoveFails c (AgreesUpTo c asked) p m w
 
 -- what comes of the events of a firing
 abbrev pub HasLanded : List Event → ℕ → ℕ → Standing → List Event → Moved → Type 0
-HasLanded trace silent asked at outs (On next) = IsPrefix trace (take asked (take at.events trace ++ outs)) × (next.events ≡ at.events + length outs) × (next.row ≡ row_after at.row outs) × (next.row ≤ silent)
-HasLanded trace silent asked at outs (Off why.WrongOutput) = IsPrefix trace (take asked (take at.events trace ++ outs)) → ⊥
-HasLanded trace silent asked at outs (Off why.TooSilent) = IsPrefix trace (take asked (take at.events trace ++ outs)) × (silent < row_after at.row outs)
-HasLanded trace silent asked at outs (Off (why.NoStart fault)) = ⊥
-HasLanded trace silent asked at outs (Off why.Limit) = ⊥
-HasLanded trace silent asked at outs (Off why.NoEvent) = ⊥
-HasLanded trace silent asked at outs (Off why.NotOffered) = ⊥
-HasLanded trace silent asked at outs (Off (why.Fault fault)) = ⊥
-HasLanded trace silent asked at outs (Off why.NotAll) = ⊥
+HasLanded trace silent asked at outs (Passed next) = IsPrefix (take asked (take at.events trace ++ outs)) trace × (next.events ≡ at.events + length outs) × (next.silent_in_row ≡ silent_after at.silent_in_row outs) × (next.silent_in_row ≤ silent)
+HasLanded trace silent asked at outs (Failed why.WrongOutput) = IsPrefix (take asked (take at.events trace ++ outs)) trace → ⊥
+HasLanded trace silent asked at outs (Failed why.TooSilent) = IsPrefix (take asked (take at.events trace ++ outs)) trace × (silent < silent_after at.silent_in_row outs)
+HasLanded trace silent asked at outs (Failed (why.NoStart fault)) = ⊥
+HasLanded trace silent asked at outs (Failed why.Limit) = ⊥
+HasLanded trace silent asked at outs (Failed why.NoEvent) = ⊥
+HasLanded trace silent asked at outs (Failed why.NotOffered) = ⊥
+HasLanded trace silent asked at outs (Failed (why.Fault fault)) = ⊥
+HasLanded trace silent asked at outs (Failed why.NotAll) = ⊥
 
 -- behind so many of the moves the replay stands at the place of a run that passes every check
 abbrev pub IsStanding : Setup → ℕ → List Move → ℕ → Situation → Standing → Type 0
@@ -77,3 +79,8 @@ IsStanding c claim moves made s at = (p : Place) × IsPassed c claim (reverse (t
 -- so many events meet the claim, where those up to the claim agree with a trace of so many: there are as many, or the claim is one more than the trace has and there are just these
 abbrev pub IsMet : ℕ → ℕ → ℕ → Type 0
 IsMet claim many events = ((claim ≤ many) × (claim ≤ events)) ⊎ ((claim ≡ many + 1) × (events ≡ many))
+
+-- what is answered behind so many moves with so many events: the claim where it is met, else that the moves do not yield it
+abbrev pub IsEnding : ℕ → ℕ → ℕ → ℕ → Replayed → Type 0
+IsEnding claim many moves events (Confirmed k) = (k ≡ claim) × IsMet claim many events
+IsEnding claim many moves events (Rejected at w) = (at ≡ moves + 1) × (w ≡ why.NotAll) × (IsMet claim many events → ⊥)

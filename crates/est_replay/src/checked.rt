@@ -4,7 +4,7 @@ ghost use Rattle.est_meaning.specs.Allowed.{IsAllowedTrace};
 ghost use Rattle.est_replay.specs.Replay.{IsReplay};
 
 use crate::explanation::Explanation;
-use crate::replay::replay_in;
+use crate::replay::{Replaying, replay_in};
 use crate::verdict::{Replayed, Why};
 use est_check::Checked;
 use est_meaning::event::Trace;
@@ -41,9 +41,12 @@ pub fn replay(
                 alloc,
                 &mut world,
                 outs.as_slice(),
-                trace,
-                explanation,
-                limits.silent,
+                &Replaying {
+                    trace: trace.as_slice(),
+                    moves: explanation.moves.as_slice(),
+                    claim: explanation.claim,
+                    silent: limits.silent,
+                },
             )
         }
     }

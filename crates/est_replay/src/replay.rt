@@ -1,39 +1,57 @@
 //! Replays of explanations.
 ghost use Rattle.std.specs.Prelude.{◌≡◌, ℕ, ◌+◌, ◌-◌, ◌<◌, ◌≤◌, ◌^◌, ◌↔◌, ◌⊎◌, ◌++◌, List, length, take, IsTrue, IfOk};
 ghost use Rattle.est_syntax.specs.declared.specification.Spec.{Spec};
+ghost use Rattle.est_syntax.specs.Least.{IsIn};
 ghost use Rattle.est_meaning.specs.Allowed.{IsAllowedTrace};
 ghost use Rattle.est_meaning.specs.Blocks.{Done};
-ghost use Rattle.est_meaning.specs.Order.{IsAmong};
-ghost use Rattle.est_meaning.specs.Run.{Setup};
+ghost use Rattle.est_meaning.specs.Run.{Setup, IsPrefix};
 ghost use Rattle.est_meaning.specs.Stack.{Keeps};
 ghost use Rattle.est_meaning.specs.Step.{start_of};
-ghost use Rattle.est_replay.specs.Replay.{IsPrefix, IsAnswer, setup_of};
-ghost use Rattle.est_replay.specs.Standing.{IsSetup, IsReady, HasMoved, HasLanded, IsMet, asked_of, place_of};
+ghost use Rattle.est_replay.specs.Replay.{IsAnswer, setup_of};
+ghost use Rattle.est_replay.specs.Standing.{IsSetup, IsReady, HasMoved, HasLanded, IsMet, IsEnding, asked_of, place_of};
 
-use crate::explanation::Explanation;
 use crate::verdict::{Replayed, Why};
-use est_meaning::event::{Event, Trace};
+use est_meaning::event::Event;
 use est_meaning::run::{Fired, Firing, Move, Offers};
 use est_meaning::world::World;
 use std::alloc::{AllocError, Global};
+
+/// What is replayed: moves along a trace and their claim, where so many silent firings may stand in
+/// a row.
+#[derive(Clone, Copy)]
+pub struct Replaying<'t> {
+    pub trace: &'t [Event],
+    pub moves: &'t [Move],
+    pub claim: u32,
+    pub silent: u32,
+}
+
+/// What a move is checked against: the trace, how many silent firings may stand in a row, and how
+/// many events are compared at most.
+#[derive(Clone, Copy)]
+struct Expected<'t> {
+    trace: &'t [Event],
+    silent: u32,
+    asked: usize,
+}
 
 /// How many events there are so far, and how many silent firings stand last in a row.
 #[derive(Clone, Copy, Debug)]
 struct Standing {
     events: usize,
-    row: u32,
+    silent_in_row: u32,
 }
 
 /// What came of a move: where the replay then stands, or the first check that fails.
 #[derive(Clone, Copy, Debug)]
 enum Moved {
-    On(Standing),
-    Off(Why),
+    Passed(Standing),
+    Failed(Why),
 }
 
 /// Whether a trace begins with these events.
 fn begins_with(trace: &[Event], events: &[Event]) -> bool
-    ensures { IsTrue result ↔ IsPrefix trace.now events.now }
+    ensures { IsTrue result ↔ IsPrefix events.now trace.now }
 {
     if events.len() > trace.len() {
         return false;
@@ -49,7 +67,7 @@ fn begins_with(trace: &[Event], events: &[Event]) -> bool
 /// Whether the events up to a number of them agree with the trace, of which the first do.
 fn agree(trace: &[Event], so_far: usize, outs: &[Event], asked: usize) -> bool
     requires { so_far ≤ length trace.now }
-    ensures { IsTrue result ↔ IsPrefix trace.now (take asked (take so_far trace.now ++ outs.now)) }
+    ensures { IsTrue result ↔ IsPrefix (take asked (take so_far trace.now ++ outs.now)) trace.now }
 {
     let compared = outs.len().min(asked.saturating_sub(so_far));
     begins_with(&trace[so_far..], &outs[..compared])
@@ -67,7 +85,7 @@ fn asked(trace: &[Event], claim: u32, left: &[Move]) -> usize
 
 /// Whether a firing is one of these.
 fn is_among(firing: &Firing, firings: &[Firing]) -> bool
-    ensures { IsTrue result ↔ IsAmong firing.now firings.now }
+    ensures { IsTrue result ↔ IsIn firing.now firings.now }
 {
     for other in firings {
         if other == firing {
@@ -81,88 +99,88 @@ fn is_among(firing: &Firing, firings: &[Firing]) -> bool
 fn take_next<W: World>(
     alloc: Global,
     world: &mut W,
-    trace: &[Event],
-    silent: u32,
-    asked: usize,
+    expected: &Expected<'_>,
     at: Standing,
 ) -> Result<Moved, AllocError>
     ghost setup: { Spec → Setup }
-    requires within { at.events ≤ length trace.now }
-    requires ready { (spec : Spec) → W.speaks world.old spec → IsReady (setup spec) spec (W.limit world.old) silent trace.now (W.stack world.old spec) at }
+    requires within { at.events ≤ length expected.now.trace.now }
+    requires ready { (spec : Spec) → W.speaks world.old spec → IsReady (setup spec) spec (W.limit world.old) expected.now.silent expected.now.trace.now (W.stack world.old spec) at }
     ensures keeps { Keeps W.speaks W.limit world.old world.new }
     ensures fired { W.fired world.new ≡ W.fired world.old }
-    ensures moved { IfOk result (λ moved. (spec : Spec) → W.speaks world.old spec → HasMoved (setup spec) asked (place_of (W.stack world.old spec) trace.now at) Move.Take (W.stack world.new spec).now moved) }
+    ensures moved { IfOk result (λ moved. (spec : Spec) → W.speaks world.old spec → HasMoved (setup spec) expected.now.asked (place_of (W.stack world.old spec) expected.now.trace.now at) Move.Take (W.stack world.new spec).now moved) }
 {
+    let trace = expected.trace;
     if at.events >= trace.len() {
-        return Ok(Moved::Off(Why::NoEvent));
+        return Ok(Moved::Failed(Why::NoEvent));
     }
     let event = &trace[at.events];
     match event {
-        Event::Leaves(_) => return Ok(Moved::Off(Why::NoEvent)),
+        Event::Leaves(_) => return Ok(Moved::Failed(Why::NoEvent)),
         Event::Arrives(_) => world.arrive(alloc, event)?,
         Event::Passes(units) => world.pass(alloc, u64::from(*units))?,
     }
-    Ok(Moved::On(Standing {
+    Ok(Moved::Passed(Standing {
         events: at.events + 1,
-        row: 0,
+        silent_in_row: 0,
     }))
 }
 
 /// Goes on behind a firing with these events.
-fn land(trace: &[Event], silent: u32, asked: usize, at: Standing, outs: &[Event]) -> Moved
-    requires { at.events ≤ length trace.now }
-    ensures { HasLanded trace.now silent asked at outs.now result }
+fn land(expected: &Expected<'_>, at: Standing, outs: &[Event]) -> Moved
+    requires { at.events ≤ length expected.now.trace.now }
+    ensures { HasLanded expected.now.trace.now expected.now.silent expected.now.asked at outs.now result }
 {
-    if !agree(trace, at.events, outs, asked) {
-        return Moved::Off(Why::WrongOutput);
+    if !agree(expected.trace, at.events, outs, expected.asked) {
+        return Moved::Failed(Why::WrongOutput);
     }
     let events = at.events + outs.len();
     match outs {
         [] => {
-            if at.row < silent {
-                Moved::On(Standing {
+            if at.silent_in_row < expected.silent {
+                Moved::Passed(Standing {
                     events,
-                    row: at.row + 1,
+                    silent_in_row: at.silent_in_row + 1,
                 })
             } else {
-                Moved::Off(Why::TooSilent)
+                Moved::Failed(Why::TooSilent)
             }
         }
-        [_, ..] => Moved::On(Standing { events, row: 0 }),
+        [_, ..] => Moved::Passed(Standing {
+            events,
+            silent_in_row: 0,
+        }),
     }
 }
 
-/// Fires a transition. Its work is that of the list of possible firings, and of one pass over it.
+/// Fires a transition, where it is one of the possible firings.
 fn fire<W: World>(
     alloc: Global,
     world: &mut W,
-    trace: &[Event],
-    silent: u32,
-    asked: usize,
+    expected: &Expected<'_>,
     at: Standing,
     firing: &Firing,
 ) -> Result<Moved, AllocError>
     ghost setup: { Spec → Setup }
-    requires within { at.events ≤ length trace.now }
+    requires within { at.events ≤ length expected.now.trace.now }
     requires room { W.fired world.old < 2 ^ 64 - 1 }
-    requires ready { (spec : Spec) → W.speaks world.old spec → IsReady (setup spec) spec (W.limit world.old) silent trace.now (W.stack world.old spec) at }
+    requires ready { (spec : Spec) → W.speaks world.old spec → IsReady (setup spec) spec (W.limit world.old) expected.now.silent expected.now.trace.now (W.stack world.old spec) at }
     ensures keeps { Keeps W.speaks W.limit world.old world.new }
     ensures fired { W.fired world.new ≤ W.fired world.old + 1 }
-    ensures moved { IfOk result (λ moved. (spec : Spec) → W.speaks world.old spec → HasMoved (setup spec) asked (place_of (W.stack world.old spec) trace.now at) (Move.Fire firing.now) (W.stack world.new spec).now moved) }
+    ensures moved { IfOk result (λ moved. (spec : Spec) → W.speaks world.old spec → HasMoved (setup spec) expected.now.asked (place_of (W.stack world.old spec) expected.now.trace.now at) (Move.Fire firing.now) (W.stack world.new spec).now moved) }
 {
     let mut firings = Vec::new(alloc);
     match world.options(alloc, &mut firings)? {
-        Offers::Unsettled => return Ok(Moved::Off(Why::Limit)),
+        Offers::Unsettled => return Ok(Moved::Failed(Why::Limit)),
         Offers::Settled => {}
     }
     if !is_among(firing, &firings) {
-        return Ok(Moved::Off(Why::NotOffered));
+        return Ok(Moved::Failed(Why::NotOffered));
     }
     let mut outs = Vec::new(alloc);
     match world.fire(alloc, firing, &mut outs)? {
-        Fired::Done => Ok(land(trace, silent, asked, at, &outs)),
-        Fired::Fault(fault) => Ok(Moved::Off(Why::Fault(fault))),
-        Fired::Limit => Ok(Moved::Off(Why::Limit)),
+        Fired::Done => Ok(land(expected, at, &outs)),
+        Fired::Fault(fault) => Ok(Moved::Failed(Why::Fault(fault))),
+        Fired::Limit => Ok(Moved::Failed(Why::Limit)),
     }
 }
 
@@ -170,23 +188,21 @@ fn fire<W: World>(
 fn make<W: World>(
     alloc: Global,
     world: &mut W,
-    trace: &[Event],
-    silent: u32,
-    asked: usize,
+    expected: &Expected<'_>,
     at: Standing,
     next: &Move,
 ) -> Result<Moved, AllocError>
     ghost setup: { Spec → Setup }
-    requires within { at.events ≤ length trace.now }
+    requires within { at.events ≤ length expected.now.trace.now }
     requires room { W.fired world.old < 2 ^ 64 - 1 }
-    requires ready { (spec : Spec) → W.speaks world.old spec → IsReady (setup spec) spec (W.limit world.old) silent trace.now (W.stack world.old spec) at }
+    requires ready { (spec : Spec) → W.speaks world.old spec → IsReady (setup spec) spec (W.limit world.old) expected.now.silent expected.now.trace.now (W.stack world.old spec) at }
     ensures keeps { Keeps W.speaks W.limit world.old world.new }
     ensures fired { W.fired world.new ≤ W.fired world.old + 1 }
-    ensures moved { IfOk result (λ moved. (spec : Spec) → W.speaks world.old spec → HasMoved (setup spec) asked (place_of (W.stack world.old spec) trace.now at) next.now (W.stack world.new spec).now moved) }
+    ensures moved { IfOk result (λ moved. (spec : Spec) → W.speaks world.old spec → HasMoved (setup spec) expected.now.asked (place_of (W.stack world.old spec) expected.now.trace.now at) next.now (W.stack world.new spec).now moved) }
 {
     match next {
-        Move::Take => take_next(alloc, world, trace, silent, asked, at),
-        Move::Fire(firing) => fire(alloc, world, trace, silent, asked, at, firing),
+        Move::Take => take_next(alloc, world, expected, at),
+        Move::Fire(firing) => fire(alloc, world, expected, at, firing),
     }
 }
 
@@ -203,25 +219,44 @@ fn is_met(claim: u32, trace_len: usize, events: usize) -> bool
     }
 }
 
+/// What is answered behind the last move, with so many events.
+fn end(replaying: &Replaying<'_>, events: usize) -> Replayed
+    requires short { length replaying.now.trace.now ≤ 200000 }
+    requires few { length replaying.now.moves.now < 2 ^ 32 - 1 }
+    ensures { IsEnding replaying.now.claim (length replaying.now.trace.now) (length replaying.now.moves.now) events result }
+{
+    if is_met(replaying.claim, replaying.trace.len(), events) {
+        Replayed::Confirmed {
+            events: replaying.claim,
+        }
+    } else {
+        Replayed::Rejected {
+            at: replaying.moves.len() as u32 + 1,
+            why: Why::NotAll,
+        }
+    }
+}
+
 /// Replays moves one after the other until a check fails.
 fn replay_moves<W: World>(
     alloc: Global,
     world: &mut W,
     start_outs: &[Event],
-    trace: &[Event],
-    moves: &[Move],
-    claim: u32,
-    silent: u32,
+    replaying: &Replaying<'_>,
 ) -> Result<Replayed, AllocError>
     ghost setup: { Spec → Setup }
     requires room { W.fired world.old ≤ 2 ^ 63 }
-    requires few { length moves.now < 2 ^ 32 - 1 }
-    requires short { length trace.now ≤ 200000 }
-    requires start { (spec : Spec) → W.speaks world.old spec → IsSetup (setup spec) spec (W.limit world.old) silent trace.now (W.stack world.old spec) start_outs.now }
+    requires few { length replaying.now.moves.now < 2 ^ 32 - 1 }
+    requires short { length replaying.now.trace.now ≤ 200000 }
+    requires start { (spec : Spec) → W.speaks world.old spec → IsSetup (setup spec) spec (W.limit world.old) replaying.now.silent replaying.now.trace.now (W.stack world.old spec) start_outs.now }
     ensures keeps { Keeps W.speaks W.limit world.old world.new }
-    ensures fired { W.fired world.new ≤ W.fired world.old + length moves.now }
-    ensures answer { IfOk result (λ answer. (spec : Spec) → W.speaks world.old spec → IsAnswer (setup spec) moves.now claim answer) }
+    ensures fired { W.fired world.new ≤ W.fired world.old + length replaying.now.moves.now }
+    ensures answer { IfOk result (λ answer. (spec : Spec) → W.speaks world.old spec → IsAnswer (setup spec) replaying.now.moves.now replaying.now.claim answer) }
 {
+    let trace = replaying.trace;
+    let moves = replaying.moves;
+    let claim = replaying.claim;
+    let silent = replaying.silent;
     if !agree(trace, 0, start_outs, asked(trace, claim, moves)) {
         return Ok(Replayed::Rejected {
             at: 0,
@@ -230,13 +265,18 @@ fn replay_moves<W: World>(
     }
     let mut at = Standing {
         events: start_outs.len(),
-        row: 0,
+        silent_in_row: 0,
     };
     for (index, next) in moves.iter().enumerate() {
         let compared = asked(trace, claim, &moves[index + 1..]);
-        match make(alloc, world, trace, silent, compared, at, next)? {
-            Moved::On(next) => at = next,
-            Moved::Off(why) => {
+        let expected = Expected {
+            trace,
+            silent,
+            asked: compared,
+        };
+        match make(alloc, world, &expected, at, next)? {
+            Moved::Passed(next) => at = next,
+            Moved::Failed(why) => {
                 return Ok(Replayed::Rejected {
                     at: index as u32 + 1,
                     why,
@@ -245,43 +285,25 @@ fn replay_moves<W: World>(
         }
         world.forget();
     }
-    if is_met(claim, trace.len(), at.events) {
-        Ok(Replayed::Confirmed { events: claim })
-    } else {
-        Ok(Replayed::Rejected {
-            at: moves.len() as u32 + 1,
-            why: Why::NotAll,
-        })
-    }
+    Ok(end(replaying, at.events))
 }
 
-/// Replays an explanation on a world that stands at the start of each specification of which it
-/// speaks, and leaves the world where the replay ends. The answer is the only one that fits
-/// (`laws::one_answer`). The work is linear in the moves, but for the list of possible firings that
-/// is made and read at each firing.
+/// Replays moves on a world that stands at the start of each specification of which it
+/// speaks. The answer is the only one that fits (`laws::one_answer`). Each move is made once, and
+/// for each firing the possible firings are listed once.
 pub fn replay_in<W: World>(
     alloc: Global,
     world: &mut W,
     start_outs: &[Event],
-    trace: &Trace,
-    explanation: &Explanation,
-    silent: u32,
+    replaying: &Replaying<'_>,
 ) -> Result<Replayed, AllocError>
     requires start { (spec : Spec) → W.speaks world.old spec → start_of (W.limit world.old) spec ≡ Done (W.stack world.old spec).now start_outs.now }
     requires room { W.fired world.old ≤ 2 ^ 63 }
-    requires allowed { (spec : Spec) → W.speaks world.old spec → IsAllowedTrace spec trace.now }
-    requires few { length explanation.now.moves < 2 ^ 32 - 1 }
+    requires allowed { (spec : Spec) → W.speaks world.old spec → IsAllowedTrace spec replaying.now.trace.now }
+    requires few { length replaying.now.moves.now < 2 ^ 32 - 1 }
     ensures keeps { Keeps W.speaks W.limit world.old world.new }
-    ensures fired { W.fired world.new ≤ W.fired world.old + length explanation.now.moves }
-    ensures answer { IfOk result (λ answer. (spec : Spec) → W.speaks world.old spec → IsAnswer (setup_of (W.limit world.old) silent trace.now (W.stack world.old spec) start_outs.now spec) explanation.now.moves explanation.now.claim answer) }
+    ensures fired { W.fired world.new ≤ W.fired world.old + length replaying.now.moves.now }
+    ensures answer { IfOk result (λ answer. (spec : Spec) → W.speaks world.old spec → IsAnswer (setup_of (W.limit world.old) replaying.now.silent replaying.now.trace.now (W.stack world.old spec) start_outs.now spec) replaying.now.moves.now replaying.now.claim answer) }
 {
-    replay_moves(
-        alloc,
-        world,
-        start_outs,
-        trace.as_slice(),
-        explanation.moves.as_slice(),
-        explanation.claim,
-        silent,
-    )
+    replay_moves(alloc, world, start_outs, replaying)
 }

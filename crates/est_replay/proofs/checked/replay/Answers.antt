@@ -1,5 +1,6 @@
-use Rattle.std.proofs.Common.{subst, sym, ◌∙◌, arith}
+use Rattle.std.proofs.Common.{◌<◌, length, subst, sym, ◌∙◌, arith}
 use Rattle.est_meaning.specs.Allowed.{IsAllowedTrace}
+use Rattle.est_replay.specs.Replay.{IsReplay}
 use Rattle.est_replay.proofs.FromStart.{starts_so, answers_from, if_ok_alike}
 use Rattle.est_replay.proofs.checked.replay.Goals as goal
 
@@ -9,14 +10,20 @@ replay_in-requires c =
     record {
       start = λ spec speaks. starts_so c.args.limits.now.statements c.in-Ready.world.limit spec _ c.in-Ready.outs c.as_slice.result.now s.1.limit_is c.as_slice.ensures (s.1.start spec speaks);
       room = (let u = s.1.unfired in omega arith);
-      allowed = λ spec speaks. subst (λ x. IsAllowedTrace x c.args.trace.now) (sym s.0 ∙ speaks) c.requires.allowed;
-      few = c.requires.few;
+      allowed = λ spec speaks. subst (λ x. IsAllowedTrace x c.as_slice-in-Ready.result.now) (sym s.0 ∙ speaks) (subst (λ es. IsAllowedTrace c.args.checked.now es) (sym c.as_slice-in-Ready.ensures) c.requires.allowed);
+      few = subst (λ ms. length ms < 4294967295) (sym c.as_slice-in-Ready-2.ensures) c.requires.few;
     }
 
 pub returns-in-Ready : goal.returns-in-Ready
 returns-in-Ready c =
     let s = rw c.in-Ready.is at c.in_ok-started.ensures in
+    let limits = c.args.limits.now in
+    let claim = c.args.explanation.now.claim in
     if_ok_alike _ _ c.replay_in.result
-    (λ a h. answers_from c.args.limits.now.statements c.in-Ready.world.limit c.args.limits.now.silent c.args.checked.now c.args.trace.now _ c.in-Ready.outs c.as_slice.result.now c.args.explanation.now.moves c.args.explanation.now.claim a
-    s.1.limit_is c.as_slice.ensures (s.1.start c.args.checked.now s.0) (h c.args.checked.now s.0))
+    (λ a h.
+    let found : IsReplay limits.statements limits.silent c.args.checked.now c.as_slice-in-Ready.result.now c.as_slice-in-Ready-2.result.now claim a =
+    answers_from limits.statements c.in-Ready.world.limit limits.silent c.args.checked.now c.as_slice-in-Ready.result.now _ c.in-Ready.outs c.as_slice.result.now c.as_slice-in-Ready-2.result.now claim a
+    s.1.limit_is c.as_slice.ensures (s.1.start c.args.checked.now s.0) (h c.args.checked.now s.0) in
+    subst (λ ms. IsReplay limits.statements limits.silent c.args.checked.now c.args.trace.now ms claim a) c.as_slice-in-Ready-2.ensures
+    (subst (λ es. IsReplay limits.statements limits.silent c.args.checked.now es c.as_slice-in-Ready-2.result.now claim a) c.as_slice-in-Ready.ensures found))
     c.replay_in.ensures.answer

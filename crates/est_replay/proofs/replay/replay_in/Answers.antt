@@ -1,7 +1,6 @@
-use Rattle.std.proofs.Common.{◌≤◌, ◌<◌, length, refl, sym, subst}
+use Rattle.std.proofs.Common.{refl}
 use Rattle.std.proofs.Math.Logic.{∥∥₁_elim}
 use Rattle.std.specs.Coded.{le_prop}
-use Rattle.est_meaning.specs.Allowed.{IsAllowedTrace}
 use Rattle.est_replay.proofs.replay.replay_in.Goals as goal
 
 pub replay_moves-requires : goal.replay_moves-requires
@@ -10,9 +9,9 @@ replay_moves-requires g c κs within = (
   (
     c.requires.room,
     (
-      subst (λ ms. length ms < 4294967295) (sym c.as_slice-2.ensures) c.requires.few,
+      c.requires.few,
       (
-        subst (λ es. length es ≤ 200000) (sym c.as_slice.ensures) (∥∥₁_elim (g.met.W.World.spoken c.args.world.now) le_prop (λ s. (c.requires.allowed s.0 s.1).few)),
+        ∥∥₁_elim (g.met.W.World.spoken c.args.world.now) le_prop (λ s. (c.requires.allowed s.0 s.1).few),
         λ spec speaks. record {
           suits = record {
             spec_is = refl;
@@ -20,7 +19,7 @@ replay_moves-requires g c κs within = (
             silent_is = refl;
             trace_is = refl;
             begun = c.requires.start spec speaks;
-            allowed = subst (IsAllowedTrace spec) (sym c.as_slice.ensures) (c.requires.allowed spec speaks);
+            allowed = c.requires.allowed spec speaks;
           };
           start_is = refl;
           outs_are = refl;

@@ -1,36 +1,36 @@
-use Rattle.std.proofs.Common.{◌≡◌, ◌+◌, ap, subst, sym, true, arith, ◌∙◌}
+use Rattle.std.proofs.Common.{◌≡◌, ◌+◌, ap, subst, sym, arith, ◌∙◌}
 use Rattle.std.proofs.Math.Logic.{∥∥₁_elim}
 use Rattle.std.specs.Coded.{le_prop}
 use Rattle.est_meaning.specs.Stack.{Stack}
 use Rattle.est_replay.specs.Standing.{Suits, IsStanding}
-use Rattle.est_replay.proofs.Replaying.{within_call, ready_call, stands_call, rejects_call, keeps_both, confirms_call, rejects_last}
+use Rattle.est_replay.proofs.Replaying.{within_call, ready_call, stands_call, rejects_call, keeps_both, ends_call}
 use Rattle.est_replay.proofs.replay.replay_moves.Goals as goal
 
 pub make-requires : goal.make-requires
 make-requires g c κs within =
     let w = g.W.World in
-    let moves = c.args.moves.now in
+    let moves = c.args.replaying.now.moves.now in
     let world = c.loop-index.world in
     let i = c.loop-index.invariant.standing in (
       within,
       (
         ∥∥₁_elim (g.met.W.World.spoken world) le_prop (λ s.
-            within_call (g.setup s.0) c.args.claim moves c.loop-index.index c.loop-index.at s.0 (w.limit world) c.args.silent c.args.trace.now (w.stack world s.0) (i s.0 s.1).0 (i s.0 s.1).1 c.loop-index-test.true),
+            within_call (g.setup s.0) c.args.replaying.now.claim moves c.loop-index.index c.loop-index.at s.0 (w.limit world) c.args.replaying.now.silent c.args.replaying.now.trace.now (w.stack world s.0) (i s.0 s.1).0 (i s.0 s.1).1 c.loop-index-test.true),
         (
           (let fired = c.loop-index.invariant.fired in let room = c.requires.1.0 in let few = c.requires.1.1.0 in omega arith),
-          λ spec speaks. ready_call (g.setup spec) c.args.claim moves c.loop-index.index c.loop-index.at spec (w.limit world) c.args.silent c.args.trace.now (w.stack world spec) (i spec speaks).0 (i spec speaks).1 c.loop-index-test.true,
+          λ spec speaks. ready_call (g.setup spec) c.args.replaying.now.claim moves c.loop-index.index c.loop-index.at spec (w.limit world) c.args.replaying.now.silent c.args.replaying.now.trace.now (w.stack world spec) (i spec speaks).0 (i spec speaks).1 c.loop-index-test.true,
         ),
       ),
     )
 
-pub returns-in-Off-clause-answer : goal.returns-in-Off-clause-answer
-returns-in-Off-clause-answer g c spec speaks =
+pub returns-in-Failed-clause-answer : goal.returns-in-Failed-clause-answer
+returns-in-Failed-clause-answer g c spec speaks =
     let w = g.W.World in
     let world = c.loop-index.world in
     let here = c.loop-index.invariant.keeps.forward spec speaks in
     let i = c.loop-index.invariant.standing spec here in
-    rejects_call (g.setup spec) c.args.claim c.args.moves.now c.loop-index.index c.loop-index.at spec (w.limit world) c.args.silent c.args.trace.now (w.stack world spec) i.0 i.1 c.loop-index-test.true
-    c.asked-compared.result c.asked-compared.ensures (w.stack c.make.new.world spec).now c.in-Off.why (rw c.in-Off.is at (c.in_ok-next.ensures.moved spec here))
+    rejects_call (g.setup spec) c.args.replaying.now.claim c.args.replaying.now.moves.now c.loop-index.index c.loop-index.at spec (w.limit world) c.args.replaying.now.silent c.args.replaying.now.trace.now (w.stack world spec) i.0 i.1 c.loop-index-test.true
+    c.asked-compared.result c.asked-compared.ensures (w.stack c.make.new.world spec).now c.in-Failed.why (rw c.in-Failed.is at (c.in_ok-next.ensures.moved spec here))
 
 pub loop-index-preserved : goal.loop-index-preserved
 loop-index-preserved g c =
@@ -47,26 +47,17 @@ loop-index-preserved g c =
           let i = c.loop-index.invariant.standing spec here in
           let limit : w.limit world ≡ w.limit c.forget.new.self = sym (forgot.limit_is ∙ made.limit_is) in
           let now : (w.stack c.make.new.world spec).now ≡ (w.stack c.forget.new.self spec).now = sym (ap (λ (x : Stack). x.now) (c.forget.ensures.stack spec there)) in (
-            subst (λ n. Suits (g.setup spec) spec n c.args.silent c.args.trace.now) limit i.0,
-            subst (λ s. IsStanding (g.setup spec) c.args.claim c.args.moves.now (c.loop-index.index + 1) s c.in-On.next) now
-                (stands_call (g.setup spec) c.args.claim c.args.moves.now c.loop-index.index c.loop-index.at spec (w.limit world) c.args.silent c.args.trace.now (w.stack world spec) i.0 i.1 c.loop-index-test.true
-                c.asked-compared.result c.asked-compared.ensures (w.stack c.make.new.world spec).now c.in-On.next (rw c.in-On.is at (c.in_ok-next.ensures.moved spec here))),
+            subst (λ n. Suits (g.setup spec) spec n c.args.replaying.now.silent c.args.replaying.now.trace.now) limit i.0,
+            subst (λ s. IsStanding (g.setup spec) c.args.replaying.now.claim c.args.replaying.now.moves.now (c.loop-index.index + 1) s c.in-Passed.next) now
+                (stands_call (g.setup spec) c.args.replaying.now.claim c.args.replaying.now.moves.now c.loop-index.index c.loop-index.at spec (w.limit world) c.args.replaying.now.silent c.args.replaying.now.trace.now (w.stack world spec) i.0 i.1 c.loop-index-test.true
+                c.asked-compared.result c.asked-compared.ensures (w.stack c.make.new.world spec).now c.in-Passed.next (rw c.in-Passed.is at (c.in_ok-next.ensures.moved spec here))),
           ));
     }
 
-pub returns-then-is_met-clause-answer : goal.returns-then-is_met-clause-answer
-returns-then-is_met-clause-answer g c spec speaks =
+pub returns-clause-answer : goal.returns-clause-answer
+returns-clause-answer g c spec speaks =
     let w = g.W.World in
     let world = c.loop-index.world in
     let i = c.loop-index.invariant.standing spec (c.loop-index.invariant.keeps.forward spec speaks) in
-    confirms_call (g.setup spec) c.args.claim c.args.moves.now c.loop-index.index (w.stack world spec).now c.loop-index.at spec (w.limit world) c.args.silent c.args.trace.now i.0 i.1
-    (let f = c.loop-index-test.false in let e = c.loop-index.auto.index-end in omega arith) (c.is_met.ensures.0 c.if-is_met.true)
-
-pub returns-else-is_met-clause-answer : goal.returns-else-is_met-clause-answer
-returns-else-is_met-clause-answer g c spec speaks =
-    let w = g.W.World in
-    let world = c.loop-index.world in
-    let i = c.loop-index.invariant.standing spec (c.loop-index.invariant.keeps.forward spec speaks) in
-    rejects_last (g.setup spec) c.args.claim c.args.moves.now c.loop-index.index (w.stack world spec).now c.loop-index.at spec (w.limit world) c.args.silent c.args.trace.now i.0 i.1
-    (let f = c.loop-index-test.false in let e = c.loop-index.auto.index-end in omega arith)
-    (λ met. let t : c.is_met.result ≡ true = c.is_met.ensures.1 met in let f = c.if-is_met.false in cc)
+    ends_call (g.setup spec) c.args.replaying.now.claim c.args.replaying.now.moves.now c.loop-index.index (w.stack world spec).now c.loop-index.at spec (w.limit world) c.args.replaying.now.silent c.args.replaying.now.trace.now i.0 i.1
+    (let f = c.loop-index-test.false in let e = c.loop-index.auto.index-end in omega arith) c.end.result c.end.ensures
