@@ -11,7 +11,7 @@ use Rattle.est_syntax.specs.declared.specification.Spec.{Spec}
 use Rattle.est_syntax.specs.Breaks.{IsLeastFault}
 use Rattle.est_syntax.specs.Least.{number}
 use Rattle.est_syntax.specs.Ports.{ports_of}
-use Rattle.est_syntax.proofs.LeastLaws.{lex}
+use Rattle.est_check.proofs.LeastLaws.{lex}
 use Rattle.est_grammar.specs.Answer.{HasOneTree, IsFirstBadPlace, is_left_out, is_not_yet, passes}
 use Rattle.est_check.specs.Checked.{counts_of}
 use Rattle.est_meaning.specs.declared.event.Event.{Event}

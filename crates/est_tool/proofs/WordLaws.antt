@@ -102,4 +102,4 @@ replay_asks (a ∷ b ∷ c ∷ d ∷ words) limits asked nothing = nothing _ ask
 -- words that ask for a command ask for something
 pub command_asks : (words : List (String Global)) (command : Command) → IsCommand words command → AsksNothing words → ⊥
 command_asks words Check asked nothing = check_asks words asked nothing
-command_asks words (Replay limits) asked nothing = replay_asks words limits asked nothing
+command_asks words (Replay limits) asked nothing = replay_asks words limits asked.0 nothing

@@ -50,7 +50,11 @@ AsksToReplay limits (command ∷ specification ∷ trace ∷ explanation ∷ res
     Asks (bytes_of (command ∷ specification ∷ trace ∷ explanation ∷ rest)) (replay (string_bytes specification) (string_bytes trace) (string_bytes explanation) limits.silent limits.statements)
 AsksToReplay limits _ = ⊥
 
+-- the most firings that are tried, where no word says how many; a replay tries those alone that its explanation names
+abbrev pub usual_budget : ℕ
+usual_budget = 1000000
+
 -- the words ask for this command, and the files that it is for are the words at their places
 abbrev pub IsCommand : List (String Global) → Command → Type 0
 IsCommand words Check = AsksToCheck words
-IsCommand words (Replay limits) = AsksToReplay limits words
+IsCommand words (Replay limits) = AsksToReplay limits words × (limits.budget ≡ usual_budget)

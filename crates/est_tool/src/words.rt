@@ -1,10 +1,10 @@
 //! The words that the program is called with.
-ghost use Rattle.std.specs.Prelude.{ℕ, IfOk, MatchOption, OnErr};
-ghost use Rattle.est_tool.specs.Words.{AreLimits, AsksNothing, IsCommand, IsNumber, bytes_of};
+ghost use Rattle.std.specs.Prelude.{◌≡◌, ℕ, IfOk, IfSome, MatchOption, OnErr};
+ghost use Rattle.est_tool.specs.Words.{AreLimits, AsksNothing, IsCommand, IsNumber, bytes_of, usual_budget};
 
 use est_meaning::run::Limits;
 
-// The most firings that are tried. A replay tries only those that the explanation names.
+// The most firings that are tried.
 const BUDGET: u32 = 1_000_000;
 
 /// What the words ask for.
@@ -46,7 +46,8 @@ pub fn read_words(words: &[String]) -> Result<Command, BadUsage>
 
 // The limits that these words give, and the usual ones where there are no words.
 fn read_limits(words: &[String]) -> Option<Limits>
-    ensures { MatchOption result ((silent statements : ℕ) → AreLimits (bytes_of words.now) silent statements → ⊥) (λ limits. AreLimits (bytes_of words.now) limits.silent limits.statements) }
+    ensures limits { MatchOption result ((silent statements : ℕ) → AreLimits (bytes_of words.now) silent statements → ⊥) (λ limits. AreLimits (bytes_of words.now) limits.silent limits.statements) }
+    ensures budget { IfSome result (λ limits. limits.budget ≡ usual_budget) }
 {
     match words {
         [] => Some(Limits {
