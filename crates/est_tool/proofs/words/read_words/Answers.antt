@@ -14,13 +14,15 @@ replay_words : (c : Then-eq-2)
 replay_words c = four_words _ _ _ _ _ c.in-len4-up.len_at_least c.command-item-2.is c.specification-item-2.is c.trace-item.is c.explanation-item.is
 
 pub returns-in-Some-clause-asked : goal.returns-in-Some-clause-asked
-returns-in-Some-clause-asked c =
-    (is_replay _ c.command-item-2.result c.specification-item-2.result c.trace-item.result c.explanation-item.result _ c.in-Some.limits (replay_words (goal.at.returns-in-Some-clause-asked c).Then-eq-2)
-    (search rules)
-    (named c.specification-item-2.result _ c.is_empty-then-eq-2.ensures c.if-not-is_empty-2.true)
-    (named c.trace-item.result _ c.is_empty-then-not-is_empty-2.ensures c.if-not-is_empty-3.true)
-    (named c.explanation-item.result _ c.is_empty-then-not-is_empty-3.ensures c.if-not-is_empty-4.true)
-    c.in-Some.ensures.limits, c.in-Some.ensures.budget)
+returns-in-Some-clause-asked c = (
+  is_replay _ c.command-item-2.result c.specification-item-2.result c.trace-item.result c.explanation-item.result _ c.in-Some.limits (replay_words (goal.at.returns-in-Some-clause-asked c).Then-eq-2)
+      (search rules)
+      (named c.specification-item-2.result _ c.is_empty-then-eq-2.ensures c.if-not-is_empty-2.true)
+      (named c.trace-item.result _ c.is_empty-then-not-is_empty-2.ensures c.if-not-is_empty-3.true)
+      (named c.explanation-item.result _ c.is_empty-then-not-is_empty-3.ensures c.if-not-is_empty-4.true)
+      c.in-Some.ensures.limits,
+  c.in-Some.ensures.budget,
+)
 
 pub returns-in-None-clause-refused : goal.returns-in-None-clause-refused
 returns-in-None-clause-refused c = λ request asked.
