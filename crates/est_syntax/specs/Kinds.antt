@@ -1,37 +1,40 @@
 -- Kinds that are well formed (ISO 7185, 6.4).
-use Rattle.std.specs.Prelude.{◌<◌, ℤ, pos, negsuc, ◌≤ℤ◌, ◌<ℤ◌, Bool, true, false, IsTrue, length}
-use Rattle.est_syntax.specs.declared.kind.Kind.{Kind, Integer, Boolean, Char, Enumeration, Part', SetOf', ArrayOf', Fields', Row_of-FieldKind, end_of-FieldKind, more_of-FieldKind}
+use Rattle.std.specs.Prelude.{◌≡◌, ℕ, ◌<◌, ℤ, pos, negsuc, ◌≤ℤ◌, ◌<ℤ◌, Bool, true, false, IsTrue, List, length, slice_get, Some}
+use Rattle.est_syntax.specs.declared.name.Name.{Name}
+use Rattle.est_syntax.specs.declared.kind.Kind.{Kind, out-Kind}
+use Rattle.est_syntax.specs.declared.kind.Kind.TheOpen as kind
+use Rattle.est_syntax.specs.declared.kind.FieldKind.{FieldKind}
 
 -- what an ordinal kind that is no part of another holds: the integers of this profile, false and true, the characters, the constants of an enumeration from 0
 abbrev pub Holds : Kind → ℤ → Type 0
-Holds Integer z = (negsuc 2147483646 ≤ℤ z) × (z ≤ℤ pos 2147483647)
-Holds Boolean z = (pos 0 ≤ℤ z) × (z ≤ℤ pos 1)
-Holds Char z = (pos 0 ≤ℤ z) × (z ≤ℤ pos 127)
-Holds (Enumeration place names) z = (pos 0 ≤ℤ z) × (z <ℤ pos (length names))
-Holds _ z = ⊥
+Holds host z = held (out-Kind host)
+  where
+    held : kind.Kind-F Kind FieldKind → Type 0
+    held kind.Integer = (negsuc 2147483646 ≤ℤ z) × (z ≤ℤ pos 2147483647)
+    held kind.Boolean = (pos 0 ≤ℤ z) × (z ≤ℤ pos 1)
+    held kind.Char = (pos 0 ≤ℤ z) × (z ≤ℤ pos 127)
+    held (kind.Enumeration place names) = (pos 0 ≤ℤ z) × (z <ℤ pos (length names))
+    held _ = ⊥
 
 -- whether the values of a kind are ordinals
 abbrev pub is_ordinal : Kind → Bool
-is_ordinal Integer = true
-is_ordinal Boolean = true
-is_ordinal Char = true
-is_ordinal (Enumeration place names) = true
-is_ordinal (Part' p host low high) = true
-is_ordinal _ = false
+is_ordinal k = ordinal (out-Kind k)
+  where
+    ordinal : kind.Kind-F Kind FieldKind → Bool
+    ordinal kind.Integer = true
+    ordinal kind.Boolean = true
+    ordinal kind.Char = true
+    ordinal (kind.Enumeration place names) = true
+    ordinal (kind.Part host low high) = true
+    ordinal _ = false
 
--- a kind whose parts have hosts that hold their bounds in order, whose enumerations have constants, and whose subscripts and set members are ordinals
-abbrev mutual
-  pub IsWellFormed : Kind → Type 0
-  IsWellFormed Integer = Unit {0}
-  IsWellFormed Boolean = Unit {0}
-  IsWellFormed Char = Unit {0}
-  IsWellFormed (Enumeration place names) = 0 < length names
-  IsWellFormed (Part' p host low high) = Holds host low × Holds host high × (low ≤ℤ high)
-  IsWellFormed (SetOf' p base) = IsTrue (is_ordinal base) × IsWellFormed base
-  IsWellFormed (ArrayOf' p index q of) = IsTrue (is_ordinal index) × IsWellFormed index × IsWellFormed of
-  IsWellFormed (Fields' n fields) = AreWellFormed fields
-
-  -- fields of well-formed kinds
-  pub AreWellFormed : {n : _} → Row_of-FieldKind n → Type 0
-  AreWellFormed end_of-FieldKind = Unit {0}
-  AreWellFormed (more_of-FieldKind name kind rest) = IsWellFormed kind × AreWellFormed rest
+-- A kind whose parts have hosts that hold their bounds in order, whose enumerations have constants, and whose subscripts and set members are ordinals.
+pub data IsWellFormed : Kind → Type 0 where
+  integers : {k : Kind} → out-Kind k ≡ kind.Integer → IsWellFormed k
+  booleans : {k : Kind} → out-Kind k ≡ kind.Boolean → IsWellFormed k
+  characters : {k : Kind} → out-Kind k ≡ kind.Char → IsWellFormed k
+  constants : {k : Kind} (place : ℕ) (names : List Name) → out-Kind k ≡ kind.Enumeration place names → 0 < length names → IsWellFormed k
+  part : {k : Kind} (host : Kind) (low high : ℤ) → out-Kind k ≡ kind.Part host low high → Holds host low → Holds host high → low ≤ℤ high → IsWellFormed k
+  sets : {k : Kind} (base : Kind) → out-Kind k ≡ kind.SetOf base → IsTrue (is_ordinal base) → IsWellFormed base → IsWellFormed k
+  arrays : {k : Kind} (index of : Kind) → out-Kind k ≡ kind.ArrayOf index of → IsTrue (is_ordinal index) → IsWellFormed index → IsWellFormed of → IsWellFormed k
+  records : {k : Kind} (fields : List FieldKind) → out-Kind k ≡ kind.Fields fields → ((i : ℕ) (field : FieldKind) → slice_get fields i ≡ Some field → IsWellFormed field.kind) → IsWellFormed k

@@ -1,7 +1,7 @@
 //! Equal copies of names and values.
 ghost use Rattle.std.specs.Prelude.{◌≡◌, IfOk};
 
-use crate::kind::{Ordinals, Value, Values};
+use crate::kind::{Kind, Ordinals, Value, Values};
 use crate::name::{Bytes, Name};
 use std::alloc::{AllocError, Global};
 
@@ -49,4 +49,33 @@ pub fn copy_values(alloc: Global, values: &Values) -> Result<Values, AllocError>
         items.push(value.copy(alloc)?)?;
     }
     Ok(Values { items })
+}
+
+impl Kind {
+    /// An equal kind, which shares what this one is made of. Errs where that can have no more owners.
+    pub fn copy(&self) -> Result<Kind, AllocError>
+        ensures { IfOk result (λ kind. kind ≡ self.now) }
+    {
+        match self {
+            Kind::Integer => Ok(Kind::Integer),
+            Kind::Boolean => Ok(Kind::Boolean),
+            Kind::Char => Ok(Kind::Char),
+            Kind::Enumeration { declared, names } => Ok(Kind::Enumeration {
+                declared: *declared,
+                names: names.share()?,
+            }),
+            Kind::Part { host, low, high } => Ok(Kind::Part {
+                host: host.share()?,
+                low: *low,
+                high: *high,
+            }),
+            Kind::SetOf(base) => Ok(Kind::SetOf(base.share()?)),
+            Kind::ArrayOf { index, of } => {
+                let index = index.share()?;
+                let of = of.share()?;
+                Ok(Kind::ArrayOf { index, of })
+            }
+            Kind::Fields(fields) => Ok(Kind::Fields(fields.share()?)),
+        }
+    }
 }

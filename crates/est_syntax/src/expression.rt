@@ -6,7 +6,7 @@ use crate::name::{Used, UsedNames};
 use est_items::Items;
 
 /// An operator of an expression.
-#[derive(Clone, Copy, Debug, PartialEq, Eq)]
+#[derive(Clone, Copy, PartialEq, Eq)]
 pub enum Operator {
     Equal,
     Unequal,
@@ -25,14 +25,14 @@ pub enum Operator {
 }
 
 /// An operand of a product.
-#[derive(Debug, Drop)]
+#[derive(Drop)]
 pub enum Factor {
     Number { number: u64, place: u32 },
     Character { code: u8, place: u32 },
 }
 
 /// An operator of a product and the operand behind it.
-#[derive(Debug, Drop)]
+#[derive(Drop)]
 pub struct ProductStep {
     pub operator: Operator,
     pub right: Factor,
@@ -42,14 +42,14 @@ pub struct ProductStep {
 pub type ProductSteps = Items<ProductStep>;
 
 /// A product.
-#[derive(Debug, Drop)]
+#[derive(Drop)]
 pub struct Term {
     pub first: Factor,
     pub rest: ProductSteps,
 }
 
 /// An operator of a sum and the operand behind it.
-#[derive(Debug, Drop)]
+#[derive(Drop)]
 pub struct SumStep {
     pub operator: Operator,
     pub right: Term,
@@ -59,7 +59,7 @@ pub struct SumStep {
 pub type SumSteps = Items<SumStep>;
 
 /// A sum. `sign` says whether a `+` or `-` was written, `minus` whether it was a `-`.
-#[derive(Debug, Drop)]
+#[derive(Drop)]
 pub struct Simple {
     pub minus: bool,
     pub sign: bool,
@@ -68,14 +68,14 @@ pub struct Simple {
 }
 
 /// A relational operator and the sum behind it.
-#[derive(Debug, Drop)]
+#[derive(Drop)]
 pub struct Relation {
     pub operator: Operator,
     pub right: Simple,
 }
 
 /// An expression. Its place is that of its first token.
-#[derive(Debug, Drop)]
+#[derive(Drop)]
 pub struct Expr {
     pub left: Simple,
     pub relation: Option<Relation>,
@@ -86,14 +86,14 @@ pub struct Expr {
 pub type Exprs = Items<Expr>;
 
 /// A name with subscripts: an interaction point or a module variable.
-#[derive(Debug, Drop)]
+#[derive(Drop)]
 pub struct Access {
     pub name: Used,
     pub index: Exprs,
 }
 
 /// The text of a type.
-#[derive(Debug, Drop)]
+#[derive(Drop)]
 pub enum TypeText {
     Named(Used),
 }
@@ -102,7 +102,7 @@ pub enum TypeText {
 pub type TypeTexts = Items<TypeText>;
 
 /// Names declared with one type: variables, parameters or exports.
-#[derive(Debug, Drop)]
+#[derive(Drop)]
 pub struct VarDef {
     pub names: UsedNames,
     pub text: TypeText,

@@ -1,14 +1,17 @@
 //! Kinds, the resolved types, and values (ISO 7185, 6.4).
 
 use crate::name::Name;
-use est_items::Items;
+use est_items::{Items, Shared};
 
 /// Names in order.
 pub type Names = Items<Name>;
 
+/// A kind with several owners.
+pub type SharedKind = Shared<Kind>;
+
 /// A field of a record.
 #[cycle(kind)]
-#[derive(Debug, Drop)]
+#[derive(Drop)]
 pub struct FieldKind {
     pub name: Name,
     pub kind: Kind,
@@ -17,9 +20,10 @@ pub struct FieldKind {
 /// The fields of a record in order.
 pub type FieldKinds = Items<FieldKind>;
 
-/// A resolved type.
+/// A resolved type. A copy shares what the kind is made of, so that the kind of a large type is
+/// there once, however many types are made of it.
 #[cycle(kind)]
-#[derive(Debug, Drop)]
+#[derive(Drop)]
 pub enum Kind {
     Integer,
     Boolean,
@@ -27,20 +31,20 @@ pub enum Kind {
     /// An enumeration, by the place of its declaration, and its constants.
     Enumeration {
         declared: u32,
-        names: Names,
+        names: Shared<Names>,
     },
     /// The ordinals of a host from one to another.
     Part {
-        host: Box<Kind>,
+        host: SharedKind,
         low: i32,
         high: i32,
     },
-    SetOf(Box<Kind>),
+    SetOf(SharedKind),
     ArrayOf {
-        index: Box<Kind>,
-        of: Box<Kind>,
+        index: SharedKind,
+        of: SharedKind,
     },
-    Fields(FieldKinds),
+    Fields(Shared<FieldKinds>),
 }
 
 /// Kinds in order.
@@ -50,7 +54,7 @@ pub type Kinds = Items<Kind>;
 pub type Ordinals = Items<i32>;
 
 /// A value, or the lack of one.
-#[derive(Debug, Drop)]
+#[derive(Drop)]
 pub enum Value {
     Undefined,
     Ordinal(i32),

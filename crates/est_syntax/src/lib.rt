@@ -9,3 +9,4 @@ pub mod ports;
 pub mod rule;
 pub mod sort;
 pub mod specification;
+pub mod tree;

@@ -15,13 +15,13 @@ static PREDECLARED: [&[u8]; 13] = [
 pub type Bytes = Items<u8>;
 
 /// An identifier in lower case.
-#[derive(Debug, Drop)]
+#[derive(Drop)]
 pub struct Name {
     pub bytes: Bytes,
 }
 
 /// A name and the number of its token, counted from 0.
-#[derive(Debug, Drop)]
+#[derive(Drop)]
 pub struct Used {
     pub name: Name,
     pub place: u32,

@@ -2,10 +2,10 @@
 
 use crate::kind::{Kinds, Ordinals};
 use crate::name::Name;
-use est_items::Items;
+use est_items::{Items, Shared};
 
 /// An interaction that may pass a port, with the kinds of its parameters.
-#[derive(Debug, Drop)]
+#[derive(Drop)]
 pub struct Signal {
     pub name: Name,
     pub kinds: Kinds,
@@ -16,13 +16,16 @@ pub struct Signal {
 /// Signals in the order of their channel.
 pub type Signals = Items<Signal>;
 
+/// The signals of one side of a channel, which all its ports share.
+pub type SharedSignals = Shared<Signals>;
+
 /// A port, with the kinds of its subscripts and its own subscripts where it is an element of an array.
-#[derive(Debug, Drop)]
+#[derive(Drop)]
 pub struct Port {
     pub name: Name,
     pub index_kinds: Kinds,
     pub index: Ordinals,
-    pub signals: Signals,
+    pub signals: SharedSignals,
 }
 
 /// Ports in the order of their declarations, the elements of an array in ascending order.

@@ -6,14 +6,14 @@ use crate::name::{Used, UsedNames};
 use est_items::Items;
 
 /// How the interactions of an interaction point are queued.
-#[derive(Clone, Copy, Debug, PartialEq, Eq)]
+#[derive(Clone, Copy, PartialEq, Eq)]
 pub enum Queue {
     Individual,
     Common,
 }
 
 /// An interaction of a channel, with its parameters.
-#[derive(Debug, Drop)]
+#[derive(Drop)]
 pub struct InteractionDef {
     pub name: Used,
     pub params: VarDefs,
@@ -23,7 +23,7 @@ pub struct InteractionDef {
 pub type Interactions = Items<InteractionDef>;
 
 /// The interactions that some roles of a channel may send.
-#[derive(Debug, Drop)]
+#[derive(Drop)]
 pub struct ByPart {
     pub roles: UsedNames,
     pub interactions: Interactions,
@@ -33,7 +33,7 @@ pub struct ByPart {
 pub type ByParts = Items<ByPart>;
 
 /// A channel: its two roles and what each may send.
-#[derive(Debug, Drop)]
+#[derive(Drop)]
 pub struct Channel {
     pub name: Used,
     pub roles: UsedNames,
@@ -41,7 +41,7 @@ pub struct Channel {
 }
 
 /// Interaction points declared together. The place is that of `array`, or of the first name.
-#[derive(Debug, Drop)]
+#[derive(Drop)]
 pub struct Point {
     pub names: UsedNames,
     pub dims: TypeTexts,
@@ -55,7 +55,7 @@ pub struct Point {
 pub type Points = Items<Point>;
 
 /// A module header. `system` says that it is a `systemactivity`.
-#[derive(Debug, Drop)]
+#[derive(Drop)]
 pub struct Header {
     pub name: Used,
     pub system: bool,
@@ -65,7 +65,7 @@ pub struct Header {
 }
 
 /// Module variables declared together. The place is that of `array`, or of the first name.
-#[derive(Debug, Drop)]
+#[derive(Drop)]
 pub struct ModvarDef {
     pub names: UsedNames,
     pub dims: TypeTexts,
@@ -77,7 +77,7 @@ pub struct ModvarDef {
 pub type ModvarDefs = Items<ModvarDef>;
 
 /// An interaction that an output sends, and at which interaction point.
-#[derive(Debug, Drop)]
+#[derive(Drop)]
 pub struct Sending {
     pub at: Access,
     pub signal: Used,
@@ -88,7 +88,7 @@ pub struct Sending {
 pub type Sendings = Items<Sending>;
 
 /// A statement. Its place is that of its first token; that of `Empty` is the token behind it.
-#[derive(Debug, Drop)]
+#[derive(Drop)]
 pub enum Statement {
     Empty {
         place: u32,
@@ -109,7 +109,7 @@ pub enum Statement {
 pub type Statements = Items<Statement>;
 
 /// A clause of a transition. Its place is that of its first token.
-#[derive(Debug, Drop)]
+#[derive(Drop)]
 pub enum Clause {
     From {
         states: UsedNames,
@@ -132,7 +132,7 @@ pub type Clauses = Items<Clause>;
 
 /// Declarations and statements. The place is that of `begin`.
 #[cycle(part)]
-#[derive(Debug, Drop)]
+#[derive(Drop)]
 pub struct Block {
     pub parts: Parts,
     pub statements: Statements,
@@ -141,7 +141,7 @@ pub struct Block {
 
 /// A transition: its clauses, its name where it has one, and its block.
 #[cycle(part)]
-#[derive(Debug, Drop)]
+#[derive(Drop)]
 pub struct Transition {
     pub clauses: Clauses,
     pub name: Option<Used>,
@@ -153,7 +153,7 @@ pub type Transitions = Items<Transition>;
 
 /// The transitions behind one `trans`.
 #[cycle(part)]
-#[derive(Debug, Drop)]
+#[derive(Drop)]
 pub struct Group {
     pub transitions: Transitions,
 }
@@ -163,7 +163,7 @@ pub type Groups = Items<Group>;
 
 /// The initialize part of a body: the first state, where there is one, and the block.
 #[cycle(part)]
-#[derive(Debug, Drop)]
+#[derive(Drop)]
 pub struct FirstPart {
     pub to: Option<Used>,
     pub block: Block,
@@ -171,7 +171,7 @@ pub struct FirstPart {
 
 /// A module body for a header.
 #[cycle(part)]
-#[derive(Debug, Drop)]
+#[derive(Drop)]
 pub struct Body {
     pub name: Used,
     pub header: Used,
@@ -182,7 +182,7 @@ pub struct Body {
 
 /// A declaration part of a specification, a body or a block.
 #[cycle(part)]
-#[derive(Debug, Drop)]
+#[derive(Drop)]
 pub enum Part {
     Channel(Channel),
     Header(Header),
@@ -195,7 +195,7 @@ pub enum Part {
 pub type Parts = Items<Part>;
 
 /// A specification. `first` is the one statement of its initialize part.
-#[derive(Debug, Drop)]
+#[derive(Drop)]
 pub struct Spec {
     pub name: Used,
     pub queue: Option<Queue>,
