@@ -2,7 +2,7 @@
 use Rattle.std.proofs.Common.{◌≡◌, ℕ, ◌+◌, ◌<◌, ◌≤◌, List, [], ◌∷◌, length, drop, get_or, ap, arith}
 use Rattle.std.specs.Prelude.{fold}
 use Rattle.std.proofs.lemmas.List.{drop_more, drop_all}
-use Rattle.est_texts.specs.Tests.{with_digit, value_of}
+use Rattle.est_reader.specs.Tests.{with_digit, value_of}
 
 -- the rest only adds to a value
 pub fold-with_digit-grows : (digits : List ℕ) (value : ℕ) → value ≤ fold with_digit value digits
