@@ -1,13 +1,13 @@
 -- What a name means at the outermost place was declared by a part of the specification.
 use Rattle.std.proofs.Common.{◌≡◌, ◌⊎◌, inl, inr, ℕ, Bool, true, false, List, [], ◌∷◌, Option, Some, None, nat_lt, if◌then◌else◌, ap, refl, subst}
 use Rattle.est_syntax.specs.declared.name.Used.{Used}
-use Rattle.est_syntax.specs.declared.specification.Channel.{Channel}
-use Rattle.est_syntax.specs.declared.specification.Point.{Point}
-use Rattle.est_syntax.specs.declared.specification.Header.{Header}
-use Rattle.est_syntax.specs.declared.specification.ModvarDef.{ModvarDef}
-use Rattle.est_syntax.specs.declared.specification.Body.{Body, out-Body}
-use Rattle.est_syntax.specs.declared.specification.Part.{Part}
-use Rattle.est_syntax.specs.declared.specification.Part.TheVariants as part
+use Rattle.est_syntax.specs.declared.channel.Channel.{Channel}
+use Rattle.est_syntax.specs.declared.header.Point.{Point}
+use Rattle.est_syntax.specs.declared.header.Header.{Header}
+use Rattle.est_syntax.specs.declared.header.ModvarDef.{ModvarDef}
+use Rattle.est_syntax.specs.declared.body.Body.{Body, out-Body}
+use Rattle.est_syntax.specs.declared.body.Part.{Part}
+use Rattle.est_syntax.specs.declared.body.Part.TheVariants as part
 use Rattle.est_syntax.specs.declared.specification.Spec.{Spec}
 use Rattle.est_syntax.specs.Least.{IsIn}
 use Rattle.est_syntax.specs.Names.{Sort, module_variable, state, Declaration, Region, Meaning, nothing, predeclared, seen, spelled, is_name, is_predeclared, declaration, declared_in, in_force, meaning, meaning_by, declared_together, modvars_region, states_region, part_region, parts_region, spec_scope, channel_by, header_by, Side, side_with, side_by, side_of, role_named}
@@ -96,6 +96,12 @@ of_channel (part.Body x) d c (inl j) e = absurd (subst (λ (y : Declaration). ch
 of_channel (part.Body x) d c (inr j) e = absurd j
 of_channel (part.Modvars ms) d c i e = absurd (modvars_none channel_by c ms d (λ u last m. refl) i e)
 of_channel (part.States us) d c i e = absurd (states_none channel_by c us d (λ u. refl) i e)
+of_channel (part.Consts _) d c i e = absurd i
+of_channel (part.Types _) d c i e = absurd i
+of_channel (part.Points _) d c i e = absurd i
+of_channel (part.Vars _) d c i e = absurd i
+of_channel (part.StateSets _) d c i e = absurd i
+of_channel (part.Routine' _ _ _ _ _ _ _) d c i e = absurd i
 
 pub channel_meant : (s : Spec) (u : Used) (c : Channel) → channel_by (meaning (spec_scope s) u) ≡ Some c → IsIn (part.Channel c) s.parts
 channel_meant s u c e =
@@ -112,6 +118,12 @@ of_header (part.Body x) d h (inl j) e = absurd (subst (λ (y : Declaration). hea
 of_header (part.Body x) d h (inr j) e = absurd j
 of_header (part.Modvars ms) d h i e = absurd (modvars_none header_by h ms d (λ u last m. refl) i e)
 of_header (part.States us) d h i e = absurd (states_none header_by h us d (λ u. refl) i e)
+of_header (part.Consts _) d h i e = absurd i
+of_header (part.Types _) d h i e = absurd i
+of_header (part.Points _) d h i e = absurd i
+of_header (part.Vars _) d h i e = absurd i
+of_header (part.StateSets _) d h i e = absurd i
+of_header (part.Routine' _ _ _ _ _ _ _) d h i e = absurd i
 
 pub header_meant : (s : Spec) (u : Used) (h : Header) → header_by (meaning (spec_scope s) u) ≡ Some h → IsIn (part.Header h) s.parts
 header_meant s u h e =
@@ -129,6 +141,12 @@ of_body (part.Header x) d b (inl j) e = absurd (subst (λ (y : Declaration). bod
 of_body (part.Header x) d b (inr j) e = absurd j
 of_body (part.Modvars ms) d b i e = absurd (modvars_none body_by b ms d (λ u last m. refl) i e)
 of_body (part.States us) d b i e = absurd (states_none body_by b us d (λ u. refl) i e)
+of_body (part.Consts _) d b i e = absurd i
+of_body (part.Types _) d b i e = absurd i
+of_body (part.Points _) d b i e = absurd i
+of_body (part.Vars _) d b i e = absurd i
+of_body (part.StateSets _) d b i e = absurd i
+of_body (part.Routine' _ _ _ _ _ _ _) d b i e = absurd i
 
 pub body_meant : (s : Spec) (u : Used) (b : Body) → body_by (meaning (spec_scope s) u) ≡ Some b → IsIn (part.Body b) s.parts × (is_name (spelled u) (spelled (out-Body b).name) ≡ true)
 body_meant s u b e =

@@ -5,16 +5,16 @@ use Rattle.est_syntax.specs.declared.rule.Rule.TheVariants.{WrongAttribute, Wron
 use Rattle.est_syntax.specs.declared.name.Used.{Used}
 use Rattle.est_syntax.specs.declared.expression.Access.{Access}
 use Rattle.est_syntax.specs.declared.expression.Expr.{Expr}
-use Rattle.est_syntax.specs.declared.specification.Header.{Header}
-use Rattle.est_syntax.specs.declared.specification.ModvarDef.{ModvarDef}
-use Rattle.est_syntax.specs.declared.specification.Statement.{Statement}
-use Rattle.est_syntax.specs.declared.specification.Statement.TheVariants.{Init}
-use Rattle.est_syntax.specs.declared.specification.Transition.{Transition}
-use Rattle.est_syntax.specs.declared.specification.Group.{Group, out-Group}
-use Rattle.est_syntax.specs.declared.specification.FirstPart.{FirstPart}
-use Rattle.est_syntax.specs.declared.specification.Body.{Body, out-Body}
-use Rattle.est_syntax.specs.declared.specification.Part.{Part}
-use Rattle.est_syntax.specs.declared.specification.Part.TheVariants as part
+use Rattle.est_syntax.specs.declared.header.Header.{Header}
+use Rattle.est_syntax.specs.declared.header.ModvarDef.{ModvarDef}
+use Rattle.est_syntax.specs.declared.statement.Statement.{Statement}
+use Rattle.est_syntax.specs.declared.statement.Statement.TheVariants.{Init}
+use Rattle.est_syntax.specs.declared.transition.Transition.{Transition}
+use Rattle.est_syntax.specs.declared.transition.Group.{Group, out-Group}
+use Rattle.est_syntax.specs.declared.body.FirstPart.{FirstPart}
+use Rattle.est_syntax.specs.declared.body.Body.{Body, out-Body}
+use Rattle.est_syntax.specs.declared.body.Part.{Part}
+use Rattle.est_syntax.specs.declared.body.Part.TheVariants as part
 use Rattle.est_syntax.specs.declared.specification.Spec.{Spec}
 use Rattle.est_syntax.specs.Least.{IsIn, is_before}
 use Rattle.est_syntax.specs.Names.{Scope, Sort, module_variable, body, Declaration, Meaning, seen, meaning, header_by, spec_scope, body_scope}

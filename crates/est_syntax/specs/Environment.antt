@@ -3,7 +3,7 @@ use Rattle.std.specs.Prelude.{Bool, true, false, not, ◌&&◌, ◌||◌, List, 
 use Rattle.est_syntax.specs.declared.name.Used.{Used}
 use Rattle.est_syntax.specs.declared.sort.NameSort.{NameSort}
 use Rattle.est_syntax.specs.declared.sort.NameSort.TheVariants as sort
-use Rattle.est_syntax.specs.declared.specification.Channel.{Channel}
+use Rattle.est_syntax.specs.declared.channel.Channel.{Channel}
 use Rattle.est_syntax.specs.Names.{Sort, channel, header, body, module_variable, point, state, role, interaction, Side, Declaration, Scope, Meaning, nothing, unseen, predeclared, seen, meaning, declared_in, spelled, channel_region, channel_by, role_named}
 
 -- an interaction named at an interaction point: its channel has no such name, has it as something else,

@@ -6,22 +6,22 @@ use Rattle.est_syntax.specs.declared.sort.NameSort.TheVariants as sort
 use Rattle.est_syntax.specs.declared.rule.Fault.{Fault}
 use Rattle.est_syntax.specs.declared.rule.Rule.{Rule}
 use Rattle.est_syntax.specs.declared.rule.Rule.TheVariants as rule
-use Rattle.est_syntax.specs.declared.specification.ByPart.{ByPart}
-use Rattle.est_syntax.specs.declared.specification.Channel.{Channel}
-use Rattle.est_syntax.specs.declared.specification.Point.{Point}
-use Rattle.est_syntax.specs.declared.specification.Header.{Header}
-use Rattle.est_syntax.specs.declared.specification.ModvarDef.{ModvarDef}
-use Rattle.est_syntax.specs.declared.specification.Sending.{Sending}
-use Rattle.est_syntax.specs.declared.specification.Statement.{Statement}
-use Rattle.est_syntax.specs.declared.specification.Statement.TheVariants as statement
-use Rattle.est_syntax.specs.declared.specification.Clause.{Clause}
-use Rattle.est_syntax.specs.declared.specification.Clause.TheVariants as clause
-use Rattle.est_syntax.specs.declared.specification.Transition.{Transition}
-use Rattle.est_syntax.specs.declared.specification.Group.{Group, out-Group}
-use Rattle.est_syntax.specs.declared.specification.FirstPart.{FirstPart}
-use Rattle.est_syntax.specs.declared.specification.Body.{Body, out-Body}
-use Rattle.est_syntax.specs.declared.specification.Part.{Part}
-use Rattle.est_syntax.specs.declared.specification.Part.TheVariants as part
+use Rattle.est_syntax.specs.declared.channel.ByPart.{ByPart}
+use Rattle.est_syntax.specs.declared.channel.Channel.{Channel}
+use Rattle.est_syntax.specs.declared.header.Point.{Point}
+use Rattle.est_syntax.specs.declared.header.Header.{Header}
+use Rattle.est_syntax.specs.declared.header.ModvarDef.{ModvarDef}
+use Rattle.est_syntax.specs.declared.statement.Sending.{Sending}
+use Rattle.est_syntax.specs.declared.statement.Statement.{Statement}
+use Rattle.est_syntax.specs.declared.statement.Statement.TheVariants as statement
+use Rattle.est_syntax.specs.declared.transition.Clause.{Clause}
+use Rattle.est_syntax.specs.declared.transition.Clause.TheVariants as clause
+use Rattle.est_syntax.specs.declared.transition.Transition.{Transition}
+use Rattle.est_syntax.specs.declared.transition.Group.{Group, out-Group}
+use Rattle.est_syntax.specs.declared.body.FirstPart.{FirstPart}
+use Rattle.est_syntax.specs.declared.body.Body.{Body, out-Body}
+use Rattle.est_syntax.specs.declared.body.Part.{Part}
+use Rattle.est_syntax.specs.declared.body.Part.TheVariants as part
 use Rattle.est_syntax.specs.declared.specification.Spec.{Spec}
 use Rattle.est_syntax.specs.Names.{Region, Scope, Meaning, nothing, unseen, predeclared, seen, spelled, is_name, channel_region, points_region, parts_region, header_region, body_scope, spec_scope}
 use Rattle.est_syntax.specs.Environment.{Environment, Passage, missing, no_interaction, unclear, passes, environment, channel_environment}
@@ -142,6 +142,7 @@ statement_faults env (statement.Empty place) = []
 statement_faults env (statement.Output sendings place) = sendings_faults env sendings
 statement_faults env (statement.Init target body arguments place) =
     use_faults env sort.ModuleVariable target.name ++ use_faults env sort.Body body
+statement_faults env _ = []
 
 -- statements in the order of the text
 abbrev pub statements_faults : Environment → List Statement → List Fault
@@ -158,6 +159,7 @@ abbrev pub clause_faults : Environment → Clause → List Fault
 clause_faults env (clause.From states place) = uses_faults env sort.State states
 clause_faults env (clause.To state place) = state_faults env state
 clause_faults env (clause.When at signal place) = interaction_faults env false at.name signal
+clause_faults env _ = []
 
 -- the clauses of a transition
 abbrev pub clauses_faults : Environment → List Clause → List Fault
@@ -213,7 +215,7 @@ part_faults scope (part.Channel c) = channel_faults c
 part_faults scope (part.Header h) = header_faults scope h
 part_faults scope (part.Body b) = body_faults scope b
 part_faults scope (part.Modvars ms) = modvars_faults (environment scope) ms
-part_faults scope (part.States us) = []
+part_faults scope _ = []
 
 -- the names that a specification declares, and its one statement
 abbrev pub outer_faults : Spec → List Fault

@@ -3,18 +3,18 @@ use Rattle.std.specs.Prelude.{ℕ, ◌==◌, Bool, true, false, nat_lt, max, Lis
 use Rattle.std.specs.List.{list_any}
 use Rattle.std.specs.Cmp.Lexicographic.{pointwise}
 use Rattle.est_syntax.specs.declared.name.Used.{Used}
-use Rattle.est_syntax.specs.declared.expression.TypeText.{TypeText}
-use Rattle.est_syntax.specs.declared.expression.TypeText.TheVariants as text
-use Rattle.est_syntax.specs.declared.expression.VarDef.{VarDef}
-use Rattle.est_syntax.specs.declared.specification.InteractionDef.{InteractionDef}
-use Rattle.est_syntax.specs.declared.specification.ByPart.{ByPart}
-use Rattle.est_syntax.specs.declared.specification.Channel.{Channel}
-use Rattle.est_syntax.specs.declared.specification.Point.{Point}
-use Rattle.est_syntax.specs.declared.specification.Header.{Header}
-use Rattle.est_syntax.specs.declared.specification.ModvarDef.{ModvarDef}
-use Rattle.est_syntax.specs.declared.specification.Body.{Body, out-Body}
-use Rattle.est_syntax.specs.declared.specification.Part.{Part}
-use Rattle.est_syntax.specs.declared.specification.Part.TheVariants as part
+use Rattle.est_syntax.specs.declared.type_text.TypeText.{TypeText}
+use Rattle.est_syntax.specs.declared.type_text.TypeText.TheVariants as text
+use Rattle.est_syntax.specs.declared.type_text.VarDef.{VarDef}
+use Rattle.est_syntax.specs.declared.channel.InteractionDef.{InteractionDef}
+use Rattle.est_syntax.specs.declared.channel.ByPart.{ByPart}
+use Rattle.est_syntax.specs.declared.channel.Channel.{Channel}
+use Rattle.est_syntax.specs.declared.header.Point.{Point}
+use Rattle.est_syntax.specs.declared.header.Header.{Header}
+use Rattle.est_syntax.specs.declared.header.ModvarDef.{ModvarDef}
+use Rattle.est_syntax.specs.declared.body.Body.{Body, out-Body}
+use Rattle.est_syntax.specs.declared.body.Part.{Part}
+use Rattle.est_syntax.specs.declared.body.Part.TheVariants as part
 use Rattle.est_syntax.specs.declared.specification.Spec.{Spec}
 
 -- the bytes of a name
@@ -140,9 +140,10 @@ by_region (b ∷ bs) = interactions_region b b.interactions ++ by_region bs
 abbrev pub channel_region : Channel → Region
 channel_region c = roles_region c.roles ++ by_region c.by
 
--- the place of the name of a type
+-- the place of the name of a type; any other text of a type counts for nothing
 abbrev pub text_last : TypeText → ℕ
 text_last (text.Named u) = u.place
+text_last _ = 0
 
 -- the greatest of a place and of those where parameters or exports name their types
 abbrev pub vars_last : List VarDef → ℕ → ℕ
@@ -189,6 +190,7 @@ part_region (part.Header h) = declaration h.name (header_last h) (header h) ∷ 
 part_region (part.Body b) = declaration (out-Body b).name (out-Body b).name.place (body b) ∷ []
 part_region (part.Modvars ms) = modvars_region ms
 part_region (part.States us) = states_region us
+part_region _ = []
 
 -- what parts declare in the region that they stand in
 abbrev pub parts_region : List Part → Region

@@ -1,0 +1,82 @@
+//! Transitions (ISO 9074, transition-declaration).
+
+use crate::body::Block;
+use crate::constant::Constant;
+use crate::expression::{Access, Expr};
+use crate::name::{Used, UsedNames};
+use crate::type_text::VarDefs;
+use est_items::Items;
+
+/// The later bound of a delay: that of the first one, another, or none (`*`).
+#[derive(Drop)]
+pub enum Most {
+    Same,
+    Value(Expr),
+    Never,
+}
+
+/// A clause of a transition (ISO 9074, clause). The place is that of its first token.
+#[derive(Drop)]
+pub enum Clause {
+    From {
+        states: UsedNames,
+        place: u32,
+    },
+    /// The next state, or none for `same`.
+    To {
+        state: Option<Used>,
+        place: u32,
+    },
+    When {
+        at: Access,
+        signal: Used,
+        place: u32,
+    },
+    Provided {
+        condition: Expr,
+        place: u32,
+    },
+    /// `provided otherwise`.
+    Otherwise {
+        place: u32,
+    },
+    Any {
+        names: VarDefs,
+        place: u32,
+    },
+    Priority {
+        value: Constant,
+        place: u32,
+    },
+    Delay {
+        least: Expr,
+        most: Most,
+        place: u32,
+    },
+}
+
+/// The clauses of a transition in the order of the text.
+pub type Clauses = Items<Clause>;
+
+/// A transition (ISO 9074, transition-declaration): its clauses, its name where it has one, and its
+/// block.
+#[cycle(part)]
+#[derive(Drop)]
+pub struct Transition {
+    pub clauses: Clauses,
+    pub name: Option<Used>,
+    pub block: Block,
+}
+
+/// Transitions in the order of the text.
+pub type Transitions = Items<Transition>;
+
+/// The transitions after one `trans` (ISO 9074, transition-group).
+#[cycle(part)]
+#[derive(Drop)]
+pub struct Group {
+    pub transitions: Transitions,
+}
+
+/// Groups of transitions in the order of the text.
+pub type Groups = Items<Group>;
