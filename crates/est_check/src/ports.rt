@@ -11,7 +11,7 @@ use crate::declare::senders;
 use crate::names::{Names, PointSide, Senders};
 use crate::table::{BodyNames, Table};
 use crate::uses::may_send;
-use est_items::Items;
+use est_items::{Items, Shared};
 use est_syntax::name::Used;
 use est_syntax::ports::{Port, Ports, Signal, Signals};
 use est_syntax::specification::{ByPart, Group, InteractionDef, Part, Point};
@@ -122,7 +122,7 @@ fn push_named(
             name: used.name.copy(alloc)?,
             index_kinds: Items::new(alloc),
             index: Items::new(alloc),
-            signals: signals_at(alloc, table, parts, side)?,
+            signals: Shared::new(alloc, signals_at(alloc, table, parts, side)?)?,
         })?;
     }
     Ok(())
