@@ -38,7 +38,7 @@ use Rattle.est_check.specs.Tables.{members_by, members_at, may_send}
 use Rattle.est_check.specs.LeastFaults as least_faults
 use Rattle.est_check.specs.LeastFaults.{names_of_channel_part, names_of_channels, table_side, tables}
 use Rattle.est_check.specs.declared.ports.Sides.{Sides}
-use Rattle.est_check.specs.Signals.{RolesFor, PartRolesFor, channel_signals, part_signals, role_signals, sides_of, first_header}
+use Rattle.est_check.specs.Signals.{RolesFor, PartRolesFor, channel_signals, part_signals, role_signals, sides_of, signals_by, first_header}
 use Rattle.est_check.specs.Skeleton.{IsInit, IsSkeleton, channel_parts}
 use Rattle.est_check.specs.Counts.{body_count}
 use Rattle.est_check.proofs.Stands.{SideFor, ChannelFor}
@@ -94,10 +94,6 @@ side_is s sk p =
     in side_outside s.parts (parts_region s.parts) (tables None s.parts).0 for.outer for.channels p
 
 -- the signals of an interaction point by its side in the tables
-abbrev pub signals_by : Sides → Option PointSide → List Signal
-signals_by sides None = []
-signals_by sides (Some q) = get_or (if q.second then sides.second else sides.first) q.channel []
-
 pub signals_by_are : (ps : List Part) (q : Option PointSide) (side : Option Side) → SideFor ps q side → signals_by (sides_of ps) q ≡ signals_of side
 signals_by_are ps None None h = refl
 signals_by_are ps None (Some s) h = absurd h

@@ -1,5 +1,5 @@
 -- The signals of the channels at either role.
-use Rattle.std.specs.Prelude.{◌≡◌, Bool, true, false, List, [], ◌∷◌, Option, Some, None}
+use Rattle.std.specs.Prelude.{◌≡◌, Bool, true, false, List, [], ◌∷◌, Option, Some, None, get_or, if◌then◌else◌}
 use Rattle.est_syntax.specs.declared.name.Used.{Used}
 use Rattle.est_syntax.specs.declared.ports.Signal.{Signal}
 use Rattle.est_syntax.specs.declared.specification.Channel.{Channel}
@@ -8,6 +8,7 @@ use Rattle.est_syntax.specs.declared.specification.Part.{Part}
 use Rattle.est_syntax.specs.declared.specification.Part.TheVariants as part
 use Rattle.est_syntax.specs.Names.{Side, spelled, role_named}
 use Rattle.est_syntax.specs.Ports.{by_signals}
+use Rattle.est_check.specs.declared.names.PointSide.{PointSide}
 use Rattle.est_check.specs.declared.ports.Sides.{Sides}
 use Rattle.est_check.specs.Entries.{Entries, entry_of, role_by}
 
@@ -41,6 +42,11 @@ role_signals second (p ∷ ps) = part_signals second p ∷ role_signals second p
 -- the interactions of each part at a port in either role
 abbrev pub sides_of : List Part → Sides
 sides_of ps = record { first = role_signals false ps; second = role_signals true ps }
+
+-- the signals of a side; none without a side, or where there is no such channel
+abbrev pub signals_by : Sides → Option PointSide → List Signal
+signals_by sides None = []
+signals_by sides (Some q) = get_or (if q.second then sides.second else sides.first) q.channel []
 
 -- the first header of these parts
 abbrev pub first_header : List Part → Option Header

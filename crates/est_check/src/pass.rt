@@ -47,6 +47,20 @@ fn state_names(
     Ok(own)
 }
 
+/// The names that a body has of the header of this number; none without a header.
+fn front_names<'a>(table: &'a Table, none: &'a Names, header: Option<usize>) -> &'a Names
+    requires { none.now ≡ [] }
+    ensures { result.now ≡ header_entries table.now header }
+{
+    match header {
+        None => none,
+        Some(number) => match table.headers.as_slice().get(number) {
+            None => none,
+            Some(names) => names,
+        },
+    }
+}
+
 /// The states of a body that has the header of this number. Notes those that are declared twice.
 fn own_names(
     alloc: Global,
@@ -57,13 +71,8 @@ fn own_names(
 ) -> Result<Names, AllocError>
     ensures { IfOk result (λ n. (n, least.new.at) ≡ enter_all (header_entries table.now header) ([], least.old.at) (body_entries parts.now)) }
 {
-    match header {
-        None => state_names(alloc, &Names::new(alloc), parts, least),
-        Some(number) => match table.headers.as_slice().get(number) {
-            None => state_names(alloc, &Names::new(alloc), parts, least),
-            Some(names) => state_names(alloc, names, parts, least),
-        },
-    }
+    let none = Names::new(alloc);
+    state_names(alloc, front_names(table, &none, header), parts, least)
 }
 
 /// Checks the states, the initialize part and the transitions of a body that has the header of this number.

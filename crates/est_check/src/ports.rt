@@ -7,7 +7,7 @@ ghost use Rattle.est_syntax.specs.Names.{side_of, spec_scope};
 ghost use Rattle.est_syntax.specs.Ports.{interaction_signals, by_signals, signals_of, named_ports, point_ports, ports_of};
 ghost use Rattle.est_check.specs.LeastFaults.{tables};
 ghost use Rattle.est_check.specs.Skeleton.{IsSkeleton};
-ghost use Rattle.est_check.specs.Signals.{RolesFor, PartRolesFor, side, channel_signals, part_signals, role_signals, sides_of};
+ghost use Rattle.est_check.specs.Signals.{RolesFor, PartRolesFor, side, channel_signals, part_signals, role_signals, sides_of, signals_by};
 ghost use Rattle.est_check.specs.Tables.{members_at};
 ghost use Rattle.est_check.specs.Counts.{body_count, group_count, transition_count};
 
@@ -17,7 +17,7 @@ use crate::names::{Names, PointSide};
 use crate::table::{BodyNames, Table};
 use crate::uses::may_send;
 use est_items::{Items, Shared};
-use est_syntax::name::Used;
+use est_syntax::name::{Name, Used};
 use est_syntax::ports::{Port, Ports, SharedSignals, Signal, Signals};
 use est_syntax::specification::{ByPart, Channel, Group, Header, Part, Point, Spec};
 use std::alloc::{AllocError, Global};
@@ -117,55 +117,92 @@ fn push_role(
     Ok(())
 }
 
-/// The signals of this side; none where there is no such channel.
-fn side_signals(alloc: Global, sides: &Sides, side: PointSide) -> Result<SharedSignals, AllocError>
-    ensures { IfOk result (λ s. s ≡ get_or (if side.second then sides.now.second else sides.now.first) side.channel []) }
+/// The signals of this number; none where there are no such.
+fn shared_at(
+    alloc: Global,
+    list: &[SharedSignals],
+    number: usize,
+) -> Result<SharedSignals, AllocError>
+    ensures { IfOk result (λ s. s ≡ get_or list.now number []) }
 {
-    let list = if side.second {
-        sides.second.as_slice()
-    } else {
-        sides.first.as_slice()
-    };
-    match list.get(side.channel) {
+    match list.get(number) {
         None => Shared::new(alloc, Items::new(alloc)),
         Some(signals) => signals.share(),
     }
 }
 
-/// The signals of an interaction point, which all points of its side share.
-fn point_signals(
+/// The signals of this side; none without a side, or where there is no such channel.
+fn side_signals(
     alloc: Global,
+    sides: &Sides,
+    side: Option<PointSide>,
+) -> Result<SharedSignals, AllocError>
+    ensures { IfOk result (λ s. s ≡ signals_by sides.now side) }
+{
+    match side {
+        None => Shared::new(alloc, Items::new(alloc)),
+        Some(side) => shared_at(
+            alloc,
+            if side.second {
+                sides.second.as_slice()
+            } else {
+                sides.first.as_slice()
+            },
+            side.channel,
+        ),
+    }
+}
+
+/// The port of this name and side.
+fn port(
+    alloc: Global,
+    sides: &Sides,
+    side: Option<PointSide>,
+    name: &Name,
+) -> Result<Port, AllocError>
+    ensures { IfOk result (λ p. p ≡ record { name = name.now; index_kinds = []; index = []; signals = signals_by sides.now side }) }
+{
+    let name = name.copy(alloc)?;
+    let signals = side_signals(alloc, sides, side)?;
+    Ok(Port {
+        name,
+        index_kinds: Items::new(alloc),
+        index: Items::new(alloc),
+        signals,
+    })
+}
+
+/// Pushes the ports of this side with these names.
+fn push_named(
+    into: &mut Ports,
+    sides: &Sides,
+    side: Option<PointSide>,
+    list: &[Used],
+) -> Result<(), AllocError>
+    ensures { OnOk result (into.new ≡ into.old ++ named_ports (signals_by sides.now side) list.now) }
+{
+    let alloc = *into.items.allocator();
+    for used in list {
+        into.push(port(alloc, sides, side, &used.name)?)?;
+    }
+    Ok(())
+}
+
+/// Pushes the ports that are declared together as an interaction point of a header.
+fn push_point(
+    into: &mut Ports,
     table: &Table,
     sides: &Sides,
     spec: &Spec,
     point: &Point,
-) -> Result<SharedSignals, AllocError>
+) -> Result<(), AllocError>
     requires skeleton { IsSkeleton spec.now }
     requires table { table.now ≡ (tables None spec.now.parts).0 }
     requires sides { sides.now ≡ sides_of spec.now.parts }
-    ensures { IfOk result (λ s. s ≡ signals_of (side_of (spec_scope spec.now) point.now)) }
+    ensures { OnOk result (into.new ≡ into.old ++ named_ports (signals_of (side_of (spec_scope spec.now) point.now)) point.now.names) }
 {
-    match side_of(table, &BodyNames::outside(alloc), point) {
-        None => Shared::new(alloc, Items::new(alloc)),
-        Some(side) => side_signals(alloc, sides, side),
-    }
-}
-
-/// Pushes the ports with these names and signals.
-fn push_named(into: &mut Ports, signals: &SharedSignals, list: &[Used]) -> Result<(), AllocError>
-    ensures { OnOk result (into.new ≡ into.old ++ named_ports signals.now list.now) }
-{
-    let alloc = *into.items.allocator();
-    for used in list {
-        let name = used.name.copy(alloc)?;
-        into.push(Port {
-            name,
-            index_kinds: Items::new(alloc),
-            index: Items::new(alloc),
-            signals: signals.share()?,
-        })?;
-    }
-    Ok(())
+    let side = side_of(table, &BodyNames::outside(*into.items.allocator()), point);
+    push_named(into, sides, side, point.names.as_slice())
 }
 
 /// Pushes the ports that the interaction points of a header are.
@@ -181,10 +218,8 @@ fn push_points(
     requires sides { sides.now ≡ sides_of spec.now.parts }
     ensures { OnOk result (into.new ≡ into.old ++ point_ports (spec_scope spec.now) list.now) }
 {
-    let alloc = *into.items.allocator();
     for item in list {
-        let signals = point_signals(alloc, table, sides, spec, item)?;
-        push_named(into, &signals, item.names.as_slice())?;
+        push_point(into, table, sides, spec, item)?;
     }
     Ok(())
 }
