@@ -1,24 +1,21 @@
 -- The ports by the tables are those of the skeleton.
-use Rattle.std.specs.Prelude.{if◌then◌else◌, slice_get, not}
+use Rattle.std.specs.Prelude.{if◌then◌else◌, slice_get}
 use Rattle.std.proofs.Common.{◌≡◌, ◌+◌, ◌<◌, ◌≤◌, length, drop, refl, sym, ap, ◌∙◌, subst, ℕ, zero, suc, Bool, true, false, List, [], ◌∷◌, ◌++◌, Option, Some, None, inl, inr, get_or}
 use Rattle.std.proofs.lemmas.Option.{none-some}
 use Rattle.std.proofs.lemmas.List.{drop_more, drop_all}
 use Rattle.est_syntax.specs.declared.name.Used.{Used}
 use Rattle.est_syntax.specs.declared.rule.Fault.{Fault}
-use Rattle.est_syntax.specs.declared.ports.Signal.{Signal}
 use Rattle.est_syntax.specs.declared.sort.NameSort.{NameSort}
 use Rattle.est_syntax.specs.declared.sort.NameSort.TheVariants as sort
-use Rattle.est_syntax.specs.declared.specification.InteractionDef.{InteractionDef}
-use Rattle.est_syntax.specs.declared.specification.ByPart.{ByPart}
-use Rattle.est_syntax.specs.declared.specification.Channel.{Channel}
-use Rattle.est_syntax.specs.declared.specification.Header.{Header}
-use Rattle.est_syntax.specs.declared.specification.ModvarDef.{ModvarDef}
-use Rattle.est_syntax.specs.declared.specification.Body.{Body}
-use Rattle.est_syntax.specs.declared.specification.Point.{Point}
-use Rattle.est_syntax.specs.declared.specification.Statement.{Statement}
-use Rattle.est_syntax.specs.declared.specification.Statement.TheVariants as statement
-use Rattle.est_syntax.specs.declared.specification.Part.{Part}
-use Rattle.est_syntax.specs.declared.specification.Part.TheVariants as part
+use Rattle.est_syntax.specs.declared.channel.Channel.{Channel}
+use Rattle.est_syntax.specs.declared.header.Header.{Header}
+use Rattle.est_syntax.specs.declared.header.ModvarDef.{ModvarDef}
+use Rattle.est_syntax.specs.declared.body.Body.{Body}
+use Rattle.est_syntax.specs.declared.header.Point.{Point}
+use Rattle.est_syntax.specs.declared.statement.Statement.{Statement}
+use Rattle.est_syntax.specs.declared.statement.Statement.TheVariants as statement
+use Rattle.est_syntax.specs.declared.body.Part.{Part}
+use Rattle.est_syntax.specs.declared.body.Part.TheVariants as part
 use Rattle.est_syntax.specs.declared.specification.Spec.{Spec}
 use Rattle.est_syntax.specs.Least.{IsIn}
 use Rattle.est_syntax.specs.Names.{Side, Sort, Declaration, Region, Scope, Meaning, nothing, unseen, predeclared, seen, meaning, header_by, header_in, side_of, parts_region, spec_scope}
@@ -26,9 +23,8 @@ use Rattle.est_syntax.specs.Names as names
 use Rattle.est_syntax.specs.Environment.{environment, sort_by, name_sort, has_role}
 use Rattle.est_syntax.specs.Faults.{takes, used_as, use_faults, modvars_faults, statement_faults, names_of, twice_faults, part_faults}
 use Rattle.est_syntax.specs.Breaks.{outermost, outside, inside, IsGood, modvar_by, modvar_in}
-use Rattle.est_syntax.specs.Ports.{interaction_signals, by_signals, signals_of, named_ports, point_ports, header_ports, header_of_variable, header_started, ports_of}
+use Rattle.est_syntax.specs.Ports.{by_signals, signals_of, header_ports, header_of_variable, header_started, ports_of}
 use Rattle.est_syntax.proofs.Members.{in_first, in_second}
-use Rattle.est_check.specs.declared.names.Senders.{Senders}
 use Rattle.est_check.specs.declared.names.PointSide.{PointSide}
 use Rattle.est_check.specs.declared.table.BodyNames.{BodyNames}
 use Rattle.est_check.specs.declared.table.Table.{Table}
@@ -43,7 +39,7 @@ use Rattle.est_check.specs.Skeleton.{IsInit, IsSkeleton, channel_parts}
 use Rattle.est_check.specs.Counts.{body_count}
 use Rattle.est_check.proofs.Stands.{SideFor, ChannelFor}
 use Rattle.est_check.proofs.Channels.{roles_for, senders_for}
-use Rattle.est_check.proofs.Environments.{alone, may_send_for, side_outside}
+use Rattle.est_check.proofs.Environments.{may_send_for, side_outside}
 use Rattle.est_check.proofs.Parts.{or_part, members_list, members_are, TableFor}
 use Rattle.est_check.proofs.Sound.{IsYes, Known, KnownMeaning, known_meaning, all_known, all_flat, table_for}
 
@@ -61,10 +57,7 @@ roles_at ps k c h =
 -- the roles of a part, by the number of the part
 pub part_roles_at : (ps : List Part) (k : ℕ) (p : Part) → slice_get ps k ≡ Some p → PartRolesFor p (members_at (tables None ps).0.channels k).roles
 part_roles_at ps k (part.Channel c) h = roles_at ps k c h
-part_roles_at ps k (part.Header x) h = tt
-part_roles_at ps k (part.Body b) h = tt
-part_roles_at ps k (part.Modvars ms) h = tt
-part_roles_at ps k (part.States us) h = tt
+part_roles_at ps k _ h = tt
 
 -- who may send by the table of a channel may do so by the channel
 pub senders_may : (c : Channel) (roles : Entries) → RolesFor c roles → (second : Bool) (us : List Used) → may_send second (senders roles us) ≡ has_role c second us
@@ -175,14 +168,13 @@ variable_header s sk good =
     (in_first f (use_faults (environment (spec_scope s)) sort.Header sk.variable.header) [] i))))
 
 pub started_by : (s : Spec) (sk : IsSkeleton s) → IsGood s → (st : Statement) → IsInit st → NoFault (statement_faults (environment (spec_scope s)) st) → header_started (spec_scope s) st ≡ Some sk.header
-started_by s sk good (statement.Empty place) h k = absurd h
-started_by s sk good (statement.Output sendings place) h k = absurd h
 started_by s sk good (statement.Init target named arguments place) h k =
     ap (header_of_variable (spec_scope s))
     (variable_meaning_is sk (meaning (spec_scope s) target.name) (known_meaning sk (parts_region s.parts) target.name (all_known sk))
     (takes_fine sort.ModuleVariable target.name.place (sort_by (meaning (spec_scope s) target.name))
     (λ f i. k f (in_first f (use_faults (environment (spec_scope s)) sort.ModuleVariable target.name) (use_faults (environment (spec_scope s)) sort.Body named) i))))
     ∙ variable_header s sk good
+started_by s sk good _ h k = absurd h
 
 pub started : (s : Spec) (sk : IsSkeleton s) → IsGood s → header_started (spec_scope s) s.first ≡ Some sk.header
 started s sk good =

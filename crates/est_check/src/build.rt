@@ -12,8 +12,10 @@ use crate::least::Least;
 use crate::names::{Entity, Entry, Names, PointSide};
 use crate::table::{BodyNames, Members, Table, member_of};
 use est_items::Items;
+use est_syntax::body::Part;
+use est_syntax::channel::Channel;
+use est_syntax::header::{Header, Point};
 use est_syntax::name::Used;
-use est_syntax::specification::{Channel, Header, Part, Point};
 use std::alloc::{AllocError, Global};
 
 impl BodyNames {

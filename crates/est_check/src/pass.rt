@@ -14,10 +14,11 @@ use crate::least::Least;
 use crate::names::{Entity, Names};
 use crate::table::{BodyNames, Found, Table};
 use crate::uses::check_use;
+use est_syntax::body::{Body, Part};
 use est_syntax::name::Used;
 use est_syntax::rule::Fault;
 use est_syntax::sort::NameSort;
-use est_syntax::specification::{Body, Part, Spec};
+use est_syntax::specification::Spec;
 use std::alloc::{AllocError, Global};
 
 /// The number of the header that a name means, if one.

@@ -17,9 +17,13 @@ use crate::names::{Names, PointSide};
 use crate::table::{BodyNames, Table};
 use crate::uses::may_send;
 use est_items::{Items, Shared};
+use est_syntax::body::Part;
+use est_syntax::channel::{ByPart, Channel};
+use est_syntax::header::{Header, Point};
 use est_syntax::name::{Name, Used};
 use est_syntax::ports::{Port, Ports, SharedSignals, Signal, Signals};
-use est_syntax::specification::{ByPart, Channel, Group, Header, Part, Point, Spec};
+use est_syntax::specification::Spec;
+use est_syntax::transition::Group;
 use std::alloc::{AllocError, Global};
 
 /// For each part that is a channel, its interactions at a port in the first role and in the second.
