@@ -5,9 +5,9 @@ use Rattle.std.proofs.lemmas.List.{append-nil}
 use Rattle.est_syntax.specs.declared.name.Used.{Used}
 use Rattle.est_syntax.specs.declared.rule.Fault.{Fault}
 use Rattle.est_syntax.specs.declared.rule.Rule.TheVariants.{DeclaredTwice}
-use Rattle.est_syntax.specs.declared.specification.InteractionDef.{InteractionDef}
-use Rattle.est_syntax.specs.declared.specification.ByPart.{ByPart}
-use Rattle.est_syntax.specs.declared.specification.Channel.{Channel}
+use Rattle.est_syntax.specs.declared.channel.InteractionDef.{InteractionDef}
+use Rattle.est_syntax.specs.declared.channel.ByPart.{ByPart}
+use Rattle.est_syntax.specs.declared.channel.Channel.{Channel}
 use Rattle.est_check.specs.Least.{least_with}
 use Rattle.est_syntax.specs.Names.{is_name, spelled, Sort, role, interaction, Declaration, Region, declared_in, roles_region, other_roles, interactions_region, by_region, channel_region, role_named}
 use Rattle.est_syntax.specs.Names as names
@@ -26,6 +26,7 @@ use Rattle.est_check.specs.Declarations.{other_role_entries, role_entries, inter
 use Rattle.est_check.specs.Tables.{first_of, member_entry, look_up_member, sort_found, entry_found, members_environment}
 use Rattle.est_check.specs.Tables as tables
 use Rattle.est_check.specs.LeastFaults.{names_of_channel}
+use Rattle.est_check.specs.Signals.{RolesFor}
 use Rattle.est_check.proofs.Entering.{first, whole, whole-enter_all, noted-enter_all, first_of-none, Agree}
 use Rattle.est_check.proofs.Stands.{Both, Alike, alike-append, names_alike, first_alike, or_declared, declared_in-append, both_append}
 
@@ -112,9 +113,6 @@ role_or None q h = h
 role_or (Some d) q h = refl
 
 -- a table has the roles of the channel
-abbrev pub RolesFor : Channel → Entries → Type 0
-RolesFor c front = (u : Used) → entries.role_by (entry_of front (spelled u)) ≡ role_named c u
-
 pub roles_for : (c : Channel) (least : Option Fault) → RolesFor c (enter_all [] ([], least) (role_entries c.roles)).0
 roles_for c least u =
     ap entries.role_by (roles_table least c.roles (spelled u))

@@ -2,10 +2,10 @@
 use Rattle.std.specs.Prelude.{not}
 use Rattle.std.proofs.Common.{◌≡◌, refl, sym, ap, ◌∙◌, subst, ℕ, Bool, true, false, List, [], ◌∷◌, Option, Some, None}
 use Rattle.est_syntax.specs.declared.name.Used.{Used}
-use Rattle.est_syntax.specs.declared.specification.Channel.{Channel}
-use Rattle.est_syntax.specs.declared.specification.Header.{Header}
-use Rattle.est_syntax.specs.declared.specification.Point.{Point}
-use Rattle.est_syntax.specs.declared.specification.Part.{Part}
+use Rattle.est_syntax.specs.declared.channel.Channel.{Channel}
+use Rattle.est_syntax.specs.declared.header.Header.{Header}
+use Rattle.est_syntax.specs.declared.header.Point.{Point}
+use Rattle.est_syntax.specs.declared.body.Part.{Part}
 use Rattle.est_syntax.specs.Names.{spelled, Side, Sort, role, interaction, Declaration, Region, Scope, Meaning, is_predeclared, declared_in, declaration, declared_together, channel_region, role_named, side_of, meaning, points_region, header_names, header_region, header_by, channel_by, found, in_force}
 use Rattle.est_syntax.specs.Names as names
 use Rattle.est_syntax.specs.Environment.{Environment, are_roles, has_role, environment}

@@ -7,12 +7,12 @@ use Rattle.std.proofs.Math.Nat.{add-zero, zero-add}
 use Rattle.est_syntax.specs.declared.name.Used.{Used}
 use Rattle.est_syntax.specs.declared.sort.NameSort.TheVariants as sort
 use Rattle.est_syntax.specs.declared.rule.Fault.{Fault}
-use Rattle.est_syntax.specs.declared.specification.Channel.{Channel}
-use Rattle.est_syntax.specs.declared.specification.Header.{Header}
-use Rattle.est_syntax.specs.declared.specification.ModvarDef.{ModvarDef}
-use Rattle.est_syntax.specs.declared.specification.Body.{Body, out-Body}
-use Rattle.est_syntax.specs.declared.specification.Part.{Part}
-use Rattle.est_syntax.specs.declared.specification.Part.TheVariants as part
+use Rattle.est_syntax.specs.declared.channel.Channel.{Channel}
+use Rattle.est_syntax.specs.declared.header.Header.{Header}
+use Rattle.est_syntax.specs.declared.header.ModvarDef.{ModvarDef}
+use Rattle.est_syntax.specs.declared.body.Body.{Body, out-Body}
+use Rattle.est_syntax.specs.declared.body.Part.{Part}
+use Rattle.est_syntax.specs.declared.body.Part.TheVariants as part
 use Rattle.est_check.specs.Least.{least_with}
 use Rattle.est_syntax.specs.Names.{spelled, Region, Scope, is_predeclared, declared_in, declared_together, module_variable, modvars_region, part_region, parts_region, states_region, points_region, header_region, header_by, meaning, found, body_region, body_scope}
 use Rattle.est_syntax.specs.Environment.{environment}
@@ -38,7 +38,7 @@ IsFlat (part.Channel c) = Unit {0}
 IsFlat (part.Header h) = Unit {0}
 IsFlat (part.Body b) = AreStates (out-Body b).parts
 IsFlat (part.Modvars ms) = Unit {0}
-IsFlat (part.States us) = ⊥
+IsFlat _ = ⊥
 
 abbrev pub AreFlat : List Part → Type 0
 AreFlat [] = Unit {0}
@@ -91,7 +91,7 @@ part_alike all number (part.Channel c) f h = (refl, (refl, h), tt)
 part_alike all number (part.Header x) f h = (refl, (refl, h), tt)
 part_alike all number (part.Body b) f h = (refl, (refl, tt), tt)
 part_alike all number (part.Modvars ms) f h = modvars_alike all ms
-part_alike all number (part.States us) f h = absurd f
+part_alike all number _ f h = absurd f
 
 pub parts_alike : (all : List Part) (number : ℕ) (ps : List Part) → AreFlat ps → Numbered all number ps → Alike (EntryFor all) (parts_entries number ps) (parts_region ps)
 parts_alike all number [] f h = tt
@@ -137,7 +137,7 @@ noted_channel_part least (part.Channel c) = noted_channel c least
 noted_channel_part least (part.Header h) = refl
 noted_channel_part least (part.Body b) = refl
 noted_channel_part least (part.Modvars ms) = refl
-noted_channel_part least (part.States us) = refl
+noted_channel_part least _ = refl
 
 pub noted_channels : (ms : List Members) (least : Option Fault) (ps : List Part) → (names_of_channels (ms, least) ps).1 ≡ least_with least (each of_channel ps)
 noted_channels ms least [] = refl
@@ -185,7 +185,7 @@ noted_header_part all r t outer channels least (part.Channel c) = refl
 noted_header_part all r t outer channels least (part.Header h) = noted_header all r t outer channels least h
 noted_header_part all r t outer channels least (part.Body b) = refl
 noted_header_part all r t outer channels least (part.Modvars ms) = refl
-noted_header_part all r t outer channels least (part.States us) = refl
+noted_header_part all r t outer channels least _ = refl
 
 pub noted_headers : (all : List Part) (r : Region) (t : Table) → OuterFor all r t → ChannelsFor all t → (es : List Entries) (least : Option Fault) (ps : List Part)
     → (names_of_headers t outside (es, least) ps).1 ≡ least_with least (each (of_header (alone r)) ps)
@@ -202,11 +202,8 @@ states_alike all (u ∷ us) = (refl, (refl, tt), states_alike all us)
 
 pub state_parts_alike : (all : List Part) (ps : List Part) → AreStates ps → Alike (EntryFor all) (body_entries ps) (parts_region ps)
 state_parts_alike all [] f = tt
-state_parts_alike all (part.Channel c ∷ ps) f = absurd f
-state_parts_alike all (part.Header h ∷ ps) f = absurd f
-state_parts_alike all (part.Body b ∷ ps) f = absurd f
-state_parts_alike all (part.Modvars ms ∷ ps) f = absurd f
 state_parts_alike all (part.States us ∷ ps) f = alike-append (EntryFor all) (state_entries us) (states_region us) (body_entries ps) (parts_region ps) (states_alike all us) (state_parts_alike all ps f)
+state_parts_alike all (_ ∷ ps) f = absurd f
 
 -- the tables stand for the regions
 pub record TableFor (all : List Part) (r : Region) (t : Table) : Type 0 where
@@ -273,7 +270,7 @@ noted_part all r t for least (part.Channel c) f = refl
 noted_part all r t for least (part.Header h) f = refl
 noted_part all r t for least (part.Body b) f = noted_body all r t for least b f
 noted_part all r t for least (part.Modvars ms) f = ap (λ env. least_with least (modvars_faults env ms)) (environment_outside all r t for.outer for.channels)
-noted_part all r t for least (part.States us) f = refl
+noted_part all r t for least _ f = refl
 
 pub noted_parts : (all : List Part) (r : Region) (t : Table) → TableFor all r t → (least : Option Fault) (ps : List Part) → AreFlat ps → least_of_parts t least ps ≡ least_with least (each (of_rest (alone r)) ps)
 noted_parts all r t for least [] f = refl

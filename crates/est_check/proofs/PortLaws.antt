@@ -1,22 +1,21 @@
 -- The ports by the tables are those of the skeleton.
-use Rattle.std.specs.Prelude.{if◌then◌else◌, slice_get, not}
-use Rattle.std.proofs.Common.{◌≡◌, refl, sym, ap, ◌∙◌, subst, ℕ, zero, suc, Bool, true, false, List, [], ◌∷◌, ◌++◌, Option, Some, None, inl, inr}
+use Rattle.std.specs.Prelude.{if◌then◌else◌, slice_get}
+use Rattle.std.proofs.Common.{◌≡◌, ◌+◌, ◌<◌, ◌≤◌, length, drop, refl, sym, ap, ◌∙◌, subst, ℕ, zero, suc, Bool, true, false, List, [], ◌∷◌, ◌++◌, Option, Some, None, inl, inr, get_or}
 use Rattle.std.proofs.lemmas.Option.{none-some}
+use Rattle.std.proofs.lemmas.List.{drop_more, drop_all}
 use Rattle.est_syntax.specs.declared.name.Used.{Used}
 use Rattle.est_syntax.specs.declared.rule.Fault.{Fault}
 use Rattle.est_syntax.specs.declared.sort.NameSort.{NameSort}
 use Rattle.est_syntax.specs.declared.sort.NameSort.TheVariants as sort
-use Rattle.est_syntax.specs.declared.specification.InteractionDef.{InteractionDef}
-use Rattle.est_syntax.specs.declared.specification.ByPart.{ByPart}
-use Rattle.est_syntax.specs.declared.specification.Channel.{Channel}
-use Rattle.est_syntax.specs.declared.specification.Header.{Header}
-use Rattle.est_syntax.specs.declared.specification.ModvarDef.{ModvarDef}
-use Rattle.est_syntax.specs.declared.specification.Body.{Body}
-use Rattle.est_syntax.specs.declared.specification.Point.{Point}
-use Rattle.est_syntax.specs.declared.specification.Statement.{Statement}
-use Rattle.est_syntax.specs.declared.specification.Statement.TheVariants as statement
-use Rattle.est_syntax.specs.declared.specification.Part.{Part}
-use Rattle.est_syntax.specs.declared.specification.Part.TheVariants as part
+use Rattle.est_syntax.specs.declared.channel.Channel.{Channel}
+use Rattle.est_syntax.specs.declared.header.Header.{Header}
+use Rattle.est_syntax.specs.declared.header.ModvarDef.{ModvarDef}
+use Rattle.est_syntax.specs.declared.body.Body.{Body}
+use Rattle.est_syntax.specs.declared.header.Point.{Point}
+use Rattle.est_syntax.specs.declared.statement.Statement.{Statement}
+use Rattle.est_syntax.specs.declared.statement.Statement.TheVariants as statement
+use Rattle.est_syntax.specs.declared.body.Part.{Part}
+use Rattle.est_syntax.specs.declared.body.Part.TheVariants as part
 use Rattle.est_syntax.specs.declared.specification.Spec.{Spec}
 use Rattle.est_syntax.specs.Least.{IsIn}
 use Rattle.est_syntax.specs.Names.{Side, Sort, Declaration, Region, Scope, Meaning, nothing, unseen, predeclared, seen, meaning, header_by, header_in, side_of, parts_region, spec_scope}
@@ -24,23 +23,23 @@ use Rattle.est_syntax.specs.Names as names
 use Rattle.est_syntax.specs.Environment.{environment, sort_by, name_sort, has_role}
 use Rattle.est_syntax.specs.Faults.{takes, used_as, use_faults, modvars_faults, statement_faults, names_of, twice_faults, part_faults}
 use Rattle.est_syntax.specs.Breaks.{outermost, outside, inside, IsGood, modvar_by, modvar_in}
-use Rattle.est_syntax.specs.Ports.{interaction_signals, by_signals, signals_of, named_ports, point_ports, header_ports, header_of_variable, header_started, ports_of}
+use Rattle.est_syntax.specs.Ports.{by_signals, signals_of, header_ports, header_of_variable, header_started, ports_of}
 use Rattle.est_syntax.proofs.Members.{in_first, in_second}
-use Rattle.est_check.specs.declared.names.Senders.{Senders}
 use Rattle.est_check.specs.declared.names.PointSide.{PointSide}
+use Rattle.est_check.specs.declared.table.BodyNames.{BodyNames}
 use Rattle.est_check.specs.declared.table.Table.{Table}
 use Rattle.est_check.specs.Entries.{Entries, Declared, senders, enter_all}
 use Rattle.est_check.specs.Declarations.{parts_entries}
 use Rattle.est_check.specs.Tables.{members_by, members_at, may_send}
 use Rattle.est_check.specs.LeastFaults as least_faults
 use Rattle.est_check.specs.LeastFaults.{names_of_channel_part, names_of_channels, table_side, tables}
-use Rattle.est_check.specs.TablePorts.{signals_in, signals_at, ports_in}
-use Rattle.est_check.specs.TablePorts as by_table
+use Rattle.est_check.specs.declared.ports.Sides.{Sides}
+use Rattle.est_check.specs.Signals.{RolesFor, PartRolesFor, channel_signals, part_signals, role_signals, sides_of, signals_by, first_header}
 use Rattle.est_check.specs.Skeleton.{IsInit, IsSkeleton, channel_parts}
 use Rattle.est_check.specs.Counts.{body_count}
 use Rattle.est_check.proofs.Stands.{SideFor, ChannelFor}
-use Rattle.est_check.proofs.Channels.{RolesFor, roles_for, senders_for}
-use Rattle.est_check.proofs.Environments.{alone, may_send_for, side_outside}
+use Rattle.est_check.proofs.Channels.{roles_for, senders_for}
+use Rattle.est_check.proofs.Environments.{may_send_for, side_outside}
 use Rattle.est_check.proofs.Parts.{or_part, members_list, members_are, TableFor}
 use Rattle.est_check.proofs.Sound.{IsYes, Known, KnownMeaning, known_meaning, all_known, all_flat, table_for}
 
@@ -50,54 +49,57 @@ roles_at_for least [] k c h = absurd (none-some (part.Channel c) h)
 roles_at_for least (p ∷ ps) zero c h = subst (λ q. RolesFor c (names_of_channel_part least q).0.roles) (sym (ap (or_part p) h)) (roles_for c least)
 roles_at_for least (p ∷ ps) (suc k) c h = roles_at_for (names_of_channel_part least p).1 ps k c h
 
-abbrev pub RolesAt : List Part → Table → Type 0
-RolesAt all t = (k : ℕ) (c : Channel) → ChannelFor all k c → RolesFor c (members_at t.channels k).roles
-
-pub roles_at : (ps : List Part) → RolesAt ps (tables None ps).0
+pub roles_at : (ps : List Part) (k : ℕ) (c : Channel) → ChannelFor ps k c → RolesFor c (members_at (tables None ps).0.channels k).roles
 roles_at ps k c h =
     let o : Declared = enter_all [] ([], None) (parts_entries 0 ps) in
     subst (λ ms. RolesFor c (members_by (slice_get ms k)).roles) (sym (members_are [] o.1 ps)) (roles_at_for o.1 ps k c h)
 
--- signals
-pub interaction_signals_are : (second : Bool) (who : Senders) (side : Side) (b : ByPart) (is : List InteractionDef)
-    → may_send second who ≡ has_role side.channel side.is_second b.roles → may_send (not second) who ≡ has_role side.channel (not side.is_second) b.roles
-    → by_table.interaction_signals second who is ≡ interaction_signals side b is
-interaction_signals_are second who side b [] h k = refl
-interaction_signals_are second who side b (i ∷ is) h k =
-    λ j. record { name = i.name.name; kinds = []; sends = h j; receives = k j } ∷ interaction_signals_are second who side b is h k j
+-- the roles of a part, by the number of the part
+pub part_roles_at : (ps : List Part) (k : ℕ) (p : Part) → slice_get ps k ≡ Some p → PartRolesFor p (members_at (tables None ps).0.channels k).roles
+part_roles_at ps k (part.Channel c) h = roles_at ps k c h
+part_roles_at ps k _ h = tt
 
+-- who may send by the table of a channel may do so by the channel
 pub senders_may : (c : Channel) (roles : Entries) → RolesFor c roles → (second : Bool) (us : List Used) → may_send second (senders roles us) ≡ has_role c second us
 senders_may c roles h second us =
     ap (may_send second) (senders_for c roles h record { known = true; first = false; second = false } us) ∙ may_send_for c us second
 
-pub by_signals_are : (roles : Entries) (second : Bool) (side : Side) (bs : List ByPart) → RolesFor side.channel roles → second ≡ side.is_second
-    → by_table.by_signals roles second bs ≡ by_signals side bs
-by_signals_are roles second side [] h e = refl
-by_signals_are roles second side (b ∷ bs) h e =
-    λ j. interaction_signals_are second (senders roles b.roles) side b b.interactions
-    (senders_may side.channel roles h second b.roles ∙ ap (λ x. has_role side.channel x b.roles) e)
-    (senders_may side.channel roles h (not second) b.roles ∙ ap (λ x. has_role side.channel (not x) b.roles) e) j
-    ++ by_signals_are roles second side bs h e j
+-- the signals of a channel, by the number of its part
+pub role_signals_at : (second : Bool) (ps : List Part) (k : ℕ) (c : Channel) → slice_get ps k ≡ Some (part.Channel c) → get_or (role_signals second ps) k [] ≡ channel_signals second c
+role_signals_at second [] k c h = absurd (none-some (part.Channel c) h)
+role_signals_at second (p ∷ ps) zero c h = ap (part_signals second) (ap (or_part p) h)
+role_signals_at second (p ∷ ps) (suc k) c h = role_signals_at second ps k c h
 
-pub signals_at_is : (all : List Part) (t : Table) (q : Option PointSide) (side : Option Side) → RolesAt all t → SideFor all q side → signals_at t all q ≡ signals_of side
-signals_at_is all t None None roles h = refl
-signals_at_is all t None (Some side) roles h = absurd h
-signals_at_is all t (Some q) None roles h = absurd h
-signals_at_is all t (Some q) (Some side) roles h =
-    ap (signals_in t q.channel q.second) h.0
-    ∙ by_signals_are (members_at t.channels q.channel).roles q.second side side.channel.by (roles q.channel side.channel h.0) h.1
+pub sides_at : (second : Bool) (ps : List Part) (k : ℕ) → get_or (if second then (sides_of ps).second else (sides_of ps).first) k [] ≡ get_or (role_signals second ps) k []
+sides_at true ps k = refl
+sides_at false ps k = refl
 
--- ports
-pub point_ports_are : (all : List Part) (r : Region) (t : Table) → TableFor all r t → RolesAt all t → (ps : List Point)
-    → by_table.point_ports t all ps ≡ point_ports (alone r) ps
-point_ports_are all r t for roles [] = refl
-point_ports_are all r t for roles (p ∷ ps) =
-    λ j. named_ports (signals_at_is all t (table_side t least_faults.outside p) (side_of (alone r) p) roles (side_outside all r t for.outer for.channels p) j) p.names
-    ++ point_ports_are all r t for roles ps j
+-- the signals of a side
+pub side_signals_are : (ps : List Part) (q : PointSide) (s : Side) → slice_get ps q.channel ≡ Some (part.Channel s.channel) → q.second ≡ s.is_second
+    → get_or (if q.second then (sides_of ps).second else (sides_of ps).first) q.channel [] ≡ by_signals s s.channel.by
+side_signals_are ps q s h e =
+    sides_at q.second ps q.channel ∙ role_signals_at q.second ps q.channel s.channel h ∙ ap (λ b. channel_signals b s.channel) e
 
-pub ports_in_is : (t : Table) (all : List Part) (cs : List Channel) (h : Header) (ps : List Part) → ports_in t all (channel_parts cs ++ part.Header h ∷ ps) ≡ by_table.point_ports t all h.points
-ports_in_is t all [] h ps = refl
-ports_in_is t all (c ∷ cs) h ps = ports_in_is t all cs h ps
+-- the side of an interaction point of a skeleton
+pub side_is : (s : Spec) → IsSkeleton s → (p : Point) → SideFor s.parts (table_side (tables None s.parts).0 least_faults.outside p) (side_of (spec_scope s) p)
+side_is s sk p =
+    let for : TableFor s.parts (parts_region s.parts) (tables None s.parts).0 = table_for s.parts (all_flat sk)
+    in side_outside s.parts (parts_region s.parts) (tables None s.parts).0 for.outer for.channels p
+
+-- the signals of an interaction point by its side in the tables
+pub signals_by_are : (ps : List Part) (q : Option PointSide) (side : Option Side) → SideFor ps q side → signals_by (sides_of ps) q ≡ signals_of side
+signals_by_are ps None None h = refl
+signals_by_are ps None (Some s) h = absurd h
+signals_by_are ps (Some q) None h = absurd h
+signals_by_are ps (Some q) (Some s) h = side_signals_are ps q s h.0 h.1
+
+-- the signals of an interaction point of a skeleton
+pub point_signals_are : (s : Spec) → IsSkeleton s → (p : Point) (t : Table) (b : BodyNames) (sides : Sides) (q : Option PointSide)
+    → t ≡ (tables None s.parts).0 → b ≡ least_faults.outside → sides ≡ sides_of s.parts → table_side t b p ≡ q
+    → signals_by sides q ≡ signals_of (side_of (spec_scope s) p)
+point_signals_are s sk p t b sides q t_is b_is sides_are q_is =
+    let at : table_side (tables None s.parts).0 least_faults.outside p ≡ q = sym (λ i. table_side (t_is i) (b_is i) p) ∙ q_is
+    in ap (λ x. signals_by x q) sides_are ∙ signals_by_are s.parts q (side_of (spec_scope s) p) (subst (λ o. SideFor s.parts o (side_of (spec_scope s) p)) at (side_is s sk p))
 
 -- what is no fault
 abbrev pub NoFault : List Fault → Type 0
@@ -166,28 +168,38 @@ variable_header s sk good =
     (in_first f (use_faults (environment (spec_scope s)) sort.Header sk.variable.header) [] i))))
 
 pub started_by : (s : Spec) (sk : IsSkeleton s) → IsGood s → (st : Statement) → IsInit st → NoFault (statement_faults (environment (spec_scope s)) st) → header_started (spec_scope s) st ≡ Some sk.header
-started_by s sk good (statement.Empty place) h k = absurd h
-started_by s sk good (statement.Output sendings place) h k = absurd h
 started_by s sk good (statement.Init target named arguments place) h k =
     ap (header_of_variable (spec_scope s))
     (variable_meaning_is sk (meaning (spec_scope s) target.name) (known_meaning sk (parts_region s.parts) target.name (all_known sk))
     (takes_fine sort.ModuleVariable target.name.place (sort_by (meaning (spec_scope s) target.name))
     (λ f i. k f (in_first f (use_faults (environment (spec_scope s)) sort.ModuleVariable target.name) (use_faults (environment (spec_scope s)) sort.Body named) i))))
     ∙ variable_header s sk good
+started_by s sk good _ h k = absurd h
 
 pub started : (s : Spec) (sk : IsSkeleton s) → IsGood s → header_started (spec_scope s) s.first ≡ Some sk.header
 started s sk good =
     started_by s sk good s.first sk.init
     (λ f i. good f.place f.rule (outside (in_second f (twice_faults [] (names_of (parts_region s.parts))) (statement_faults (environment (spec_scope s)) s.first) i)))
 
--- the ports of a good skeleton
-pub ports_are : (s : Spec) → IsSkeleton s → IsGood s → ports_in (tables None s.parts).0 s.parts s.parts ≡ ports_of s
-ports_are s sk good =
-    let t : Table = (tables None s.parts).0 in
-    ap (ports_in t s.parts) sk.parts
-    ∙ ports_in_is t s.parts sk.channels sk.header (part.Body sk.body ∷ part.Modvars (sk.variable ∷ []) ∷ [])
-    ∙ point_ports_are s.parts (parts_region s.parts) t (table_for s.parts (all_flat sk)) (roles_at s.parts) sk.header.points
-    ∙ ap (header_ports (spec_scope s)) (sym (started s sk good))
+-- a skeleton has one header
+pub one_header : (cs : List Channel) (h : Header) (ps : List Part) → first_header (channel_parts cs ++ part.Header h ∷ ps) ≡ Some h
+one_header [] h ps = refl
+one_header (c ∷ cs) h ps = one_header cs h ps
+
+-- the first of the headers that a loop has not come to
+pub first_at : (ps : List Part) (i : ℕ) (p : Part) (h : Header) → i < length ps → p ≡ get_or ps i p → p ≡ part.Header h
+    → first_header (drop i ps) ≡ first_header ps → first_header ps ≡ Some h
+first_at ps i p h within is header rest =
+    sym rest ∙ ap first_header (drop_more ps i p within) ∙ ap (λ y. first_header (y ∷ drop (i + 1) ps)) (sym is ∙ header)
+
+pub first_past : (ps : List Part) (i : ℕ) → length ps ≤ i → first_header (drop i ps) ≡ first_header ps → first_header ps ≡ None
+first_past ps i past rest = sym rest ∙ ap first_header (drop_all i ps past)
+
+-- the ports of a good skeleton are those of its first header
+pub first_ports : (s : Spec) → IsSkeleton s → IsGood s → header_ports (spec_scope s) (first_header s.parts) ≡ ports_of s
+first_ports s sk good =
+    ap (header_ports (spec_scope s))
+    (ap first_header sk.parts ∙ one_header sk.channels sk.header (part.Body sk.body ∷ part.Modvars (sk.variable ∷ []) ∷ []) ∙ sym (started s sk good))
 
 -- a skeleton has one body
 pub one_body : (cs : List Channel) (h : Header) (b : Body) (m : ModvarDef) → body_count (channel_parts cs ++ part.Header h ∷ part.Body b ∷ part.Modvars (m ∷ []) ∷ []) ≡ 1

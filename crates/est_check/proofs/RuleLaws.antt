@@ -7,21 +7,21 @@ use Rattle.est_syntax.specs.declared.sort.NameSort.TheVariants as sort
 use Rattle.est_syntax.specs.declared.rule.Fault.{Fault}
 use Rattle.est_syntax.specs.declared.rule.Rule.{Rule}
 use Rattle.est_syntax.specs.declared.rule.Rule.TheVariants as rule
-use Rattle.est_syntax.specs.declared.specification.ByPart.{ByPart}
-use Rattle.est_syntax.specs.declared.specification.Channel.{Channel}
-use Rattle.est_syntax.specs.declared.specification.Header.{Header}
-use Rattle.est_syntax.specs.declared.specification.Point.{Point}
-use Rattle.est_syntax.specs.declared.specification.ModvarDef.{ModvarDef}
-use Rattle.est_syntax.specs.declared.specification.Sending.{Sending}
-use Rattle.est_syntax.specs.declared.specification.Statement.{Statement}
-use Rattle.est_syntax.specs.declared.specification.Statement.TheVariants as statement
-use Rattle.est_syntax.specs.declared.specification.Clause.{Clause}
-use Rattle.est_syntax.specs.declared.specification.Clause.TheVariants as clause
-use Rattle.est_syntax.specs.declared.specification.Transition.{Transition}
-use Rattle.est_syntax.specs.declared.specification.Group.{Group, out-Group}
-use Rattle.est_syntax.specs.declared.specification.FirstPart.{FirstPart}
-use Rattle.est_syntax.specs.declared.specification.Body.{Body, out-Body}
-use Rattle.est_syntax.specs.declared.specification.Part.TheVariants as part
+use Rattle.est_syntax.specs.declared.channel.ByPart.{ByPart}
+use Rattle.est_syntax.specs.declared.channel.Channel.{Channel}
+use Rattle.est_syntax.specs.declared.header.Header.{Header}
+use Rattle.est_syntax.specs.declared.header.Point.{Point}
+use Rattle.est_syntax.specs.declared.header.ModvarDef.{ModvarDef}
+use Rattle.est_syntax.specs.declared.statement.Sending.{Sending}
+use Rattle.est_syntax.specs.declared.statement.Statement.{Statement}
+use Rattle.est_syntax.specs.declared.statement.Statement.TheVariants as statement
+use Rattle.est_syntax.specs.declared.transition.Clause.{Clause}
+use Rattle.est_syntax.specs.declared.transition.Clause.TheVariants as clause
+use Rattle.est_syntax.specs.declared.transition.Transition.{Transition}
+use Rattle.est_syntax.specs.declared.transition.Group.{Group, out-Group}
+use Rattle.est_syntax.specs.declared.body.FirstPart.{FirstPart}
+use Rattle.est_syntax.specs.declared.body.Body.{Body, out-Body}
+use Rattle.est_syntax.specs.declared.body.Part.TheVariants as part
 use Rattle.est_syntax.specs.declared.specification.Spec.{Spec}
 use Rattle.est_syntax.specs.Least.{IsIn}
 use Rattle.est_syntax.specs.Names.{Declaration, Region, Scope, is_predeclared, Meaning, nothing, unseen, predeclared, seen, meaning, meaning_by, in_force, declared_in, is_name, spelled, is_shared, declared_together, channel_region, header_region, parts_region, points_region, body_scope, spec_scope}
@@ -165,6 +165,7 @@ rules_statement P env (statement.Init target body arguments place) sees h =
     rules-append (use_faults env sort.ModuleVariable target.name) (use_faults env sort.Body body)
     (rules_used sort.ModuleVariable target.name.place (env.sort_of target.name) (sees target.name h.0))
     (rules_used sort.Body body.place (env.sort_of body) (sees body h.1))
+rules_statement P env _ sees h = tt
 
 pub rules_statements : (P : Used → Type 0) (env : Environment) (sts : List Statement) → Sees P env → EachStatement P sts → AllRules (statements_faults env sts)
 rules_statements P env [] sees h = tt
@@ -179,6 +180,7 @@ pub rules_clause : (P : Used → Type 0) (env : Environment) (c : Clause) → Se
 rules_clause P env (clause.From states place) sees h = rules_uses P env sort.State states sees h
 rules_clause P env (clause.To o place) sees h = rules_state P env o sees h
 rules_clause P env (clause.When at signal place) sees h = rules_interaction P env false at.name signal sees h
+rules_clause P env _ sees h = tt
 
 pub rules_clauses : (P : Used → Type 0) (env : Environment) (cs : List Clause) → Sees P env → EachClause P cs → AllRules (clauses_faults env cs)
 rules_clauses P env [] sees h = tt
@@ -310,9 +312,8 @@ rules_rest r [] h b m k =
 rules_rest r (c ∷ cs) h b m k = rules_rest r cs h b m k
 
 pub init_anything : (st : Statement) → IsInit st → InStatement Anything st
-init_anything (statement.Empty place) h = absurd h
-init_anything (statement.Output sendings place) h = absurd h
 init_anything (statement.Init target body arguments place) h = (tt, tt)
+init_anything _ h = absurd h
 
 pub rules_all : (s : Spec) (sk : IsSkeleton s) → IsInOrder sk → AllRules (all_faults s)
 rules_all s sk order =

@@ -7,14 +7,14 @@ use Rattle.est_syntax.specs.declared.expression.Access.{Access}
 use Rattle.est_syntax.specs.declared.expression.Expr.{Expr}
 use Rattle.est_syntax.specs.declared.rule.Fault.{Fault}
 use Rattle.est_syntax.specs.declared.rule.Rule.{Rule}
-use Rattle.est_syntax.specs.declared.specification.Channel.{Channel}
-use Rattle.est_syntax.specs.declared.specification.Header.{Header}
-use Rattle.est_syntax.specs.declared.specification.ModvarDef.{ModvarDef}
-use Rattle.est_syntax.specs.declared.specification.Statement.{Statement}
-use Rattle.est_syntax.specs.declared.specification.Statement.TheVariants as statement
-use Rattle.est_syntax.specs.declared.specification.Body.{Body, out-Body}
-use Rattle.est_syntax.specs.declared.specification.Part.{Part}
-use Rattle.est_syntax.specs.declared.specification.Part.TheVariants as part
+use Rattle.est_syntax.specs.declared.channel.Channel.{Channel}
+use Rattle.est_syntax.specs.declared.header.Header.{Header}
+use Rattle.est_syntax.specs.declared.header.ModvarDef.{ModvarDef}
+use Rattle.est_syntax.specs.declared.statement.Statement.{Statement}
+use Rattle.est_syntax.specs.declared.statement.Statement.TheVariants as statement
+use Rattle.est_syntax.specs.declared.body.Body.{Body, out-Body}
+use Rattle.est_syntax.specs.declared.body.Part.{Part}
+use Rattle.est_syntax.specs.declared.body.Part.TheVariants as part
 use Rattle.est_syntax.specs.declared.specification.Spec.{Spec}
 use Rattle.est_syntax.specs.Least.{IsIn, IsLeast}
 use Rattle.est_check.specs.Least.{least_with}
@@ -31,7 +31,7 @@ use Rattle.est_check.specs.Entries.{Entries, Declared, enter_all}
 use Rattle.est_check.specs.Declarations.{parts_entries}
 use Rattle.est_check.specs.Tables.{members_by, names_by}
 use Rattle.est_check.specs.LeastFaults.{names_of_channels, least_of_parts, tables, least_of_spec}
-use Rattle.est_syntax.specs.declared.specification.Group.{out-Group}
+use Rattle.est_syntax.specs.declared.transition.Group.{out-Group}
 use Rattle.est_check.specs.Skeleton.{AreStates, IsOne, IsPlain, IsPlainTransition, IsPlainBody, IsSkeleton, channel_parts}
 use Rattle.est_check.proofs.Stands.{ChannelFor, HeaderFor}
 use Rattle.est_check.proofs.Channels.{MembersFor}
@@ -116,28 +116,28 @@ channel_inside scope f (part.Channel c) i = i
 channel_inside scope f (part.Header h) i = absurd i
 channel_inside scope f (part.Body b) i = absurd i
 channel_inside scope f (part.Modvars ms) i = absurd i
-channel_inside scope f (part.States us) i = absurd i
+channel_inside scope f _ i = absurd i
 
 pub header_inside : (scope : Scope) (f : Fault) (p : Part) → IsIn f (of_header scope p) → IsIn f (part_faults scope p)
 header_inside scope f (part.Channel c) i = absurd i
 header_inside scope f (part.Header h) i = i
 header_inside scope f (part.Body b) i = absurd i
 header_inside scope f (part.Modvars ms) i = absurd i
-header_inside scope f (part.States us) i = absurd i
+header_inside scope f _ i = absurd i
 
 pub rest_inside : (scope : Scope) (f : Fault) (p : Part) → IsIn f (of_rest scope p) → IsIn f (part_faults scope p)
 rest_inside scope f (part.Channel c) i = absurd i
 rest_inside scope f (part.Header h) i = absurd i
 rest_inside scope f (part.Body b) i = i
 rest_inside scope f (part.Modvars ms) i = i
-rest_inside scope f (part.States us) i = absurd i
+rest_inside scope f _ i = absurd i
 
 pub from_part : (scope : Scope) (f : Fault) (p : Part) → IsIn f (part_faults scope p) → IsIn f (of_channel p) ⊎ (IsIn f (of_header scope p) ⊎ IsIn f (of_rest scope p))
 from_part scope f (part.Channel c) i = inl i
 from_part scope f (part.Header h) i = inr (inl i)
 from_part scope f (part.Body b) i = inr (inr i)
 from_part scope f (part.Modvars ms) i = inr (inr i)
-from_part scope f (part.States us) i = absurd i
+from_part scope f _ i = absurd i
 
 -- what is noted is broken
 pub part_breaks : (s : Spec) (g : Part → List Fault) (f : Fault) → ((p : Part) → IsIn f (g p) → IsIn f (part_faults (spec_scope s) p)) → Among g f s.parts → Breaks s f.place f.rule
@@ -282,7 +282,7 @@ IsOuter (part.Channel c) = Unit {0}
 IsOuter (part.Header h) = Unit {0}
 IsOuter (part.Body b) = IsPlainBody b
 IsOuter (part.Modvars ms) = Unit {0}
-IsOuter (part.States us) = ⊥
+IsOuter _ = ⊥
 
 abbrev pub AreOuter : List Part → Type 0
 AreOuter [] = Unit {0}
@@ -300,7 +300,7 @@ outer_flat (part.Channel c) h = tt
 outer_flat (part.Header x) h = tt
 outer_flat (part.Body b) h = h.states
 outer_flat (part.Modvars ms) h = tt
-outer_flat (part.States us) h = h
+outer_flat _ h = h
 
 pub outers_flat : (ps : List Part) → AreOuter ps → AreFlat ps
 outers_flat [] h = tt
@@ -320,12 +320,9 @@ IsStatePart _ = ⊥
 
 pub states_in : (ps : List Part) (p : Part) → AreStates ps → IsIn p ps → IsStatePart p
 states_in [] p h i = absurd i
-states_in (part.Channel c ∷ ps) p h i = absurd h
-states_in (part.Header x ∷ ps) p h i = absurd h
-states_in (part.Body b ∷ ps) p h i = absurd h
-states_in (part.Modvars ms ∷ ps) p h i = absurd h
 states_in (part.States us ∷ ps) p h (inl e) = subst IsStatePart e tt
 states_in (part.States us ∷ ps) p h (inr i) = states_in ps p h i
+states_in (_ ∷ ps) p h i = absurd h
 
 -- a part of a skeleton is one of the outer ones, or a `state` section
 abbrev pub IsPlainPart : Part → Type 0
@@ -337,14 +334,14 @@ plain_outer (part.Channel c) h = tt
 plain_outer (part.Header x) h = tt
 plain_outer (part.Body b) h = h
 plain_outer (part.Modvars ms) h = tt
-plain_outer (part.States us) h = tt
+plain_outer _ h = absurd h
 
 pub plain_states : (p : Part) → IsStatePart p → IsPlainPart p
 plain_states (part.Channel c) h = tt
 plain_states (part.Header x) h = tt
 plain_states (part.Body b) h = absurd h
 plain_states (part.Modvars ms) h = tt
-plain_states (part.States us) h = tt
+plain_states _ h = tt
 
 pub plain_part : {s : Spec} (sk : IsSkeleton s) (scope : Scope) (p : Part) → HasPart s scope p → IsPlainPart p
 plain_part {s = s} sk _ p (outermost i) = plain_outer p (outer_in s.parts p (all_outer sk) i)
@@ -357,7 +354,7 @@ no_faults_of_states scope f (part.Channel c) h i = h
 no_faults_of_states scope f (part.Header x) h i = h
 no_faults_of_states scope f (part.Body b) h i = h
 no_faults_of_states scope f (part.Modvars ms) h i = h
-no_faults_of_states scope f (part.States us) h i = i
+no_faults_of_states scope f _ h i = absurd i
 
 pub noted_part_of : {s : Spec} (sk : IsSkeleton s) (f : Fault) (scope : Scope) (p : Part) → HasPart s scope p → IsIn f (part_faults scope p) → IsIn f (all_faults s)
 noted_part_of {s = s} sk f _ p (outermost i) h = noted_either s f p i (from_part (spec_scope s) f p h)

@@ -1,12 +1,12 @@
 -- What the parts of a specification declare: names with their entries, in the order of the text.
 use Rattle.std.specs.Prelude.{ℕ, suc, true, false, List, [], ◌∷◌, ◌++◌}
 use Rattle.est_syntax.specs.declared.name.Used.{Used}
-use Rattle.est_syntax.specs.declared.specification.InteractionDef.{InteractionDef}
-use Rattle.est_syntax.specs.declared.specification.ByPart.{ByPart}
-use Rattle.est_syntax.specs.declared.specification.ModvarDef.{ModvarDef}
-use Rattle.est_syntax.specs.declared.specification.Body.{out-Body}
-use Rattle.est_syntax.specs.declared.specification.Part.{Part}
-use Rattle.est_syntax.specs.declared.specification.Part.TheVariants as part
+use Rattle.est_syntax.specs.declared.channel.InteractionDef.{InteractionDef}
+use Rattle.est_syntax.specs.declared.channel.ByPart.{ByPart}
+use Rattle.est_syntax.specs.declared.header.ModvarDef.{ModvarDef}
+use Rattle.est_syntax.specs.declared.body.Body.{out-Body}
+use Rattle.est_syntax.specs.declared.body.Part.{Part}
+use Rattle.est_syntax.specs.declared.body.Part.TheVariants as part
 use Rattle.est_syntax.specs.Names.{channel_last, header_last}
 use Rattle.est_check.specs.declared.names.Entity.TheVariants as entities
 use Rattle.est_check.specs.declared.names.Entry.{Entry}
@@ -49,7 +49,7 @@ part_entries number (part.Channel c) = (c.name, entry (channel_last c) (entities
 part_entries number (part.Header h) = (h.name, entry (header_last h) (entities.Header number)) ∷ []
 part_entries number (part.Body b) = ((out-Body b).name, entry (out-Body b).name.place entities.Body) ∷ []
 part_entries number (part.Modvars ms) = variable_entries ms
-part_entries number (part.States us) = []
+part_entries number _ = []
 
 -- what parts with numbers from this one on declare in the region of the specification
 abbrev pub parts_entries : ℕ → List Part → List (Used × Entry)

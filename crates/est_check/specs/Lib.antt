@@ -5,7 +5,7 @@ pub mod Declarations
 pub mod Entries
 pub mod Least
 pub mod LeastFaults
+pub mod Signals
 pub mod Skeleton
 pub mod SkeletonRules
-pub mod TablePorts
 pub mod Tables

@@ -3,15 +3,15 @@ use Rattle.std.specs.Prelude.{ℕ, ◌<◌, List, [], ◌∷◌, Option, Some, N
 use Rattle.est_syntax.specs.declared.name.Used.{Used}
 use Rattle.est_syntax.specs.declared.rule.Rule.{Rule}
 use Rattle.est_syntax.specs.declared.rule.Rule.TheVariants as rule
-use Rattle.est_syntax.specs.declared.specification.Sending.{Sending}
-use Rattle.est_syntax.specs.declared.specification.Statement.{Statement}
-use Rattle.est_syntax.specs.declared.specification.Statement.TheVariants as statement
-use Rattle.est_syntax.specs.declared.specification.Clause.{Clause}
-use Rattle.est_syntax.specs.declared.specification.Clause.TheVariants as clause
-use Rattle.est_syntax.specs.declared.specification.Transition.{Transition}
-use Rattle.est_syntax.specs.declared.specification.Group.{Group, out-Group}
-use Rattle.est_syntax.specs.declared.specification.FirstPart.{FirstPart}
-use Rattle.est_syntax.specs.declared.specification.Body.{out-Body}
+use Rattle.est_syntax.specs.declared.statement.Sending.{Sending}
+use Rattle.est_syntax.specs.declared.statement.Statement.{Statement}
+use Rattle.est_syntax.specs.declared.statement.Statement.TheVariants as statement
+use Rattle.est_syntax.specs.declared.transition.Clause.{Clause}
+use Rattle.est_syntax.specs.declared.transition.Clause.TheVariants as clause
+use Rattle.est_syntax.specs.declared.transition.Transition.{Transition}
+use Rattle.est_syntax.specs.declared.transition.Group.{Group, out-Group}
+use Rattle.est_syntax.specs.declared.body.FirstPart.{FirstPart}
+use Rattle.est_syntax.specs.declared.body.Body.{out-Body}
 use Rattle.est_syntax.specs.declared.specification.Spec.{Spec}
 use Rattle.est_syntax.specs.Breaks.{Breaks}
 use Rattle.est_check.specs.Skeleton.{IsSkeleton}
@@ -45,6 +45,7 @@ abbrev pub InStatement : (Used → Type 0) → Statement → Type 0
 InStatement P (statement.Empty place) = Unit {0}
 InStatement P (statement.Output sendings place) = EachSending P sendings
 InStatement P (statement.Init target body arguments place) = P target.name × P body
+InStatement P _ = Unit {0}
 
 -- P holds of each name that these statements look up in their scope
 abbrev pub EachStatement : (Used → Type 0) → List Statement → Type 0
@@ -56,6 +57,7 @@ abbrev pub InClause : (Used → Type 0) → Clause → Type 0
 InClause P (clause.From states place) = EachUsed P states
 InClause P (clause.To state place) = EachState P state
 InClause P (clause.When at signal place) = P at.name
+InClause P _ = Unit {0}
 
 -- P holds of each name that these clauses look up in their scope
 abbrev pub EachClause : (Used → Type 0) → List Clause → Type 0

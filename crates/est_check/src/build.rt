@@ -12,8 +12,10 @@ use crate::least::Least;
 use crate::names::{Entity, Entry, Names, PointSide};
 use crate::table::{BodyNames, Members, Table, member_of};
 use est_items::Items;
+use est_syntax::body::Part;
+use est_syntax::channel::Channel;
+use est_syntax::header::{Header, Point};
 use est_syntax::name::Used;
-use est_syntax::specification::{Channel, Header, Part, Point};
 use std::alloc::{AllocError, Global};
 
 impl BodyNames {
@@ -37,14 +39,17 @@ fn channel_members(
 ) -> Result<Members, AllocError>
     ensures { IfOk result (λ m. (m, least.new.at) ≡ names_of_channel least.old.at channel.now) }
 {
-    let mut roles = Names::new(alloc);
-    enter_roles(&mut roles, channel.roles.as_slice(), least)?;
-    let mut interactions = Names::new(alloc);
-    enter_by_parts(&roles, &mut interactions, channel.by.as_slice(), least)?;
-    let members = Members {
-        roles,
-        interactions,
+    let mut members = Members {
+        roles: Names::new(alloc),
+        interactions: Names::new(alloc),
     };
+    enter_roles(&mut members.roles, channel.roles.as_slice(), least)?;
+    enter_by_parts(
+        &members.roles,
+        &mut members.interactions,
+        channel.by.as_slice(),
+        least,
+    )?;
     check_by_parts(&members, channel.by.as_slice(), least);
     Ok(members)
 }
@@ -62,20 +67,19 @@ fn part_members(alloc: Global, part: &Part, least: &mut Least) -> Result<Members
     }
 }
 
-/// For each part, the names of the channel that it is; none where it is no channel.
-fn channel_tables(
+/// Pushes, for each part, the names of the channel that it is; none where it is no channel.
+fn push_channels(
     alloc: Global,
+    channels: &mut Items<Members>,
     parts: &[Part],
     least: &mut Least,
-) -> Result<Items<Members>, AllocError>
-    ensures { IfOk result (λ c. (c, least.new.at) ≡ names_of_channels ([], least.old.at) parts.now) }
+) -> Result<(), AllocError>
+    ensures { OnOk result ((channels.new, least.new.at) ≡ names_of_channels (channels.old, least.old.at) parts.now) }
 {
-    let mut channels = Items::new(alloc);
     for part in parts {
-        let members = part_members(alloc, part, least)?;
-        channels.push(members)?;
+        channels.push(part_members(alloc, part, least)?)?;
     }
-    Ok(channels)
+    Ok(())
 }
 
 /// The side of an interaction point of the channel of this number, where this entry is a role.
@@ -178,36 +182,19 @@ fn header_tables(
     Ok(headers)
 }
 
-/// The names that the parts of a specification declare. Notes those that are declared twice.
-fn outer_names(alloc: Global, parts: &[Part], least: &mut Least) -> Result<Names, AllocError>
-    ensures { IfOk result (λ n. (n, least.new.at) ≡ enter_all [] ([], least.old.at) (parts_entries 0 parts.now)) }
-{
-    let mut names = Names::new(alloc);
-    enter_parts(&mut names, parts, least)?;
-    Ok(names)
-}
-
-/// The tables of a specification with these parts. Notes the faults of its names, its channels and its headers;
-/// those of its bodies and module variables are left to the caller.
+/// The tables of a specification with these parts. Notes the faults of its names, its channels and
+/// its headers; those of its bodies and module variables are left to the caller.
 pub fn tables(alloc: Global, parts: &[Part], least: &mut Least) -> Result<Table, AllocError>
     ensures { IfOk result (λ t. (t, least.new.at) ≡ tables least.old.at parts.now) }
 {
-    let outer = outer_names(alloc, parts, least)?;
-    let channels = channel_tables(alloc, parts, least)?;
-    let bare = Table {
-        outer,
-        channels,
+    let mut table = Table {
+        outer: Names::new(alloc),
+        channels: Items::new(alloc),
         headers: Items::new(alloc),
     };
-    let headers = header_tables(alloc, &bare, &BodyNames::outside(alloc), parts, least)?;
-    let Table {
-        outer,
-        channels,
-        headers: _,
-    } = bare;
-    Ok(Table {
-        outer,
-        channels,
-        headers,
-    })
+    enter_parts(&mut table.outer, parts, least)?;
+    push_channels(alloc, &mut table.channels, parts, least)?;
+    let headers = header_tables(alloc, &table, &BodyNames::outside(alloc), parts, least)?;
+    table.headers = headers;
+    Ok(table)
 }

@@ -1,45 +1,62 @@
 //! Checked specifications.
-#![tactic(auto, using(crate::proofs::Sound::good, crate::proofs::Sound::least, crate::proofs::PortLaws::ports_are, crate::proofs::PortLaws::bodies))]
+#![tactic(auto)]
 
-ghost use Rattle.std.specs.Prelude.{◌≡◌, IfOk, IfErr, None};
+ghost use Rattle.std.specs.Prelude.{◌≡◌, IfOk, IfErr, None, Some};
 ghost use Rattle.est_syntax.specs.Breaks.{IsGood};
 ghost use Rattle.est_syntax.specs.Ports.{ports_of};
 ghost use Rattle.est_check.specs.Answers.{IsRefused};
 ghost use Rattle.est_check.specs.Checked.{counts_of};
-ghost use Rattle.est_check.specs.LeastFaults.{tables};
+ghost use Rattle.est_check.specs.LeastFaults.{least_of_spec, tables};
 ghost use Rattle.est_check.specs.Skeleton.{IsSkeleton};
 
+use crate::build::tables;
 use crate::counts::Counts;
 use crate::error::CheckError;
-use crate::pass::outcome_of;
+use crate::least::Least;
+use crate::pass::least_fault;
 use crate::ports::{body_count, ports, transition_count};
 use crate::table::Table;
+use est_items::Boxed;
 use est_syntax::ports::Ports;
+use est_syntax::rule::Fault;
 use est_syntax::specification::Spec;
+use est_syntax::tree::SyntaxTree;
 use std::alloc::{AllocError, Global};
 use std::marker::Model;
 
-/// A specification that breaks no rule, with its ports and counts. Contracts see its tree.
+// A tree with its ports and counts.
 #[derive(Drop)]
-pub struct Checked {
-    spec: Spec,
+struct Whole {
+    tree: SyntaxTree,
     ports: Ports,
     counts: Counts,
 }
 
+/// A specification that breaks no rule, with its ports and counts. Contracts see its tree.
+pub struct Checked {
+    kept: Boxed<Whole>,
+}
+
 impl Model for Checked {
     ghost use Rattle.est_syntax.specs.declared.specification.Spec.{Spec};
-    ghost use Rattle.est_syntax.specs.contracts.specification.Part as part;
-    ghost use Rattle.std.specs.Coded.{codes};
+    ghost use Rattle.est_syntax.specs.contracts.specification.Spec as whole;
     ghost use Rattle.est_check.specs.Checked.{IsChecked};
 
     ghost Value = { Spec };
 
-    ghost coded = { Prim.hlevel (codes, part.the_row.coded) };
+    ghost coded = { whole.the_row.coded };
 
-    ghost view = { λ c. c.spec };
+    ghost view = { λ c. c.kept.tree };
 
-    ghost invariant = { λ c. IsChecked c.spec c.ports c.counts };
+    ghost invariant = { λ c. IsChecked c.kept.tree c.kept.ports c.kept.counts };
+}
+
+// In words, so that no crate above follows the tree and the ports down to their last list.
+impl Drop for Checked {
+    fn drop(self) {
+        let Checked { kept } = self;
+        drop(kept);
+    }
 }
 
 impl Checked {
@@ -49,62 +66,122 @@ impl Checked {
         ensures skeleton { IsSkeleton self.now }
         ensures good { IsGood self.now }
     {
-        &self.spec
+        self.kept.get().tree.spec()
     }
 
     /// The ports, in order of declaration.
     pub fn ports(&self) -> &Ports
         ensures { result.now ≡ ports_of self.now }
     {
-        &self.ports
+        &self.kept.get().ports
     }
 
     /// How many bodies, transitions and ports there are.
     pub fn counts(&self) -> Counts
         ensures { result ≡ counts_of self.now }
     {
-        self.counts
+        self.kept.get().counts
     }
 }
 
-/// A checked specification from a good one and its tables.
-fn finish(alloc: Global, spec: Spec, table: Table) -> Result<Checked, AllocError>
-    requires skeleton { IsSkeleton spec }
-    requires good { IsGood spec }
-    requires table { table ≡ (tables None spec.parts).0 }
-    ensures { IfOk result (λ c. c ≡ spec) }
+// How many bodies, transitions and ports a skeleton has.
+#[tactic(auto, using(crate::proofs::PortLaws::bodies))]
+fn counted(spec: &Spec, ports: &Ports) -> Counts
+    requires skeleton { IsSkeleton spec.now }
+    requires ports { ports.now ≡ ports_of spec.now }
+    ensures { result ≡ counts_of spec.now }
 {
-    let ports = ports(alloc, &table, spec.parts.as_slice())?;
-    let counts = Counts {
+    Counts {
         bodies: body_count(spec.parts.as_slice()),
         transitions: transition_count(spec.parts.as_slice()),
         ports: ports.len() as u32,
-    };
+    }
+}
+
+// A good skeleton with its ports. For want of memory both are dropped.
+fn kept(alloc: Global, tree: SyntaxTree, ports: Ports) -> Result<Checked, AllocError>
+    requires skeleton { IsSkeleton tree }
+    requires good { IsGood tree }
+    requires ports { ports ≡ ports_of tree }
+    ensures { IfOk result (λ c. c ≡ tree) }
+{
+    let counts = counted(tree.spec(), &ports);
     Ok(Checked {
-        spec,
-        ports,
-        counts,
+        kept: Boxed::new(
+            alloc,
+            Whole {
+                tree,
+                ports,
+                counts,
+            },
+        )?,
     })
 }
 
+// The ports of a skeleton whose least fault is this, if any: that fault is an error.
+
+fn ports_unless(
+    alloc: Global,
+    table: &Table,
+    least: Option<Fault>,
+    spec: &Spec,
+) -> Result<Ports, CheckError>
+    requires skeleton { IsSkeleton spec.now }
+    requires table { table.now ≡ (tables None spec.now.parts).0 }
+    requires least { least ≡ least_of_spec spec.now }
+    ensures ports { IfOk result (λ p. p ≡ ports_of spec.now) }
+    ensures good { IfOk result (λ _. IsGood spec.now) }
+    ensures fault { IfErr result (IsRefused spec.now) }
+{
+    match least {
+        Some(fault) => Err(CheckError::Fault {
+            place: fault.place,
+            rule: fault.rule,
+        }),
+        None => ports(alloc, table, spec).map_err(CheckError::Memory),
+    }
+}
+
+// The ports of a skeleton with these tables, which showed this least fault.
+fn ports_by(alloc: Global, table: &Table, least: Least, spec: &Spec) -> Result<Ports, CheckError>
+    requires skeleton { IsSkeleton spec.now }
+    requires table { (table.now, least.at) ≡ tables None spec.now.parts }
+    ensures ports { IfOk result (λ p. p ≡ ports_of spec.now) }
+    ensures good { IfOk result (λ _. IsGood spec.now) }
+    ensures fault { IfErr result (IsRefused spec.now) }
+{
+    match least_fault(alloc, table, least, spec) {
+        Err(error) => Err(CheckError::Memory(error)),
+        Ok(fault) => ports_unless(alloc, table, fault, spec),
+    }
+}
+
+// The ports of a skeleton that breaks no rule.
+fn good_ports(alloc: Global, spec: &Spec) -> Result<Ports, CheckError>
+    requires { IsSkeleton spec.now }
+    ensures ports { IfOk result (λ p. p ≡ ports_of spec.now) }
+    ensures good { IfOk result (λ _. IsGood spec.now) }
+    ensures fault { IfErr result (IsRefused spec.now) }
+{
+    let mut least = Least { at: None };
+    match tables(alloc, spec.parts.as_slice(), &mut least) {
+        Err(error) => Err(CheckError::Memory(error)),
+        Ok(table) => ports_by(alloc, &table, least, spec),
+    }
+}
+
 /// Checks a specification. The tree of one that is refused, or for which memory is wanting, is dropped.
-pub fn check(alloc: Global, spec: Spec) -> Result<Checked, CheckError>
-    requires { IsSkeleton spec }
+pub fn check(alloc: Global, tree: SyntaxTree) -> Result<Checked, CheckError>
+    requires { IsSkeleton tree }
 
     // A specification that breaks no rule is kept as it is.
-    ensures good { IfOk result (λ c. (c ≡ spec) × IsGood spec) }
+    ensures good { IfOk result (λ c. (c ≡ tree) × IsGood tree) }
 
     // Else the least fault is reported; want of memory may come at any time.
-    ensures fault { IfErr result (IsRefused spec) }
+    ensures fault { IfErr result (IsRefused tree) }
 {
-    match outcome_of(alloc, &spec) {
-        Err(error) => Err(CheckError::Memory(error)),
-        Ok(outcome) => match outcome.least {
-            Some(fault) => Err(CheckError::Fault {
-                place: fault.place,
-                rule: fault.rule,
-            }),
-            None => finish(alloc, spec, outcome.table).map_err(CheckError::Memory),
-        },
+    match good_ports(alloc, tree.spec()) {
+        Err(error) => Err(error),
+        Ok(ports) => kept(alloc, tree, ports).map_err(CheckError::Memory),
     }
 }

@@ -2,7 +2,7 @@
 #![tactic(auto, using(crate::proofs::LeastLaws::least_append))]
 
 ghost use Rattle.std.specs.Prelude.{◌≡◌};
-ghost use Rattle.est_syntax.specs.declared.specification.Body.{out-Body};
+ghost use Rattle.est_syntax.specs.declared.body.Body.{out-Body};
 ghost use Rattle.est_check.specs.Least.{least_with};
 ghost use Rattle.est_syntax.specs.Faults.{by_faults, point_faults, points_faults, modvars_faults, sendings_faults, statement_faults, statements_faults, state_faults, clause_faults, clauses_faults, transition_faults, transitions_faults, groups_faults, has_states, to_faults, first_faults, text_faults};
 ghost use Rattle.est_check.specs.Tables.{table_environment, members_environment};
@@ -12,12 +12,14 @@ use crate::table::{BodyNames, Members, Table};
 use crate::uses::{
     check_point_role, check_received, check_roles, check_sent, check_use, check_uses,
 };
+use est_syntax::body::{Body, Part};
+use est_syntax::channel::ByPart;
+use est_syntax::header::{ModvarDef, Point};
 use est_syntax::name::Used;
 use est_syntax::rule::Rule;
 use est_syntax::sort::NameSort;
-use est_syntax::specification::{
-    Body, ByPart, Clause, Group, ModvarDef, Part, Point, Sending, Statement, Transition,
-};
+use est_syntax::statement::{Sending, Statement};
+use est_syntax::transition::{Clause, Group, Transition};
 
 /// Checks that the `by` parts of a channel name roles of it.
 pub fn check_by_parts(members: &Members, list: &[ByPart], least: &mut Least)
@@ -73,7 +75,6 @@ pub fn check_statement(table: &Table, body: &BodyNames, statement: &Statement, l
     ensures { least.new.at ≡ least_with least.old.at (statement_faults (table_environment table.now body.now) statement.now) }
 {
     match statement {
-        Statement::Empty { place: _ } => (),
         Statement::Output { sendings, place: _ } => check_sendings(
             table,
             body,
@@ -89,6 +90,7 @@ pub fn check_statement(table: &Table, body: &BodyNames, statement: &Statement, l
             check_use(table, body, NameSort::ModuleVariable, &target.name, least);
             check_use(table, body, NameSort::Body, named, least);
         }
+        _ => (),
     }
 }
 
@@ -128,6 +130,7 @@ fn check_clause(table: &Table, body: &BodyNames, clause: &Clause, least: &mut Le
             signal,
             place: _,
         } => check_received(table, body, &at.name, signal, least),
+        _ => (),
     }
 }
 

@@ -1,7 +1,7 @@
 //! How much a specification declares.
 
 /// The numbers of declared bodies, of transitions and of ports.
-#[derive(Clone, Copy, Debug, PartialEq, Eq)]
+#[derive(Clone, Copy)]
 pub struct Counts {
     pub bodies: u32,
     pub transitions: u32,

@@ -8,10 +8,12 @@ ghost use Rattle.est_check.specs.Declarations.{together_entries, other_role_entr
 
 use crate::least::Least;
 use crate::names::{Entity, Entry, Names, Senders};
-use est_syntax::expression::{TypeText, VarDef};
+use est_syntax::body::Part;
+use est_syntax::channel::{ByPart, Channel, InteractionDef};
+use est_syntax::header::{Header, ModvarDef, Point};
 use est_syntax::name::Used;
 use est_syntax::rule::Rule;
-use est_syntax::specification::{ByPart, Channel, Header, InteractionDef, ModvarDef, Part, Point};
+use est_syntax::type_text::{TypeText, VarDef};
 use std::alloc::AllocError;
 
 /// Enters a name; one that is there already keeps its entry, and is noted as declared twice.
@@ -69,8 +71,9 @@ fn vars_last(vars: &[VarDef], mut last: u32) -> u32
     ensures { result ≡ vars_last vars.now last }
 {
     for item in vars {
-        let TypeText::Named(used) = &item.text;
-        last = last.max(used.place);
+        if let TypeText::Named(used) = &item.text {
+            last = last.max(used.place);
+        }
     }
     last
 }
@@ -299,7 +302,7 @@ fn enter_part(
             least,
         ),
         Part::Modvars(modvars) => enter_modvars(names, modvars.as_slice(), least),
-        Part::States(_) => Ok(()),
+        _ => Ok(()),
     }
 }
 

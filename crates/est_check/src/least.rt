@@ -8,7 +8,7 @@ ghost use Rattle.est_syntax.specs.Faults.{broken, broken_if};
 use est_syntax::rule::{Fault, Rule};
 
 /// The least of the faults that were noted so far.
-#[derive(Debug, Drop)]
+#[derive(Clone, Copy)]
 pub struct Least {
     pub at: Option<Fault>,
 }

@@ -10,7 +10,7 @@ use std::alloc::{AllocError, Global};
 use std::marker::Model;
 
 /// Which roles of its channel may send an interaction, and whether the names of its `by` part are all roles.
-#[derive(Clone, Copy, Debug, PartialEq, Eq)]
+#[derive(Clone, Copy)]
 pub struct Senders {
     pub known: bool,
     pub first: bool,
@@ -18,14 +18,14 @@ pub struct Senders {
 }
 
 /// The channel of an interaction point, by the number of its part, and its role there.
-#[derive(Clone, Copy, Debug, PartialEq, Eq)]
+#[derive(Clone, Copy)]
 pub struct PointSide {
     pub channel: usize,
     pub second: bool,
 }
 
 /// What a name stands for. Channels and headers go by the numbers of their parts, counted from 0.
-#[derive(Clone, Copy, Debug, PartialEq, Eq)]
+#[derive(Clone, Copy)]
 pub enum Entity {
     Channel(usize),
     Header(usize),
@@ -38,7 +38,7 @@ pub enum Entity {
 }
 
 /// What a name stands for, and the last place where that is not yet in force.
-#[derive(Clone, Copy, Debug, PartialEq, Eq)]
+#[derive(Clone, Copy)]
 pub struct Entry {
     pub last: u32,
     pub entity: Entity,
@@ -54,9 +54,16 @@ impl Entry {
 }
 
 /// The names of one region.
-#[derive(Drop)]
 pub struct Names {
     under: IndexMap<Vec<u8>, Entry>,
+}
+
+// In words, so that where names are let go of there is one call.
+impl Drop for Names {
+    fn drop(self) {
+        let Names { under } = self;
+        drop(under);
+    }
 }
 
 impl Model for Names {

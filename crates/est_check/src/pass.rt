@@ -8,17 +8,17 @@ ghost use Rattle.est_check.specs.Declarations.{body_entries};
 ghost use Rattle.est_check.specs.Tables.{look_up};
 ghost use Rattle.est_check.specs.LeastFaults.{outside, header_number, header_entries, least_inside, least_of_body, least_of_part, least_of_parts, least_of_spec, tables};
 
-use crate::build::tables;
 use crate::constructs::{check_modvars, check_statement, check_text};
 use crate::declare::enter_state_parts;
 use crate::least::Least;
 use crate::names::{Entity, Names};
 use crate::table::{BodyNames, Found, Table};
 use crate::uses::check_use;
+use est_syntax::body::{Body, Part};
 use est_syntax::name::Used;
 use est_syntax::rule::Fault;
 use est_syntax::sort::NameSort;
-use est_syntax::specification::{Body, Part, Spec};
+use est_syntax::specification::Spec;
 use std::alloc::{AllocError, Global};
 
 /// The number of the header that a name means, if one.
@@ -48,6 +48,20 @@ fn state_names(
     Ok(own)
 }
 
+/// The names that a body has of the header of this number; none without a header.
+fn front_names<'a>(table: &'a Table, none: &'a Names, header: Option<usize>) -> &'a Names
+    requires { none.now ≡ [] }
+    ensures { result.now ≡ header_entries table.now header }
+{
+    match header {
+        None => none,
+        Some(number) => match table.headers.as_slice().get(number) {
+            None => none,
+            Some(names) => names,
+        },
+    }
+}
+
 /// The states of a body that has the header of this number. Notes those that are declared twice.
 fn own_names(
     alloc: Global,
@@ -58,13 +72,8 @@ fn own_names(
 ) -> Result<Names, AllocError>
     ensures { IfOk result (λ n. (n, least.new.at) ≡ enter_all (header_entries table.now header) ([], least.old.at) (body_entries parts.now)) }
 {
-    match header {
-        None => state_names(alloc, &Names::new(alloc), parts, least),
-        Some(number) => match table.headers.as_slice().get(number) {
-            None => state_names(alloc, &Names::new(alloc), parts, least),
-            Some(names) => state_names(alloc, names, parts, least),
-        },
-    }
+    let none = Names::new(alloc);
+    state_names(alloc, front_names(table, &none, header), parts, least)
 }
 
 /// Checks the states, the initialize part and the transitions of a body that has the header of this number.
@@ -144,26 +153,20 @@ fn check_parts(
     Ok(())
 }
 
-/// The names of a specification, and the least fault that was noted.
-#[derive(Drop)]
-pub struct Outcome {
-    pub table: Table,
-    pub least: Option<Fault>,
-}
-
-/// The names of a specification, and the least of the faults that a skeleton can have. A specification that is no
-/// skeleton may have others: bodies within bodies, and the links of modules, are not looked at.
-pub fn outcome_of(alloc: Global, spec: &Spec) -> Result<Outcome, AllocError>
-    ensures table { IfOk result (λ o. o.table ≡ (tables None spec.now.parts).0) }
-    ensures least { IfOk result (λ o. o.least ≡ least_of_spec spec.now) }
+/// The least of the faults that a skeleton can have, by its tables and the least fault that they
+/// showed. A specification that is no skeleton may have others: bodies within bodies, and the links
+/// of modules, are not looked at.
+pub fn least_fault(
+    alloc: Global,
+    table: &Table,
+    mut least: Least,
+    spec: &Spec,
+) -> Result<Option<Fault>, AllocError>
+    requires { (table.now, least.at) ≡ tables None spec.now.parts }
+    ensures { IfOk result (λ f. f ≡ least_of_spec spec.now) }
 {
-    let mut least = Least { at: None };
-    let table = tables(alloc, spec.parts.as_slice(), &mut least)?;
     let outer = BodyNames::outside(alloc);
-    check_parts(alloc, &table, &outer, spec.parts.as_slice(), &mut least)?;
-    check_statement(&table, &outer, &spec.first, &mut least);
-    Ok(Outcome {
-        table,
-        least: least.at,
-    })
+    check_parts(alloc, table, &outer, spec.parts.as_slice(), &mut least)?;
+    check_statement(table, &outer, &spec.first, &mut least);
+    Ok(least.at)
 }

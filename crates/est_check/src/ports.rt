@@ -1,33 +1,61 @@
 //! The ports of a specification, and how much it declares.
 #![tactic(auto)]
 
-ghost use Rattle.std.specs.Prelude.{◌≡◌, ◌++◌, ◌≤◌, OnOk, IfOk, Some};
-ghost use Rattle.est_syntax.specs.Ports.{named_ports};
-ghost use Rattle.est_check.specs.TablePorts.{interaction_signals, by_signals, signals_in, signals_at, point_ports, ports_in};
+ghost use Rattle.std.specs.Prelude.{◌≡◌, ◌++◌, ◌≤◌, [], OnOk, IfOk, None, get_or, if◌then◌else◌};
+ghost use Rattle.est_syntax.specs.Breaks.{IsGood};
+ghost use Rattle.est_syntax.specs.Names.{side_of, spec_scope};
+ghost use Rattle.est_syntax.specs.Ports.{interaction_signals, by_signals, signals_of, named_ports, point_ports, ports_of};
+ghost use Rattle.est_check.specs.LeastFaults.{tables};
+ghost use Rattle.est_check.specs.Skeleton.{IsSkeleton};
+ghost use Rattle.est_check.specs.Signals.{RolesFor, PartRolesFor, side, channel_signals, part_signals, role_signals, sides_of, signals_by};
+ghost use Rattle.est_check.specs.Tables.{members_at};
 ghost use Rattle.est_check.specs.Counts.{body_count, group_count, transition_count};
 
 use crate::build::side_of;
 use crate::declare::senders;
-use crate::names::{Names, PointSide, Senders};
+use crate::names::{Names, PointSide};
 use crate::table::{BodyNames, Table};
 use crate::uses::may_send;
-use est_items::Items;
-use est_syntax::name::Used;
-use est_syntax::ports::{Port, Ports, Signal, Signals};
-use est_syntax::specification::{ByPart, Group, InteractionDef, Part, Point};
+use est_items::{Items, Shared};
+use est_syntax::body::Part;
+use est_syntax::channel::{ByPart, Channel};
+use est_syntax::header::{Header, Point};
+use est_syntax::name::{Name, Used};
+use est_syntax::ports::{Port, Ports, SharedSignals, Signal, Signals};
+use est_syntax::specification::Spec;
+use est_syntax::transition::Group;
 use std::alloc::{AllocError, Global};
 
-/// Pushes the interactions of a `by` part with these senders, at a port in this role.
+/// For each part that is a channel, its interactions at a port in the first role and in the second.
+/// They are made once, and all ports of a side share them.
+pub struct Sides {
+    pub first: Items<SharedSignals>,
+    pub second: Items<SharedSignals>,
+}
+
+impl Drop for Sides {
+    fn drop(self) {
+        let Sides { first, second } = self;
+        drop(first);
+        drop(second);
+    }
+}
+
+/// Pushes the interactions of a `by` part of a channel with these roles, at a port in this role.
+
 fn push_interactions(
-    alloc: Global,
     into: &mut Signals,
+    channel: &Channel,
+    roles: &Names,
     second: bool,
-    who: Senders,
-    list: &[InteractionDef],
+    by: &ByPart,
 ) -> Result<(), AllocError>
-    ensures { OnOk result (into.new ≡ into.old ++ interaction_signals second who list.now) }
+    requires { RolesFor channel.now roles.now }
+    ensures { OnOk result (into.new ≡ into.old ++ interaction_signals (side channel.now second) by.now by.now.interactions) }
 {
-    for item in list {
+    let alloc = *into.items.allocator();
+    let who = senders(roles, by.roles.as_slice());
+    for item in by.interactions.as_slice() {
         into.push(Signal {
             name: item.name.name.copy(alloc)?,
             kinds: Items::new(alloc),
@@ -38,131 +66,206 @@ fn push_interactions(
     Ok(())
 }
 
-/// Pushes the interactions of the `by` parts of a channel with these roles, at a port in this role.
-fn push_by_parts(
+/// The interactions of a channel with these roles, at a port in this role.
+fn channel_signals(
     alloc: Global,
-    into: &mut Signals,
+    channel: &Channel,
     roles: &Names,
     second: bool,
-    list: &[ByPart],
-) -> Result<(), AllocError>
-    ensures { OnOk result (into.new ≡ into.old ++ by_signals roles.now second list.now) }
-{
-    for item in list {
-        let who = senders(roles, item.roles.as_slice());
-        push_interactions(alloc, into, second, who, item.interactions.as_slice())?;
-    }
-    Ok(())
-}
-
-/// The interactions of the `by` parts of a channel with these roles, at a port in this role.
-fn by_signals(
-    alloc: Global,
-    roles: &Names,
-    second: bool,
-    list: &[ByPart],
 ) -> Result<Signals, AllocError>
-    ensures { IfOk result (λ s. s ≡ by_signals roles.now second list.now) }
+    requires { RolesFor channel.now roles.now }
+    ensures { IfOk result (λ s. s ≡ channel_signals second channel.now) }
 {
     let mut signals = Items::new(alloc);
-    push_by_parts(alloc, &mut signals, roles, second, list)?;
+    for by in channel.by.as_slice() {
+        push_interactions(&mut signals, channel, roles, second, by)?;
+    }
     Ok(signals)
 }
 
-/// The interactions of a channel, which is the part of this number, at a port in this role; none where the part is no channel.
-fn signals_in(
+/// The interactions of the part of this number at a port in this role; none where it is no channel.
+fn part_signals(
     alloc: Global,
     table: &Table,
-    number: usize,
     second: bool,
+    number: usize,
     part: &Part,
 ) -> Result<Signals, AllocError>
-    ensures { IfOk result (λ s. s ≡ signals_in table.now number second (Some part.now)) }
+    requires { PartRolesFor part.now (members_at table.now.channels number).roles }
+    ensures { IfOk result (λ s. s ≡ part_signals second part.now) }
 {
     match part {
         Part::Channel(channel) => match table.channels.as_slice().get(number) {
-            None => by_signals(alloc, &Names::new(alloc), second, channel.by.as_slice()),
-            Some(members) => by_signals(alloc, &members.roles, second, channel.by.as_slice()),
+            None => channel_signals(alloc, channel, &Names::new(alloc), second),
+            Some(members) => channel_signals(alloc, channel, &members.roles, second),
         },
         _ => Ok(Items::new(alloc)),
     }
 }
 
-/// The interactions at a port of this side; none without a side.
-fn signals_at(
-    alloc: Global,
+/// Pushes the interactions of each part at a port in this role.
+fn push_role(
+    into: &mut Items<SharedSignals>,
     table: &Table,
+    second: bool,
     parts: &[Part],
+) -> Result<(), AllocError>
+    requires { table.now ≡ (tables None parts.now).0 }
+    ensures { OnOk result (into.new ≡ into.old ++ role_signals second parts.now) }
+{
+    let alloc = *into.items.allocator();
+    for (number, part) in parts.iter().enumerate() {
+        let signals = part_signals(alloc, table, second, number, part)?;
+        into.push(Shared::new(alloc, signals)?)?;
+    }
+    Ok(())
+}
+
+/// The signals of this number; none where there are no such.
+fn shared_at(
+    alloc: Global,
+    list: &[SharedSignals],
+    number: usize,
+) -> Result<SharedSignals, AllocError>
+    ensures { IfOk result (λ s. s ≡ get_or list.now number []) }
+{
+    match list.get(number) {
+        None => Shared::new(alloc, Items::new(alloc)),
+        Some(signals) => signals.share(),
+    }
+}
+
+/// The signals of this side; none without a side, or where there is no such channel.
+fn side_signals(
+    alloc: Global,
+    sides: &Sides,
     side: Option<PointSide>,
-) -> Result<Signals, AllocError>
-    ensures { IfOk result (λ s. s ≡ signals_at table.now parts.now side) }
+) -> Result<SharedSignals, AllocError>
+    ensures { IfOk result (λ s. s ≡ signals_by sides.now side) }
 {
     match side {
-        None => Ok(Items::new(alloc)),
-        Some(side) => match parts.get(side.channel) {
-            None => Ok(Items::new(alloc)),
-            Some(part) => signals_in(alloc, table, side.channel, side.second, part),
-        },
+        None => Shared::new(alloc, Items::new(alloc)),
+        Some(side) => shared_at(
+            alloc,
+            if side.second {
+                sides.second.as_slice()
+            } else {
+                sides.first.as_slice()
+            },
+            side.channel,
+        ),
     }
+}
+
+/// The port of this name and side.
+fn port(
+    alloc: Global,
+    sides: &Sides,
+    side: Option<PointSide>,
+    name: &Name,
+) -> Result<Port, AllocError>
+    ensures { IfOk result (λ p. p ≡ record { name = name.now; index_kinds = []; index = []; signals = signals_by sides.now side }) }
+{
+    let name = name.copy(alloc)?;
+    let signals = side_signals(alloc, sides, side)?;
+    Ok(Port {
+        name,
+        index_kinds: Items::new(alloc),
+        index: Items::new(alloc),
+        signals,
+    })
 }
 
 /// Pushes the ports of this side with these names.
 fn push_named(
     into: &mut Ports,
-    table: &Table,
-    parts: &[Part],
+    sides: &Sides,
     side: Option<PointSide>,
     list: &[Used],
 ) -> Result<(), AllocError>
-    ensures { OnOk result (into.new ≡ into.old ++ named_ports (signals_at table.now parts.now side) list.now) }
+    ensures { OnOk result (into.new ≡ into.old ++ named_ports (signals_by sides.now side) list.now) }
 {
     let alloc = *into.items.allocator();
     for used in list {
-        into.push(Port {
-            name: used.name.copy(alloc)?,
-            index_kinds: Items::new(alloc),
-            index: Items::new(alloc),
-            signals: signals_at(alloc, table, parts, side)?,
-        })?;
+        into.push(port(alloc, sides, side, &used.name)?)?;
     }
     Ok(())
 }
 
-/// Pushes the ports that the interaction points of a header are.
-fn push_points(
-    alloc: Global,
+/// Pushes the ports that are declared together as an interaction point of a header.
+fn push_point(
     into: &mut Ports,
     table: &Table,
-    parts: &[Part],
+    sides: &Sides,
+    spec: &Spec,
+    point: &Point,
+) -> Result<(), AllocError>
+    requires skeleton { IsSkeleton spec.now }
+    requires table { table.now ≡ (tables None spec.now.parts).0 }
+    requires sides { sides.now ≡ sides_of spec.now.parts }
+    ensures { OnOk result (into.new ≡ into.old ++ named_ports (signals_of (side_of (spec_scope spec.now) point.now)) point.now.names) }
+{
+    let side = side_of(table, &BodyNames::outside(*into.items.allocator()), point);
+    push_named(into, sides, side, point.names.as_slice())
+}
+
+/// Pushes the ports that the interaction points of a header are.
+fn push_points(
+    into: &mut Ports,
+    table: &Table,
+    sides: &Sides,
+    spec: &Spec,
     list: &[Point],
 ) -> Result<(), AllocError>
-    ensures { OnOk result (into.new ≡ into.old ++ point_ports table.now parts.now list.now) }
+    requires skeleton { IsSkeleton spec.now }
+    requires table { table.now ≡ (tables None spec.now.parts).0 }
+    requires sides { sides.now ≡ sides_of spec.now.parts }
+    ensures { OnOk result (into.new ≡ into.old ++ point_ports (spec_scope spec.now) list.now) }
 {
-    let outer = BodyNames::outside(alloc);
     for item in list {
-        push_named(
-            into,
-            table,
-            parts,
-            side_of(table, &outer, item),
-            item.names.as_slice(),
-        )?;
+        push_point(into, table, sides, spec, item)?;
     }
     Ok(())
 }
 
 /// The ports that the interaction points of the first header are; none without a header.
-pub fn ports(alloc: Global, table: &Table, parts: &[Part]) -> Result<Ports, AllocError>
-    ensures { IfOk result (λ p. p ≡ ports_in table.now parts.now parts.now) }
+
+fn header_ports(
+    alloc: Global,
+    table: &Table,
+    sides: &Sides,
+    spec: &Spec,
+) -> Result<Ports, AllocError>
+    requires skeleton { IsSkeleton spec.now }
+    requires good { IsGood spec.now }
+    requires table { table.now ≡ (tables None spec.now.parts).0 }
+    requires sides { sides.now ≡ sides_of spec.now.parts }
+    ensures { IfOk result (λ p. p ≡ ports_of spec.now) }
 {
     let mut all = Items::new(alloc);
-    for part in parts {
+    for part in spec.parts.as_slice() {
         if let Part::Header(header) = part {
-            push_points(alloc, &mut all, table, parts, header.points.as_slice())?;
+            push_points(&mut all, table, sides, spec, header.points.as_slice())?;
             return Ok(all);
         }
     }
     Ok(all)
+}
+
+/// The ports of a good skeleton with these tables.
+pub fn ports(alloc: Global, table: &Table, spec: &Spec) -> Result<Ports, AllocError>
+    requires skeleton { IsSkeleton spec.now }
+    requires good { IsGood spec.now }
+    requires table { table.now ≡ (tables None spec.now.parts).0 }
+    ensures { IfOk result (λ p. p ≡ ports_of spec.now) }
+{
+    let mut sides = Sides {
+        first: Items::new(alloc),
+        second: Items::new(alloc),
+    };
+    push_role(&mut sides.first, table, false, spec.parts.as_slice())?;
+    push_role(&mut sides.second, table, true, spec.parts.as_slice())?;
+    header_ports(alloc, table, &sides, spec)
 }
 
 /// The number of bodies that these parts declare.

@@ -11,18 +11,41 @@ use est_syntax::name::{Name, Used};
 use est_syntax::sort::NameSort;
 
 /// The names of a channel: its roles, and the interactions that have no role's name.
-#[derive(Drop)]
 pub struct Members {
     pub roles: Names,
     pub interactions: Names,
 }
 
-/// The names of a specification: its own, and, part for part, those of the channel or the header that the part is.
-#[derive(Drop)]
+impl Drop for Members {
+    fn drop(self) {
+        let Members {
+            roles,
+            interactions,
+        } = self;
+        drop(roles);
+        drop(interactions);
+    }
+}
+
+/// The names of a specification: its own, and, part for part, those of the channel or the header
+/// that the part is.
 pub struct Table {
     pub outer: Names,
     pub channels: Items<Members>,
     pub headers: Items<Names>,
+}
+
+impl Drop for Table {
+    fn drop(self) {
+        let Table {
+            outer,
+            channels,
+            headers,
+        } = self;
+        drop(outer);
+        drop(channels);
+        drop(headers);
+    }
 }
 
 /// The body around a place, if one: the number of its header's part, and the names of its states.
@@ -34,7 +57,7 @@ pub struct BodyNames {
 }
 
 /// What a name means: nothing, something that the body around does not see, something predeclared, or this.
-#[derive(Clone, Copy, Debug, PartialEq, Eq)]
+#[derive(Clone, Copy)]
 pub enum Found {
     Nothing,
     Unseen,

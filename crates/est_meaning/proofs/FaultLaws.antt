@@ -2,12 +2,10 @@
 use Rattle.std.proofs.Common.{◌≡◌, ℕ, zero, suc, false, List, [], ◌∷◌, Option, Some, None, IsTrue, sym, subst}
 use Rattle.std.specs.Option.{option_map_or}
 use Rattle.std.proofs.lemmas.Bool.{false≢true}
-use Rattle.std.proofs.lemmas.Option.{none-some}
 use Rattle.est_syntax.specs.declared.name.Used.{Used}
-use Rattle.est_syntax.specs.declared.specification.Statement.{Statement}
-use Rattle.est_syntax.specs.declared.specification.Statement.TheVariants as statement
-use Rattle.est_syntax.specs.declared.specification.FirstPart.{FirstPart}
-use Rattle.est_syntax.specs.declared.specification.Body.{Body, out-Body}
+use Rattle.est_syntax.specs.declared.statement.Statement.{Statement}
+use Rattle.est_syntax.specs.declared.body.FirstPart.{FirstPart}
+use Rattle.est_syntax.specs.declared.body.Body.{Body, out-Body}
 use Rattle.est_syntax.specs.declared.specification.Spec.{Spec}
 use Rattle.est_meaning.specs.declared.event.Event.{Event}
 use Rattle.est_meaning.specs.declared.run.Firing.{Firing}
@@ -16,7 +14,7 @@ use Rattle.est_meaning.specs.declared.run.BlockFault.TheVariants.{NoModule}
 use Rattle.est_meaning.specs.Text.{when_of, to_of, root_in, root_of}
 use Rattle.est_meaning.specs.Situation.{Situation}
 use Rattle.est_meaning.specs.Choices.{Choice, choice_of, is_enabled_choice, IsPossible}
-use Rattle.est_meaning.specs.Blocks.{Outcome, Done, Fault, Limit, block_meaning, all_sent}
+use Rattle.est_meaning.specs.Blocks.{Outcome, Done, Fault, Limit, block_meaning, all_sent, sendings_of}
 use Rattle.est_meaning.specs.Step.{without_awaited, completed, fired_by, outcome, initialized, made, born, begun, start_of}
 use Rattle.est_meaning.specs.Laws.{BlocksDoNotFault}
 
@@ -32,11 +30,9 @@ no_fault_is o fault h e = subst IsNoFault e h
 block_ends : (spec : Spec) (number : ℕ) (xs : List Statement) (left : ℕ) (s : Situation) (outs : List Event) → IsNoFault (block_meaning spec number xs left s outs)
 block_ends spec number [] left s outs = tt
 block_ends spec number (x ∷ xs) zero s outs = tt
-block_ends spec number (statement.Empty place ∷ xs) (suc left) s outs = block_ends spec number xs left s outs
-block_ends spec number (statement.Output sendings place ∷ xs) (suc left) s outs =
-    let r = all_sent spec number sendings s outs in
+block_ends spec number (x ∷ xs) (suc left) s outs =
+    let r = all_sent spec number (sendings_of x) s outs in
     block_ends spec number xs left r.situation r.outs
-block_ends spec number (statement.Init target body arguments place ∷ xs) (suc left) s outs = block_ends spec number xs left s outs
 
 completed_ends : (limit : ℕ) (spec : Spec) (fired : Option Firing) (number : ℕ) (state : Option Used) (o : Outcome) → IsNoFault o → IsNoFault (completed limit spec fired number state o)
 completed_ends limit spec fired number state (Done s outs) h = tt
@@ -62,9 +58,7 @@ made_ends limit spec left o body e = subst (λ x. IsNoFault (made limit spec lef
 
 begun_ends : (limit : ℕ) (spec : Spec) (left : ℕ) (first : Statement) (body : Body) → root_in spec first ≡ Some body → IsNoFault (begun limit spec left first)
 begun_ends limit spec zero first body e = tt
-begun_ends limit spec (suc left) (statement.Init target named arguments place) body e = made_ends limit spec left (root_in spec (statement.Init target named arguments place)) body e
-begun_ends limit spec (suc left) (statement.Empty place) body e = absurd (none-some body e)
-begun_ends limit spec (suc left) (statement.Output sendings place) body e = absurd (none-some body e)
+begun_ends limit spec (suc left) first body e = made_ends limit spec left (root_in spec first) body e
 
 start_ends : (limit : ℕ) (spec : Spec) (body : Body) → root_of spec ≡ Some body → IsNoFault (start_of limit spec)
 unfolding start_of

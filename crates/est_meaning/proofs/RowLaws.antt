@@ -5,11 +5,10 @@ use Rattle.std.specs.Option.{option_map_or}
 use Rattle.est_syntax.specs.declared.name.Name.{Name}
 use Rattle.est_syntax.specs.declared.name.Used.{Used}
 use Rattle.est_syntax.specs.declared.kind.Value.{Value}
-use Rattle.est_syntax.specs.declared.specification.Sending.{Sending}
-use Rattle.est_syntax.specs.declared.specification.Statement.{Statement}
-use Rattle.est_syntax.specs.declared.specification.Statement.TheVariants as statement
-use Rattle.est_syntax.specs.declared.specification.FirstPart.{FirstPart}
-use Rattle.est_syntax.specs.declared.specification.Body.{Body, out-Body}
+use Rattle.est_syntax.specs.declared.statement.Sending.{Sending}
+use Rattle.est_syntax.specs.declared.statement.Statement.{Statement}
+use Rattle.est_syntax.specs.declared.body.FirstPart.{FirstPart}
+use Rattle.est_syntax.specs.declared.body.Body.{Body, out-Body}
 use Rattle.est_syntax.specs.declared.specification.Spec.{Spec}
 use Rattle.est_syntax.specs.declared.ports.Port.{Port}
 use Rattle.est_syntax.specs.declared.ports.Signal.{Signal}
@@ -20,11 +19,11 @@ use Rattle.est_meaning.specs.declared.event.Event.TheVariants as event
 use Rattle.est_meaning.specs.declared.run.Firing.{Firing}
 use Rattle.est_meaning.specs.declared.run.Move.TheVariants.{Take, Fire}
 use Rattle.est_meaning.specs.declared.run.BlockFault.TheVariants.{NoModule}
-use Rattle.est_meaning.specs.Text.{Awaited, body_named, when_of, to_of}
+use Rattle.est_meaning.specs.Text.{Awaited, root_in, when_of, to_of}
 use Rattle.est_meaning.specs.Situation.{InteractionPoint, Row, Situation, row_changed, in_state}
 use Rattle.est_meaning.specs.Links.{Route, Within, Outside, Lost, routed, port_point}
 use Rattle.est_meaning.specs.Choices.{Choice, choice_of}
-use Rattle.est_meaning.specs.Blocks.{Outcome, Done, Fault, Limit, block_meaning, delivered, sent, all_sent, sending_at}
+use Rattle.est_meaning.specs.Blocks.{Outcome, Done, Fault, Limit, block_meaning, delivered, sent, all_sent, sending_at, sendings_of}
 use Rattle.est_meaning.specs.Step.{without_awaited, with_state, completed, fired_by, outcome, initialized, made, born, begun, start_of, arrived_as, arrived_at, after_event}
 use Rattle.est_meaning.specs.Run.{Place}
 use Rattle.est_meaning.specs.Laws.{BeginsWithRoot, AreAscending, RowsAreInOrder}
@@ -79,11 +78,9 @@ sent_ordered spec number (x ∷ xs) s outs h =
 block_ordered : (spec : Spec) (number : ℕ) (xs : List Statement) (left : ℕ) (s t : Situation) (outs others : List Event) → Ordered s → block_meaning spec number xs left s outs ≡ Done t others → Ordered t
 block_ordered spec number [] left s t outs others h e = subst Ordered (done_situation s t outs others e) h
 block_ordered spec number (x ∷ xs) zero s t outs others h e = absurd (limit_done t others e)
-block_ordered spec number (statement.Empty place ∷ xs) (suc left) s t outs others h e = block_ordered spec number xs left s t outs others h e
-block_ordered spec number (statement.Output sendings place ∷ xs) (suc left) s t outs others h e =
-    let r = all_sent spec number sendings s outs in
-    block_ordered spec number xs left r.situation t r.outs others (sent_ordered spec number sendings s outs h) e
-block_ordered spec number (statement.Init target body arguments place ∷ xs) (suc left) s t outs others h e = block_ordered spec number xs left s t outs others h e
+block_ordered spec number (x ∷ xs) (suc left) s t outs others h e =
+    let r = all_sent spec number (sendings_of x) s outs in
+    block_ordered spec number xs left r.situation t r.outs others (sent_ordered spec number (sendings_of x) s outs h) e
 
 completed_ordered : (limit : ℕ) (spec : Spec) (fired : Option Firing) (number : ℕ) (state : Option Used) (o : Outcome) (t : Situation) (others : List Event)
     → ((s : Situation) (outs : List Event) → o ≡ Done s outs → Ordered s) → completed limit spec fired number state o ≡ Done t others → Ordered t
@@ -142,9 +139,7 @@ made_ordered limit spec left t (Some body) outs e = initialized_ordered limit sp
 
 begun_ordered : (limit : ℕ) (spec : Spec) (left : ℕ) (first : Statement) (t : Situation) (outs : List Event) → begun limit spec left first ≡ Done t outs → Ordered t
 begun_ordered limit spec zero first t outs e = absurd (limit_done t outs e)
-begun_ordered limit spec (suc left) (statement.Init target body arguments place) t outs e = made_ordered limit spec left t (body_named spec body.name) outs e
-begun_ordered limit spec (suc left) (statement.Empty place) t outs e = absurd (fault_done NoModule t outs e)
-begun_ordered limit spec (suc left) (statement.Output sendings place) t outs e = absurd (fault_done NoModule t outs e)
+begun_ordered limit spec (suc left) first t outs e = made_ordered limit spec left t (root_in spec first) outs e
 
 start_ordered : (limit : ℕ) (spec : Spec) (t : Situation) (outs : List Event) → start_of limit spec ≡ Done t outs → Ordered t
 unfolding start_of

@@ -4,11 +4,10 @@ use Rattle.std.specs.Option.{option_map_or}
 use Rattle.est_syntax.specs.declared.name.Name.{Name}
 use Rattle.est_syntax.specs.declared.name.Used.{Used}
 use Rattle.est_syntax.specs.declared.kind.Value.{Value}
-use Rattle.est_syntax.specs.declared.specification.Sending.{Sending}
-use Rattle.est_syntax.specs.declared.specification.Statement.{Statement}
-use Rattle.est_syntax.specs.declared.specification.Statement.TheVariants as statement
-use Rattle.est_syntax.specs.declared.specification.FirstPart.{FirstPart}
-use Rattle.est_syntax.specs.declared.specification.Body.{Body, out-Body}
+use Rattle.est_syntax.specs.declared.statement.Sending.{Sending}
+use Rattle.est_syntax.specs.declared.statement.Statement.{Statement}
+use Rattle.est_syntax.specs.declared.body.FirstPart.{FirstPart}
+use Rattle.est_syntax.specs.declared.body.Body.{Body, out-Body}
 use Rattle.est_syntax.specs.declared.specification.Spec.{Spec}
 use Rattle.est_meaning.specs.declared.event.Interaction.{Interaction}
 use Rattle.est_meaning.specs.declared.event.Event.{Event}
@@ -19,11 +18,11 @@ use Rattle.est_meaning.specs.declared.run.BlockFault.TheVariants.{NoModule}
 use Rattle.est_syntax.specs.declared.ports.Port.{Port}
 use Rattle.est_syntax.specs.declared.ports.Signal.{Signal}
 use Rattle.est_syntax.specs.Ports.{ports_of}
-use Rattle.est_meaning.specs.Text.{Awaited, body_named, when_of, to_of}
+use Rattle.est_meaning.specs.Text.{Awaited, root_in, when_of, to_of}
 use Rattle.est_meaning.specs.Situation.{InteractionPoint, Situation}
 use Rattle.est_meaning.specs.Links.{Route, Within, Outside, Lost, routed, port_point}
 use Rattle.est_meaning.specs.Choices.{Choice, choice_of, IsSettled, IsPossible}
-use Rattle.est_meaning.specs.Blocks.{Outcome, Done, Fault, Limit, block_meaning, delivered, sent, all_sent, sending_at}
+use Rattle.est_meaning.specs.Blocks.{Outcome, Done, Fault, Limit, block_meaning, delivered, sent, all_sent, sending_at, sendings_of}
 use Rattle.est_meaning.specs.Step.{without_awaited, with_state, completed, fired_by, outcome, initialized, made, born, begun, start_of, arrived_as, arrived_at, after_event, later}
 use Rattle.est_meaning.specs.Allowed.{units_of}
 use Rattle.est_meaning.specs.Laws.{StepsAreUnique}
@@ -68,11 +67,9 @@ sent_clock spec number (x ∷ xs) s outs =
 block_clock : (spec : Spec) (number : ℕ) (xs : List Statement) (left : ℕ) (s t : Situation) (outs others : List Event) → block_meaning spec number xs left s outs ≡ Done t others → t.clock ≡ s.clock
 block_clock spec number [] left s t outs others e = ap (λ (w : Situation). w.clock) (sym (done_situation s t outs others e))
 block_clock spec number (x ∷ xs) zero s t outs others e = absurd (limit_done t others e)
-block_clock spec number (statement.Empty place ∷ xs) (suc left) s t outs others e = block_clock spec number xs left s t outs others e
-block_clock spec number (statement.Output sendings place ∷ xs) (suc left) s t outs others e =
-    let r = all_sent spec number sendings s outs in
-    block_clock spec number xs left r.situation t r.outs others e ∙ sent_clock spec number sendings s outs
-block_clock spec number (statement.Init target body arguments place ∷ xs) (suc left) s t outs others e = block_clock spec number xs left s t outs others e
+block_clock spec number (x ∷ xs) (suc left) s t outs others e =
+    let r = all_sent spec number (sendings_of x) s outs in
+    block_clock spec number xs left r.situation t r.outs others e ∙ sent_clock spec number (sendings_of x) s outs
 
 state_clock : (s : Situation) (number : ℕ) (state : Option Used) → (with_state s number state).clock ≡ s.clock
 state_clock s number None = refl
@@ -133,9 +130,7 @@ made_clock limit spec left t (Some body) outs e = initialized_clock limit spec l
 
 begun_clock : (limit : ℕ) (spec : Spec) (left : ℕ) (first : Statement) (t : Situation) (outs : List Event) → begun limit spec left first ≡ Done t outs → t.clock ≡ 0
 begun_clock limit spec zero first t outs e = absurd (limit_done t outs e)
-begun_clock limit spec (suc left) (statement.Init target body arguments place) t outs e = made_clock limit spec left t (body_named spec body.name) outs e
-begun_clock limit spec (suc left) (statement.Empty place) t outs e = absurd (fault_done NoModule t outs e)
-begun_clock limit spec (suc left) (statement.Output sendings place) t outs e = absurd (fault_done NoModule t outs e)
+begun_clock limit spec (suc left) first t outs e = made_clock limit spec left t (root_in spec first) outs e
 
 -- the clock begins at 0
 pub start_clock : (limit : ℕ) (spec : Spec) (t : Situation) (outs : List Event) → start_of limit spec ≡ Done t outs → t.clock ≡ 0

@@ -3,9 +3,9 @@ use Rattle.std.specs.Prelude.{ℕ, Bool, zero, suc, List, [], ◌∷◌, ◌++�
 use Rattle.std.specs.List.{position}
 use Rattle.est_syntax.specs.declared.name.Name.{Name}
 use Rattle.est_syntax.specs.declared.kind.Value.{Value}
-use Rattle.est_syntax.specs.declared.specification.Sending.{Sending}
-use Rattle.est_syntax.specs.declared.specification.Statement.{Statement}
-use Rattle.est_syntax.specs.declared.specification.Statement.TheVariants as statement
+use Rattle.est_syntax.specs.declared.statement.Sending.{Sending}
+use Rattle.est_syntax.specs.declared.statement.Statement.{Statement}
+use Rattle.est_syntax.specs.declared.statement.Statement.TheVariants as statement
 use Rattle.est_syntax.specs.declared.specification.Spec.{Spec}
 use Rattle.est_meaning.specs.declared.event.Event.{Event}
 use Rattle.est_meaning.specs.declared.event.Event.TheVariants as event
@@ -68,10 +68,15 @@ all_sent spec number (x ∷ xs) s outs = let r = sent spec number s x in all_sen
 
 -- STATEMENTS
 
+-- what a statement sends: the sendings of an `output`, and nothing else does
+abbrev pub sendings_of : Statement → List Sending
+sendings_of (statement.Output sendings place) = sendings
+sendings_of _ = []
+
 -- statements of an instance, where so many may still be entered; entering one counts one, and an `init` stands in no transition of a skeleton
 abbrev pub block_meaning : Spec → ℕ → List Statement → ℕ → Situation → List Event → Outcome
 block_meaning spec number [] left s outs = Done s outs
 block_meaning spec number (x ∷ xs) zero s outs = Limit
-block_meaning spec number (statement.Empty place ∷ xs) (suc left) s outs = block_meaning spec number xs left s outs
-block_meaning spec number (statement.Output sendings place ∷ xs) (suc left) s outs = let r = all_sent spec number sendings s outs in block_meaning spec number xs left r.situation r.outs
-block_meaning spec number (statement.Init target body arguments place ∷ xs) (suc left) s outs = block_meaning spec number xs left s outs
+block_meaning spec number (x ∷ xs) (suc left) s outs =
+    let r = all_sent spec number (sendings_of x) s outs in
+    block_meaning spec number xs left r.situation r.outs

@@ -2,8 +2,8 @@
 use Rattle.std.specs.Prelude.{ℕ, zero, suc, Bool, false, List, [], ◌∷◌, ◌++◌, map, find, Option, Some, None, length, option_and_then}
 use Rattle.std.specs.List.{position}
 use Rattle.std.specs.Option.{option_map_or}
-use Rattle.est_syntax.specs.declared.specification.Queue.{Queue}
-use Rattle.est_syntax.specs.declared.specification.Queue.TheVariants.{Individual, Common}
+use Rattle.est_syntax.specs.declared.header.Queue.{Queue}
+use Rattle.est_syntax.specs.declared.header.Queue.TheVariants.{Individual, Common}
 use Rattle.est_syntax.specs.declared.specification.Spec.{Spec}
 use Rattle.est_syntax.specs.declared.ports.Port.{Port}
 use Rattle.est_syntax.specs.Ports.{ports_of}

@@ -6,7 +6,7 @@ use Rattle.std.specs.Ordering.{int_eq}
 use Rattle.std.specs.Cmp.Lexicographic.{pointwise}
 use Rattle.est_syntax.specs.declared.name.Name.{Name}
 use Rattle.est_syntax.specs.declared.kind.Value.{Value}
-use Rattle.est_syntax.specs.declared.specification.Body.{Body}
+use Rattle.est_syntax.specs.declared.body.Body.{Body}
 use Rattle.est_meaning.specs.Text.{is_name}
 
 -- for each key some value, or none

@@ -3,10 +3,9 @@ use Rattle.std.specs.Prelude.{◌≡◌, ◌+◌, ℕ, zero, suc, List, [], ◌�
 use Rattle.std.specs.Option.{option_map_or}
 use Rattle.est_syntax.specs.declared.name.Used.{Used}
 use Rattle.est_syntax.specs.declared.kind.Value.{Value}
-use Rattle.est_syntax.specs.declared.specification.Statement.{Statement}
-use Rattle.est_syntax.specs.declared.specification.Statement.TheVariants as statement
-use Rattle.est_syntax.specs.declared.specification.FirstPart.{FirstPart}
-use Rattle.est_syntax.specs.declared.specification.Body.{Body, out-Body}
+use Rattle.est_syntax.specs.declared.statement.Statement.{Statement}
+use Rattle.est_syntax.specs.declared.body.FirstPart.{FirstPart}
+use Rattle.est_syntax.specs.declared.body.Body.{Body, out-Body}
 use Rattle.est_syntax.specs.declared.specification.Spec.{Spec}
 use Rattle.est_meaning.specs.declared.event.Interaction.{Interaction}
 use Rattle.est_meaning.specs.declared.event.Event.{Event}
@@ -16,7 +15,7 @@ use Rattle.est_meaning.specs.declared.run.BlockFault.TheVariants.{NoModule}
 use Rattle.est_syntax.specs.declared.ports.Port.{Port}
 use Rattle.est_syntax.specs.declared.ports.Signal.{Signal}
 use Rattle.est_syntax.specs.Ports.{ports_of}
-use Rattle.est_meaning.specs.Text.{Awaited, body_named, when_of, to_of}
+use Rattle.est_meaning.specs.Text.{Awaited, root_in, when_of, to_of}
 use Rattle.est_meaning.specs.Situation.{nothing, InteractionPoint, Row, Situation, empty_situation, with_row, in_state}
 use Rattle.est_meaning.specs.Links.{port_point, bottom, put, taken}
 use Rattle.est_meaning.specs.Choices.{Choice, choice_of, awaited_at, restamped, IsPossible}
@@ -78,9 +77,7 @@ made limit spec left (Some body) = initialized limit spec left (born body) (out-
 -- the `init` counts one statement
 abbrev pub begun : ℕ → Spec → ℕ → Statement → Outcome
 begun limit spec zero first = Limit
-begun limit spec (suc left) (statement.Init target body arguments place) = made limit spec left (body_named spec body.name)
-begun limit spec (suc left) (statement.Empty place) = Fault NoModule
-begun limit spec (suc left) (statement.Output sendings place) = Fault NoModule
+begun limit spec (suc left) first = made limit spec left (root_in spec first)
 
 -- what comes of the specification's initialize part, under one limit (ISO 9074, 5, initial situation)
 unfoldable pub start_of : ℕ → Spec → Outcome

@@ -1,26 +1,26 @@
 -- What the text of a specification declares.
 --
 -- These definitions serve skeletons: no interaction point has subscripts, and each `trans` holds one transition.
-use Rattle.std.specs.Prelude.{ℕ, zero, suc, Bool, false, List, [], ◌∷◌, map, find, Option, Some, None, unwrap_or, slice_get}
+use Rattle.std.specs.Prelude.{ℕ, zero, suc, Bool, false, List, [], ◌∷◌, map, find, Option, Some, None, unwrap_or, option_and_then, slice_get}
 use Rattle.std.specs.List.{filter_map, flat_map}
 use Rattle.std.specs.Option.{option_or}
 use Rattle.est_syntax.specs.Names as names
 use Rattle.est_syntax.specs.declared.name.Name.{Name}
 use Rattle.est_syntax.specs.declared.name.Used.{Used}
 use Rattle.est_syntax.specs.declared.expression.Access.{Access}
-use Rattle.est_syntax.specs.declared.specification.Queue.{Queue}
-use Rattle.est_syntax.specs.declared.specification.Queue.TheVariants.{Individual}
-use Rattle.est_syntax.specs.declared.specification.Point.{Point}
-use Rattle.est_syntax.specs.declared.specification.Header.{Header}
-use Rattle.est_syntax.specs.declared.specification.Statement.{Statement}
-use Rattle.est_syntax.specs.declared.specification.Statement.TheVariants as statement
-use Rattle.est_syntax.specs.declared.specification.Clause.{Clause}
-use Rattle.est_syntax.specs.declared.specification.Clause.TheVariants as clause
-use Rattle.est_syntax.specs.declared.specification.Transition.{Transition}
-use Rattle.est_syntax.specs.declared.specification.Group.{Group, out-Group}
-use Rattle.est_syntax.specs.declared.specification.Body.{Body, out-Body}
-use Rattle.est_syntax.specs.declared.specification.Part.{Part}
-use Rattle.est_syntax.specs.declared.specification.Part.TheVariants as part
+use Rattle.est_syntax.specs.declared.header.Queue.{Queue}
+use Rattle.est_syntax.specs.declared.header.Queue.TheVariants.{Individual}
+use Rattle.est_syntax.specs.declared.header.Point.{Point}
+use Rattle.est_syntax.specs.declared.header.Header.{Header}
+use Rattle.est_syntax.specs.declared.statement.Statement.{Statement}
+use Rattle.est_syntax.specs.declared.statement.Statement.TheVariants as statement
+use Rattle.est_syntax.specs.declared.transition.Clause.{Clause}
+use Rattle.est_syntax.specs.declared.transition.Clause.TheVariants as clause
+use Rattle.est_syntax.specs.declared.transition.Transition.{Transition}
+use Rattle.est_syntax.specs.declared.transition.Group.{Group, out-Group}
+use Rattle.est_syntax.specs.declared.body.Body.{Body, out-Body}
+use Rattle.est_syntax.specs.declared.body.Part.{Part}
+use Rattle.est_syntax.specs.declared.body.Part.TheVariants as part
 use Rattle.est_syntax.specs.declared.specification.Spec.{Spec}
 
 -- names are compared byte by byte, in lower case
@@ -40,19 +40,13 @@ first_of_all f (x ∷ xs) = option_or (f x) (first_of_all f xs)
 
 -- the module header that a part is
 abbrev pub header_in : Part → Option Header
-header_in (part.Channel c) = None
 header_in (part.Header h) = Some h
-header_in (part.Body b) = None
-header_in (part.Modvars m) = None
-header_in (part.States s) = None
+header_in _ = None
 
 -- the module body that a part is
 abbrev pub body_in : Part → Option Body
-body_in (part.Channel c) = None
-body_in (part.Header h) = None
 body_in (part.Body b) = Some b
-body_in (part.Modvars m) = None
-body_in (part.States s) = None
+body_in _ = None
 
 -- the module header of a name (ISO 9074, 7, module header definition)
 abbrev pub header_named : Spec → Name → Option Header
@@ -94,11 +88,14 @@ is_declared name declared = is_name name declared.name
 abbrev pub discipline : Spec → Declared → Queue
 discipline spec declared = unwrap_or (option_or declared.point.queue spec.queue) Individual
 
+-- the name of the body with which a statement starts a module, where it is an `init`
+abbrev pub started_by : Statement → Option Used
+started_by (statement.Init target body arguments place) = Some body
+started_by _ = None
+
 -- the root instance's body, that of the specification's one `init` (ISO 9074, 7, specification)
 abbrev pub root_in : Spec → Statement → Option Body
-root_in spec (statement.Init target body arguments place) = body_named spec body.name
-root_in spec (statement.Empty place) = None
-root_in spec (statement.Output sendings place) = None
+root_in spec st = option_and_then (λ (u : Used). body_named spec u.name) (started_by st)
 
 -- the body of the root instance
 abbrev pub root_of : Spec → Option Body
@@ -118,8 +115,7 @@ numbered xs (suc n) = slice_get xs n
 -- the states from which a transition may fire, where it names some (ISO 9074, 7, from-clause)
 abbrev pub from_in : Clause → Option (List Used)
 from_in (clause.From states place) = Some states
-from_in (clause.To state place) = None
-from_in (clause.When at signal place) = None
+from_in _ = None
 
 -- the states that the from-clause of a transition names
 abbrev pub from_of : Transition → Option (List Used)
@@ -127,9 +123,8 @@ from_of transition = first_of_all from_in transition.clauses
 
 -- the next state that a transition names, where it is not the same state (ISO 9074, 7, to-clause)
 abbrev pub to_in : Clause → Option Used
-to_in (clause.From states place) = None
 to_in (clause.To state place) = state
-to_in (clause.When at signal place) = None
+to_in _ = None
 
 -- the state that the to-clause of a transition names
 abbrev pub to_of : Transition → Option Used
@@ -142,9 +137,8 @@ pub record Awaited : Type 0 where
 
 -- the interaction that a transition awaits, where it awaits one (ISO 9074, 7, when-clause)
 abbrev pub when_in : Clause → Option Awaited
-when_in (clause.From states place) = None
-when_in (clause.To state place) = None
 when_in (clause.When at signal place) = Some (record { at = at; signal = signal })
+when_in _ = None
 
 -- the interaction that the when-clause of a transition names
 abbrev pub when_of : Transition → Option Awaited

@@ -7,7 +7,7 @@ use est_syntax::kind::Values;
 use std::alloc::{AllocError, Global};
 
 /// An interaction at an outside port. Port and signal are numbers from 0.
-#[derive(Debug, Drop)]
+#[derive(Drop)]
 pub struct Interaction {
     pub port: u32,
     pub signal: u32,
@@ -15,7 +15,7 @@ pub struct Interaction {
 }
 
 /// An arrival, a departure, or passing time.
-#[derive(Debug, Drop)]
+#[derive(Drop)]
 pub enum Event {
     Arrives(Interaction),
     Leaves(Interaction),

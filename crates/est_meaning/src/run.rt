@@ -4,7 +4,7 @@ use crate::event::Events;
 use est_items::Items;
 
 /// A choice of a transition of an instance. The numbers begin at 1.
-#[derive(Clone, Copy, Debug, PartialEq, Eq)]
+#[derive(Clone, Copy, PartialEq, Eq)]
 pub struct Firing {
     pub instance: u32,
     pub transition: u32,
@@ -12,7 +12,7 @@ pub struct Firing {
 }
 
 /// A move of a run: the next event of the trace happens, or a transition fires.
-#[derive(Clone, Copy, Debug, PartialEq, Eq)]
+#[derive(Clone, Copy, PartialEq, Eq)]
 pub enum Move {
     Take,
     Fire(Firing),
@@ -23,7 +23,7 @@ pub type Run = Items<Move>;
 
 /// How many firings may be silent in a row, how many may be tried, and how many statements a
 /// block or guard may enter.
-#[derive(Clone, Copy, Debug)]
+#[derive(Clone, Copy)]
 pub struct Limits {
     pub silent: u32,
     pub budget: u32,
@@ -31,7 +31,7 @@ pub struct Limits {
 }
 
 /// What can go wrong in a block.
-#[derive(Clone, Copy, Debug, PartialEq, Eq)]
+#[derive(Clone, Copy, PartialEq, Eq)]
 pub enum BlockFault {
     Range,
     Divide,
@@ -44,7 +44,7 @@ pub enum BlockFault {
 }
 
 /// What came of a firing.
-#[derive(Clone, Copy, Debug, PartialEq, Eq)]
+#[derive(Clone, Copy, PartialEq, Eq)]
 pub enum Fired {
     Done,
     Fault(BlockFault),
@@ -52,14 +52,14 @@ pub enum Fired {
 }
 
 /// Whether a guard passed its limit.
-#[derive(Clone, Copy, Debug, PartialEq, Eq)]
+#[derive(Clone, Copy, PartialEq, Eq)]
 pub enum Offers {
     Settled,
     Unsettled,
 }
 
 /// What came of a start: a world and the outside events so far, or a fault or a passed limit.
-#[derive(Debug, Drop)]
+#[derive(Drop)]
 pub enum Started<W> {
     Ready { world: W, outs: Events },
     Fault(BlockFault),

@@ -140,15 +140,15 @@ by_region (b ∷ bs) = interactions_region b b.interactions ++ by_region bs
 abbrev pub channel_region : Channel → Region
 channel_region c = roles_region c.roles ++ by_region c.by
 
--- the place of the name of a type; any other text of a type counts for nothing
-abbrev pub text_last : TypeText → ℕ
-text_last (text.Named u) = u.place
-text_last _ = 0
+-- the greatest of a place and of that of the name of a type; another text of a type adds none
+abbrev pub text_last : TypeText → ℕ → ℕ
+text_last (text.Named u) last = max last u.place
+text_last _ last = last
 
 -- the greatest of a place and of those where parameters or exports name their types
 abbrev pub vars_last : List VarDef → ℕ → ℕ
 vars_last [] last = last
-vars_last (v ∷ vs) last = vars_last vs (max last (text_last v.text))
+vars_last (v ∷ vs) last = vars_last vs (text_last v.text last)
 
 -- the greatest of a place and of those that hold a name of interactions or of their parameters
 abbrev pub interactions_last : List InteractionDef → ℕ → ℕ

@@ -1,7 +1,8 @@
 //! Equal copies of names and values.
 ghost use Rattle.std.specs.Prelude.{◌≡◌, IfOk};
+ghost use Rattle.est_syntax.specs.declared.kind.Kind.TheVariants.{ArrayOf};
 
-use crate::kind::{Kind, Ordinals, Value, Values};
+use crate::kind::{Kind, Ordinals, SharedKind, Value, Values};
 use crate::name::{Bytes, Name};
 use std::alloc::{AllocError, Global};
 
@@ -70,12 +71,17 @@ impl Kind {
                 high: *high,
             }),
             Kind::SetOf(base) => Ok(Kind::SetOf(base.share()?)),
-            Kind::ArrayOf { index, of } => {
-                let index = index.share()?;
-                let of = of.share()?;
-                Ok(Kind::ArrayOf { index, of })
-            }
+            Kind::ArrayOf { index, of } => share_array(index, of),
             Kind::Fields(fields) => Ok(Kind::Fields(fields.share()?)),
         }
     }
+}
+
+// The kind of an array, which shares what it is made of.
+fn share_array(index: &SharedKind, of: &SharedKind) -> Result<Kind, AllocError>
+    ensures { IfOk result (λ kind. kind ≡ ArrayOf index.now of.now) }
+{
+    let index = index.share()?;
+    let of = of.share()?;
+    Ok(Kind::ArrayOf { index, of })
 }
