@@ -97,7 +97,7 @@ fn leaving(ports: &[Port], at: &Name, signal: &Name) -> Option<(u32, u32)>
         None => None,
         Some(number) => match ports.get(number) {
             None => None,
-            Some(port) => match signal_number(&port.signals, signal) {
+            Some(port) => match signal_number(port.signals.get(), signal) {
                 None => None,
                 Some(index) => Some((number as u32, index as u32)),
             },
@@ -225,7 +225,7 @@ pub fn arrival(
 {
     match port_at(ports, interaction.port) {
         None => Ok(None),
-        Some(port) => match signal_at(&port.signals, interaction.signal) {
+        Some(port) => match signal_at(port.signals.get(), interaction.signal) {
             None => Ok(None),
             Some(signal) => Ok(Some(Waiting {
                 at: port.name.copy(alloc)?,
