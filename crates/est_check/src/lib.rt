@@ -17,6 +17,3 @@ mod uses;
 pub use checked::{Checked, check};
 pub use counts::Counts;
 pub use error::CheckError;
-
-#[cfg(test)]
-mod tests;

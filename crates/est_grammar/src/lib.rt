@@ -9,8 +9,6 @@ pub mod laws;
 mod lists;
 mod parser;
 mod specification;
-#[cfg(test)]
-mod tests;
 mod token;
 mod transition;
 
