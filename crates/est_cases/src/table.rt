@@ -36,7 +36,7 @@ impl<'t> Table<'t> {
         Ok(())
     }
 
-    /// Reads the names of the columns behind that of the case.
+    /// Reads the names of the columns after that of the case.
     pub fn set_columns(&mut self, line: &str) -> Result<(), Mistake> {
         self.columns.clear();
         for name in line.split('|') {

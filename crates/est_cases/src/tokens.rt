@@ -6,8 +6,8 @@ use est_lexer::lex::lex;
 use est_lexer::tokens::MOST_BYTES;
 use std::alloc::{AllocError, Global};
 
-/// The tokens of a text: of each its kind, where it starts and how many bytes it has. Behind them
-/// stands the line and the column of the place behind the last one.
+/// The tokens of a text: of each its kind, where it starts and how many bytes it has. After them
+/// stands the line and the column of the place after the last one.
 pub fn listed_tokens(alloc: Global, text: &[u8]) -> Result<String, Mistake> {
     if text.len() > MOST_BYTES {
         return Err(Mistake::TooLong);

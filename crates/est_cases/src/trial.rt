@@ -158,9 +158,10 @@ impl Trial<'_> {
 
     // Puts the files of the case on a shelf.
     fn fill(&self, shelf: &mut MemShelf) -> Result<(), Mistake> {
-        if let Some(cell) = self.cells.specification {
-            let text = self.specification(cell)?;
-            shelf.add("a.est", text.as_slice())?;
+        match self.cells.specification {
+            Some(cell) => self.put_specification(shelf, cell)?,
+            None if self.cells.old.is_some() => return Err(Mistake::NoSpecification),
+            None => (),
         }
         if let Some(cell) = self.cells.trace {
             let text = self.expanded(cell)?;
@@ -173,15 +174,21 @@ impl Trial<'_> {
         Ok(())
     }
 
-    // The specification, with one part in place of another where the case says so.
-    fn specification(&self, cell: &str) -> Result<Vec<u8>, Mistake> {
+    // Puts the specification there, and where one part is to be replaced, the other text in its place.
+    fn put_specification(&self, shelf: &mut MemShelf, cell: &str) -> Result<(), Mistake> {
         let text = self.expanded(cell)?;
-        let Some(old) = self.cells.old else {
-            return Ok(text);
-        };
+        shelf.add("a.est", text.as_slice())?;
+        match self.cells.old {
+            Some(old) => self.replace_part(shelf, text.as_slice(), old),
+            None => Ok(()),
+        }
+    }
+
+    fn replace_part(&self, shelf: &mut MemShelf, text: &[u8], old: &str) -> Result<(), Mistake> {
         let old = self.expanded(old)?;
         let new = self.expanded(self.cells.new.unwrap_or(""))?;
-        replaced(self.alloc, text.as_slice(), old.as_slice(), new.as_slice())
+        let text = replaced(self.alloc, text, old.as_slice(), new.as_slice())?;
+        Ok(shelf.add("a.est", text.as_slice())?)
     }
 
     // What a cell stands for.
