@@ -6,25 +6,27 @@ use Rattle.est_lexer.specs.declared.kind.Token.{Token}
 use Rattle.est_lexer.specs.declared.kind.Symbol.TheVariants.{Comma}
 use Rattle.est_language.proofs.Trees.{tree_inside}
 use Rattle.est_language.specs.Grammar.{rep, rule, chain, nothing, placed, both, t_word, t_here, t_seq, t_rule, t_rep_out, t_rep_in, t_token}
-use Rattle.est_grammar.specs.Skeleton.{Rule, channel, by, header, body, point, transition, interaction, several, listed, name, sign}
+use Rattle.est_grammar.specs.Skeleton.{Rule, channel, by, header, body, point, transition, interaction, several, listed, sign, production}
+use Rattle.est_specification.proofs.Shapes.{name}
 use Rattle.est_grammar.specs.Answer.{HasOneTree}
-use Rattle.est_grammar.specs.Language.{skeleton}
-use Rattle.est_grammar.specs.Views.{Shape, channel_shape, two_names, by_parts_shape, by_shape, one_name, interactions_shape, interaction_shape, used_shape, names_shape, point_shape, points_shape, header_shape, group_shape, body_shape, modvar_shape, one_transition, without, without_some, where_true, initialization_shape}
-use Rattle.est_syntax.specs.declared.expression.TypeText.{TypeText}
-use Rattle.est_syntax.specs.declared.expression.VarDef.{VarDef}
+use Rattle.est_reader.specs.Tests.{language}
+use Rattle.est_specification.proofs.Shown.{tree_is}
+use Rattle.est_specification.proofs.Shapes.{Shape, channel_shape, two_names, by_parts_shape, by_shape, one_name, interactions_shape, interaction_shape, used_shape, names_shape, point_shape, points_shape, header_shape, group_shape, body_shape, modvar_shape, one_transition, without, without_some, where_true, initialization_shape}
+use Rattle.est_syntax.specs.declared.type_text.TypeText.{TypeText}
+use Rattle.est_syntax.specs.declared.type_text.VarDef.{VarDef}
 use Rattle.est_syntax.specs.declared.name.Used.{Used}
-use Rattle.est_syntax.specs.declared.specification.InteractionDef.{InteractionDef}
-use Rattle.est_syntax.specs.declared.specification.ByPart.{ByPart}
-use Rattle.est_syntax.specs.declared.specification.Point.{Point}
-use Rattle.est_syntax.specs.declared.specification.Channel.{Channel}
-use Rattle.est_syntax.specs.declared.specification.Header.{Header}
-use Rattle.est_syntax.specs.declared.specification.ModvarDef.{ModvarDef}
-use Rattle.est_syntax.specs.declared.specification.Body.{Body, out-Body}
-use Rattle.est_syntax.specs.declared.specification.Group.{Group, out-Group}
-use Rattle.est_syntax.specs.declared.specification.Transition.{Transition}
-use Rattle.est_syntax.specs.declared.specification.Queue.{Queue}
-use Rattle.est_syntax.specs.declared.specification.Part.{Part}
-use Rattle.est_syntax.specs.declared.specification.Part.TheVariants as part
+use Rattle.est_syntax.specs.declared.channel.InteractionDef.{InteractionDef}
+use Rattle.est_syntax.specs.declared.channel.ByPart.{ByPart}
+use Rattle.est_syntax.specs.declared.header.Point.{Point}
+use Rattle.est_syntax.specs.declared.channel.Channel.{Channel}
+use Rattle.est_syntax.specs.declared.header.Header.{Header}
+use Rattle.est_syntax.specs.declared.header.ModvarDef.{ModvarDef}
+use Rattle.est_syntax.specs.declared.body.Body.{Body, out-Body}
+use Rattle.est_syntax.specs.declared.transition.Group.{Group, out-Group}
+use Rattle.est_syntax.specs.declared.transition.Transition.{Transition}
+use Rattle.est_syntax.specs.declared.header.Queue.{Queue}
+use Rattle.est_syntax.specs.declared.body.Part.{Part}
+use Rattle.est_syntax.specs.declared.body.Part.TheVariants as part
 use Rattle.est_syntax.specs.declared.specification.Spec.{Spec}
 use Rattle.est_check.specs.Counts.{group_count, transition_count}
 use Rattle.est_check.specs.Skeleton.{channel_parts}
@@ -155,7 +157,7 @@ module _ (text : List ℕ) (tokens : List Token) where
   pub channel_few : (c : Channel) (d a b : ℕ) → Has (rule channel) d a b (channel_shape c) → sum_by signals_in c.by ≤ length tokens
   channel_few c d a b (t_rule (t_word k i e (t_seq {b = m} named (t_word k' i' e' h)))) =
       let long : suc m + sum_by signals_in c.by ≤ b = roles_long c.by c.roles d (suc m) b h in
-      let within : b ≤ length tokens = tree_inside (skeleton text) tokens (length tokens) h (omega arith) in
+      let within : b ≤ length tokens = tree_inside (language production text) tokens (length tokens) h (omega arith) in
       omega arith
 
   -- a declaration of interaction points
@@ -237,7 +239,7 @@ module _ (text : List ℕ) (tokens : List Token) where
 pub sentence_few : (text : List ℕ) (tokens : List Token) (spec : Spec) → HasOneTree text tokens spec → (port_sum spec.parts ≤ length tokens) × (transition_count spec.parts ≤ length tokens)
 sentence_few text tokens spec tree =
     let n : ℕ = length tokens in
-    let found : (m : ℕ) × IsSplit text tokens spec.parts (initialization_shape spec.first) 0 m n = sentence_split text tokens spec 0 0 n tree.0 in
+    let found : (m : ℕ) × IsSplit text tokens spec.parts (initialization_shape spec.first) 0 m n = sentence_split text tokens spec 0 0 n (tree_is text tokens spec tree).0 in
     let x : IsSplit text tokens spec.parts (initialization_shape spec.first) 0 found.0 n = found.1 in
     let few : (sum_by names_in x.header_of.points ≤ n) × (sum_by transitions_in (out-Body x.body_of).groups ≤ n) =
     few_in_last text tokens x.header_of x.body_of (both (modvar_shape x.variable) (initialization_shape spec.first)) 0 found.0 n x.tree

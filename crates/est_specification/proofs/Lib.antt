@@ -4,3 +4,6 @@ pub mod PortBounds
 pub mod Sentences
 pub mod SkeletonLaws
 pub mod UniqueLaws
+pub mod Shapes
+pub mod Shown
+pub mod Refused

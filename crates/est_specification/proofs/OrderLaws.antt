@@ -3,26 +3,28 @@ use Rattle.std.proofs.Common.{◌≡◌, ◌≤◌, ◌<◌, ℕ, suc, List, [],
 use Rattle.est_lexer.specs.declared.kind.Token.{Token}
 use Rattle.est_lexer.specs.declared.kind.Symbol.TheVariants.{Comma}
 use Rattle.est_language.specs.Grammar.{done, here, seq, opt, rep, rule, chain, nothing, placed, some, both, t_word, t_here, t_seq, t_rule, t_rep_in, t_token, t_opt_in, t_left}
-use Rattle.est_grammar.specs.Skeleton.{Rule, specification, body, transition, output, listed, name, dotted, sign, clauses, to_clause, when_clause, next_state, first_part, module_variable}
-use Rattle.est_grammar.specs.Views.{Shape, used_shape, names_shape, access_shape, sending_shape, sendings_shape, statement_shape, block_shape, next_shape, when_part, to_part, clauses_shape, one_transition, groups_shape, first_state, first_shape, body_shape, header_shape, one_name, modvar_shape, initialization_shape, behind_channels, last_parts, spec_shape, without}
+use Rattle.est_grammar.specs.Skeleton.{Rule, specification, body, transition, output, listed, dotted, sign, clauses, to_clause, when_clause, next_state, first_part, module_variable}
+use Rattle.est_specification.proofs.Shapes.{name}
+use Rattle.est_specification.proofs.Shown.{tree_is}
+use Rattle.est_specification.proofs.Shapes.{Shape, used_shape, names_shape, access_shape, sending_shape, sendings_shape, statement_shape, block_shape, next_shape, when_part, to_part, clauses_shape, one_transition, groups_shape, first_state, first_shape, body_shape, header_shape, one_name, modvar_shape, initialization_shape, behind_channels, last_parts, spec_shape, without}
 use Rattle.est_syntax.specs.declared.name.Used.{Used}
 use Rattle.est_syntax.specs.declared.expression.Access.{Access}
-use Rattle.est_syntax.specs.declared.expression.TypeText.{TypeText}
-use Rattle.est_syntax.specs.declared.specification.Channel.{Channel}
-use Rattle.est_syntax.specs.declared.specification.Header.{Header}
-use Rattle.est_syntax.specs.declared.specification.ModvarDef.{ModvarDef}
-use Rattle.est_syntax.specs.declared.specification.Body.{Body, out-Body}
-use Rattle.est_syntax.specs.declared.specification.Block.{Block}
-use Rattle.est_syntax.specs.declared.specification.FirstPart.{FirstPart}
-use Rattle.est_syntax.specs.declared.specification.Group.{Group, out-Group}
-use Rattle.est_syntax.specs.declared.specification.Transition.{Transition}
-use Rattle.est_syntax.specs.declared.specification.Sending.{Sending}
-use Rattle.est_syntax.specs.declared.specification.Statement.{Statement}
-use Rattle.est_syntax.specs.declared.specification.Statement.TheVariants as statement
-use Rattle.est_syntax.specs.declared.specification.Clause.{Clause}
-use Rattle.est_syntax.specs.declared.specification.Clause.TheVariants as clause
-use Rattle.est_syntax.specs.declared.specification.Part.{Part}
-use Rattle.est_syntax.specs.declared.specification.Part.TheVariants as part
+use Rattle.est_syntax.specs.declared.type_text.TypeText.{TypeText}
+use Rattle.est_syntax.specs.declared.channel.Channel.{Channel}
+use Rattle.est_syntax.specs.declared.header.Header.{Header}
+use Rattle.est_syntax.specs.declared.header.ModvarDef.{ModvarDef}
+use Rattle.est_syntax.specs.declared.body.Body.{Body, out-Body}
+use Rattle.est_syntax.specs.declared.body.Block.{Block}
+use Rattle.est_syntax.specs.declared.body.FirstPart.{FirstPart}
+use Rattle.est_syntax.specs.declared.transition.Group.{Group, out-Group}
+use Rattle.est_syntax.specs.declared.transition.Transition.{Transition}
+use Rattle.est_syntax.specs.declared.statement.Sending.{Sending}
+use Rattle.est_syntax.specs.declared.statement.Statement.{Statement}
+use Rattle.est_syntax.specs.declared.statement.Statement.TheVariants as statement
+use Rattle.est_syntax.specs.declared.transition.Clause.{Clause}
+use Rattle.est_syntax.specs.declared.transition.Clause.TheVariants as clause
+use Rattle.est_syntax.specs.declared.body.Part.{Part}
+use Rattle.est_syntax.specs.declared.body.Part.TheVariants as part
 use Rattle.est_syntax.specs.declared.specification.Spec.{Spec}
 use Rattle.est_check.specs.Skeleton.{IsSkeleton, channel_parts}
 use Rattle.est_check.specs.SkeletonRules.{EachUsed, EachState, EachSending, InStatement, EachStatement, EachClause, EachTransition, EachGroup, InFirst, IsInOrder}
@@ -79,12 +81,12 @@ module _ (text : List ℕ) (tokens : List Token) where
   statement_before : (st : Statement) (d a b c : ℕ) → Has (here (opt (rule output))) d a b (statement_shape st) → b ≤ c → InStatement (Before c) st
   statement_before (statement.Empty place) d a b c h on = tt
   statement_before (statement.Output os place) d a b c (t_here (t_opt_in (t_rule (t_word k i e sent)))) on = sendings_before os d (suc a) b c sent on
-  statement_before (statement.Init target of arguments place) d a b c h on = elim h [ ]
+  statement_before _ d a b c h on = elim h [ ]
 
   empty_before : (st : Statement) (d a b c : ℕ) → Has (here done) d a b (statement_shape st) → b ≤ c → InStatement (Before c) st
   empty_before (statement.Empty place) d a b c h on = tt
   empty_before (statement.Output os place) d a b c (t_here h) on = elim h [ ]
-  empty_before (statement.Init target of arguments place) d a b c h on = elim h [ ]
+  empty_before _ d a b c h on = elim h [ ]
 
   -- blocks
   block_before : (g : Rule) → ((st : Statement) (d a b c : ℕ) → Has (here g) d a b (statement_shape st) → b ≤ c → InStatement (Before c) st)
@@ -97,9 +99,7 @@ module _ (text : List ℕ) (tokens : List Token) where
   when_before : (cs : List Clause) (d a b c : ℕ) → Has when_clause d a b (when_part cs) → b ≤ c → EachClause (Before c) cs
   when_before [] d a b c h on = tt
   when_before (clause.When at signal place ∷ []) d a b c (t_opt_in (t_here (t_word k i e (t_seq {b = m} point rest)))) on = (indexed_before at.index at.name d (suc a) m c point (since c rest on), tt)
-  when_before (clause.When at signal place ∷ x ∷ cs) d a b c h on = elim h [ ]
-  when_before (clause.From states place ∷ cs) d a b c h on = elim h [ ]
-  when_before (clause.To state place ∷ cs) d a b c h on = elim h [ ]
+  when_before _ d a b c h on = elim h [ ]
 
   next_before : (o : Option Used) (d a b c : ℕ) → Has next_state d a b (next_shape o) → b ≤ c → EachState (Before c) o
   next_before None d a b c h on = tt
@@ -110,12 +110,22 @@ module _ (text : List ℕ) (tokens : List Token) where
   to_before [] d a b c h on = tt
   to_before (clause.From states place ∷ cs) d a b c (t_seq {b = m} none rest) on = when_before (clause.From states place ∷ cs) d m b c rest on
   to_before (clause.When at signal place ∷ cs) d a b c (t_seq {b = m} none rest) on = when_before (clause.When at signal place ∷ cs) d m b c rest on
+  to_before (clause.Provided condition place ∷ cs) d a b c (t_seq none rest) on = elim rest [ ]
+  to_before (clause.Otherwise place ∷ cs) d a b c (t_seq none rest) on = elim rest [ ]
+  to_before (clause.Any names place ∷ cs) d a b c (t_seq none rest) on = elim rest [ ]
+  to_before (clause.Priority value place ∷ cs) d a b c (t_seq none rest) on = elim rest [ ]
+  to_before (clause.Delay least most place ∷ cs) d a b c (t_seq none rest) on = elim rest [ ]
 
   clauses_before : (cs : List Clause) (d a b c : ℕ) → Has clauses d a b (clauses_shape cs) → b ≤ c → EachClause (Before c) cs
   clauses_before (clause.From states place ∷ cs) d a b c (t_seq {b = m} (t_opt_in (t_here (t_word k i e names))) rest) on = (names_before states d (suc a) m c names (since c rest on), to_before cs d m b c rest on)
   clauses_before [] d a b c h on = tt
   clauses_before (clause.To state place ∷ cs) d a b c (t_seq {b = m} none rest) on = to_before (clause.To state place ∷ cs) d m b c rest on
   clauses_before (clause.When at signal place ∷ cs) d a b c (t_seq {b = m} none rest) on = to_before (clause.When at signal place ∷ cs) d m b c rest on
+  clauses_before (clause.Provided condition place ∷ cs) d a b c (t_seq {b = m} none rest) on = to_before (clause.Provided condition place ∷ cs) d m b c rest on
+  clauses_before (clause.Otherwise place ∷ cs) d a b c (t_seq {b = m} none rest) on = to_before (clause.Otherwise place ∷ cs) d m b c rest on
+  clauses_before (clause.Any names place ∷ cs) d a b c (t_seq {b = m} none rest) on = to_before (clause.Any names place ∷ cs) d m b c rest on
+  clauses_before (clause.Priority value place ∷ cs) d a b c (t_seq {b = m} none rest) on = to_before (clause.Priority value place ∷ cs) d m b c rest on
+  clauses_before (clause.Delay least most place ∷ cs) d a b c (t_seq {b = m} none rest) on = to_before (clause.Delay least most place ∷ cs) d m b c rest on
 
   -- transitions
   transitions_before : (ts : List Transition) (d a b c : ℕ) → Has (rule transition) d a b (one_transition ts) → b ≤ c → EachTransition (Before c) ts
@@ -185,4 +195,4 @@ module _ (text : List ℕ) (tokens : List Token) where
 pub few_broken : SentencesBreakFew
 few_broken text tokens spec tree few place r b =
     let sk : IsSkeleton spec = sentence_is_skeleton text tokens spec tree few in
-    law spec sk (sentence_order text tokens spec sk tree.0) place r b
+    law spec sk (sentence_order text tokens spec sk (tree_is text tokens spec tree).0) place r b

@@ -5,26 +5,27 @@ use Rattle.est_lexer.specs.declared.kind.Symbol.TheVariants.{Comma, RightParenth
 use Rattle.est_lexer.specs.declared.kind.ReservedWord.TheVariants.{Begin, End, Modvar}
 use Rattle.est_language.specs.Grammar.{done, here, seq, rep, rule, nothing, placed, both, Tree, t_word, t_here, t_seq, t_rule}
 use Rattle.est_language.proofs.Trees.{tree_forward}
-use Rattle.est_grammar.specs.Skeleton.{Rule, Production, specification, channel, by, header, point, body, transition, output, name, several, sign, said, states, first_part, clauses, block, module_variable, initialization}
-use Rattle.est_grammar.specs.Language.{skeleton}
-use Rattle.est_grammar.specs.Views.{Shape, used_shape, header_shape, groups_shape, transition_shape, block_shape, clauses_shape, statement_shape, body_shape, modvar_shape, one_statement, last_parts, behind_channels, channels_shape, spec_shape, without, without_some, states_shape, first_shape, initialization_shape}
+use Rattle.est_grammar.specs.Skeleton.{Rule, Production, specification, channel, by, header, point, body, transition, output, several, sign, said, states, first_part, clauses, block, module_variable, initialization, production}
+use Rattle.est_specification.proofs.Shapes.{name}
+use Rattle.est_reader.specs.Tests.{language}
+use Rattle.est_specification.proofs.Shapes.{Shape, used_shape, header_shape, groups_shape, transition_shape, block_shape, clauses_shape, statement_shape, body_shape, modvar_shape, one_statement, last_parts, behind_channels, channels_shape, spec_shape, without, without_some, states_shape, first_shape, initialization_shape}
 use Rattle.est_syntax.specs.declared.name.Used.{Used}
-use Rattle.est_syntax.specs.declared.specification.Channel.{Channel}
-use Rattle.est_syntax.specs.declared.specification.Header.{Header}
-use Rattle.est_syntax.specs.declared.specification.ModvarDef.{ModvarDef}
-use Rattle.est_syntax.specs.declared.specification.Body.{Body, out-Body}
-use Rattle.est_syntax.specs.declared.specification.Block.{Block}
-use Rattle.est_syntax.specs.declared.specification.Transition.{Transition}
-use Rattle.est_syntax.specs.declared.specification.Queue.{Queue}
-use Rattle.est_syntax.specs.declared.specification.Statement.{Statement}
-use Rattle.est_syntax.specs.declared.specification.Part.{Part}
-use Rattle.est_syntax.specs.declared.specification.Part.TheVariants as part
+use Rattle.est_syntax.specs.declared.channel.Channel.{Channel}
+use Rattle.est_syntax.specs.declared.header.Header.{Header}
+use Rattle.est_syntax.specs.declared.header.ModvarDef.{ModvarDef}
+use Rattle.est_syntax.specs.declared.body.Body.{Body, out-Body}
+use Rattle.est_syntax.specs.declared.body.Block.{Block}
+use Rattle.est_syntax.specs.declared.transition.Transition.{Transition}
+use Rattle.est_syntax.specs.declared.header.Queue.{Queue}
+use Rattle.est_syntax.specs.declared.statement.Statement.{Statement}
+use Rattle.est_syntax.specs.declared.body.Part.{Part}
+use Rattle.est_syntax.specs.declared.body.Part.TheVariants as part
 use Rattle.est_syntax.specs.declared.specification.Spec.{Spec}
 use Rattle.est_check.specs.Skeleton.{channel_parts}
 
 -- the tokens from place a up to b have a tree by g of this shape
 abbrev pub HasAt : List ℕ → List Token → Rule → ℕ → ℕ → ℕ → Shape → Type 0
-HasAt text tokens g d a b t = Tree (skeleton text) tokens (length tokens) g d a b t
+HasAt text tokens g d a b t = Tree (language production text) tokens (length tokens) g d a b t
 
 -- what stands behind the channels
 abbrev pub Last : Rule
@@ -44,7 +45,7 @@ module _ (text : List ℕ) (tokens : List Token) where
 
   -- a tree goes forward
   pub forward : {g : Rule} {d a b : ℕ} {t : Shape} → Has g d a b t → a ≤ b
-  forward h = tree_forward (skeleton text) tokens (length tokens) h
+  forward h = tree_forward (language production text) tokens (length tokens) h
 
   -- the tree of a production keeps something
   pub none : (p : Production) {d a b : ℕ} → Has (rule p) d a b nothing → ⊥

@@ -5,28 +5,30 @@ use Rattle.est_lexer.specs.declared.kind.Token.{Token}
 use Rattle.est_lexer.specs.declared.kind.Symbol.TheVariants.{Comma}
 use Rattle.est_lexer.specs.declared.kind.ReservedWord.TheVariants.{Begin, End}
 use Rattle.est_language.specs.Grammar.{Grammar, here, seq, rep, rule, chain, nothing, placed, some, left, both, t_word, t_here, t_seq, t_rule, t_rep_in, t_opt_in}
-use Rattle.est_grammar.specs.Skeleton.{Rule, Production, specification, channel, by, header, point, body, transition, sign, said, name, several, listed, interaction, states, first_part, empty_block, to_clause, when_clause, clauses, dotted, statement as a_statement, module_variable, init, initialization}
-use Rattle.est_grammar.specs.Views.{Shape, used_shape, access_shape, names_shape, interaction_shape, interactions_shape, one_name, two_names, by_shape, by_parts_shape, channel_shape, point_shape, points_shape, header_shape, sending_shape, sendings_shape, statement_shape, one_statement, block_shape, when_part, to_part, clauses_shape, transition_shape, one_transition, group_shape, states_shape, first_state, first_shape, body_shape, modvar_shape, init_shape, initialization_shape, last_parts, behind_channels, channels_shape, spec_shape, without, without_some, where_true}
+use Rattle.est_grammar.specs.Skeleton.{Rule, Production, specification, channel, by, header, point, body, transition, sign, said, several, listed, interaction, states, first_part, empty_block, to_clause, when_clause, clauses, dotted, statement as a_statement, module_variable, init, initialization}
+use Rattle.est_specification.proofs.Shapes.{name}
+use Rattle.est_specification.proofs.Shown.{tree_is}
+use Rattle.est_specification.proofs.Shapes.{Shape, used_shape, access_shape, names_shape, interaction_shape, interactions_shape, one_name, two_names, by_shape, by_parts_shape, channel_shape, point_shape, points_shape, header_shape, sending_shape, sendings_shape, statement_shape, one_statement, block_shape, when_part, to_part, clauses_shape, transition_shape, one_transition, group_shape, states_shape, first_state, first_shape, body_shape, modvar_shape, init_shape, initialization_shape, last_parts, behind_channels, channels_shape, spec_shape, without, without_some, where_true}
 use Rattle.est_syntax.specs.declared.name.Used.{Used}
 use Rattle.est_syntax.specs.declared.expression.Access.{Access}
-use Rattle.est_syntax.specs.declared.specification.InteractionDef.{InteractionDef}
-use Rattle.est_syntax.specs.declared.specification.ByPart.{ByPart}
-use Rattle.est_syntax.specs.declared.specification.Channel.{Channel}
-use Rattle.est_syntax.specs.declared.specification.Point.{Point}
-use Rattle.est_syntax.specs.declared.specification.Header.{Header}
-use Rattle.est_syntax.specs.declared.specification.ModvarDef.{ModvarDef}
-use Rattle.est_syntax.specs.declared.specification.Body.{Body, out-Body}
-use Rattle.est_syntax.specs.declared.specification.Block.{Block}
-use Rattle.est_syntax.specs.declared.specification.FirstPart.{FirstPart}
-use Rattle.est_syntax.specs.declared.specification.Group.{Group, out-Group}
-use Rattle.est_syntax.specs.declared.specification.Transition.{Transition}
-use Rattle.est_syntax.specs.declared.specification.Sending.{Sending}
-use Rattle.est_syntax.specs.declared.specification.Clause.{Clause}
-use Rattle.est_syntax.specs.declared.specification.Clause.TheVariants as clause
-use Rattle.est_syntax.specs.declared.specification.Statement.{Statement}
-use Rattle.est_syntax.specs.declared.specification.Statement.TheVariants as statement
-use Rattle.est_syntax.specs.declared.specification.Part.{Part}
-use Rattle.est_syntax.specs.declared.specification.Part.TheVariants as part
+use Rattle.est_syntax.specs.declared.channel.InteractionDef.{InteractionDef}
+use Rattle.est_syntax.specs.declared.channel.ByPart.{ByPart}
+use Rattle.est_syntax.specs.declared.channel.Channel.{Channel}
+use Rattle.est_syntax.specs.declared.header.Point.{Point}
+use Rattle.est_syntax.specs.declared.header.Header.{Header}
+use Rattle.est_syntax.specs.declared.header.ModvarDef.{ModvarDef}
+use Rattle.est_syntax.specs.declared.body.Body.{Body, out-Body}
+use Rattle.est_syntax.specs.declared.body.Block.{Block}
+use Rattle.est_syntax.specs.declared.body.FirstPart.{FirstPart}
+use Rattle.est_syntax.specs.declared.transition.Group.{Group, out-Group}
+use Rattle.est_syntax.specs.declared.transition.Transition.{Transition}
+use Rattle.est_syntax.specs.declared.statement.Sending.{Sending}
+use Rattle.est_syntax.specs.declared.transition.Clause.{Clause}
+use Rattle.est_syntax.specs.declared.transition.Clause.TheVariants as clause
+use Rattle.est_syntax.specs.declared.statement.Statement.{Statement}
+use Rattle.est_syntax.specs.declared.statement.Statement.TheVariants as statement
+use Rattle.est_syntax.specs.declared.body.Part.{Part}
+use Rattle.est_syntax.specs.declared.body.Part.TheVariants as part
 use Rattle.est_syntax.specs.declared.specification.Spec.{Spec}
 use Rattle.est_syntax.specs.Least.{IsIn}
 use Rattle.est_check.specs.Skeleton.{channel_parts, AreStates, IsOne, IsPlainChannel, IsPlainHeader, IsPlainVariable, IsPlainSending, IsPlain, IsInit, IsPlainBlock, IsWhen, IsToWhen, AreClauses, IsPlainTransition, IsPlainFirst, IsPlainBody, IsSkeleton}
@@ -177,12 +179,12 @@ module _ (text : List ℕ) (tokens : List Token) where
   plain_empty : (st : Statement) (d a b : ℕ) → Has (here (Grammar.done)) d a b (statement_shape st) → IsPlain st
   plain_empty (statement.Empty place) d a b h = tt
   plain_empty (statement.Output sendings place) d a b (t_here h) = elim h [ ]
-  plain_empty (statement.Init target of arguments place) d a b h = elim h [ ]
+  plain_empty _ d a b h = elim h [ ]
 
   plain_statement : (st : Statement) (d a b : ℕ) → Has a_statement d a b (statement_shape st) → IsPlain st
   plain_statement (statement.Empty place) d a b h = tt
   plain_statement (statement.Output sendings place) d a b (t_here (t_opt_in (t_rule (t_word k i e h)))) = plain_sendings sendings h
-  plain_statement (statement.Init target of arguments place) d a b h = elim h [ ]
+  plain_statement _ d a b h = elim h [ ]
 
   -- a block of the one statement that g has
   abbrev block_of : Rule → Rule
@@ -219,21 +221,29 @@ module _ (text : List ℕ) (tokens : List Token) where
   is_when : (cs : List Clause) {d a b : ℕ} → Has when_clause d a b (when_part cs) → IsWhen cs
   is_when [] h = tt
   is_when (clause.When at signal place ∷ []) (t_opt_in (t_here (t_word k i e h))) = bare_dotted at (used_shape signal) h
-  is_when (clause.When at signal place ∷ c ∷ cs) h = elim h [ ]
-  is_when (clause.From us place ∷ cs) h = elim h [ ]
-  is_when (clause.To state place ∷ cs) h = elim h [ ]
+  is_when _ h = elim h [ ]
 
   is_to_when : (cs : List Clause) {d a b : ℕ} → Has (seq to_clause when_clause) d a b (to_part cs) → IsToWhen cs
   is_to_when [] (t_seq to rest) = is_when [] rest
   is_to_when (clause.To state place ∷ cs) (t_seq to rest) = is_when cs rest
   is_to_when (clause.From us place ∷ cs) (t_seq to rest) = is_when (clause.From us place ∷ cs) rest
   is_to_when (clause.When at signal place ∷ cs) (t_seq to rest) = is_when (clause.When at signal place ∷ cs) rest
+  is_to_when (clause.Provided condition place ∷ cs) (t_seq to rest) = elim rest [ ]
+  is_to_when (clause.Otherwise place ∷ cs) (t_seq to rest) = elim rest [ ]
+  is_to_when (clause.Any names place ∷ cs) (t_seq to rest) = elim rest [ ]
+  is_to_when (clause.Priority value place ∷ cs) (t_seq to rest) = elim rest [ ]
+  is_to_when (clause.Delay least most place ∷ cs) (t_seq to rest) = elim rest [ ]
 
   are_clauses : (cs : List Clause) {d a b : ℕ} → Has clauses d a b (clauses_shape cs) → AreClauses cs
   are_clauses [] (t_seq from rest) = is_to_when [] rest
   are_clauses (clause.From us place ∷ cs) (t_seq from rest) = is_to_when cs rest
   are_clauses (clause.To state place ∷ cs) (t_seq from rest) = is_to_when (clause.To state place ∷ cs) rest
   are_clauses (clause.When at signal place ∷ cs) (t_seq from rest) = is_to_when (clause.When at signal place ∷ cs) rest
+  are_clauses (clause.Provided condition place ∷ cs) (t_seq from rest) = is_to_when (clause.Provided condition place ∷ cs) rest
+  are_clauses (clause.Otherwise place ∷ cs) (t_seq from rest) = is_to_when (clause.Otherwise place ∷ cs) rest
+  are_clauses (clause.Any names place ∷ cs) (t_seq from rest) = is_to_when (clause.Any names place ∷ cs) rest
+  are_clauses (clause.Priority value place ∷ cs) (t_seq from rest) = is_to_when (clause.Priority value place ∷ cs) rest
+  are_clauses (clause.Delay least most place ∷ cs) (t_seq from rest) = is_to_when (clause.Delay least most place ∷ cs) rest
 
   -- the transitions
   plain_parts : (x : Transition) → x.name ≡ None → {d a b : ℕ} → Has (rule transition) d a b (both (clauses_shape x.clauses) (both (block_shape x.block) nothing)) → IsPlainTransition x
@@ -288,8 +298,7 @@ module _ (text : List ℕ) (tokens : List Token) where
   is_init (statement.Init target of arguments place) h =
       let none = of_empty init none_init arguments (placed place (both (access_shape target) (used_shape of))) h in
       (bare_target target (used_shape of) place none.1, none.0)
-  is_init (statement.Empty place) h = absurd (none_init _ _ _ h)
-  is_init (statement.Output sendings place) h = absurd (none_init _ _ _ h)
+  is_init _ h = absurd (none_init _ _ _ h)
 
   starts : (st : Statement) {d a b : ℕ} → Has initialization d a b (initialization_shape st) → IsInit st
   starts st (t_word k i e (t_word k' i' e' (t_seq one rest))) = is_init st one
@@ -346,7 +355,7 @@ channel_among c (d ∷ cs) h x ms (inr i) = inr (channel_among c cs h x ms i)
 pub sentence_is_skeleton : (text : List ℕ) (tokens : List Token) (spec : Spec) → HasOneTree text tokens spec → length tokens ≤ 1048576 → IsSkeleton spec
 sentence_is_skeleton text tokens spec tree few =
     let n : ℕ = length tokens in
-    let x : IsSentence text tokens spec n = sentence text tokens spec tree.0 in
+    let x : IsSentence text tokens spec n = sentence text tokens spec (tree_is text tokens spec tree).0 in
     let y : IsSplit text tokens spec.parts (initialization_shape spec.first) 0 x.last n = x.split in
     let last : IsPlainHeader y.header_of × IsPlainBody y.body_of × IsPlainVariable y.variable × IsInit spec.first = of_last text tokens y.header_of y.body_of y.variable spec.first y.tree in
     let few_signals : (c : Channel) → IsIn (part.Channel c) spec.parts → sum_by signals_in c.by ≤ n =

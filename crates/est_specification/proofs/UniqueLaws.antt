@@ -2,28 +2,29 @@
 use Rattle.std.proofs.Common.{◌≡◌, ◌≤◌, ℕ, Bool, true, false, List, [], ◌∷◌, ◌++◌, Option, Some, None, length, map, arith, refl, ap, sym, ◌∙◌, inl, inr}
 use Rattle.est_lexer.specs.declared.kind.Token.{Token}
 use Rattle.est_language.specs.Grammar.{chain, nothing, placed, both}
-use Rattle.est_grammar.specs.Views.{Shape, used_shape, access_shape, names_shape, interaction_shape, interactions_shape, one_name, two_names, by_shape, by_parts_shape, channel_shape, point_shape, points_shape, header_shape, sending_shape, sendings_shape, statement_shape, one_statement, block_shape, next_shape, when_part, to_part, clauses_shape, transition_shape, one_transition, group_shape, groups_shape, states_shape, first_state, first_shape, body_shape, modvar_shape, init_shape, initialization_shape, last_parts, behind_channels, channels_shape, spec_shape, without, without_some, where_true}
+use Rattle.est_specification.proofs.Shown.{tree_is}
+use Rattle.est_specification.proofs.Shapes.{Shape, used_shape, access_shape, names_shape, interaction_shape, interactions_shape, one_name, two_names, by_shape, by_parts_shape, channel_shape, point_shape, points_shape, header_shape, sending_shape, sendings_shape, statement_shape, one_statement, block_shape, next_shape, when_part, to_part, clauses_shape, transition_shape, one_transition, group_shape, groups_shape, states_shape, first_state, first_shape, body_shape, modvar_shape, init_shape, initialization_shape, last_parts, behind_channels, channels_shape, spec_shape, without, without_some, where_true}
 use Rattle.est_grammar.specs.Answer.{HasOneTree}
 use Rattle.est_syntax.specs.declared.name.Used.{Used}
 use Rattle.est_syntax.specs.declared.expression.Access.{Access}
-use Rattle.est_syntax.specs.declared.specification.InteractionDef.{InteractionDef}
-use Rattle.est_syntax.specs.declared.specification.ByPart.{ByPart}
-use Rattle.est_syntax.specs.declared.specification.Channel.{Channel}
-use Rattle.est_syntax.specs.declared.specification.Point.{Point}
-use Rattle.est_syntax.specs.declared.specification.Header.{Header}
-use Rattle.est_syntax.specs.declared.specification.ModvarDef.{ModvarDef}
-use Rattle.est_syntax.specs.declared.specification.Body.{Body, out-Body, roll-Body, roll-out-Body}
-use Rattle.est_syntax.specs.declared.specification.Block.{Block}
-use Rattle.est_syntax.specs.declared.specification.FirstPart.{FirstPart}
-use Rattle.est_syntax.specs.declared.specification.Group.{Group, out-Group, roll-Group, roll-out-Group}
-use Rattle.est_syntax.specs.declared.specification.Transition.{Transition}
-use Rattle.est_syntax.specs.declared.specification.Sending.{Sending}
-use Rattle.est_syntax.specs.declared.specification.Clause.{Clause}
-use Rattle.est_syntax.specs.declared.specification.Clause.TheVariants as clause
-use Rattle.est_syntax.specs.declared.specification.Statement.{Statement}
-use Rattle.est_syntax.specs.declared.specification.Statement.TheVariants as statement
-use Rattle.est_syntax.specs.declared.specification.Part.{Part}
-use Rattle.est_syntax.specs.declared.specification.Part.TheVariants as part
+use Rattle.est_syntax.specs.declared.channel.InteractionDef.{InteractionDef}
+use Rattle.est_syntax.specs.declared.channel.ByPart.{ByPart}
+use Rattle.est_syntax.specs.declared.channel.Channel.{Channel}
+use Rattle.est_syntax.specs.declared.header.Point.{Point}
+use Rattle.est_syntax.specs.declared.header.Header.{Header}
+use Rattle.est_syntax.specs.declared.header.ModvarDef.{ModvarDef}
+use Rattle.est_syntax.specs.declared.body.Body.{Body, out-Body, roll-Body, roll-out-Body}
+use Rattle.est_syntax.specs.declared.body.Block.{Block}
+use Rattle.est_syntax.specs.declared.body.FirstPart.{FirstPart}
+use Rattle.est_syntax.specs.declared.transition.Group.{Group, out-Group, roll-Group, roll-out-Group}
+use Rattle.est_syntax.specs.declared.transition.Transition.{Transition}
+use Rattle.est_syntax.specs.declared.statement.Sending.{Sending}
+use Rattle.est_syntax.specs.declared.transition.Clause.{Clause}
+use Rattle.est_syntax.specs.declared.transition.Clause.TheVariants as clause
+use Rattle.est_syntax.specs.declared.statement.Statement.{Statement}
+use Rattle.est_syntax.specs.declared.statement.Statement.TheVariants as statement
+use Rattle.est_syntax.specs.declared.body.Part.{Part}
+use Rattle.est_syntax.specs.declared.body.Part.TheVariants as part
 use Rattle.est_syntax.specs.declared.specification.Spec.{Spec}
 use Rattle.est_syntax.specs.Least.{IsIn}
 use Rattle.est_specification.proofs.SkeletonLaws.{IsPlainBy, IsPlainPoint, IsPlainGroup, IsSentence, channels_are, plain_channels, of_last, sentence}
@@ -177,8 +178,9 @@ same_statement (statement.Output xs a) (statement.Output ys b) p q e =
     let shape : sendings_shape xs ≡ sendings_shape ys = cc in
     let sendings : xs ≡ ys = same_list IsPlainSending sending_shape same_sending xs ys p q shape in
     λ i. statement.Output (sendings i) (place i)
-same_statement (statement.Init s of a b) y p q e = absurd p
-same_statement x (statement.Init s of a b) p q e = absurd q
+same_statement (statement.Empty a) _ p q e = absurd q
+same_statement (statement.Output xs a) _ p q e = absurd q
+same_statement _ y p q e = absurd p
 
 same_one_statement : (xs ys : List Statement) → IsOne IsPlain xs → IsOne IsPlain ys → one_statement xs ≡ one_statement ys → xs ≡ ys
 same_one_statement (x ∷ []) (y ∷ []) p q e = ap (λ z. z ∷ []) (same_statement x y p q e)
@@ -214,12 +216,9 @@ same_when (clause.When at signal place ∷ []) (clause.When at' signal' place' �
     let a : at ≡ at' = same_access at at' p q first in
     let s : signal ≡ signal' = same_used signal signal' second in
     λ i. clause.When (a i) (s i) (third i) ∷ []
-same_when (clause.When at signal place ∷ c ∷ cs) ds p q e = absurd p
-same_when (clause.From us place ∷ cs) ds p q e = absurd p
-same_when (clause.To state place ∷ cs) ds p q e = absurd p
-same_when cs (clause.When at signal place ∷ d ∷ ds) p q e = absurd q
-same_when cs (clause.From us place ∷ ds) p q e = absurd q
-same_when cs (clause.To state place ∷ ds) p q e = absurd q
+same_when [] _ p q e = absurd q
+same_when (clause.When at signal place ∷ []) _ p q e = absurd q
+same_when _ ds p q e = absurd p
 
 same_to_when : (cs ds : List Clause) → IsToWhen cs → IsToWhen ds → to_part cs ≡ to_part ds → cs ≡ ds
 same_to_when (clause.To state place ∷ cs) (clause.To state' place' ∷ ds) p q e =
@@ -342,10 +341,8 @@ same_init (statement.Init s f xs a) (statement.Init t g ys b) p q e =
     let target : s ≡ t = same_access s t p.0 q.0 first in
     let of : f ≡ g = same_used f g second in
     λ i. statement.Init (target i) (of i) (arguments.0 i) (place i)
-same_init (statement.Empty place) y p q e = absurd p
-same_init (statement.Output sendings place) y p q e = absurd p
-same_init x (statement.Empty place) p q e = absurd q
-same_init x (statement.Output sendings place) p q e = absurd q
+same_init (statement.Init s f x a) _ p q e = absurd q
+same_init _ y p q e = absurd p
 
 -- the parts: channels, a header, a body and a module variable
 abbrev parts_of : List Channel → Header → Body → ModvarDef → List Part
@@ -396,4 +393,4 @@ module _ (text : List ℕ) (tokens : List Token) where
 
 -- the tokens of a text have at most one specification
 pub same_specification : (text : List ℕ) (tokens : List Token) (a b : Spec) → HasOneTree text tokens a → HasOneTree text tokens b → a ≡ b
-same_specification text tokens a b p q = same_sentence text tokens a b (sentence text tokens a p.0) (sentence text tokens b q.0) (q.1 (spec_shape a) p.0)
+same_specification text tokens a b p q = same_sentence text tokens a b (sentence text tokens a (tree_is text tokens a p).0) (sentence text tokens b (tree_is text tokens b q).0) ((tree_is text tokens b q).1 (spec_shape a) (tree_is text tokens a p).0)
