@@ -15,11 +15,13 @@ use crate::text::same_name;
 use crate::undo::Taken;
 use est_meaning::event::{Event, Interaction};
 use est_meaning::run::Firing;
+use est_syntax::body::FirstPart;
 use est_syntax::copy::copy_values;
 use est_syntax::kind::Values;
 use est_syntax::name::Name;
 use est_syntax::ports::{Port, Signal, Signals};
-use est_syntax::specification::{FirstPart, Sendings, Statement, Statements, Transition};
+use est_syntax::statement::{Sendings, Statement, Statements};
+use est_syntax::transition::Transition;
 use std::alloc::{AllocError, Global};
 use std::collections::VecDeque;
 
@@ -97,7 +99,7 @@ fn leaving(ports: &[Port], at: &Name, signal: &Name) -> Option<(u32, u32)>
         None => None,
         Some(number) => match ports.get(number) {
             None => None,
-            Some(port) => match signal_number(&port.signals, signal) {
+            Some(port) => match signal_number(port.signals.get(), signal) {
                 None => None,
                 Some(index) => Some((number as u32, index as u32)),
             },
@@ -142,9 +144,8 @@ fn enter(
     ensures { OnOk result (outs.new.items ≡ entered_in ports.now statement.now outs.old.items) }
 {
     match statement {
-        Statement::Empty { .. } => Ok(()),
         Statement::Output { sendings, .. } => send(alloc, ports, sendings, outs),
-        Statement::Init { .. } => Ok(()),
+        _ => Ok(()),
     }
 }
 
@@ -225,7 +226,7 @@ pub fn arrival(
 {
     match port_at(ports, interaction.port) {
         None => Ok(None),
-        Some(port) => match signal_at(&port.signals, interaction.signal) {
+        Some(port) => match signal_at(port.signals.get(), interaction.signal) {
             None => Ok(None),
             Some(signal) => Ok(Some(Waiting {
                 at: port.name.copy(alloc)?,

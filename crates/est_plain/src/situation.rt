@@ -8,14 +8,14 @@ use std::alloc::{AllocError, Global};
 use std::collections::VecDeque;
 
 /// An interaction point, and whether it shares the common queue of its instance.
-#[derive(Debug, Drop)]
+#[derive(Drop)]
 pub struct PointQueue {
     pub name: Name,
     pub is_shared: bool,
 }
 
 /// An interaction that waits, with the interaction point through which it came.
-#[derive(Debug, Drop)]
+#[derive(Drop)]
 pub struct Waiting {
     pub at: Name,
     pub signal: Name,
@@ -23,7 +23,7 @@ pub struct Waiting {
 }
 
 /// A plain situation of the one instance: its state, all that waits in order of arrival, and the clock.
-#[derive(Debug, Drop)]
+#[derive(Drop)]
 pub struct PlainSituation {
     pub state: Option<Name>,
     pub waiting: VecDeque<Waiting>,

@@ -10,14 +10,14 @@ use est_syntax::name::Name;
 use std::collections::VecDeque;
 
 /// An item that was taken, and how many stood before it.
-#[derive(Debug, Drop)]
+#[derive(Drop)]
 pub struct Taken {
     pub index: usize,
     pub item: Waiting,
 }
 
 /// What undoes a move: the clock, the state and the taken item are those from before.
-#[derive(Debug, Drop)]
+#[derive(Drop)]
 pub enum Undo {
     Arrived,
     Passed {
