@@ -103,15 +103,6 @@ fn check_statements(table: &Table, body: &BodyNames, list: &[Statement], least: 
     }
 }
 
-/// Checks the state of a `to` clause; nothing where it is `same`.
-fn check_next_state(table: &Table, body: &BodyNames, state: &Option<Used>, least: &mut Least)
-    ensures { least.new.at ≡ least_with least.old.at (state_faults (table_environment table.now body.now) state.now) }
-{
-    if let Some(used) = state {
-        check_use(table, body, NameSort::State, used, least);
-    }
-}
-
 /// Checks a clause of a transition.
 fn check_clause(table: &Table, body: &BodyNames, clause: &Clause, least: &mut Least)
     ensures { least.new.at ≡ least_with least.old.at (clause_faults (table_environment table.now body.now) clause.now) }
@@ -124,7 +115,11 @@ fn check_clause(table: &Table, body: &BodyNames, clause: &Clause, least: &mut Le
             states.as_slice(),
             least,
         ),
-        Clause::To { state, place: _ } => check_next_state(table, body, state, least),
+        Clause::To { state, place: _ } => {
+            if let Some(used) = state {
+                check_use(table, body, NameSort::State, used, least);
+            }
+        }
         Clause::When {
             at,
             signal,

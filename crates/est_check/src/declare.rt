@@ -2,8 +2,8 @@
 #![tactic(auto)]
 
 ghost use Rattle.std.specs.Prelude.{◌≡◌, [], OnOk};
-ghost use Rattle.est_syntax.specs.Names.{vars_last, interactions_last, by_last, channel_last, points_last, header_last};
-ghost use Rattle.est_check.specs.Entries.{entry_of, enter, enter_following, enter_all, role_by, with_role, senders_from, senders};
+ghost use Rattle.est_syntax.specs.Names.{vars_last, interactions_last, by_last, points_last, header_last};
+ghost use Rattle.est_check.specs.Entries.{entry_of, enter, enter_following, enter_all, role_by, with_role, senders};
 ghost use Rattle.est_check.specs.Declarations.{together_entries, other_role_entries, role_entries, interaction_entries, by_entries, variable_entries, part_entries, parts_entries, state_entries, section_entries, body_entries};
 
 use crate::least::Least;
@@ -98,13 +98,6 @@ fn by_last(by: &[ByPart], mut last: u32) -> u32
     last
 }
 
-/// The greatest place of an interaction or type name of a channel, or of its own name: it is in force behind it.
-fn channel_last(channel: &Channel) -> u32
-    ensures { result ≡ channel_last channel.now }
-{
-    by_last(channel.by.as_slice(), channel.name.place)
-}
-
 /// The greatest of a place and of those of the roles of some interaction points.
 fn points_last(points: &[Point], mut last: u32) -> u32
     ensures { result ≡ points_last points.now last }
@@ -195,29 +188,19 @@ fn with_role(senders: Senders, role: Option<bool>) -> Senders
     }
 }
 
-/// These senders, and the roles that some names are.
-fn senders_from(roles: &Names, mut senders: Senders, list: &[Used]) -> Senders
-    ensures { result ≡ senders_from roles.now senders list.now }
-{
-    for used in list {
-        senders = with_role(senders, role_of(roles, used));
-    }
-    senders
-}
-
 /// Which roles may send the interactions of a `by` part that names these.
 pub fn senders(roles: &Names, list: &[Used]) -> Senders
     ensures { result ≡ senders roles.now list.now }
 {
-    senders_from(
-        roles,
-        Senders {
-            known: true,
-            first: false,
-            second: false,
-        },
-        list,
-    )
+    let mut senders = Senders {
+        known: true,
+        first: false,
+        second: false,
+    };
+    for used in list {
+        senders = with_role(senders, role_of(roles, used));
+    }
+    senders
 }
 
 /// Enters the interactions of a `by` part behind the roles of the channel.
@@ -286,7 +269,10 @@ fn enter_part(
         Part::Channel(channel) => enter(
             names,
             &channel.name,
-            Entry::new(channel_last(channel), Entity::Channel(number)),
+            Entry::new(
+                by_last(channel.by.as_slice(), channel.name.place),
+                Entity::Channel(number),
+            ),
             least,
         ),
         Part::Header(header) => enter(

@@ -3,7 +3,7 @@
 ghost use Rattle.std.specs.Prelude.{◌≡◌};
 ghost use Rattle.est_syntax.specs.Names.{is_predeclared};
 ghost use Rattle.est_check.specs.Entries.{entry_of};
-ghost use Rattle.est_check.specs.Tables.{member_entry, members_at, header_entry, own_entry, is_shared, undeclared, outer_found, look_up, look_up_member, name_sort, channel_number, point_side};
+ghost use Rattle.est_check.specs.Tables.{member_entry, members_at, header_entry, own_entry, is_shared, undeclared, outer_found, look_up, entry_found, name_sort, channel_number, point_side};
 
 use crate::names::{Entity, Entry, Names, PointSide};
 use est_items::Items;
@@ -75,15 +75,15 @@ impl Members {
             None => self.interactions.find(name),
         }
     }
+}
 
-    /// What a name means within the channel.
-    pub fn look_up(&self, used: &Used) -> Found
-        ensures { result ≡ look_up_member self.now used.now }
-    {
-        match self.find(&used.name) {
-            None => Found::Nothing,
-            Some(entry) => Found::Seen(entry),
-        }
+/// What a name means by its entry in one region alone.
+pub fn entry_found(entry: Option<Entry>) -> Found
+    ensures { result ≡ entry_found entry }
+{
+    match entry {
+        None => Found::Nothing,
+        Some(entry) => Found::Seen(entry),
     }
 }
 

@@ -8,7 +8,7 @@ ghost use Rattle.est_check.specs.Tables.{sort_found, may_send, passage_by, passa
 
 use crate::least::Least;
 use crate::names::{Entity, Entry, PointSide, Senders};
-use crate::table::{BodyNames, Found, Members, Table, member_of, name_sort};
+use crate::table::{BodyNames, Found, Members, Table, entry_found, member_of, name_sort};
 use est_syntax::name::Used;
 use est_syntax::rule::Rule;
 use est_syntax::sort::NameSort;
@@ -66,19 +66,13 @@ pub fn check_uses(
     }
 }
 
-/// Checks that a name within a channel means something of the wanted sort.
-fn check_member(members: &Members, wanted: NameSort, used: &Used, least: &mut Least)
-    ensures { least.new.at ≡ least_with least.old.at (use_faults (members_environment members.now) wanted used.now) }
-{
-    check_found(wanted, used.place, members.look_up(used), least);
-}
-
 /// Checks that each of these names within a channel means something of the wanted sort.
 pub fn check_roles(members: &Members, wanted: NameSort, list: &[Used], least: &mut Least)
     ensures { least.new.at ≡ least_with least.old.at (uses_faults (members_environment members.now) wanted list.now) }
 {
     for used in list {
-        check_member(members, wanted, used, least);
+        let found = entry_found(members.find(&used.name));
+        check_found(wanted, used.place, found, least);
     }
 }
 
@@ -87,10 +81,8 @@ pub fn check_point_role(table: &Table, channel: Option<usize>, used: &Used, leas
     ensures { least.new.at ≡ least_with least.old.at (role_faults used.now.place (member_sort_at table.now channel used.now)) }
 {
     if let Some(number) = channel {
-        match member_of(table.channels.as_slice(), number, &used.name) {
-            None => check_found(NameSort::Role, used.place, Found::Nothing, least),
-            Some(entry) => check_found(NameSort::Role, used.place, Found::Seen(entry), least),
-        }
+        let entry = member_of(table.channels.as_slice(), number, &used.name);
+        check_found(NameSort::Role, used.place, entry_found(entry), least);
     }
 }
 

@@ -19,6 +19,3 @@ pub use reading::{Failed, Shelf};
 pub use system::{FileShelf, OutSink};
 pub use whole::{ReadError, read_whole, write_whole};
 pub use writing::Sink;
-
-#[cfg(test)]
-mod tests;

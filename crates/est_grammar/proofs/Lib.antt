@@ -1,6 +1,4 @@
-pub mod KindsApart
 pub mod SkeletonFits
-pub mod Parsing
 pub mod Made
 pub mod Top
-pub mod Decided
+pub mod WordTable

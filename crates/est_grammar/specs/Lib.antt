@@ -1,7 +1,7 @@
-pub mod Kinds
 pub mod Skeleton
-pub mod Language
-pub mod Views
-pub mod Reading
+pub mod Nodes
+pub mod Syntax
 pub mod Answer
 pub mod Laws
+pub mod Clauses
+pub mod Parts

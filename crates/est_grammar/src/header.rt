@@ -1,89 +1,75 @@
-//! Module headers (ISO 9074, module header definition).
+//! Module headers (ISO 9074, module-header-definition).
 
-ghost use Rattle.std.specs.Prelude.{◌≡◌, ◌≤◌, length};
-ghost use Rattle.est_lexer.specs.Places.{tokens_of};
+ghost use Rattle.std.specs.Prelude.{map};
 ghost use Rattle.est_language.specs.Grammar.{rule};
-ghost use Rattle.est_grammar.specs.Skeleton.{several, header as a_header, point as a_point};
-ghost use Rattle.est_grammar.specs.Reading.{Reads, Onward};
-ghost use Rattle.est_grammar.specs.Views.{header_shape, points_shape, point_shape};
+ghost use Rattle.est_language.specs.Shown.{node as shown, nodes};
+ghost use Rattle.est_reader.specs.Going.{Goes};
+ghost use Rattle.est_grammar.specs.Nodes as node;
+ghost use Rattle.est_grammar.specs.Skeleton as grammar;
+ghost use Rattle.est_grammar.specs.Syntax.{skeleton};
 
-use crate::error::Refusal;
-use crate::token::{expect_symbol, expect_word, names, token_is, used};
+use crate::names::names;
 use est_lexer::kind::{ReservedWord, Symbol, TokenKind};
-use est_lexer::tokens::Tokens;
-use est_syntax::expression::{TypeTexts, VarDefs};
-use est_syntax::specification::{Header, Point, Points};
-use std::alloc::Global;
+use est_reader::Reader;
+use est_syntax::header::{Header, Point, Points};
+use est_syntax::type_text::{TypeTexts, VarDefs};
 
 // "module" ident "systemactivity" ";" "ip" point { point } "end" ";"
-pub fn header(alloc: Global, tokens: &Tokens, at: u32) -> Result<(Header, u32), Refusal>
-    requires { at ≤ length (tokens_of tokens.now) }
-    ensures reads { Reads tokens.now (rule a_header) at header_shape result }
-    ensures onward { Onward tokens.now at result }
+pub fn header(reader: &mut Reader) -> Header
+    ensures { Goes skeleton (rule grammar.header) reader.old (shown (node.a_header result)) reader.new }
 {
-    let at_name = expect_word(tokens, at, ReservedWord::Module)?;
-    let (name, after_name) = used(alloc, tokens, at_name)?;
-    let after_system = expect_word(tokens, after_name, ReservedWord::Systemactivity)?;
-    let at_ip = expect_symbol(tokens, after_system, Symbol::Semicolon)?;
-    let at_points = expect_word(tokens, at_ip, ReservedWord::Ip)?;
-    let (points, after_points) = points(alloc, tokens, at_points)?;
-    let after_end = expect_word(tokens, after_points, ReservedWord::End)?;
-    let end = expect_symbol(tokens, after_end, Symbol::Semicolon)?;
-    let params = VarDefs::new(alloc);
-    let exports = VarDefs::new(alloc);
-    Ok((
-        Header {
-            name,
-            system: true,
-            params,
-            points,
-            exports,
-        },
-        end,
-    ))
+    reader.word(ReservedWord::Module);
+    let name = reader.name();
+    reader.word(ReservedWord::Systemactivity);
+    reader.symbol(Symbol::Semicolon);
+    reader.word(ReservedWord::Ip);
+    let points = points(reader);
+    reader.word(ReservedWord::End);
+    reader.symbol(Symbol::Semicolon);
+    let params = VarDefs::new(reader.alloc);
+    let exports = VarDefs::new(reader.alloc);
+    Header {
+        name,
+        system: true,
+        params,
+        points,
+        exports,
+    }
 }
 
 // point { point }
-fn points(alloc: Global, tokens: &Tokens, at: u32) -> Result<(Points, u32), Refusal>
-    requires { at ≤ length (tokens_of tokens.now) }
-    ensures reads { Reads tokens.now (several (rule a_point)) at points_shape result }
-    ensures onward { Onward tokens.now at result }
+fn points(reader: &mut Reader) -> Points
+    ensures { Goes skeleton (grammar.several (rule grammar.point)) reader.old (nodes (map node.a_point result)) reader.new }
 {
-    let (first, end) = point(alloc, tokens, at)?;
-    let mut items = Points::new(alloc);
-    items.push(first)?;
-    let mut at = end;
-    while token_is(tokens, at, TokenKind::Identifier) {
-        let (next, end) = point(alloc, tokens, at)?;
-        items.push(next)?;
-        at = end;
+    let first = point(reader);
+    let mut items = Points::new(reader.alloc);
+    reader.keep(&mut items, first);
+    while reader.sees(TokenKind::Identifier) {
+        let next = point(reader);
+        reader.keep(&mut items, next);
     }
-    Ok((items, at))
+    items
 }
 
 // ident { "," ident } ":" ident "(" ident ")" ";"
-fn point(alloc: Global, tokens: &Tokens, at: u32) -> Result<(Point, u32), Refusal>
-    requires { at ≤ length (tokens_of tokens.now) }
-    ensures reads { Reads tokens.now (rule a_point) at point_shape result }
-    ensures onward { Onward tokens.now at result }
+fn point(reader: &mut Reader) -> Point
+    ensures { Goes skeleton (rule grammar.point) reader.old (shown (node.a_point result)) reader.new }
 {
-    let (names, after_names) = names(alloc, tokens, at)?;
-    let at_channel = expect_symbol(tokens, after_names, Symbol::Colon)?;
-    let (channel, after_channel) = used(alloc, tokens, at_channel)?;
-    let at_role = expect_symbol(tokens, after_channel, Symbol::LeftParenthesis)?;
-    let (role, after_role) = used(alloc, tokens, at_role)?;
-    let after_point = expect_symbol(tokens, after_role, Symbol::RightParenthesis)?;
-    let end = expect_symbol(tokens, after_point, Symbol::Semicolon)?;
-    let dims = TypeTexts::new(alloc);
-    Ok((
-        Point {
-            names,
-            dims,
-            channel,
-            role,
-            queue: None,
-            place: at,
-        },
-        end,
-    ))
+    let place = reader.at;
+    let names = names(reader);
+    reader.symbol(Symbol::Colon);
+    let channel = reader.name();
+    reader.symbol(Symbol::LeftParenthesis);
+    let role = reader.name();
+    reader.symbol(Symbol::RightParenthesis);
+    reader.symbol(Symbol::Semicolon);
+    let dims = TypeTexts::new(reader.alloc);
+    Point {
+        names,
+        dims,
+        channel,
+        role,
+        queue: None,
+        place,
+    }
 }

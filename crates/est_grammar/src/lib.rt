@@ -6,12 +6,9 @@ mod channel;
 mod error;
 mod header;
 pub mod laws;
-mod lists;
+mod names;
 mod parser;
 mod specification;
-#[cfg(test)]
-mod tests;
-mod token;
 mod transition;
 
 pub use error::ParseError;

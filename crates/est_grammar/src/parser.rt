@@ -1,15 +1,17 @@
 //! The parser of a whole specification.
 
-ghost use Rattle.std.specs.Prelude.{◌≡◌, IfOk, IfErr};
+ghost use Rattle.std.specs.Prelude.{◌≡◌, IfOk, IfErr, Err, MatchResult};
 ghost use Rattle.est_lexer.specs.Places.{text_of, tokens_of};
-ghost use Rattle.est_grammar.specs.Answer.{HasOneTree, IsRefusal, IsReason, is_not_yet as kind_is_not_yet};
+ghost use Rattle.est_grammar.specs.Answer.{HasOneTree, IsRefusal, IsReason, IsMemory, is_not_yet as kind_is_not_yet};
 
-use crate::error::{ParseError, Refusal};
+use crate::error::ParseError;
 use crate::specification::specification;
 use est_lexer::kind::{ReservedWord, Symbol, TokenKind};
 use est_lexer::tokens::Tokens;
+use est_reader::{Outcome, Reader};
 use est_syntax::specification::Spec;
-use std::alloc::Global;
+use est_syntax::tree::SyntaxTree;
+use std::alloc::{AllocError, Global};
 
 /// The words of skeleton specifications.
 const SKELETON_WORDS: [ReservedWord; 21] = [
@@ -46,21 +48,43 @@ const SKELETON_SYMBOLS: [Symbol; 5] = [
 ];
 
 /// The specification that the tokens are, or why they are none.
-pub fn parse(alloc: Global, tokens: &Tokens) -> Result<Spec, ParseError>
+pub fn parse(alloc: Global, tokens: &Tokens) -> Result<SyntaxTree, ParseError>
     ensures tree { IfOk result (HasOneTree (text_of tokens.now) (tokens_of tokens.now)) }
     ensures refused { IfErr result (IsRefusal (text_of tokens.now) (tokens_of tokens.now)) }
 {
-    match specification(alloc, tokens, 0) {
-        Ok((spec, end)) => {
-            if end == tokens.count() {
-                Ok(spec)
+    let mut reader = Reader::new(alloc, tokens, 0);
+    let spec = specification(&mut reader);
+    let place = reader.at;
+    match reader.outcome {
+        Outcome::Well => {
+            if place == tokens.count() {
+                owned(alloc, spec)
             } else {
-                Err(refusal(tokens, end))
+                instead(spec, refusal(tokens, place))
             }
         }
-        Err(Refusal::Wrong(place)) => Err(refusal(tokens, place)),
-        Err(Refusal::Memory(error)) => Err(ParseError::Memory(error)),
+        Outcome::Wrong => instead(spec, refusal(tokens, place)),
+        Outcome::TooDeep => instead(spec, refusal(tokens, place)),
+        Outcome::NoMemory => instead(spec, ParseError::Memory(AllocError)),
     }
+}
+
+// The specification with an owner.
+fn owned(alloc: Global, spec: Spec) -> Result<SyntaxTree, ParseError>
+    ensures { MatchResult result (λ tree. tree ≡ spec) (λ error. IsMemory error) }
+{
+    match SyntaxTree::new(alloc, spec) {
+        Ok(tree) => Ok(tree),
+        Err(error) => Err(ParseError::Memory(error)),
+    }
+}
+
+// An error in the place of a specification.
+fn instead(spec: Spec, error: ParseError) -> Result<SyntaxTree, ParseError>
+    ensures { result ≡ Err error }
+{
+    drop(spec);
+    Err(error)
 }
 
 // Why the token of a place, or the end of the list, is refused there.

@@ -1,148 +1,129 @@
 //! Specifications (ISO 9074, specification).
 
-ghost use Rattle.std.specs.Prelude.{◌≡◌, ◌≤◌, length, IfOk};
-ghost use Rattle.est_lexer.specs.Places.{tokens_of};
+ghost use Rattle.std.specs.Prelude.{◌≡◌, map};
+ghost use Rattle.est_language.specs.Grammar.{rule, skip, opt, done};
+ghost use Rattle.est_language.specs.Shown.{alone, empty, node as shown, nodes};
 ghost use Rattle.est_lexer.specs.declared.kind.Symbol.TheVariants.{Semicolon};
-ghost use Rattle.est_language.specs.Grammar.{rule, seq, opt, skip, done, nothing};
-ghost use Rattle.est_grammar.specs.Skeleton.{several, sign, specification as a_specification, channel as a_channel, module_variable as a_module_variable, init as an_init, initialization as an_initialization};
-ghost use Rattle.est_grammar.specs.Reading.{Reads, Onward, Passes};
-ghost use Rattle.est_grammar.specs.Views.{spec_shape, channels_shape, modvar_shape, init_shape, initialization_shape, AllChannels};
+ghost use Rattle.est_reader.specs.Going.{Goes};
+ghost use Rattle.est_grammar.specs.Nodes as node;
+ghost use Rattle.est_grammar.specs.Parts.{AllChannels};
+ghost use Rattle.est_grammar.specs.Skeleton as grammar;
+ghost use Rattle.est_grammar.specs.Syntax.{skeleton};
 
 use crate::body::body;
 use crate::channel::channel;
-use crate::error::Refusal;
 use crate::header::header;
-use crate::lists::one;
-use crate::token::{expect_symbol, expect_word, symbol_is, used, word_is};
-use est_lexer::kind::{ReservedWord, Symbol};
-use est_lexer::tokens::Tokens;
-use est_syntax::expression::{Access, Exprs, TypeTexts};
-use est_syntax::specification::{ModvarDef, Part, Parts, Spec, Statement};
-use std::alloc::Global;
+use crate::names::one_name;
+use est_lexer::kind::{ReservedWord, Symbol, TokenKind};
+use est_reader::{Outcome, Reader};
+use est_syntax::body::{Part, Parts};
+use est_syntax::expression::{Access, Exprs};
+use est_syntax::header::{ModvarDef, ModvarDefs};
+use est_syntax::specification::Spec;
+use est_syntax::statement::Statement;
+use est_syntax::type_text::TypeTexts;
 
 // "specification" ident ";" channel { channel } header body
 //     "modvar" ident ":" ident ";"
 //     "initialize" "begin" "init" ident "with" ident [ ";" ] "end" ";" "end" "."
-pub fn specification(alloc: Global, tokens: &Tokens, at: u32) -> Result<(Spec, u32), Refusal>
-    requires { at ≤ length (tokens_of tokens.now) }
-    ensures reads { Reads tokens.now (rule a_specification) at spec_shape result }
-    ensures onward { Onward tokens.now at result }
+pub fn specification(reader: &mut Reader) -> Spec
+    ensures { Goes skeleton (rule grammar.specification) reader.old (shown (node.a_specification result)) reader.new }
 {
-    let at_name = expect_word(tokens, at, ReservedWord::Specification)?;
-    let (name, after_name) = used(alloc, tokens, at_name)?;
-    let at_channels = expect_symbol(tokens, after_name, Symbol::Semicolon)?;
-    let (mut parts, at_header) = channels(alloc, tokens, at_channels)?;
-    let (header, at_body) = header(alloc, tokens, at_header)?;
-    let (body, after_body) = body(alloc, tokens, at_body)?;
-    let at_variable = expect_word(tokens, after_body, ReservedWord::Modvar)?;
-    let (variable, after_variable) = module_variable(alloc, tokens, at_variable)?;
-    let at_first = expect_symbol(tokens, after_variable, Symbol::Semicolon)?;
-    let (first, end) = initialization(alloc, tokens, at_first)?;
-    let variables = one(alloc, variable)?;
-    parts.push(Part::Header(header))?;
-    parts.push(Part::Body(body))?;
-    parts.push(Part::Modvars(variables))?;
-    Ok((
-        Spec {
-            name,
-            queue: None,
-            scale: None,
-            parts,
-            first,
-        },
-        end,
-    ))
+    reader.word(ReservedWord::Specification);
+    let name = reader.name();
+    reader.symbol(Symbol::Semicolon);
+    let mut parts = channels(reader);
+    let header = header(reader);
+    let body = body(reader);
+    reader.word(ReservedWord::Modvar);
+    let variable = module_variable(reader);
+    reader.symbol(Symbol::Semicolon);
+    let first = initialization(reader);
+    let mut variables = ModvarDefs::new(reader.alloc);
+    reader.keep(&mut variables, variable);
+    reader.keep(&mut parts, Part::Header(header));
+    reader.keep(&mut parts, Part::Body(body));
+    reader.keep(&mut parts, Part::Modvars(variables));
+    Spec {
+        name,
+        queue: None,
+        scale: None,
+        parts,
+        first,
+    }
 }
 
 // channel { channel }
-fn channels(alloc: Global, tokens: &Tokens, at: u32) -> Result<(Parts, u32), Refusal>
-    requires { at ≤ length (tokens_of tokens.now) }
-    ensures reads { Reads tokens.now (several (rule a_channel)) at channels_shape result }
-    ensures onward { Onward tokens.now at result }
-    ensures all { IfOk result (λ found. AllChannels found.0) }
+fn channels(reader: &mut Reader) -> Parts
+    ensures goes { Goes skeleton (grammar.several (rule grammar.channel)) reader.old (nodes (node.channels_in result)) reader.new }
+    ensures all { reader.new.outcome ≡ Outcome.Well → AllChannels result }
 {
-    let (first, end) = channel(alloc, tokens, at)?;
-    let mut items = Parts::new(alloc);
-    items.push(Part::Channel(first))?;
-    let mut at = end;
-    while word_is(tokens, at, ReservedWord::Channel) {
-        let (next, end) = channel(alloc, tokens, at)?;
-        items.push(Part::Channel(next))?;
-        at = end;
+    let first = channel(reader);
+    let mut items = Parts::new(reader.alloc);
+    reader.keep(&mut items, Part::Channel(first));
+    while reader.sees(TokenKind::Reserved(ReservedWord::Channel)) {
+        let next = channel(reader);
+        reader.keep(&mut items, Part::Channel(next));
     }
-    Ok((items, at))
+    items
 }
 
 // ident ":" ident
-fn module_variable(alloc: Global, tokens: &Tokens, at: u32) -> Result<(ModvarDef, u32), Refusal>
-    requires { at ≤ length (tokens_of tokens.now) }
-    ensures reads { Reads tokens.now a_module_variable at modvar_shape result }
-    ensures onward { Onward tokens.now at result }
+fn module_variable(reader: &mut Reader) -> ModvarDef
+    ensures { Goes skeleton grammar.module_variable reader.old (node.module_variable result) reader.new }
 {
-    let (name, after_name) = used(alloc, tokens, at)?;
-    let at_header = expect_symbol(tokens, after_name, Symbol::Colon)?;
-    let (header, end) = used(alloc, tokens, at_header)?;
-    let names = one(alloc, name)?;
-    let dims = TypeTexts::new(alloc);
-    Ok((
-        ModvarDef {
-            names,
-            dims,
-            header,
-            place: at,
-        },
-        end,
-    ))
+    let place = reader.at;
+    let names = one_name(reader);
+    reader.symbol(Symbol::Colon);
+    let header = reader.name();
+    let dims = TypeTexts::new(reader.alloc);
+    ModvarDef {
+        names,
+        dims,
+        header,
+        place,
+    }
 }
 
 // "initialize" "begin" "init" ident "with" ident [ ";" ] "end" ";" "end" "."
-fn initialization(alloc: Global, tokens: &Tokens, at: u32) -> Result<(Statement, u32), Refusal>
-    requires { at ≤ length (tokens_of tokens.now) }
-    ensures reads { Reads tokens.now an_initialization at initialization_shape result }
-    ensures onward { Onward tokens.now at result }
+fn initialization(reader: &mut Reader) -> Statement
+    ensures { Goes skeleton grammar.initialization reader.old (node.initialization result) reader.new }
 {
-    let at_begin = expect_word(tokens, at, ReservedWord::Initialize)?;
-    let at_init = expect_word(tokens, at_begin, ReservedWord::Begin)?;
-    let (first, after_init) = init(alloc, tokens, at_init)?;
-    let at_end = after_semicolon(tokens, after_init);
-    let after_block = expect_word(tokens, at_end, ReservedWord::End)?;
-    let at_last = expect_symbol(tokens, after_block, Symbol::Semicolon)?;
-    let at_period = expect_word(tokens, at_last, ReservedWord::End)?;
-    let end = expect_symbol(tokens, at_period, Symbol::Period)?;
-    Ok((first, end))
+    reader.word(ReservedWord::Initialize);
+    reader.word(ReservedWord::Begin);
+    let first = init(reader);
+    after_semicolon(reader);
+    reader.word(ReservedWord::End);
+    reader.symbol(Symbol::Semicolon);
+    reader.word(ReservedWord::End);
+    reader.symbol(Symbol::Period);
+    first
 }
 
 // "init" ident "with" ident
-fn init(alloc: Global, tokens: &Tokens, at: u32) -> Result<(Statement, u32), Refusal>
-    requires { at ≤ length (tokens_of tokens.now) }
-    ensures reads { Reads tokens.now an_init at init_shape result }
-    ensures onward { Onward tokens.now at result }
+fn init(reader: &mut Reader) -> Statement
+    ensures { Goes skeleton grammar.init reader.old (node.init result) reader.new }
 {
-    let at_target = expect_word(tokens, at, ReservedWord::Init)?;
-    let (name, after_target) = used(alloc, tokens, at_target)?;
-    let at_body = expect_word(tokens, after_target, ReservedWord::With)?;
-    let (body, end) = used(alloc, tokens, at_body)?;
-    let index = Exprs::new(alloc);
-    let arguments = Exprs::new(alloc);
-    Ok((
-        Statement::Init {
-            target: Access { name, index },
-            body,
-            arguments,
-            place: at,
-        },
-        end,
-    ))
+    let place = reader.at;
+    reader.word(ReservedWord::Init);
+    let name = reader.name();
+    reader.word(ReservedWord::With);
+    let body = reader.name();
+    let index = Exprs::new(reader.alloc);
+    let arguments = Exprs::new(reader.alloc);
+    Statement::Init {
+        target: Access { name, index },
+        body,
+        arguments,
+        place,
+    }
 }
 
 // [ ";" ]
-fn after_semicolon(tokens: &Tokens, at: u32) -> u32
-    requires { at ≤ length (tokens_of tokens.now) }
-    ensures { Passes tokens.now (skip (opt (sign Semicolon done))) at result }
+fn after_semicolon(reader: &mut Reader)
+    ensures { Goes skeleton (skip (opt (grammar.sign Semicolon done))) reader.old empty reader.new }
 {
-    if symbol_is(tokens, at, Symbol::Semicolon) {
-        at + 1
-    } else {
-        at
+    if reader.sees(TokenKind::Symbol(Symbol::Semicolon)) {
+        reader.symbol(Symbol::Semicolon);
     }
 }

@@ -1,200 +1,188 @@
-//! Transitions (ISO 9074, transition declaration).
+//! Transitions (ISO 9074, transition-declaration).
 
-ghost use Rattle.std.specs.Prelude.{◌≡◌, ◌≤◌, length, IfOk};
-ghost use Rattle.est_lexer.specs.Places.{tokens_of};
+ghost use Rattle.std.specs.Prelude.{map};
 ghost use Rattle.est_language.specs.Grammar.{rule};
-ghost use Rattle.est_grammar.specs.Skeleton.{transition as a_transition, clauses as some_clauses, from_clause as a_from, to_clause as a_to, when_clause as a_when, next_state as a_next, block as a_block, statement as a_statement, listed, dotted};
-ghost use Rattle.est_grammar.specs.Reading.{Reads, Onward};
-ghost use Rattle.est_grammar.specs.Views.{transition_shape, clauses_shape, from_shape, to_shape, when_shape, next_shape, block_shape, statement_shape, sendings_shape, sending_shape, IsFrom, IsTo, IsWhen};
+ghost use Rattle.est_language.specs.Shown.{alone, node as shown, nodes};
+ghost use Rattle.est_reader.specs.Going.{Goes};
+ghost use Rattle.est_grammar.specs.Nodes as node;
+ghost use Rattle.est_grammar.specs.Clauses.{from_layer, to_layer, when_layer, IsFrom, IsTo, IsWhen};
+ghost use Rattle.est_grammar.specs.Skeleton as grammar;
+ghost use Rattle.est_grammar.specs.Syntax.{skeleton};
 
-use crate::error::Refusal;
-use crate::lists::{one, push_some};
-use crate::token::{expect_symbol, expect_word, names, symbol_is, used, word_is};
-use est_lexer::kind::{ReservedWord, Symbol};
-use est_lexer::tokens::Tokens;
+use crate::names::names;
+use est_lexer::kind::{ReservedWord, Symbol, TokenKind};
+use est_reader::Reader;
+use est_syntax::body::{Block, Parts};
 use est_syntax::expression::{Access, Exprs};
 use est_syntax::name::Used;
-use est_syntax::specification::{
-    Block, Clause, Clauses, Parts, Sending, Sendings, Statement, Transition,
-};
-use std::alloc::Global;
+use est_syntax::statement::{Sending, Sendings, Statement, Statements};
+use est_syntax::transition::{Clause, Clauses, Group, Transition, Transitions};
+
+// "trans" and one transition
+pub fn group(reader: &mut Reader) -> Group
+    ensures { Goes skeleton (rule grammar.transition) reader.old (shown (node.a_group result)) reader.new }
+{
+    let first = transition(reader);
+    let mut transitions = Transitions::new(reader.alloc);
+    reader.keep(&mut transitions, first);
+    Group { transitions }
+}
 
 // "trans" [ "from" .. ] [ "to" .. ] [ "when" .. ] "begin" [ output ] "end" ";"
-pub fn transition(alloc: Global, tokens: &Tokens, at: u32) -> Result<(Transition, u32), Refusal>
-    requires { at ≤ length (tokens_of tokens.now) }
-    ensures reads { Reads tokens.now (rule a_transition) at transition_shape result }
-    ensures onward { Onward tokens.now at result }
+fn transition(reader: &mut Reader) -> Transition
+    ensures { Goes skeleton (rule grammar.transition) reader.old (shown (node.a_transition result)) reader.new }
 {
-    let at_clauses = expect_word(tokens, at, ReservedWord::Trans)?;
-    let (clauses, at_block) = clauses(alloc, tokens, at_clauses)?;
-    let (block, after_block) = block(alloc, tokens, at_block)?;
-    let end = expect_symbol(tokens, after_block, Symbol::Semicolon)?;
-    Ok((
-        Transition {
-            clauses,
-            name: None,
-            block,
-        },
-        end,
-    ))
+    reader.word(ReservedWord::Trans);
+    let clauses = clauses(reader);
+    let block = block(reader);
+    reader.symbol(Symbol::Semicolon);
+    Transition {
+        clauses,
+        name: None,
+        block,
+    }
 }
 
 // [ "from" .. ] [ "to" .. ] [ "when" .. ]
-fn clauses(alloc: Global, tokens: &Tokens, at: u32) -> Result<(Clauses, u32), Refusal>
-    requires { at ≤ length (tokens_of tokens.now) }
-    ensures reads { Reads tokens.now some_clauses at clauses_shape result }
-    ensures onward { Onward tokens.now at result }
+fn clauses(reader: &mut Reader) -> Clauses
+    ensures { Goes skeleton grammar.clauses reader.old (node.clauses result) reader.new }
 {
-    let (from, at_to) = from_clause(alloc, tokens, at)?;
-    let (to, at_when) = to_clause(alloc, tokens, at_to)?;
-    let (when, end) = when_clause(alloc, tokens, at_when)?;
-    let mut items = Clauses::new(alloc);
-    push_some(&mut items, from)?;
-    push_some(&mut items, to)?;
-    push_some(&mut items, when)?;
-    Ok((items, end))
+    let from = from_clause(reader);
+    let to = to_clause(reader);
+    let when = when_clause(reader);
+    let mut items = Clauses::new(reader.alloc);
+    reader.keep_some(&mut items, from);
+    reader.keep_some(&mut items, to);
+    reader.keep_some(&mut items, when);
+    items
 }
 
 // [ "from" ident { "," ident } ]
-fn from_clause(alloc: Global, tokens: &Tokens, at: u32) -> Result<(Option<Clause>, u32), Refusal>
-    requires { at ≤ length (tokens_of tokens.now) }
-    ensures reads { Reads tokens.now a_from at from_shape result }
-    ensures onward { Onward tokens.now at result }
-    ensures sort { IfOk result (λ found. IsFrom found.0) }
+fn from_clause(reader: &mut Reader) -> Option<Clause>
+    ensures goes { Goes skeleton grammar.from_clause reader.old (from_layer result) reader.new }
+    ensures sort { IsFrom result }
 {
-    if !word_is(tokens, at, ReservedWord::From) {
-        return Ok((None, at));
+    if !reader.sees(TokenKind::Reserved(ReservedWord::From)) {
+        return None;
     }
-    let (states, end) = names(alloc, tokens, at + 1)?;
-    Ok((Some(Clause::From { states, place: at }), end))
+    let place = reader.at;
+    reader.word(ReservedWord::From);
+    let states = names(reader);
+    Some(Clause::From { states, place })
 }
 
 // [ "to" ( ident | "same" ) ]
-fn to_clause(alloc: Global, tokens: &Tokens, at: u32) -> Result<(Option<Clause>, u32), Refusal>
-    requires { at ≤ length (tokens_of tokens.now) }
-    ensures reads { Reads tokens.now a_to at to_shape result }
-    ensures onward { Onward tokens.now at result }
-    ensures sort { IfOk result (λ found. IsTo found.0) }
+fn to_clause(reader: &mut Reader) -> Option<Clause>
+    ensures goes { Goes skeleton grammar.to_clause reader.old (to_layer result) reader.new }
+    ensures sort { IsTo result }
 {
-    if !word_is(tokens, at, ReservedWord::To) {
-        return Ok((None, at));
+    if !reader.sees(TokenKind::Reserved(ReservedWord::To)) {
+        return None;
     }
-    let (state, end) = next_state(alloc, tokens, at + 1)?;
-    Ok((Some(Clause::To { state, place: at }), end))
+    let place = reader.at;
+    reader.word(ReservedWord::To);
+    let state = next_state(reader);
+    Some(Clause::To { state, place })
 }
 
 // ident | "same"
-fn next_state(alloc: Global, tokens: &Tokens, at: u32) -> Result<(Option<Used>, u32), Refusal>
-    requires { at ≤ length (tokens_of tokens.now) }
-    ensures reads { Reads tokens.now a_next at next_shape result }
-    ensures onward { Onward tokens.now at result }
+fn next_state(reader: &mut Reader) -> Option<Used>
+    ensures { Goes skeleton grammar.next_state reader.old (node.next_state result) reader.new }
 {
-    if word_is(tokens, at, ReservedWord::Same) {
-        return Ok((None, at + 1));
+    if reader.sees(TokenKind::Reserved(ReservedWord::Same)) {
+        reader.word(ReservedWord::Same);
+        return None;
     }
-    let (state, end) = used(alloc, tokens, at)?;
-    Ok((Some(state), end))
+    Some(reader.name())
 }
 
 // [ "when" ident "." ident ]
-fn when_clause(alloc: Global, tokens: &Tokens, at: u32) -> Result<(Option<Clause>, u32), Refusal>
-    requires { at ≤ length (tokens_of tokens.now) }
-    ensures reads { Reads tokens.now a_when at when_shape result }
-    ensures onward { Onward tokens.now at result }
-    ensures sort { IfOk result (λ found. IsWhen found.0) }
+fn when_clause(reader: &mut Reader) -> Option<Clause>
+    ensures goes { Goes skeleton grammar.when_clause reader.old (when_layer result) reader.new }
+    ensures sort { IsWhen result }
 {
-    if !word_is(tokens, at, ReservedWord::When) {
-        return Ok((None, at));
+    if !reader.sees(TokenKind::Reserved(ReservedWord::When)) {
+        return None;
     }
-    let (name, after_name) = used(alloc, tokens, at + 1)?;
-    let at_signal = expect_symbol(tokens, after_name, Symbol::Period)?;
-    let (signal, end) = used(alloc, tokens, at_signal)?;
-    let index = Exprs::new(alloc);
-    Ok((
-        Some(Clause::When {
-            at: Access { name, index },
-            signal,
-            place: at,
-        }),
-        end,
-    ))
+    let place = reader.at;
+    reader.word(ReservedWord::When);
+    let name = reader.name();
+    reader.symbol(Symbol::Period);
+    let signal = reader.name();
+    let index = Exprs::new(reader.alloc);
+    Some(Clause::When {
+        at: Access { name, index },
+        signal,
+        place,
+    })
 }
 
 // "begin" [ output ] "end"
-fn block(alloc: Global, tokens: &Tokens, at: u32) -> Result<(Block, u32), Refusal>
-    requires { at ≤ length (tokens_of tokens.now) }
-    ensures reads { Reads tokens.now a_block at block_shape result }
-    ensures onward { Onward tokens.now at result }
+fn block(reader: &mut Reader) -> Block
+    ensures { Goes skeleton grammar.block reader.old (node.block result) reader.new }
 {
-    let at_statement = expect_word(tokens, at, ReservedWord::Begin)?;
-    let (statement, after_statement) = statement(alloc, tokens, at_statement)?;
-    let end = expect_word(tokens, after_statement, ReservedWord::End)?;
-    let statements = one(alloc, statement)?;
-    let parts = Parts::new(alloc);
-    Ok((
-        Block {
-            parts,
-            statements,
-            place: at,
-        },
-        end,
-    ))
+    let place = reader.at;
+    reader.word(ReservedWord::Begin);
+    let statements = statements(reader);
+    reader.word(ReservedWord::End);
+    let parts = Parts::new(reader.alloc);
+    Block {
+        parts,
+        statements,
+        place,
+    }
+}
+
+// [ output ], alone in a list
+fn statements(reader: &mut Reader) -> Statements
+    ensures { Goes skeleton grammar.statement reader.old (alone (map node.a_statement result)) reader.new }
+{
+    let statement = statement(reader);
+    let mut items = Statements::new(reader.alloc);
+    reader.keep(&mut items, statement);
+    items
 }
 
 // [ "output" ident "." ident { "," ident "." ident } ]
-fn statement(alloc: Global, tokens: &Tokens, at: u32) -> Result<(Statement, u32), Refusal>
-    requires { at ≤ length (tokens_of tokens.now) }
-    ensures reads { Reads tokens.now a_statement at statement_shape result }
-    ensures onward { Onward tokens.now at result }
+fn statement(reader: &mut Reader) -> Statement
+    ensures { Goes skeleton grammar.statement reader.old (shown (node.a_statement result)) reader.new }
 {
-    if !word_is(tokens, at, ReservedWord::Output) {
-        return Ok((Statement::Empty { place: at }, at));
+    let place = reader.at;
+    if !reader.sees(TokenKind::Reserved(ReservedWord::Output)) {
+        return Statement::Empty { place };
     }
-    let (sendings, end) = sendings(alloc, tokens, at + 1)?;
-    Ok((
-        Statement::Output {
-            sendings,
-            place: at,
-        },
-        end,
-    ))
+    reader.word(ReservedWord::Output);
+    let sendings = sendings(reader);
+    Statement::Output { sendings, place }
 }
 
 // ident "." ident { "," ident "." ident }
-fn sendings(alloc: Global, tokens: &Tokens, at: u32) -> Result<(Sendings, u32), Refusal>
-    requires { at ≤ length (tokens_of tokens.now) }
-    ensures reads { Reads tokens.now (listed dotted) at sendings_shape result }
-    ensures onward { Onward tokens.now at result }
+fn sendings(reader: &mut Reader) -> Sendings
+    ensures { Goes skeleton (grammar.listed grammar.dotted) reader.old (nodes (map node.a_sending result)) reader.new }
 {
-    let (first, end) = sending(alloc, tokens, at)?;
-    let mut items = Sendings::new(alloc);
-    items.push(first)?;
-    let mut at = end;
-    while symbol_is(tokens, at, Symbol::Comma) {
-        let (next, end) = sending(alloc, tokens, at + 1)?;
-        items.push(next)?;
-        at = end;
+    let first = sending(reader);
+    let mut items = Sendings::new(reader.alloc);
+    reader.keep(&mut items, first);
+    while reader.sees(TokenKind::Symbol(Symbol::Comma)) {
+        reader.symbol(Symbol::Comma);
+        let next = sending(reader);
+        reader.keep(&mut items, next);
     }
-    Ok((items, at))
+    items
 }
 
 // ident "." ident
-fn sending(alloc: Global, tokens: &Tokens, at: u32) -> Result<(Sending, u32), Refusal>
-    requires { at ≤ length (tokens_of tokens.now) }
-    ensures reads { Reads tokens.now dotted at sending_shape result }
-    ensures onward { Onward tokens.now at result }
+fn sending(reader: &mut Reader) -> Sending
+    ensures { Goes skeleton grammar.dotted reader.old (shown (node.a_sending result)) reader.new }
 {
-    let (name, after_name) = used(alloc, tokens, at)?;
-    let at_signal = expect_symbol(tokens, after_name, Symbol::Period)?;
-    let (signal, end) = used(alloc, tokens, at_signal)?;
-    let index = Exprs::new(alloc);
-    let arguments = Exprs::new(alloc);
-    Ok((
-        Sending {
-            at: Access { name, index },
-            signal,
-            arguments,
-        },
-        end,
-    ))
+    let name = reader.name();
+    reader.symbol(Symbol::Period);
+    let signal = reader.name();
+    let index = Exprs::new(reader.alloc);
+    let arguments = Exprs::new(reader.alloc);
+    Sending {
+        at: Access { name, index },
+        signal,
+        arguments,
+    }
 }

@@ -6,3 +6,4 @@ pub mod Flat
 pub mod Exits
 pub mod Fronts
 pub mod OneTree
+pub mod Alike

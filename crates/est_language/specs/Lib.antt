@@ -5,3 +5,4 @@ pub mod Reading
 pub mod Places
 pub mod Answers
 pub mod Laws
+pub mod Shown

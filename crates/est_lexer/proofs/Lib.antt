@@ -7,3 +7,4 @@ pub mod SymbolFront
 pub mod There
 pub mod TokenLaws
 pub mod Unique
+pub mod SameKinds

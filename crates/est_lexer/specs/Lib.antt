@@ -7,3 +7,4 @@ pub mod Spans
 pub mod Spellings
 pub mod TokenList
 pub mod Words
+pub mod Kinds

@@ -1,7 +1,7 @@
 //! What a token is: its kind, and which word or symbol.
 
 /// The reserved words of the profile (ISO 9074 and ISO 7185, word symbols).
-#[derive(Clone, Copy, Debug, PartialEq, Eq)]
+#[derive(Clone, Copy, PartialEq, Eq)]
 pub enum ReservedWord {
     Activity,
     All,
@@ -73,7 +73,7 @@ pub enum ReservedWord {
 }
 
 /// The words and symbols of Estelle and Pascal that the profile leaves out.
-#[derive(Clone, Copy, Debug, PartialEq, Eq)]
+#[derive(Clone, Copy, PartialEq, Eq)]
 pub enum LeftOutToken {
     Exist,
     External,
@@ -96,7 +96,7 @@ pub enum LeftOutToken {
 }
 
 /// The special symbols of the profile (ISO 7185, special symbols, with `?` and `_`).
-#[derive(Clone, Copy, Debug, PartialEq, Eq)]
+#[derive(Clone, Copy, PartialEq, Eq)]
 pub enum Symbol {
     Plus,
     Minus,
@@ -122,7 +122,7 @@ pub enum Symbol {
 }
 
 /// The kind of a token.
-#[derive(Clone, Copy, Debug, PartialEq, Eq)]
+#[derive(Clone, Copy, PartialEq, Eq)]
 pub enum TokenKind {
     Identifier,
     Reserved(ReservedWord),
@@ -134,7 +134,7 @@ pub enum TokenKind {
 }
 
 /// A token: its kind, where it starts in the text and how many bytes it has.
-#[derive(Clone, Copy, Debug, PartialEq, Eq)]
+#[derive(Clone, Copy, PartialEq, Eq)]
 pub struct Token {
     pub kind: TokenKind,
     pub start: u32,

@@ -7,6 +7,4 @@ pub mod laws;
 pub mod lex;
 mod scan;
 mod table;
-#[cfg(test)]
-mod tests;
 pub mod tokens;

@@ -6,6 +6,4 @@ pub mod error;
 pub mod explanation;
 pub mod laws;
 pub mod replay;
-#[cfg(test)]
-mod tests;
 pub mod verdict;

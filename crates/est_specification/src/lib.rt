@@ -4,8 +4,6 @@
 mod error;
 pub mod laws;
 mod read;
-#[cfg(test)]
-mod tests;
 
 pub use error::SpecificationError;
 pub use read::read_specification;

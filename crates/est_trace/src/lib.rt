@@ -6,6 +6,4 @@ pub mod error;
 mod interaction;
 mod lookup;
 mod table;
-#[cfg(test)]
-mod tests;
 pub mod trace;

@@ -1,13 +1,15 @@
-use Rattle.std.proofs.Common.{length, ◌-◌, map}
-use Rattle.est_lexer.specs.Places.{tokens_of}
+use Rattle.std.proofs.Common.{map}
 use Rattle.est_language.specs.Grammar.{rep, rule}
-use Rattle.est_grammar.specs.Skeleton.{several, point}
-use Rattle.est_grammar.specs.Views.{point_shape}
-use Rattle.est_grammar.proofs.Parsing.{Turns}
+use Rattle.est_grammar.specs.Skeleton as grammar
+use Rattle.est_grammar.specs.Skeleton.{listed, several, sign}
+use Rattle.est_grammar.specs.Nodes as node
+use Rattle.est_reader.proofs.Steps.{left_of}
+use Rattle.est_reader.proofs.Turns.{Turning, Each}
+use Rattle.est_grammar.proofs.SkeletonFits.{K}
 use Rattle.est_grammar.proofs.header.points.Given as goal
 
-abbrev pub invariant-loop-alloc : goal.invariant-loop-alloc
-invariant-loop-alloc l = Turns l.tokens (several (rule point)) (rep (rule point)) l.fn.at l.at (map point_shape l.items)
+abbrev pub invariant-loop-reader : goal.invariant-loop-reader
+invariant-loop-reader l = Turning K (several (rule grammar.point)) (rep (rule grammar.point)) l.fn.reader (Each K (map node.a_point l.items)) l.reader
 
-abbrev pub decreases-loop-alloc : goal.decreases-loop-alloc
-decreases-loop-alloc l = length (tokens_of l.tokens) - l.at
+abbrev pub decreases-loop-reader : goal.decreases-loop-reader
+decreases-loop-reader l = left_of l.reader

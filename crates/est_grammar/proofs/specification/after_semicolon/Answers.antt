@@ -1,11 +1,13 @@
-use Rattle.std.proofs.Common.{arith, refl}
+use Rattle.std.proofs.Common.{refl, [], ◌∷◌}
 use Rattle.est_lexer.specs.declared.kind.Symbol.TheVariants.{Semicolon}
 use Rattle.est_lexer.specs.declared.kind.TokenKind.TheVariants.{Symbol as Special}
-use Rattle.est_grammar.proofs.Parsing.{word_end, skip_found, opt_found, opt_out}
+use Rattle.est_reader.specs.Tests.{kind}
+use Rattle.est_reader.proofs.Going.{last, skip_goes, opt_in, opt_out}
+use Rattle.est_grammar.proofs.SkeletonFits.{K}
 use Rattle.est_grammar.proofs.specification.after_semicolon.Goals as goal
 
-pub returns-then-symbol_is : goal.returns-then-symbol_is
-returns-then-symbol_is c = let l = c.if-symbol_is.ensures.inside refl in (skip_found c.args.tokens.now (opt_found c.args.tokens.now refl (word_end c.args.tokens.now c.if-symbol_is.ensures.test)), omega arith, omega (arith, l))
+pub returns-then-sees : goal.returns-then-sees
+returns-then-sees c = skip_goes K (opt_in K (kind (Special Semicolon)) refl refl c.if-sees.ensures (last K c.symbol.ensures))
 
-pub returns-else-symbol_is : goal.returns-else-symbol_is
-returns-else-symbol_is c = (skip_found c.args.tokens.now (opt_out c.args.tokens.now (Special Semicolon) refl refl c.requires c.if-symbol_is.ensures.test), omega arith, c.requires)
+pub returns-else-sees : goal.returns-else-sees
+returns-else-sees c = skip_goes K (opt_out K (kind (Special Semicolon) ∷ []) refl refl (c.if-sees.ensures, tt))

@@ -1,20 +1,9 @@
-use Rattle.std.proofs.Common.{refl}
-use Rattle.est_grammar.specs.Views.{clauses_shape}
-use Rattle.est_grammar.proofs.Parsing.{exit, seq_found, seq_refused_first, seq_refused}
+use Rattle.std.proofs.Common.{refl, sym}
+use Rattle.est_reader.proofs.Steps.{still_on, still_well}
+use Rattle.est_reader.proofs.Going.{then, goes_still}
+use Rattle.est_grammar.proofs.SkeletonFits.{K}
 use Rattle.est_grammar.proofs.Made.{clauses_made}
 use Rattle.est_grammar.proofs.transition.clauses.Goals as goal
 
-pub returns-in_err-from-clause-reads : goal.returns-in_err-from-clause-reads
-returns-in_err-from-clause-reads c =
-    exit c.args.tokens.now clauses_shape _ _ c.from_residual.ensures (λ i z f. seq_refused_first c.args.tokens.now refl f) (c.in_err-from.ensures.reads)
-
-pub returns-in_err-to-clause-reads : goal.returns-in_err-to-clause-reads
-returns-in_err-to-clause-reads c =
-    exit c.args.tokens.now clauses_shape _ _ c.from_residual-in_err-to.ensures (λ i z f. seq_refused c.args.tokens.now refl c.in_ok-from.ensures.reads (seq_refused_first c.args.tokens.now refl f)) (c.in_err-to.ensures.reads)
-
-pub returns-in_err-when-clause-reads : goal.returns-in_err-when-clause-reads
-returns-in_err-when-clause-reads c =
-    exit c.args.tokens.now clauses_shape _ _ c.from_residual-in_err-when.ensures (λ i z f. seq_refused c.args.tokens.now refl c.in_ok-from.ensures.reads (seq_refused c.args.tokens.now refl c.in_ok-to.ensures.reads (f))) (c.in_err-when.ensures.reads)
-
-pub returns-clause-reads : goal.returns-clause-reads
-returns-clause-reads c = rw (c.in_ok-push_some-3.ensures, c.in_ok-push_some-2.ensures, c.in_ok-push_some.ensures, c.new-items.ensures, clauses_made c.in_ok-from.from c.in_ok-to.to c.in_ok-when.when c.in_ok-from.ensures.sort c.in_ok-to.ensures.sort c.in_ok-when.ensures.sort) (seq_found c.args.tokens.now refl c.in_ok-from.ensures.reads (seq_found c.args.tokens.now refl c.in_ok-to.ensures.reads (c.in_ok-when.ensures.reads)))
+pub returns : goal.returns
+returns c = goes_still (then K refl c.from_clause-from.ensures.goes (then K refl c.to_clause-to.ensures.goes c.when_clause-when.ensures.goes)) (still_on (still_on c.keep_some.ensures.still c.keep_some-2.ensures.still) c.keep_some-3.ensures.still) (λ w. rw (c.keep_some-3.ensures.added w, c.keep_some-2.ensures.added (still_well c.keep_some-3.ensures.still w), c.keep_some.ensures.added (still_well c.keep_some-2.ensures.still (still_well c.keep_some-3.ensures.still w)), c.new-items.ensures) (sym (clauses_made c.from_clause-from.result c.to_clause-to.result c.when_clause-when.result c.from_clause-from.ensures.sort c.to_clause-to.ensures.sort c.when_clause-when.ensures.sort)))

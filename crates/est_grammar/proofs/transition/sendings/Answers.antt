@@ -1,27 +1,21 @@
-use Rattle.std.proofs.Common.{arith, refl}
+use Rattle.std.proofs.Common.{refl, [], ◌∷◌}
 use Rattle.std.proofs.lemmas.List.{map-append}
 use Rattle.est_lexer.specs.declared.kind.Symbol.TheVariants.{Comma}
 use Rattle.est_lexer.specs.declared.kind.TokenKind.TheVariants.{Symbol as Special}
-use Rattle.est_grammar.specs.Views.{sendings_shape}
-use Rattle.est_grammar.proofs.Parsing.{exit, word_found, word_refused, seq_refused_first, rep_out, rep_refused, turns_first, turns_more, moves}
+use Rattle.est_reader.specs.Tests.{kind}
+use Rattle.est_reader.proofs.Going.{take}
+use Rattle.est_reader.proofs.Turns.{one_part, more_parts, all_parts, lessens}
+use Rattle.est_grammar.proofs.SkeletonFits.{K}
 use Rattle.est_grammar.proofs.transition.sendings.Goals as goal
 
-pub returns-in_err-first-clause-reads : goal.returns-in_err-first-clause-reads
-returns-in_err-first-clause-reads c =
-    exit c.args.tokens.now sendings_shape _ _ c.from_residual.ensures (λ i z f. seq_refused_first c.args.tokens.now refl f) c.in_err-first.ensures.reads
+pub loop-reader-init : goal.loop-reader-init
+loop-reader-init c = one_part K refl c.sending-first.ensures c.keep.ensures.still (λ w. rw (c.keep.ensures.added w, c.new-items.ensures) refl)
 
-pub loop-alloc-init : goal.loop-alloc-init
-loop-alloc-init c = rw (c.in_ok-push.ensures.ok, c.new-items.ensures) (turns_first c.args.tokens.now refl c.in_ok-first.ensures.reads)
+pub loop-reader-preserved : goal.loop-reader-preserved
+loop-reader-preserved c = more_parts K _ (kind (Special Comma)) refl refl refl c.loop-reader-test.ensures c.loop-reader.invariant (take K c.symbol.ensures c.sending-next.ensures) c.keep-in-loop-reader.ensures.still (λ w. rw (c.keep-in-loop-reader.ensures.added w, map-append) refl)
 
-pub returns-in_err-next-clause-reads : goal.returns-in_err-next-clause-reads
-returns-in_err-next-clause-reads c =
-    exit c.args.tokens.now sendings_shape _ _ c.from_residual-in_err-next.ensures (λ i z f. c.loop-alloc.invariant.off i z (rep_refused c.args.tokens.now (Special Comma) refl refl c.loop-alloc-test.ensures.test (word_refused c.args.tokens.now c.loop-alloc-test.ensures.test f))) c.in_err-next.ensures.reads
+pub loop-reader-smaller : goal.loop-reader-smaller
+loop-reader-smaller c = lessens K refl c.loop-reader-test.ensures (take K c.symbol.ensures c.sending-next.ensures) c.keep-in-loop-reader.ensures.still
 
-pub loop-alloc-preserved : goal.loop-alloc-preserved
-loop-alloc-preserved c = rw (c.in_ok-push-2.ensures.ok, map-append) (turns_more c.args.tokens.now refl refl c.loop-alloc.invariant (word_found c.args.tokens.now c.loop-alloc-test.ensures.test (c.in_ok-next.ensures.reads)))
-
-pub loop-alloc-smaller : goal.loop-alloc-smaller
-loop-alloc-smaller c = let m = moves c.args.tokens.now refl c.in_ok-next.ensures.reads in omega (arith, m, c.in_ok-next.ensures.onward.1, c.in_ok-next.ensures.onward.0)
-
-pub returns-clause-reads : goal.returns-clause-reads
-returns-clause-reads c = let i = c.loop-alloc.invariant in i.on _ _ (rep_out c.args.tokens.now (Special Comma) refl refl i.inside c.loop-alloc-test.ensures.test)
+pub returns : goal.returns
+returns c = all_parts K (kind (Special Comma) ∷ []) refl refl (c.loop-reader-test.ensures, tt) c.loop-reader.invariant

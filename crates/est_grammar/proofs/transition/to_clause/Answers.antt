@@ -1,16 +1,13 @@
-use Rattle.std.proofs.Common.{refl}
+use Rattle.std.proofs.Common.{refl, [], ◌∷◌}
 use Rattle.est_lexer.specs.declared.kind.ReservedWord.TheVariants as words
 use Rattle.est_lexer.specs.declared.kind.TokenKind.TheVariants.{Reserved}
-use Rattle.est_grammar.specs.Views.{to_shape}
-use Rattle.est_grammar.proofs.Parsing.{exit, word_found, word_refused, here_found, here_refused, opt_found, opt_out, opt_refused}
+use Rattle.est_reader.specs.Tests.{kind}
+use Rattle.est_reader.proofs.Going.{take, here_goes, opt_in, opt_out}
+use Rattle.est_grammar.proofs.SkeletonFits.{K}
 use Rattle.est_grammar.proofs.transition.to_clause.Goals as goal
 
-pub returns-then-not-word_is-clause-reads : goal.returns-then-not-word_is-clause-reads
-returns-then-not-word_is-clause-reads c = opt_out c.args.tokens.now (Reserved words.To) refl refl c.requires c.if-not-word_is.ensures.test
+pub returns-then-not-sees-clause-goes : goal.returns-then-not-sees-clause-goes
+returns-then-not-sees-clause-goes c = opt_out K (kind (Reserved words.To) ∷ []) refl refl (c.if-not-sees.ensures, tt)
 
-pub returns-in_err-state-clause-reads : goal.returns-in_err-state-clause-reads
-returns-in_err-state-clause-reads c =
-    exit c.args.tokens.now to_shape _ _ c.from_residual.ensures (λ i z f. opt_refused c.args.tokens.now (Reserved words.To) refl c.if-not-word_is.ensures.test (here_refused c.args.tokens.now (word_refused c.args.tokens.now c.if-not-word_is.ensures.test (f)))) (c.in_err-state.ensures.reads)
-
-pub returns-clause-reads : goal.returns-clause-reads
-returns-clause-reads c = opt_found c.args.tokens.now refl (here_found c.args.tokens.now (word_found c.args.tokens.now c.if-not-word_is.ensures.test (c.in_ok-state.ensures.reads)))
+pub returns-clause-goes : goal.returns-clause-goes
+returns-clause-goes c = opt_in K (kind (Reserved words.To)) refl refl c.if-not-sees.ensures (here_goes K (take K c.word.ensures c.next_state-state.ensures))

@@ -1,25 +1,14 @@
-use Rattle.std.proofs.Common.{refl}
+use Rattle.std.proofs.Common.{refl, [], ◌∷◌}
 use Rattle.est_lexer.specs.declared.kind.ReservedWord.TheVariants as words
-use Rattle.est_lexer.specs.declared.kind.Symbol.TheVariants.{Period}
-use Rattle.est_lexer.specs.declared.kind.TokenKind.TheVariants.{Reserved, Symbol as Special}
-use Rattle.est_grammar.specs.Views.{when_shape}
-use Rattle.est_grammar.proofs.Parsing.{exit, take_found, take_refused, take_bad, word_found, word_refused, here_found, here_refused, seq_found, seq_refused_first, seq_refused, opt_found, opt_out, opt_refused}
+use Rattle.est_lexer.specs.declared.kind.TokenKind.TheVariants.{Reserved}
+use Rattle.est_reader.specs.Tests.{kind}
+use Rattle.est_reader.proofs.Going.{take, then, here_goes, opt_in, opt_out}
+use Rattle.est_reader.proofs.Single.{name_goes}
+use Rattle.est_grammar.proofs.SkeletonFits.{K}
 use Rattle.est_grammar.proofs.transition.when_clause.Goals as goal
 
-pub returns-then-not-word_is-clause-reads : goal.returns-then-not-word_is-clause-reads
-returns-then-not-word_is-clause-reads c = opt_out c.args.tokens.now (Reserved words.When) refl refl c.requires c.if-not-word_is.ensures.test
+pub returns-then-not-sees-clause-goes : goal.returns-then-not-sees-clause-goes
+returns-then-not-sees-clause-goes c = opt_out K (kind (Reserved words.When) ∷ []) refl refl (c.if-not-sees.ensures, tt)
 
-pub returns-in_err-name-clause-reads : goal.returns-in_err-name-clause-reads
-returns-in_err-name-clause-reads c =
-    exit c.args.tokens.now when_shape _ _ c.from_residual.ensures (λ i z f. opt_refused c.args.tokens.now (Reserved words.When) refl c.if-not-word_is.ensures.test (here_refused c.args.tokens.now (word_refused c.args.tokens.now c.if-not-word_is.ensures.test (seq_refused_first c.args.tokens.now refl f)))) (c.in_err-name.ensures.reads)
-
-pub returns-in_err-at_signal-clause-reads : goal.returns-in_err-at_signal-clause-reads
-returns-in_err-at_signal-clause-reads c =
-    exit c.args.tokens.now when_shape _ _ c.from_residual-in_err-at_signal.ensures (λ i z f. opt_refused c.args.tokens.now (Reserved words.When) refl c.if-not-word_is.ensures.test (here_refused c.args.tokens.now (word_refused c.args.tokens.now c.if-not-word_is.ensures.test (seq_refused c.args.tokens.now refl c.in_ok-name.ensures.reads (f))))) (take_bad c.args.tokens.now _ (Special Period) c.in_ok-name.ensures.onward.1 c.in_err-at_signal.ensures)
-
-pub returns-in_err-signal-clause-reads : goal.returns-in_err-signal-clause-reads
-returns-in_err-signal-clause-reads c =
-    exit c.args.tokens.now when_shape _ _ c.from_residual-in_err-signal.ensures (λ i z f. opt_refused c.args.tokens.now (Reserved words.When) refl c.if-not-word_is.ensures.test (here_refused c.args.tokens.now (word_refused c.args.tokens.now c.if-not-word_is.ensures.test (seq_refused c.args.tokens.now refl c.in_ok-name.ensures.reads (take_refused c.args.tokens.now c.in_ok-at_signal.ensures (f)))))) (c.in_err-signal.ensures.reads)
-
-pub returns-clause-reads : goal.returns-clause-reads
-returns-clause-reads c = rw c.new-index.ensures (opt_found c.args.tokens.now refl (here_found c.args.tokens.now (word_found c.args.tokens.now c.if-not-word_is.ensures.test (seq_found c.args.tokens.now refl c.in_ok-name.ensures.reads (take_found c.args.tokens.now c.in_ok-at_signal.ensures (c.in_ok-signal.ensures.reads))))))
+pub returns-clause-goes : goal.returns-clause-goes
+returns-clause-goes c = rw c.new-index.ensures (opt_in K (kind (Reserved words.When)) refl refl c.if-not-sees.ensures (here_goes K (take K c.word.ensures (then K refl (name_goes K c.name-name.ensures) (take K c.symbol.ensures (name_goes K c.name-signal.ensures))))))

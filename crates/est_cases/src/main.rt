@@ -1,0 +1,95 @@
+//! The cases of the program: each is run through the one call of the program, over files and an
+//! output in memory or over real files. Those that fail are printed, and how many there are.
+#![tactic(auto)]
+
+mod cells;
+mod expand;
+mod mistake;
+mod plan;
+mod replace;
+mod suite;
+mod table;
+mod tally;
+mod texts;
+mod tokens;
+mod trial;
+
+use crate::mistake::Mistake;
+use crate::suite::Suite;
+use crate::tally::Tally;
+use est_edge::{FileShelf, OutSink, Shelf, Sink, read_whole, write_whole};
+use std::alloc::Global;
+use std::process::ExitCode;
+use std::str;
+
+// The files of cases, in the order in which they are run. The first has the texts that all share.
+const FILES: [&str; 10] = [
+    "texts.cases",
+    "words.cases",
+    "tokens.cases",
+    "grammar.cases",
+    "rules.cases",
+    "specifications.cases",
+    "traces.cases",
+    "explanations.cases",
+    "replays.cases",
+    "faults.cases",
+];
+
+const MOST_BYTES: u32 = 1_048_576;
+
+fn main(rt: HostRuntime) -> ExitCode {
+    let mut files = FileShelf::new(&rt);
+    let mut out = OutSink::new(&rt);
+    match run_files(rt.alloc(), &mut files, &mut out) {
+        Ok(tally) if tally.failed == 0 => ExitCode::from(0),
+        Ok(_) => ExitCode::from(1),
+        Err(mistake) => {
+            let _ = write_whole(&mut out, mistake.text().as_bytes());
+            ExitCode::from(1)
+        }
+    }
+}
+
+// Runs all files of cases, and writes a line for each and one for all of them.
+fn run_files<S: Shelf, K: Sink>(
+    alloc: Global,
+    files: &mut S,
+    out: &mut K,
+) -> Result<Tally, Mistake> {
+    let mut suite = Suite::new(alloc);
+    let mut all = Tally::new();
+    for file in FILES {
+        let tally = run_file(alloc, file, &mut suite, files)?;
+        write(out, suite.told())?;
+        write_tally(alloc, file, tally, out)?;
+        all.add(tally);
+    }
+    write_tally(alloc, "all", all, out)?;
+    Ok(all)
+}
+
+// Runs one file of cases.
+fn run_file<S: Shelf>(
+    alloc: Global,
+    file: &str,
+    suite: &mut Suite,
+    files: &mut S,
+) -> Result<Tally, Mistake> {
+    match read_whole(alloc, files, file, MOST_BYTES) {
+        Ok(bytes) => match str::from_utf8(bytes.as_slice()) {
+            Ok(lines) => suite.run_file(file, lines, files),
+            Err(_) => Err(Mistake::NotUtf8),
+        },
+        Err(_) => Err(Mistake::Unreadable),
+    }
+}
+
+fn write_tally<K: Sink>(alloc: Global, of: &str, tally: Tally, out: &mut K) -> Result<(), Mistake> {
+    let line = tally.line(alloc, of)?;
+    write(out, line.as_bytes())
+}
+
+fn write<K: Sink>(out: &mut K, bytes: &[u8]) -> Result<(), Mistake> {
+    write_whole(out, bytes).map_err(|_| Mistake::Unwritable)
+}

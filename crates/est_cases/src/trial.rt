@@ -1,0 +1,207 @@
+//! One case, run and compared with what it expects.
+
+use crate::cells::Cells;
+use crate::expand::expand;
+use crate::mistake::Mistake;
+use crate::plan::Plan;
+use crate::replace::replaced;
+use crate::texts::Texts;
+use crate::tokens::listed_tokens;
+use est_edge::{MemShelf, MemSink, Shelf};
+use est_tool::top::run;
+use std::alloc::Global;
+
+/// A case, and the texts that its cells name.
+#[derive(Clone, Copy)]
+pub struct Trial<'t> {
+    pub alloc: Global,
+    pub texts: &'t Texts,
+    pub cells: &'t Cells<'t>,
+}
+
+impl Trial<'_> {
+    /// Runs the case, over these files where it asks for real ones. Answers whether it holds, and
+    /// tells what came where its expectation is not met.
+    pub fn run<S: Shelf>(&self, files: &mut S, told: &mut Vec<u8>) -> Result<bool, Mistake> {
+        let is_met = match self.cells.tokens {
+            Some(text) => self.lists(text, told)?,
+            None => self.calls(files, told)?,
+        };
+        match self.cells.expectation {
+            None => Ok(is_met),
+            Some("wrong") => Ok(!is_met),
+            Some(_) => Err(Mistake::BadExpectation),
+        }
+    }
+
+    // Whether a text has the tokens that are expected.
+    fn lists(&self, text: &str, told: &mut Vec<u8>) -> Result<bool, Mistake> {
+        let text = self.expanded(text)?;
+        let list = listed_tokens(self.alloc, text.as_slice())?;
+        let expected = self.expected()?;
+        if list.as_str() == expected {
+            return Ok(true);
+        }
+        tell(told, b"  expected ", expected.as_bytes())?;
+        tell(told, b"  came ", list.as_bytes())?;
+        Ok(false)
+    }
+
+    // Whether the calls of the program end as expected.
+    fn calls<S: Shelf>(&self, files: &mut S, told: &mut Vec<u8>) -> Result<bool, Mistake> {
+        let words = self.words()?;
+        match self.cells.shelf {
+            Some("files") => self.both_calls(words.as_slice(), files, told),
+            plan => self.calls_in_memory(words.as_slice(), Plan::read(plan)?, told),
+        }
+    }
+
+    // The same over a shelf in memory.
+    fn calls_in_memory(
+        &self,
+        words: &[String],
+        plan: Plan,
+        told: &mut Vec<u8>,
+    ) -> Result<bool, Mistake> {
+        if plan.pieces == 0 {
+            return Err(Mistake::BadPlan);
+        }
+        let mut shelf = MemShelf::new(self.alloc, plan.pieces, &[plan.fails])?;
+        match self.fill(&mut shelf) {
+            Ok(()) => self.both_calls(words, &mut shelf, told),
+            Err(mistake) => Err(mistake),
+        }
+    }
+
+    // One call, and where another one is expected the same call once more.
+    fn both_calls<S: Shelf>(
+        &self,
+        words: &[String],
+        shelf: &mut S,
+        told: &mut Vec<u8>,
+    ) -> Result<bool, Mistake> {
+        let first = self.call(words, shelf, self.expected()?, told)?;
+        match self.cells.then {
+            Some(expected) => {
+                let second = self.call(words, shelf, expected, told)?;
+                Ok(first && second)
+            }
+            None => Ok(first),
+        }
+    }
+
+    // Calls the program once.
+    fn call<S: Shelf>(
+        &self,
+        words: &[String],
+        shelf: &mut S,
+        expected: &str,
+        told: &mut Vec<u8>,
+    ) -> Result<bool, Mistake> {
+        let plan = Plan::read(self.cells.sink)?;
+        if plan.pieces == 0 {
+            return Err(Mistake::BadPlan);
+        }
+        let mut sink = MemSink::new(self.alloc, plan.pieces, &[plan.fails], plan.room)?;
+        let status = run(self.alloc, words, shelf, &mut sink);
+        self.compare(expected, status.code(), sink.written(), told)
+    }
+
+    // Whether a status and the bytes that were written are those that are expected.
+    fn compare(
+        &self,
+        expected: &str,
+        code: u8,
+        written: &[u8],
+        told: &mut Vec<u8>,
+    ) -> Result<bool, Mistake> {
+        let (status, report) = expected.split_once(' ').unwrap_or((expected, "\\c"));
+        let report = self.report(report)?;
+        if status.parse::<u8>() == Ok(code) && report.as_slice() == written {
+            return Ok(true);
+        }
+        tell(told, b"  expected ", expected.as_bytes())?;
+        let code = format!(in self.alloc; "  came {code} ")?;
+        tell(told, code.as_bytes(), written)?;
+        Ok(false)
+    }
+
+    // The bytes of a report: its line with the line feed, and without it where it ends in `\c`.
+    fn report(&self, report: &str) -> Result<Vec<u8>, Mistake> {
+        match report.strip_suffix("\\c") {
+            Some(part) => self.expanded(part),
+            None => {
+                let mut line = self.expanded(report)?;
+                line.push(b'\n')?;
+                Ok(line)
+            }
+        }
+    }
+
+    // What the first call is to give.
+    fn expected(&self) -> Result<&str, Mistake> {
+        self.cells.gives.ok_or(Mistake::NothingExpected)
+    }
+
+    // The words of the call, between blanks.
+    fn words(&self) -> Result<Vec<String>, Mistake> {
+        let mut words = Vec::new(self.alloc);
+        for cell in self.cells.words.unwrap_or("").split_whitespace() {
+            let word = self.expanded(cell)?;
+            match String::from_utf8(word) {
+                Ok(word) => words.push(word)?,
+                Err(_) => return Err(Mistake::NotUtf8),
+            }
+        }
+        Ok(words)
+    }
+
+    // Puts the files of the case on a shelf.
+    fn fill(&self, shelf: &mut MemShelf) -> Result<(), Mistake> {
+        match self.cells.specification {
+            Some(cell) => self.put_specification(shelf, cell)?,
+            None if self.cells.old.is_some() => return Err(Mistake::NoSpecification),
+            None => (),
+        }
+        if let Some(cell) = self.cells.trace {
+            let text = self.expanded(cell)?;
+            shelf.add("b", text.as_slice())?;
+        }
+        if let Some(cell) = self.cells.explanation {
+            let text = self.expanded(cell)?;
+            shelf.add("c", text.as_slice())?;
+        }
+        Ok(())
+    }
+
+    // Puts the specification there, and where one part is to be replaced, the other text in its place.
+    fn put_specification(&self, shelf: &mut MemShelf, cell: &str) -> Result<(), Mistake> {
+        let text = self.expanded(cell)?;
+        shelf.add("a.est", text.as_slice())?;
+        match self.cells.old {
+            Some(old) => self.replace_part(shelf, text.as_slice(), old),
+            None => Ok(()),
+        }
+    }
+
+    fn replace_part(&self, shelf: &mut MemShelf, text: &[u8], old: &str) -> Result<(), Mistake> {
+        let old = self.expanded(old)?;
+        let new = self.expanded(self.cells.new.unwrap_or(""))?;
+        let text = replaced(self.alloc, text, old.as_slice(), new.as_slice())?;
+        Ok(shelf.add("a.est", text.as_slice())?)
+    }
+
+    // What a cell stands for.
+    fn expanded(&self, cell: &str) -> Result<Vec<u8>, Mistake> {
+        let mut text = Vec::new(self.alloc);
+        expand(self.texts, cell, &mut text)?;
+        Ok(text)
+    }
+}
+
+// Tells one thing, in a line of its own.
+fn tell(told: &mut Vec<u8>, what: &[u8], bytes: &[u8]) -> Result<(), Mistake> {
+    told.extend_from_slice(what)?;
+    told.extend_from_slice(bytes)?;
+    Ok(told.push(b'\n')?)
+}

@@ -1,0 +1,22 @@
+use Rattle.std.proofs.Common.{refl, [], ◌∷◌}
+use Rattle.std.proofs.lemmas.List.{map-append}
+use Rattle.est_lexer.specs.declared.kind.Symbol.TheVariants.{Comma}
+use Rattle.est_lexer.specs.declared.kind.TokenKind.TheVariants.{Symbol as Special}
+use Rattle.est_reader.specs.Tests.{kind}
+use Rattle.est_reader.proofs.Going.{take}
+use Rattle.est_reader.proofs.Turns.{one_part, more_parts, all_parts, lessens}
+use Rattle.est_grammar.proofs.SkeletonFits.{K}
+use Rattle.est_grammar.proofs.Made.{name_node}
+use Rattle.est_grammar.proofs.names.names.Goals as goal
+
+pub loop-reader-init : goal.loop-reader-init
+loop-reader-init c = one_part K refl (name_node c.name-first.ensures) c.keep.ensures.still (λ w. rw (c.keep.ensures.added w, c.new-items.ensures) refl)
+
+pub loop-reader-preserved : goal.loop-reader-preserved
+loop-reader-preserved c = more_parts K _ (kind (Special Comma)) refl refl refl c.loop-reader-test.ensures c.loop-reader.invariant (take K c.symbol.ensures (name_node c.name-next.ensures)) c.keep-in-loop-reader.ensures.still (λ w. rw (c.keep-in-loop-reader.ensures.added w, map-append) refl)
+
+pub loop-reader-smaller : goal.loop-reader-smaller
+loop-reader-smaller c = lessens K refl c.loop-reader-test.ensures (take K c.symbol.ensures (name_node c.name-next.ensures)) c.keep-in-loop-reader.ensures.still
+
+pub returns : goal.returns
+returns c = all_parts K (kind (Special Comma) ∷ []) refl refl (c.loop-reader-test.ensures, tt) c.loop-reader.invariant

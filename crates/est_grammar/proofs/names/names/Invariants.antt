@@ -1,0 +1,16 @@
+use Rattle.std.proofs.Common.{map}
+use Rattle.est_language.specs.Grammar.{rep}
+use Rattle.est_reader.specs.Going.{identifier}
+use Rattle.est_lexer.specs.declared.kind.Symbol.TheVariants.{Comma}
+use Rattle.est_grammar.specs.Skeleton.{listed, sign}
+use Rattle.est_grammar.specs.Nodes as node
+use Rattle.est_reader.proofs.Steps.{left_of}
+use Rattle.est_reader.proofs.Turns.{Turning, Each}
+use Rattle.est_grammar.proofs.SkeletonFits.{K}
+use Rattle.est_grammar.proofs.names.names.Given as goal
+
+abbrev pub invariant-loop-reader : goal.invariant-loop-reader
+invariant-loop-reader l = Turning K (listed identifier) (rep (sign Comma identifier)) l.fn.reader (Each K (map node.a_use l.items)) l.reader
+
+abbrev pub decreases-loop-reader : goal.decreases-loop-reader
+decreases-loop-reader l = left_of l.reader

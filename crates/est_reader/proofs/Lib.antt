@@ -1,0 +1,6 @@
+pub mod Values
+pub mod Apart
+pub mod Steps
+pub mod Going
+pub mod Turns
+pub mod Single

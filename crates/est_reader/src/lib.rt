@@ -1,0 +1,10 @@
+//! The reader of tokens: specifications, traces and explanations are read by it.
+#![tactic(auto)]
+
+mod number;
+pub mod outcome;
+pub mod reader;
+mod spelling;
+
+pub use outcome::Outcome;
+pub use reader::Reader;

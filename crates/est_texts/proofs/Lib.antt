@@ -1,4 +1,0 @@
-pub mod Values
-pub mod Apart
-pub mod Taken
-pub mod Within

@@ -1,4 +1,0 @@
-//! Single tokens of trace and explanation texts: words, symbols and numbers.
-#![tactic(auto)]
-
-pub mod token;
