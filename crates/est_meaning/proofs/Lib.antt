@@ -6,3 +6,4 @@ pub mod ClockLaws
 pub mod RowLaws
 pub mod StackLaws
 pub mod FaultLaws
+pub mod AgreementLaws

@@ -14,7 +14,7 @@ use Rattle.est_meaning.specs.Blocks.{Fault}
 use Rattle.est_meaning.specs.Step.{IsStep, outcome, start_of}
 use Rattle.est_meaning.specs.Allowed.{IsAllowedTrace, units_of}
 use Rattle.est_meaning.specs.Order.{RunBefore}
-use Rattle.est_meaning.specs.Run.{Setup, Place, IsBegun, IsRun, IsBoundedRun, Takes, Yields}
+use Rattle.est_meaning.specs.Run.{Setup, Place, IsBegun, IsRun, IsBoundedRun, Takes, Agrees, AgreeAll, AgreeFirst, Yields}
 
 -- one firing leads from a situation to one situation at most, with one list of events
 abbrev pub StepsAreUnique : Type 0
@@ -52,6 +52,18 @@ HasFewInARow c run = (later moves earlier : List Move) → run ≡ later ++ (mov
 -- the bounded runs are the runs with few silent firings in a row
 abbrev pub BoundedMeansFewInARow : Type 0
 BoundedMeansFewInARow = (c : Setup) (run : List Move) (p : Place) → IsBoundedRun c run p ↔ (IsRun c run p × HasFewInARow c run)
+
+-- each event agrees with the one that is expected in its place, and there are as many
+abbrev pub EachAgrees : List Event → List Event → Type 0
+EachAgrees [] [] = Unit {0}
+EachAgrees (x ∷ expected) (e ∷ es) = Agrees x e × EachAgrees expected es
+EachAgrees _ _ = ⊥
+
+-- lists of events agree where their events do, and the first of those that are expected are a list of them
+pub record AgreementIsOneByOne : Type 0 where
+  pub all : (expected es : List Event) → AgreeAll expected es ↔ EachAgrees expected es
+  pub first : (expected es : List Event)
+      → AgreeFirst expected es ↔ ((front : List Event) × (rest : List Event) × (expected ≡ front ++ rest) × AgreeAll front es)
 
 -- what a run yields has no gaps below it, and a run without moves yields at least 0
 pub record YieldsAllBelow : Type 0 where

@@ -1,7 +1,7 @@
 -- Runs of a specification along a trace.
 --
 -- These definitions read a run from its last move back to its first, so that `m ∷ earlier` is the run `earlier` with one more move m.
-use Rattle.std.specs.Prelude.{◌≡◌, ◌≢◌, ℕ, ◌+◌, ◌≤◌, ◌⊎◌, List, [], ◌∷◌, ◌++◌, length, take}
+use Rattle.std.specs.Prelude.{◌≡◌, ℕ, ◌+◌, ◌≤◌, ◌⊎◌, List, [], ◌∷◌, ◌++◌, length, take}
 use Rattle.est_syntax.specs.declared.specification.Spec.{Spec}
 use Rattle.est_meaning.specs.declared.event.Event.{Event}
 use Rattle.est_meaning.specs.declared.event.Event.TheVariants as event
@@ -100,15 +100,29 @@ IsBoundedRun c (m ∷ earlier) p = (q : Place) × IsBoundedRun c earlier q × Mo
 abbrev pub IsPrefix : {X : Type 0} → List X → List X → Type 0
 IsPrefix {X} part whole = (rest : List X) × (whole ≡ part ++ rest)
 
+-- AGREEMENT: what a trace says of the events of a run; what a run follows, explains and yields is told by these alone
+
+-- an event is the one that is expected
+abbrev pub Agrees : Event → Event → Type 0
+Agrees expected e = e ≡ expected
+
+-- events are those that are expected, one by one and as many (`AgreementIsOneByOne`)
+abbrev pub AgreeAll : List Event → List Event → Type 0
+AgreeAll expected es = es ≡ expected
+
+-- events are the first of those that are expected
+abbrev pub AgreeFirst : List Event → List Event → Type 0
+AgreeFirst expected es = IsPrefix es expected
+
 -- the trace begins with the events so far
 abbrev pub Follows : Setup → Place → Type 0
-Follows c p = IsPrefix p.events c.trace
+Follows c p = AgreeFirst c.trace p.events
 
 -- the events are exactly the trace
 pub record Explains (c : Setup) (run : List Move) : Type 0 where
   pub place : Place
   pub is_run : IsBoundedRun c run place
-  pub whole : place.events ≡ c.trace
+  pub whole : AgreeAll c.trace place.events
 
 -- the run without its last move follows the trace
 abbrev pub FollowsBefore : Setup → List Move → Type 0
@@ -122,7 +136,7 @@ pub record YieldsFirst (c : Setup) (run : List Move) (k : ℕ) : Type 0 where
   pub before : FollowsBefore c run
   pub many : k ≤ length place.events
   pub within : k ≤ length c.trace
-  pub agree : take k place.events ≡ take k c.trace
+  pub agree : AgreeAll (take k c.trace) (take k place.events)
 
 -- a bounded run yields the first k events of the trace, or one more than it has where it explains the trace
 abbrev pub Yields : Setup → List Move → ℕ → Type 0
@@ -134,7 +148,7 @@ Yields c run k = YieldsFirst c run k ⊎ ((k ≡ length c.trace + 1) × Explains
 pub record IsInner (c : Setup) (run : List Move) (p : Place) : Type 0 where
   pub is_run : IsBoundedRun c run p
   pub follows : Follows c p
-  pub unfinished : p.events ≢ c.trace
+  pub unfinished : AgreeAll c.trace p.events → ⊥
 
 -- a possible firing after an inner run, whatever comes of its block
 abbrev pub IsTrial : Setup → List Move → Type 0

@@ -1,5 +1,5 @@
 //! Laws of steps and runs. Each function does nothing; its clause is the law.
-ghost use Rattle.est_meaning.specs.Laws.{StepsAreUnique, RunsAreUnique, BoundedRunsBeginBounded, BoundedMeansFewInARow, YieldsAllBelow, RunOrderIsStrictTotal, ClockStaysBounded, RowsAreInOrder, BlocksDoNotFault};
+ghost use Rattle.est_meaning.specs.Laws.{StepsAreUnique, RunsAreUnique, BoundedRunsBeginBounded, BoundedMeansFewInARow, AgreementIsOneByOne, YieldsAllBelow, RunOrderIsStrictTotal, ClockStaysBounded, RowsAreInOrder, BlocksDoNotFault};
 
 /// A firing is a step in one way at most.
 pub fn steps_are_unique()
@@ -19,6 +19,11 @@ pub fn bounded_runs_begin_bounded()
 /// A run is bounded just where nowhere too many moves in a row are silent firings.
 pub fn bounded_runs_have_few_silent_in_a_row()
     ensures { BoundedMeansFewInARow }
+{}
+
+/// The events of a run agree with those of a trace where they do so one by one.
+pub fn events_agree_one_by_one()
+    ensures { AgreementIsOneByOne }
 {}
 
 /// A run yields each number below one that it yields.

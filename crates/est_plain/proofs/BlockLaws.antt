@@ -10,23 +10,22 @@ use Rattle.std.proofs.lemmas.List.{append-nil, map-append}
 use Rattle.std.proofs.lemmas.List.Elements.{filter-append}
 use Rattle.est_syntax.specs.declared.name.Name.{Name}
 use Rattle.est_syntax.specs.declared.name.Used.{Used}
-use Rattle.est_syntax.specs.declared.specification.Sending.{Sending}
-use Rattle.est_syntax.specs.declared.specification.Statement.{Statement}
-use Rattle.est_syntax.specs.declared.specification.Statement.TheVariants as statement
-use Rattle.est_syntax.specs.declared.specification.Body.{Body}
+use Rattle.est_syntax.specs.declared.statement.Sending.{Sending}
+use Rattle.est_syntax.specs.declared.statement.Statement.{Statement}
+use Rattle.est_syntax.specs.declared.body.Body.{Body}
 use Rattle.est_syntax.specs.declared.specification.Spec.{Spec}
 use Rattle.est_meaning.specs.declared.event.Event.{Event}
 use Rattle.est_meaning.specs.declared.event.Interaction.{Interaction}
 use Rattle.est_syntax.specs.declared.ports.Port.{Port}
 use Rattle.est_syntax.specs.declared.ports.Signal.{Signal}
-use Rattle.est_syntax.specs.declared.specification.Point.{Point}
-use Rattle.est_syntax.specs.declared.specification.Header.{Header}
+use Rattle.est_syntax.specs.declared.header.Point.{Point}
+use Rattle.est_syntax.specs.declared.header.Header.{Header}
 use Rattle.est_syntax.specs.Names.{Scope, side_of, spec_scope}
 use Rattle.est_syntax.specs.Ports.{ports_of, header_ports, header_started, point_ports, named_ports, signals_of}
 use Rattle.est_meaning.specs.Text.{Awaited, is_name}
 use Rattle.est_meaning.specs.Situation.{InteractionPoint, is_point, QueueName, Own, Shared, is_queue, Item, Situation, with_queue}
 use Rattle.est_meaning.specs.Links.{port_point, port_number, outside, rest_of, put}
-use Rattle.est_meaning.specs.Blocks.{Outcome, Done, Limit, Sent, signal_number, departing, delivered, sent, all_sent, block_meaning}
+use Rattle.est_meaning.specs.Blocks.{Outcome, Done, Limit, Sent, signal_number, departing, delivered, sent, all_sent, sendings_of, block_meaning}
 use Rattle.est_meaning.specs.Step.{without_awaited, arrived_as, arrived_at, arrived}
 use Rattle.est_plain.specs.declared.situation.Waiting.{Waiting}
 use Rattle.est_plain.specs.PlainSituation.{queues_for, is_port, point_named, queue_named, item_of, waits_in, queued, without_first, bare, signal_in, leaving, departures, sent_in, block_in, taken_in, arrival_as, arrival_at, arrival_in}
@@ -86,11 +85,9 @@ module _ (spec : Spec) (body : Body) where
     pub block_is : (xs : List Statement) (left : ℕ) (outs : List Event) → block_meaning spec 1 xs left (bare body state queues clock) outs ≡ ended (block_in (ports_of spec) xs left outs)
     block_is [] left outs = refl
     block_is (x ∷ xs) zero outs = refl
-    block_is (statement.Empty place ∷ xs) (suc left) outs = block_is xs left outs
-    block_is (statement.Output sendings place ∷ xs) (suc left) outs =
-        ap (λ (r : Sent). block_meaning spec 1 xs left r.situation r.outs) (all_sent_is sendings outs)
-        ∙ block_is xs left (sent_in (ports_of spec) sendings outs)
-    block_is (statement.Init target b arguments place ∷ xs) (suc left) outs = block_is xs left outs
+    block_is (x ∷ xs) (suc left) outs =
+        ap (λ (r : Sent). block_meaning spec 1 xs left r.situation r.outs) (all_sent_is (sendings_of x) outs)
+        ∙ block_is xs left (sent_in (ports_of spec) (sendings_of x) outs)
 
 -- PORTS
 

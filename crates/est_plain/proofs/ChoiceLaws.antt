@@ -6,7 +6,7 @@ use Rattle.std.proofs.lemmas.List.{append-nil}
 use Rattle.std.proofs.lemmas.Option.{slice_get-map, slice_get_read}
 use Rattle.std.specs.Borrow.{Bor}
 use Rattle.std.specs.Option.{option_map}
-use Rattle.est_syntax.specs.declared.specification.Transition.{Transition}
+use Rattle.est_syntax.specs.declared.transition.Transition.{Transition}
 use Rattle.est_syntax.specs.Least.{IsIn}
 use Rattle.est_meaning.specs.declared.event.Interaction.{Interaction}
 use Rattle.est_meaning.specs.declared.run.Firing.{Firing}

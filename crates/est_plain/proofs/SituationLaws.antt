@@ -2,10 +2,10 @@
 use Rattle.std.proofs.Common.{◌≡◌, ℕ, Bool, true, false, ◌&&◌, cond, if◌then◌else◌, nat_eq, List, [], ◌∷◌, map, filter, find, Option, Some, None, option_and_then, refl, sym, ap, subst, ◌∙◌}
 use Rattle.std.specs.Option.{option_map, option_map_or}
 use Rattle.est_syntax.specs.declared.name.Name.{Name}
-use Rattle.est_syntax.specs.declared.specification.Queue.{Queue}
-use Rattle.est_syntax.specs.declared.specification.Queue.TheVariants.{Individual, Common}
-use Rattle.est_syntax.specs.declared.specification.Transition.{Transition}
-use Rattle.est_syntax.specs.declared.specification.Body.{Body}
+use Rattle.est_syntax.specs.declared.header.Queue.{Queue}
+use Rattle.est_syntax.specs.declared.header.Queue.TheVariants.{Individual, Common}
+use Rattle.est_syntax.specs.declared.transition.Transition.{Transition}
+use Rattle.est_syntax.specs.declared.body.Body.{Body}
 use Rattle.est_syntax.specs.declared.specification.Spec.{Spec}
 use Rattle.est_meaning.specs.declared.run.Firing.{Firing}
 use Rattle.est_meaning.specs.Text.{Declared, Awaited, is_name, is_declared, discipline, points_in, header_of, numbered, transitions_of, from_of, when_of, priority_of, has_delay}

@@ -6,11 +6,9 @@ use Rattle.std.proofs.lemmas.Bool.{eqb-true}
 use Rattle.std.proofs.lemmas.Option.{slice_get_within}
 use Rattle.est_syntax.specs.declared.name.Name.{Name}
 use Rattle.est_syntax.specs.declared.name.Used.{Used}
-use Rattle.est_syntax.specs.declared.specification.Statement.{Statement}
-use Rattle.est_syntax.specs.declared.specification.Statement.TheVariants as statement
-use Rattle.est_syntax.specs.declared.specification.Transition.{Transition}
-use Rattle.est_syntax.specs.declared.specification.FirstPart.{FirstPart}
-use Rattle.est_syntax.specs.declared.specification.Body.{Body, out-Body}
+use Rattle.est_syntax.specs.declared.transition.Transition.{Transition}
+use Rattle.est_syntax.specs.declared.body.FirstPart.{FirstPart}
+use Rattle.est_syntax.specs.declared.body.Body.{Body, out-Body}
 use Rattle.est_syntax.specs.declared.specification.Spec.{Spec}
 use Rattle.est_meaning.specs.declared.event.Event.{Event}
 use Rattle.est_meaning.specs.declared.event.Event.TheVariants as event
@@ -19,7 +17,7 @@ use Rattle.est_meaning.specs.declared.run.Firing.{Firing}
 use Rattle.est_meaning.specs.declared.run.Fired.TheVariants as fired
 use Rattle.est_meaning.specs.declared.run.BlockFault.TheVariants.{NoModule}
 use Rattle.est_meaning.specs.declared.run.Offers.TheVariants.{Settled}
-use Rattle.est_meaning.specs.Text.{root_in, root_of, transitions_of, numbered, when_of, to_of}
+use Rattle.est_meaning.specs.Text.{root_of, transitions_of, numbered, when_of, to_of}
 use Rattle.est_meaning.specs.Situation.{QueueName, Item}
 use Rattle.est_meaning.specs.Choices.{IsSettled, restamped}
 use Rattle.est_meaning.specs.Blocks.{Outcome, Done, Fault, Limit, block_meaning}
@@ -195,11 +193,6 @@ arrival_some own ports i are r none =
 
 -- START
 
-begun_is : (limit : ℕ) (spec : Spec) (left : ℕ) (first : Statement) → begun limit spec (suc left) first ≡ made limit spec left (root_in spec first)
-begun_is limit spec left (statement.Init target body arguments place) = refl
-begun_is limit spec left (statement.Empty place) = refl
-begun_is limit spec left (statement.Output sendings place) = refl
-
 pub start_limit : (limit : ℕ) (spec : Spec) → limit ≡ 0 → start_of limit spec ≡ Limit
 unfolding start_of
 start_limit limit spec e = ap (λ n. begun limit spec n spec.first) e
@@ -208,7 +201,7 @@ start_made : (limit : ℕ) (spec : Spec) (left : ℕ) (o : Option Body) → limi
 unfolding start_of
 start_made limit spec left o e root =
     let f : limit ≡ suc left = omega arith in
-    ap (λ n. begun limit spec n spec.first) f ∙ begun_is limit spec left spec.first ∙ ap (made limit spec left) root
+    ap (λ n. begun limit spec n spec.first) f ∙ ap (made limit spec left) root
 
 pub start_none : (limit : ℕ) (spec : Spec) → 1 ≤ limit → None ≡ root_of spec → start_of limit spec ≡ Fault NoModule
 start_none limit spec le root = start_made limit spec (limit - 1) None (omega arith) (sym root)

@@ -6,13 +6,12 @@ use Rattle.std.specs.Option.{option_map_or}
 use Rattle.est_syntax.specs.declared.name.Name.{Name}
 use Rattle.est_syntax.specs.declared.expression.Access.{Access}
 use Rattle.est_syntax.specs.declared.name.Used.{Used}
-use Rattle.est_syntax.specs.declared.specification.Queue.{Queue}
-use Rattle.est_syntax.specs.declared.specification.Queue.TheVariants.{Individual, Common}
-use Rattle.est_syntax.specs.declared.specification.Sending.{Sending}
-use Rattle.est_syntax.specs.declared.specification.Statement.{Statement}
-use Rattle.est_syntax.specs.declared.specification.Statement.TheVariants as statement
-use Rattle.est_syntax.specs.declared.specification.Transition.{Transition}
-use Rattle.est_syntax.specs.declared.specification.Body.{Body}
+use Rattle.est_syntax.specs.declared.header.Queue.{Queue}
+use Rattle.est_syntax.specs.declared.header.Queue.TheVariants.{Individual, Common}
+use Rattle.est_syntax.specs.declared.statement.Sending.{Sending}
+use Rattle.est_syntax.specs.declared.statement.Statement.{Statement}
+use Rattle.est_syntax.specs.declared.transition.Transition.{Transition}
+use Rattle.est_syntax.specs.declared.body.Body.{Body}
 use Rattle.est_syntax.specs.declared.specification.Spec.{Spec}
 use Rattle.est_syntax.specs.Least.{IsIn}
 use Rattle.est_meaning.specs.declared.event.Event.{Event}
@@ -22,7 +21,7 @@ use Rattle.est_meaning.specs.Text.{Declared, Awaited, is_name, discipline, point
 use Rattle.est_meaning.specs.Situation.{nothing, InteractionPoint, QueueName, Own, Shared, is_queue, Item, Situation}
 use Rattle.est_meaning.specs.Order.{IsAscending}
 use Rattle.est_meaning.specs.declared.event.Interaction.{Interaction}
-use Rattle.est_syntax.specs.declared.specification.FirstPart.{FirstPart}
+use Rattle.est_syntax.specs.declared.body.FirstPart.{FirstPart}
 use Rattle.est_meaning.specs.Choices.{fits_state}
 use Rattle.est_meaning.specs.Step.{root_row}
 use Rattle.est_plain.specs.declared.situation.PlainSituation.{PlainSituation}
@@ -31,7 +30,7 @@ use Rattle.est_syntax.specs.declared.ports.Port.{Port}
 use Rattle.est_syntax.specs.declared.ports.Signal.{Signal}
 use Rattle.est_meaning.specs.Situation.{is_point}
 use Rattle.est_meaning.specs.Links.{port_point}
-use Rattle.est_meaning.specs.Blocks.{is_signal}
+use Rattle.est_meaning.specs.Blocks.{is_signal, sendings_of}
 use Rattle.est_plain.specs.declared.situation.Waiting.{Waiting}
 
 -- what a plain situation holds: its state, all that waits in order of arrival, and the clock
@@ -169,9 +168,7 @@ sent_in ports (x ∷ xs) outs = sent_in ports xs (outs ++ departures (leaving po
 
 -- the outside events behind a statement
 abbrev pub entered_in : List Port → Statement → List Event → List Event
-entered_in ports (statement.Empty place) outs = outs
-entered_in ports (statement.Output sendings place) outs = sent_in ports sendings outs
-entered_in ports (statement.Init target body arguments place) outs = outs
+entered_in ports st outs = sent_in ports (sendings_of st) outs
 
 -- the outside events of a block, or none where it passes its limit
 abbrev pub block_in : List Port → List Statement → ℕ → List Event → Option (List Event)

@@ -15,11 +15,13 @@ use crate::text::same_name;
 use crate::undo::Taken;
 use est_meaning::event::{Event, Interaction};
 use est_meaning::run::Firing;
+use est_syntax::body::FirstPart;
 use est_syntax::copy::copy_values;
 use est_syntax::kind::Values;
 use est_syntax::name::Name;
 use est_syntax::ports::{Port, Signal, Signals};
-use est_syntax::specification::{FirstPart, Sendings, Statement, Statements, Transition};
+use est_syntax::statement::{Sendings, Statement, Statements};
+use est_syntax::transition::Transition;
 use std::alloc::{AllocError, Global};
 use std::collections::VecDeque;
 
@@ -142,9 +144,8 @@ fn enter(
     ensures { OnOk result (outs.new.items ≡ entered_in ports.now statement.now outs.old.items) }
 {
     match statement {
-        Statement::Empty { .. } => Ok(()),
         Statement::Output { sendings, .. } => send(alloc, ports, sendings, outs),
-        Statement::Init { .. } => Ok(()),
+        _ => Ok(()),
     }
 }
 

@@ -10,7 +10,7 @@ ghost use Rattle.est_plain.specs.PlainSituation.{awaited_by};
 use crate::text::same_name;
 use est_syntax::expression::Access;
 use est_syntax::name::{Name, Used, UsedNames};
-use est_syntax::specification::{Clause, Transition};
+use est_syntax::transition::{Clause, Transition};
 
 /// Whether one of these uses the name.
 fn any_uses(used: &[Used], name: &Name) -> bool

@@ -10,7 +10,7 @@ use crate::block::{state_after, take_awaited};
 use crate::situation::{PlainSituation, PointQueue, Waiting, copy_state};
 use crate::undo::{Undo, take_back};
 use est_syntax::name::Name;
-use est_syntax::specification::Transition;
+use est_syntax::transition::Transition;
 use std::alloc::{AllocError, Global};
 use std::collections::VecDeque;
 use std::mem;

@@ -1,13 +1,16 @@
 //! The text of a specification as lists.
 
 ghost use Rattle.std.specs.Prelude.{◌≡◌, ◌∷◌, ◌++◌, map, IfOk, OnOk};
-ghost use Rattle.est_syntax.specs.declared.specification.Group.{out-Group};
+ghost use Rattle.est_syntax.specs.declared.transition.Group.{out-Group};
 ghost use Rattle.est_meaning.specs.Text.{declared_in, points_of, discipline, transitions_of};
 ghost use Rattle.est_plain.specs.PlainSituation.{queue_for, is_common, referred};
 
 use crate::situation::PointQueue;
+use est_syntax::body::Body;
+use est_syntax::header::{Header, Point, Queue};
 use est_syntax::name::Used;
-use est_syntax::specification::{Body, Group, Header, Point, Queue, Spec, Transition};
+use est_syntax::specification::Spec;
+use est_syntax::transition::{Group, Transition};
 use std::alloc::{AllocError, Global};
 
 /// Whether an interaction point shares the common queue.

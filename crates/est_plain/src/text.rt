@@ -3,12 +3,15 @@
 ghost use Rattle.std.specs.Prelude.{◌≡◌, find};
 ghost use Rattle.std.specs.List.{filter_map, position_from};
 ghost use Rattle.std.specs.Option.{option_copied};
-ghost use Rattle.est_syntax.specs.declared.specification.Header.{Header};
-ghost use Rattle.est_syntax.specs.declared.specification.Body.{Body, out-Body};
+ghost use Rattle.est_syntax.specs.declared.header.Header.{Header};
+ghost use Rattle.est_syntax.specs.declared.body.Body.{Body, out-Body};
 ghost use Rattle.est_meaning.specs.Text.{is_name, uses_name, header_named, header_of, body_named, root_of};
 
+use est_syntax::body::{Body, Part};
+use est_syntax::header::Header;
 use est_syntax::name::Name;
-use est_syntax::specification::{Body, Header, Part, Spec, Statement};
+use est_syntax::specification::Spec;
+use est_syntax::statement::Statement;
 
 /// Whether two names are spelled alike.
 pub fn same_name(a: &Name, b: &Name) -> bool
@@ -58,7 +61,6 @@ pub fn root_of(spec: &Spec) -> Option<&Body>
 {
     match &spec.first {
         Statement::Init { body, .. } => body_named(spec, &body.name),
-        Statement::Empty { .. } => None,
-        Statement::Output { .. } => None,
+        _ => None,
     }
 }

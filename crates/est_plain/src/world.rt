@@ -16,8 +16,10 @@ use est_check::Checked;
 use est_meaning::event::{Event, Events};
 use est_meaning::run::{BlockFault, Fired, Firing, Offers, Started};
 use est_meaning::world::World;
+use est_syntax::body::Body;
 use est_syntax::ports::Ports;
-use est_syntax::specification::{Body, Spec, Transition};
+use est_syntax::specification::Spec;
+use est_syntax::transition::Transition;
 use std::alloc::{AllocError, Global};
 
 /// A system of one instance that can be run and undone step by step.

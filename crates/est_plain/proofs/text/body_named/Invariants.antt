@@ -1,6 +1,6 @@
 use Rattle.std.proofs.Common.{◌≡◌, find, drop}
 use Rattle.std.specs.List.{filter_map}
-use Rattle.est_syntax.specs.declared.specification.Body.{Body, out-Body}
+use Rattle.est_syntax.specs.declared.body.Body.{Body, out-Body}
 use Rattle.est_meaning.specs.Text.{uses_name, body_in}
 use Rattle.est_plain.proofs.text.body_named.Given as goal
 

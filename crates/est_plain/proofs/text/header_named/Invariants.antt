@@ -1,6 +1,6 @@
 use Rattle.std.proofs.Common.{◌≡◌, find, drop}
 use Rattle.std.specs.List.{filter_map}
-use Rattle.est_syntax.specs.declared.specification.Header.{Header}
+use Rattle.est_syntax.specs.declared.header.Header.{Header}
 use Rattle.est_meaning.specs.Text.{uses_name, header_in}
 use Rattle.est_plain.proofs.text.header_named.Given as goal
 
