@@ -2,7 +2,7 @@
 use Rattle.std.proofs.Common.{◌≡◌, ℕ, ◌+◌, ◌-◌, ◌≤◌, List, ◌++◌, length, take, drop, Option, Some, None, arith, ap, sym, ◌∙◌, refl, append_assoc, take-add, length-drop, length-take-le, drop-drop}
 use Rattle.std.proofs.Math.Seq.{take-append_seam}
 use Rattle.std.proofs.lemmas.List.{take-append-drop, take_rest}
-use Rattle.est_edge.specs.Pieces.{appended, IsPrefix}
+use Rattle.est_edge.specs.Pieces.{appended, IsPrefix, TakesOff}
 
 -- a front part of a list is one
 pub IsPrefix-take : (n : ℕ) (xs : List ℕ) → IsPrefix (take n xs) xs
@@ -46,3 +46,10 @@ next_piece bytes front tail taken n copied h =
     sym (ap (λ (part : List ℕ). part ++ drop (taken + n) bytes) (seam ∙ piece)
     ∙ ap (λ (part : List ℕ). take n rest ++ part) (sym (drop-drop n taken bytes))
     ∙ take-append-drop n rest)
+
+-- two pieces that were taken off one after the other are one piece
+pub TakesOff-next : (o l m : Option (List ℕ)) (xs ys : List ℕ) → TakesOff o xs l → TakesOff l ys m → TakesOff o (xs ++ ys) m
+TakesOff-next None l m xs ys h k = tt
+TakesOff-next (Some rest) None m xs ys h k = absurd h
+TakesOff-next (Some rest) (Some after) None xs ys h k = absurd k
+TakesOff-next (Some rest) (Some after) (Some end) xs ys h k = h ∙ ap (λ (part : List ℕ). xs ++ part) k ∙ sym (append_assoc xs ys end)

@@ -7,7 +7,7 @@ ghost use Rattle.est_edge.specs.Calls.{is_listed, next_number};
 use std::alloc::{AllocError, Global};
 
 /// The number of the last call, and the numbers of the calls that fail.
-#[derive(Debug, Drop)]
+#[derive(Drop)]
 pub struct Calls {
     made: u64,
     failing: Vec<u64>,

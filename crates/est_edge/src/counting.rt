@@ -4,7 +4,7 @@ ghost use Rattle.std.specs.Prelude.{◌≡◌, ◌≤◌};
 ghost use Rattle.est_edge.specs.Counts.{last_count, Rose, GoesOn};
 
 /// A count of faults, which stays at its last value once it is there.
-#[derive(Debug, Drop)]
+#[derive(Drop)]
 pub struct Count {
     value: u64,
     ghost within: { value ≤ last_count },

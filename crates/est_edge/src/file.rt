@@ -3,7 +3,7 @@
 use crate::counting::Count;
 
 /// A file in memory, with the count of its faults.
-#[derive(Debug, Drop)]
+#[derive(Drop)]
 pub struct MemFile {
     pub(crate) name: String,
     pub(crate) bytes: Vec<u8>,

@@ -14,7 +14,7 @@ use std::alloc::{AllocError, Global};
 
 /// Files in memory, for tests. Each call of `start` or `more` has a number, from 1 on, and is to
 /// fail where its number is listed. A name that no file has holds no bytes and cannot be started.
-#[derive(Debug, Drop)]
+#[derive(Drop)]
 pub struct MemShelf {
     alloc: Global,
     chunk: usize,

@@ -10,7 +10,7 @@ use std::alloc::{AllocError, Global};
 
 /// An output in memory, for tests. Each call of `put` has a number, from 1 on, and fails where its
 /// number is listed or no room is left.
-#[derive(Debug, Drop)]
+#[derive(Drop)]
 pub struct MemSink {
     chunk: usize,
     calls: Calls,
