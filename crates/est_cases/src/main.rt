@@ -60,13 +60,24 @@ fn run_files<S: Shelf, K: Sink>(
     let mut suite = Suite::new(alloc);
     let mut all = Tally::new();
     for file in FILES {
-        let tally = run_file(alloc, file, &mut suite, files)?;
-        write(out, suite.told())?;
-        write_tally(alloc, file, tally, out)?;
-        all.add(tally);
+        all.add(run_and_tell(alloc, file, &mut suite, files, out)?);
     }
     write_tally(alloc, "all", all, out)?;
     Ok(all)
+}
+
+// Runs one file of cases, and writes which fail and how many there are.
+fn run_and_tell<S: Shelf, K: Sink>(
+    alloc: Global,
+    file: &str,
+    suite: &mut Suite,
+    files: &mut S,
+    out: &mut K,
+) -> Result<Tally, Mistake> {
+    let tally = run_file(alloc, file, suite, files)?;
+    write(out, suite.told())?;
+    write_tally(alloc, file, tally, out)?;
+    Ok(tally)
 }
 
 // Runs one file of cases.
