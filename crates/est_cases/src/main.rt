@@ -59,11 +59,24 @@ fn run_files<S: Shelf, K: Sink>(
 ) -> Result<Tally, Mistake> {
     let mut suite = Suite::new(alloc);
     let mut all = Tally::new();
-    for file in FILES {
-        all.add(run_and_tell(alloc, file, &mut suite, files, out)?);
+    match run_each(alloc, &mut suite, files, out, &mut all) {
+        Ok(()) => write_tally(alloc, "all", all, out).map(|_| all),
+        Err(mistake) => Err(mistake),
     }
-    write_tally(alloc, "all", all, out)?;
-    Ok(all)
+}
+
+// Runs the files one after another, and counts their cases.
+fn run_each<S: Shelf, K: Sink>(
+    alloc: Global,
+    suite: &mut Suite,
+    files: &mut S,
+    out: &mut K,
+    all: &mut Tally,
+) -> Result<(), Mistake> {
+    for file in FILES.iter() {
+        all.add(run_and_tell(alloc, file, suite, files, out)?);
+    }
+    Ok(())
 }
 
 // Runs one file of cases, and writes which fail and how many there are.
