@@ -176,7 +176,7 @@ impl Trial<'_, '_> {
         Ok(())
     }
 
-    // Puts the specification there, and where one part is to be replaced, the other text in its place.
+    // Puts the specification there; where a part is replaced, the changed text takes its place.
     fn put_specification(&self, shelf: &mut MemShelf, cell: &str) -> Result<(), Mistake> {
         let text = self.expanded(cell)?;
         shelf.add("a.est", text.as_slice())?;
