@@ -59,14 +59,38 @@ fn run_files<S: Shelf, K: Sink>(
 ) -> Result<Tally, Mistake> {
     let mut suite = Suite::new(alloc);
     let mut all = Tally::new();
-    for file in FILES {
-        let tally = run_file(alloc, file, &mut suite, files)?;
-        write(out, suite.told())?;
-        write_tally(alloc, file, tally, out)?;
-        all.add(tally);
+    match run_each(alloc, &mut suite, files, out, &mut all) {
+        Ok(()) => write_tally(alloc, "all", all, out).map(|_| all),
+        Err(mistake) => Err(mistake),
     }
-    write_tally(alloc, "all", all, out)?;
-    Ok(all)
+}
+
+// Runs the files one after another, and counts their cases.
+fn run_each<S: Shelf, K: Sink>(
+    alloc: Global,
+    suite: &mut Suite,
+    files: &mut S,
+    out: &mut K,
+    all: &mut Tally,
+) -> Result<(), Mistake> {
+    for file in FILES.iter() {
+        all.add(run_and_tell(alloc, file, suite, files, out)?);
+    }
+    Ok(())
+}
+
+// Runs one file of cases, and writes which fail and how many there are.
+fn run_and_tell<S: Shelf, K: Sink>(
+    alloc: Global,
+    file: &str,
+    suite: &mut Suite,
+    files: &mut S,
+    out: &mut K,
+) -> Result<Tally, Mistake> {
+    let tally = run_file(alloc, file, suite, files)?;
+    write(out, suite.told())?;
+    write_tally(alloc, file, tally, out)?;
+    Ok(tally)
 }
 
 // Runs one file of cases.

@@ -89,7 +89,7 @@ impl Suite {
         files: &mut S,
     ) -> Result<(), Mistake> {
         match table.row(row) {
-            Ok(cells) => self.run_case(place, &cells, files),
+            Ok(cells) => self.run_case(place, cells, files),
             Err(mistake) => self.note_mistake(place, row, mistake),
         }
     }
@@ -98,7 +98,7 @@ impl Suite {
     fn run_case<S: Shelf>(
         &mut self,
         place: Place<'_>,
-        cells: &Cells<'_>,
+        cells: Cells<'_>,
         files: &mut S,
     ) -> Result<(), Mistake> {
         let mut seen = Vec::new(self.alloc);

@@ -13,13 +13,13 @@ use std::alloc::Global;
 
 /// A case, and the texts that its cells name.
 #[derive(Clone, Copy)]
-pub struct Trial<'t> {
+pub struct Trial<'t, 'c> {
     pub alloc: Global,
     pub texts: &'t Texts,
-    pub cells: &'t Cells<'t>,
+    pub cells: Cells<'c>,
 }
 
-impl Trial<'_> {
+impl Trial<'_, '_> {
     /// Runs the case, over these files where it asks for real ones. Answers whether it holds, and
     /// tells what came where its expectation is not met.
     pub fn run<S: Shelf>(&self, files: &mut S, told: &mut Vec<u8>) -> Result<bool, Mistake> {
@@ -29,22 +29,21 @@ impl Trial<'_> {
         };
         match self.cells.expectation {
             None => Ok(is_met),
-            Some("wrong") => Ok(!is_met),
+            Some("wrong") => refuted(is_met, told),
             Some(_) => Err(Mistake::BadExpectation),
         }
     }
 
     // Whether a text has the tokens that are expected.
     fn lists(&self, text: &str, told: &mut Vec<u8>) -> Result<bool, Mistake> {
+        let expected = self.expected()?;
         let text = self.expanded(text)?;
         let list = listed_tokens(self.alloc, text.as_slice())?;
-        let expected = self.expected()?;
         if list.as_str() == expected {
-            return Ok(true);
+            Ok(true)
+        } else {
+            differ(expected, b"", list.as_bytes(), told)
         }
-        tell(told, b"  expected ", expected.as_bytes())?;
-        tell(told, b"  came ", list.as_bytes())?;
-        Ok(false)
     }
 
     // Whether the calls of the program end as expected.
@@ -116,14 +115,17 @@ impl Trial<'_> {
         told: &mut Vec<u8>,
     ) -> Result<bool, Mistake> {
         let (status, report) = expected.split_once(' ').unwrap_or((expected, "\\c"));
-        let report = self.report(report)?;
-        if status.parse::<u8>() == Ok(code) && report.as_slice() == written {
+        if status.parse::<u8>() == Ok(code) && self.is_report(report, written)? {
             return Ok(true);
         }
-        tell(told, b"  expected ", expected.as_bytes())?;
-        let code = format!(in self.alloc; "  came {code} ")?;
-        tell(told, code.as_bytes(), written)?;
-        Ok(false)
+        let code = format!(in self.alloc; "{code} ")?;
+        differ(expected, code.as_bytes(), written, told)
+    }
+
+    // Whether these bytes are those of a report.
+    fn is_report(&self, report: &str, written: &[u8]) -> Result<bool, Mistake> {
+        let report = self.report(report)?;
+        Ok(report.as_slice() == written)
     }
 
     // The bytes of a report: its line with the line feed, and without it where it ends in `\c`.
@@ -174,7 +176,7 @@ impl Trial<'_> {
         Ok(())
     }
 
-    // Puts the specification there, and where one part is to be replaced, the other text in its place.
+    // Puts the specification there; where a part is replaced, the changed text takes its place.
     fn put_specification(&self, shelf: &mut MemShelf, cell: &str) -> Result<(), Mistake> {
         let text = self.expanded(cell)?;
         shelf.add("a.est", text.as_slice())?;
@@ -199,9 +201,21 @@ impl Trial<'_> {
     }
 }
 
-// Tells one thing, in a line of its own.
-fn tell(told: &mut Vec<u8>, what: &[u8], bytes: &[u8]) -> Result<(), Mistake> {
-    told.extend_from_slice(what)?;
-    told.extend_from_slice(bytes)?;
-    Ok(told.push(b'\n')?)
+// Whether a wrong expectation is not met, as it is to be.
+fn refuted(is_met: bool, told: &mut Vec<u8>) -> Result<bool, Mistake> {
+    if is_met {
+        told.extend_from_slice(b"  met, though it is marked as wrong\n")?;
+    }
+    Ok(!is_met)
+}
+
+// Tells what was expected and what came, which is another status or other bytes.
+fn differ(expected: &str, status: &[u8], came: &[u8], told: &mut Vec<u8>) -> Result<bool, Mistake> {
+    told.extend_from_slice(b"  expected ")?;
+    told.extend_from_slice(expected.as_bytes())?;
+    told.extend_from_slice(b"\n  came ")?;
+    told.extend_from_slice(status)?;
+    told.extend_from_slice(came)?;
+    told.push(b'\n')?;
+    Ok(false)
 }
