@@ -1,15 +1,12 @@
 -- The ports by the tables are those of the skeleton.
-use Rattle.std.specs.Prelude.{if◌then◌else◌, slice_get, not}
+use Rattle.std.specs.Prelude.{if◌then◌else◌, slice_get}
 use Rattle.std.proofs.Common.{◌≡◌, ◌+◌, ◌<◌, ◌≤◌, length, drop, refl, sym, ap, ◌∙◌, subst, ℕ, zero, suc, Bool, true, false, List, [], ◌∷◌, ◌++◌, Option, Some, None, inl, inr, get_or}
 use Rattle.std.proofs.lemmas.Option.{none-some}
 use Rattle.std.proofs.lemmas.List.{drop_more, drop_all}
 use Rattle.est_syntax.specs.declared.name.Used.{Used}
 use Rattle.est_syntax.specs.declared.rule.Fault.{Fault}
-use Rattle.est_syntax.specs.declared.ports.Signal.{Signal}
 use Rattle.est_syntax.specs.declared.sort.NameSort.{NameSort}
 use Rattle.est_syntax.specs.declared.sort.NameSort.TheVariants as sort
-use Rattle.est_syntax.specs.declared.specification.InteractionDef.{InteractionDef}
-use Rattle.est_syntax.specs.declared.specification.ByPart.{ByPart}
 use Rattle.est_syntax.specs.declared.specification.Channel.{Channel}
 use Rattle.est_syntax.specs.declared.specification.Header.{Header}
 use Rattle.est_syntax.specs.declared.specification.ModvarDef.{ModvarDef}
@@ -26,9 +23,8 @@ use Rattle.est_syntax.specs.Names as names
 use Rattle.est_syntax.specs.Environment.{environment, sort_by, name_sort, has_role}
 use Rattle.est_syntax.specs.Faults.{takes, used_as, use_faults, modvars_faults, statement_faults, names_of, twice_faults, part_faults}
 use Rattle.est_syntax.specs.Breaks.{outermost, outside, inside, IsGood, modvar_by, modvar_in}
-use Rattle.est_syntax.specs.Ports.{interaction_signals, by_signals, signals_of, named_ports, point_ports, header_ports, header_of_variable, header_started, ports_of}
+use Rattle.est_syntax.specs.Ports.{by_signals, signals_of, header_ports, header_of_variable, header_started, ports_of}
 use Rattle.est_syntax.proofs.Members.{in_first, in_second}
-use Rattle.est_check.specs.declared.names.Senders.{Senders}
 use Rattle.est_check.specs.declared.names.PointSide.{PointSide}
 use Rattle.est_check.specs.declared.table.BodyNames.{BodyNames}
 use Rattle.est_check.specs.declared.table.Table.{Table}
@@ -43,7 +39,7 @@ use Rattle.est_check.specs.Skeleton.{IsInit, IsSkeleton, channel_parts}
 use Rattle.est_check.specs.Counts.{body_count}
 use Rattle.est_check.proofs.Stands.{SideFor, ChannelFor}
 use Rattle.est_check.proofs.Channels.{roles_for, senders_for}
-use Rattle.est_check.proofs.Environments.{alone, may_send_for, side_outside}
+use Rattle.est_check.proofs.Environments.{may_send_for, side_outside}
 use Rattle.est_check.proofs.Parts.{or_part, members_list, members_are, TableFor}
 use Rattle.est_check.proofs.Sound.{IsYes, Known, KnownMeaning, known_meaning, all_known, all_flat, table_for}
 

@@ -1,4 +1,4 @@
-use Rattle.std.proofs.Common.{◌≡◌, ap, sym, ◌∙◌, ◌++◌}
+use Rattle.std.proofs.Common.{ap, sym, ◌∙◌, ◌++◌}
 use Rattle.est_syntax.specs.Names.{spec_scope}
 use Rattle.est_syntax.specs.Ports.{header_ports, point_ports}
 use Rattle.est_check.proofs.PortLaws.{first_at, first_past, first_ports}
