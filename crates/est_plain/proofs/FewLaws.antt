@@ -1,7 +1,6 @@
 -- A skeleton has few ports, signals and transitions.
-use Rattle.std.proofs.Common.{◌≡◌, ◌<◌, ◌≤◌, ◌+◌, ◌^◌, ℕ, Bool, true, false, List, [], ◌∷◌, ◌++◌, ◌⊎◌, inl, inr, Option, Some, None, length, length-append, arith, refl, sym, ap, subst}
+use Rattle.std.proofs.Common.{◌≡◌, ◌<◌, ◌≤◌, ◌^◌, Bool, true, false, List, [], ◌∷◌, inl, inr, Option, Some, length, length-append, arith, refl, sym, subst}
 use Rattle.std.specs.Prelude.{find, filter_map, flat_map, if◌then◌else◌}
-use Rattle.est_syntax.specs.declared.ports.Port.{Port}
 use Rattle.est_syntax.specs.declared.specification.Statement.{Statement}
 use Rattle.est_syntax.specs.declared.specification.Statement.TheVariants as statement
 use Rattle.est_syntax.specs.declared.specification.Group.{Group, out-Group}
