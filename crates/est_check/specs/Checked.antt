@@ -10,7 +10,12 @@ use Rattle.est_check.specs.Skeleton.{IsSkeleton}
 
 -- the numbers of bodies, transitions and ports of a specification
 abbrev pub counts_of : Spec → Counts
-counts_of s = record { bodies = body_count s.parts; transitions = transition_count s.parts; ports = length (ports_of s) }
+counts_of s = record {
+  bodies = body_count s.parts;
+  transitions = transition_count s.parts;
+  ports = length
+      (ports_of s);
+}
 
 -- the tree is that of a skeleton, no rule is broken, and the ports and counts are its own
 pub record IsChecked (s : Spec) (ports : List Port) (counts : Counts) : Type 0 where

@@ -31,23 +31,28 @@ role_entries (u ∷ us) = (u, entry u.place (entities.Role false)) ∷ other_rol
 -- the interactions of a `by` part with these senders
 abbrev pub interaction_entries : Senders → List InteractionDef → List (Used × Entry)
 interaction_entries who [] = []
-interaction_entries who (i ∷ is) = (i.name, entry i.name.place (entities.Interaction who)) ∷ interaction_entries who is
+interaction_entries who (i ∷ is) =
+    (i.name, entry i.name.place (entities.Interaction who)) ∷ interaction_entries who is
 
 -- the interactions of the `by` parts of a channel with these roles
 abbrev pub by_entries : Entries → List ByPart → List (Used × Entry)
 by_entries roles [] = []
-by_entries roles (b ∷ bs) = interaction_entries (senders roles b.roles) b.interactions ++ by_entries roles bs
+by_entries roles (b ∷ bs) =
+    interaction_entries (senders roles b.roles) b.interactions ++ by_entries roles bs
 
 -- the module variables of a `modvar` section
 abbrev pub variable_entries : List ModvarDef → List (Used × Entry)
 variable_entries [] = []
-variable_entries (m ∷ ms) = together_entries m.names (entry m.header.place entities.ModuleVariable) ++ variable_entries ms
+variable_entries (m ∷ ms) =
+    together_entries m.names (entry m.header.place entities.ModuleVariable) ++ variable_entries ms
 
 -- what a part with this number declares in the region of the specification
 abbrev pub part_entries : ℕ → Part → List (Used × Entry)
-part_entries number (part.Channel c) = (c.name, entry (channel_last c) (entities.Channel number)) ∷ []
+part_entries number (part.Channel c) =
+    (c.name, entry (channel_last c) (entities.Channel number)) ∷ []
 part_entries number (part.Header h) = (h.name, entry (header_last h) (entities.Header number)) ∷ []
-part_entries number (part.Body b) = ((out-Body b).name, entry (out-Body b).name.place entities.Body) ∷ []
+part_entries number (part.Body b) =
+    ((out-Body b).name, entry (out-Body b).name.place entities.Body) ∷ []
 part_entries number (part.Modvars ms) = variable_entries ms
 part_entries number _ = []
 

@@ -33,7 +33,8 @@ abbrev pub enter_by : Option Entry → Declared → Used → Entry → Declared
 enter_by None s u e = (s.0 ++ (spelled u, e) ∷ [], s.1)
 enter_by (Some f) s u e = (s.0, least_with s.1 (broken u.place DeclaredTwice))
 
--- a region with one declaration more: a name that is declared already keeps its entry, and is declared twice
+-- a region with one declaration more: a name that is declared already keeps its entry, and is
+-- declared twice
 abbrev pub enter : Declared → Used → Entry → Declared
 enter s u e = enter_by (entry_of s.0 (spelled u)) s u e
 
@@ -70,7 +71,8 @@ with_role a (Some false) = record { known = a.known; first = true; second = a.se
 -- the senders that some names are, and these names more
 abbrev pub senders_from : Entries → Senders → List Used → Senders
 senders_from roles a [] = a
-senders_from roles a (u ∷ us) = senders_from roles (with_role a (role_by (entry_of roles (spelled u)))) us
+senders_from roles a (u ∷ us) =
+    senders_from roles (with_role a (role_by (entry_of roles (spelled u)))) us
 
 -- who may send the interactions of a `by` part: the roles of the channel that it names
 abbrev pub senders : Entries → List Used → Senders

@@ -43,7 +43,8 @@ abbrev pub names_of_channel_part : Option Fault → Part → Members × Option F
 names_of_channel_part least (part.Channel c) = names_of_channel least c
 names_of_channel_part least _ = (record { roles = []; interactions = [] }, least)
 
--- the names of the channels, part for part, behind those of earlier parts, with the least fault of all of them
+-- the names of the channels, part for part, behind those of earlier parts, with the least fault of
+-- all of them
 abbrev pub names_of_channels : List Members × Option Fault → List Part → List Members × Option Fault
 names_of_channels s [] = s
 names_of_channels s (p ∷ ps) =
@@ -58,7 +59,8 @@ side_with number (Some second) = Some record { channel = number; second = second
 -- the side of an interaction point of the channel of this number whose role has this name
 abbrev pub side_by : Table → Option ℕ → Used → Option PointSide
 side_by t None u = None
-side_by t (Some number) u = side_with number (role_by (member_entry (members_at t.channels number) (spelled u)))
+side_by t (Some number) u =
+    side_with number (role_by (member_entry (members_at t.channels number) (spelled u)))
 
 -- the side of an interaction point, where its channel and its role mean such
 abbrev pub table_side : Table → BodyNames → Point → Option PointSide
@@ -67,7 +69,8 @@ table_side t b p = side_by t (channel_number (look_up t b p.channel)) p.role
 -- the interaction points of a header
 abbrev pub point_entries : Table → BodyNames → List Point → List (Used × Entry)
 point_entries t b [] = []
-point_entries t b (p ∷ ps) = together_entries p.names (entry p.role.place (entities.Point (table_side t b p))) ++ point_entries t b ps
+point_entries t b (p ∷ ps) = together_entries p.names
+    (entry p.role.place (entities.Point (table_side t b p))) ++ point_entries t b ps
 
 -- the names of a header, with the least fault up to its end
 abbrev pub names_of_header : Table → BodyNames → Option Fault → Header → Declared
@@ -80,8 +83,10 @@ abbrev pub names_of_header_part : Table → BodyNames → Option Fault → Part 
 names_of_header_part t b least (part.Header h) = names_of_header t b least h
 names_of_header_part t b least _ = ([], least)
 
--- the names of the headers, part for part, behind those of earlier parts, with the least fault of all of them
-abbrev pub names_of_headers : Table → BodyNames → List Entries × Option Fault → List Part → List Entries × Option Fault
+-- the names of the headers, part for part, behind those of earlier parts, with the least fault of
+-- all of them
+abbrev pub names_of_headers : Table → BodyNames → List Entries × Option Fault → List Part
+    → List Entries × Option Fault
 names_of_headers t b s [] = s
 names_of_headers t b s (p ∷ ps) =
     let names : Declared = names_of_header_part t b s.1 p in
@@ -92,7 +97,9 @@ abbrev pub tables : Option Fault → List Part → Table × Option Fault
 tables least ps =
     let outer : Declared = enter_all [] ([], least) (parts_entries 0 ps) in
     let channels : List Members × Option Fault = names_of_channels ([], outer.1) ps in
-    let headers : List Entries × Option Fault = names_of_headers record { outer = outer.0; channels = channels.0; headers = [] } outside ([], channels.1) ps in
+    let headers : List Entries
+    × Option Fault = names_of_headers record
+    { outer = outer.0; channels = channels.0; headers = [] } outside ([], channels.1) ps in
     (record { outer = outer.0; channels = channels.0; headers = headers.0 }, headers.1)
 
 -- the number of the header that a name stands for, if one
@@ -113,18 +120,24 @@ header_entries t (Some number) = names_at t.headers number
 -- the least fault up to the end of a body that has the header of this number
 abbrev pub least_inside : Table → Option ℕ → Option Fault → Body → Option Fault
 least_inside t number least b =
-    let own : Declared = enter_all (header_entries t number) ([], least) (body_entries (out-Body b).parts) in
-    least_with own.1 (text_faults (table_environment t record { within = true; header = number; own = own.0 }) b)
+    let own : Declared =
+    enter_all (header_entries t number) ([], least) (body_entries (out-Body b).parts) in
+    least_with own.1 (text_faults
+    (table_environment t record { within = true; header = number; own = own.0 }) b)
 
 -- the least fault up to the end of a body, whose header's name is one of those that it uses
 abbrev pub least_of_body : Table → Option Fault → Body → Option Fault
 least_of_body t least b =
-    least_inside t (header_number (look_up t outside (out-Body b).header)) (least_with least (use_faults (table_environment t outside) sort.Header (out-Body b).header)) b
+    least_inside t (header_number (look_up t outside (out-Body b).header))
+    (least_with least (use_faults (table_environment t outside) sort.Header
+    (out-Body b).header)) b
 
--- the least fault up to the end of a part that is a body or a `modvar` section; another part adds none
+-- the least fault up to the end of a part that is a body or a `modvar` section; another part adds
+-- none
 abbrev pub least_of_part : Table → Option Fault → Part → Option Fault
 least_of_part t least (part.Body b) = least_of_body t least b
-least_of_part t least (part.Modvars ms) = least_with least (modvars_faults (table_environment t outside) ms)
+least_of_part t least (part.Modvars ms) =
+    least_with least (modvars_faults (table_environment t outside) ms)
 least_of_part t least _ = least
 
 -- the least fault up to the end of these parts
@@ -132,8 +145,10 @@ abbrev pub least_of_parts : Table → Option Fault → List Part → Option Faul
 least_of_parts t least [] = least
 least_of_parts t least (p ∷ ps) = least_of_parts t (least_of_part t least p) ps
 
--- the least fault of a specification: of its tables, its parts, and the statement of its initialize part
+-- the least fault of a specification: of its tables, its parts, and the statement of its initialize
+-- part
 abbrev pub least_of_spec : Spec → Option Fault
 least_of_spec s =
     let all : Table × Option Fault = tables None s.parts in
-    least_with (least_of_parts all.0 all.1 s.parts) (statement_faults (table_environment all.0 outside) s.first)
+    least_with (least_of_parts all.0 all.1 s.parts)
+    (statement_faults (table_environment all.0 outside) s.first)

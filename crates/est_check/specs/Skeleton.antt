@@ -1,4 +1,5 @@
--- The trees of skeletons: specifications with channels, one header, one body with states, and one module variable.
+-- The trees of skeletons: specifications with channels, one header, one body with states, and one
+-- module variable.
 use Rattle.std.specs.Prelude.{◌≡◌, ◌≤◌, true, List, [], ◌∷◌, ◌++◌, Some, None, length}
 use Rattle.est_syntax.specs.declared.name.Used.{Used}
 use Rattle.est_syntax.specs.declared.ports.Port.{Port}
@@ -45,9 +46,11 @@ IsOne P _ = ⊥
 pub record IsPlainChannel (c : Channel) : Type 0 where
   pub roles : length c.roles ≡ 2
   pub by : (b : ByPart) → IsIn b c.by → length b.roles ≡ 1
-  pub interactions : (b : ByPart) (i : InteractionDef) → IsIn b c.by → IsIn i b.interactions → i.params ≡ []
+  pub interactions : (b : ByPart) (i : InteractionDef) → IsIn b c.by → IsIn i b.interactions
+      → i.params ≡ []
 
--- the header of a `systemactivity` without parameters and exports, whose interaction points have no dimensions and no queue of their own
+-- the header of a `systemactivity` without parameters and exports, whose interaction points have no
+-- dimensions and no queue of their own
 pub record IsPlainHeader (h : Header) : Type 0 where
   pub system : h.system ≡ true
   pub params : h.params ≡ []
@@ -113,7 +116,8 @@ pub record IsPlainBody (b : Body) : Type 0 where
   pub states : AreStates (out-Body b).parts
   pub one_section : length (out-Body b).parts ≤ 1
   pub first : (f : FirstPart) → (out-Body b).first ≡ Some f → IsPlainFirst f
-  pub groups : (g : Group) → IsIn g (out-Body b).groups → IsOne IsPlainTransition (out-Group g).transitions
+  pub groups : (g : Group) → IsIn g (out-Body b).groups
+      → IsOne IsPlainTransition (out-Group g).transitions
 
 -- the tree of a skeleton
 pub record IsSkeleton (s : Spec) : Type 0 where
@@ -123,7 +127,8 @@ pub record IsSkeleton (s : Spec) : Type 0 where
   pub variable : ModvarDef
   pub queue : s.queue ≡ None
   pub scale : s.scale ≡ None
-  pub parts : s.parts ≡ channel_parts channels ++ part.Header header ∷ part.Body body ∷ part.Modvars (variable ∷ []) ∷ []
+  pub parts : s.parts ≡ channel_parts channels ++ part.Header header ∷ part.Body body
+      ∷ part.Modvars (variable ∷ []) ∷ []
   pub plain_channels : (c : Channel) → IsIn c channels → IsPlainChannel c
   pub plain_header : IsPlainHeader header
   pub plain : IsPlainBody body

@@ -16,7 +16,8 @@ use Rattle.est_syntax.specs.declared.specification.Spec.{Spec}
 use Rattle.est_syntax.specs.Breaks.{Breaks}
 use Rattle.est_check.specs.Skeleton.{IsSkeleton}
 
--- a name is unknown, declared twice or of the wrong sort, an interaction has the wrong direction, or a first state is wanting
+-- a name is unknown, declared twice or of the wrong sort, an interaction has the wrong direction,
+-- or a first state is wanting
 abbrev pub IsSkeletonRule : Rule → Type 0
 IsSkeletonRule rule.UnknownName = Unit {0}
 IsSkeletonRule rule.DeclaredTwice = Unit {0}
@@ -67,7 +68,8 @@ EachClause P (c ∷ cs) = InClause P c × EachClause P cs
 -- P holds of each name that these transitions look up in their scope
 abbrev pub EachTransition : (Used → Type 0) → List Transition → Type 0
 EachTransition P [] = Unit {0}
-EachTransition P (t ∷ ts) = EachClause P t.clauses × EachStatement P t.block.statements × EachTransition P ts
+EachTransition P (t ∷ ts) =
+    EachClause P t.clauses × EachStatement P t.block.statements × EachTransition P ts
 
 -- P holds of each name that these groups of transitions look up in their scope
 abbrev pub EachGroup : (Used → Type 0) → List Group → Type 0
@@ -85,7 +87,9 @@ IsInOrder sk =
     InFirst (λ u. u.place < sk.variable.header.place) (out-Body sk.body).first
     × EachGroup (λ u. u.place < sk.variable.header.place) (out-Body sk.body).groups
 
--- A skeleton whose body stands before its module variable breaks no other rule. The rules on numbers, ranges, sizes, kinds,
--- counts of arguments and subscripts, writing, functions, delays, links and cases speak of parts that no skeleton has.
+-- A skeleton whose body stands before its module variable breaks no other rule. The rules on
+-- numbers, ranges, sizes, kinds, counts of arguments and subscripts, writing, functions, delays,
+-- links and cases speak of parts that no skeleton has.
 abbrev pub BreaksFew : Type 0
-BreaksFew = (s : Spec) (sk : IsSkeleton s) → IsInOrder sk → (place : ℕ) (r : Rule) → Breaks s place r → IsSkeletonRule r
+BreaksFew = (s : Spec) (sk : IsSkeleton s) → IsInOrder sk → (place : ℕ) (r : Rule)
+    → Breaks s place r → IsSkeletonRule r

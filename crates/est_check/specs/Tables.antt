@@ -64,13 +64,17 @@ is_shared _ = false
 abbrev pub undeclared : Bool → Found
 undeclared known = if known then found.Predeclared else found.Nothing
 
--- what a name means by its entry in the region of the specification, used in a body (true) or outside
+-- what a name means by its entry in the region of the specification, used in a body (true) or
+-- outside
 abbrev pub outer_found : Bool → Bool → Option Entry → ℕ → Found
 outer_found known within None place = undeclared known
 outer_found known within (Some e) place =
-    if nat_lt e.last place then (if within && not (is_shared e.entity) then found.Unseen else found.Seen e) else undeclared known
+    if nat_lt e.last place then
+    (if within && not
+    (is_shared e.entity) then found.Unseen else found.Seen e) else undeclared known
 
--- what a name means by its entry in the region of a body, where that is in force; else what it means around the body
+-- what a name means by its entry in the region of a body, where that is in force; else what it
+-- means around the body
 abbrev pub own_found : Option Entry → ℕ → Found → Found
 own_found None place outer = outer
 own_found (Some e) place outer = if nat_lt e.last place then found.Seen e else outer
@@ -78,7 +82,8 @@ own_found (Some e) place outer = if nat_lt e.last place then found.Seen e else o
 -- what a name means at its place, in a body or outside
 abbrev pub look_up : Table → BodyNames → Used → Found
 look_up t b u =
-    own_found (own_entry t b (spelled u)) u.place (outer_found (is_predeclared (spelled u)) b.within (entry_of t.outer (spelled u)) u.place)
+    own_found (own_entry t b (spelled u)) u.place
+    (outer_found (is_predeclared (spelled u)) b.within (entry_of t.outer (spelled u)) u.place)
 
 -- the sort of what a name stands for
 abbrev pub name_sort : Entity → NameSort
@@ -120,7 +125,8 @@ channel_number _ = None
 -- the sort of a name within the channel of this number; none without a channel
 abbrev pub member_sort_at : Table → Option ℕ → Used → Option (Meaning NameSort)
 member_sort_at t None u = None
-member_sort_at t (Some number) u = Some (sort_found (look_up_member (members_at t.channels number) u))
+member_sort_at t (Some number) u =
+    Some (sort_found (look_up_member (members_at t.channels number) u))
 
 -- the side of the interaction point that a name stands for, if one
 abbrev pub side_in : Entity → Option PointSide
@@ -139,7 +145,8 @@ may_send true who = who.second
 
 -- what an interaction point in this role may do with what a name of its channel stands for
 abbrev pub passage_in : Bool → Entity → Passage
-passage_in second (entities.Interaction who) = passage_with who.known (may_send second who) (may_send (not second) who)
+passage_in second (entities.Interaction who) =
+    passage_with who.known (may_send second who) (may_send (not second) who)
 passage_in second _ = no_interaction
 
 -- what an interaction point in this role may do with a name by its entry in the channel
@@ -150,7 +157,8 @@ passage_by second (Some e) = passage_in second e.entity
 -- what an interaction point of this side may do with a name; none without a side
 abbrev pub passage_at : Table → Option PointSide → Used → Option Passage
 passage_at t None u = None
-passage_at t (Some side) u = Some (passage_by side.second (member_entry (members_at t.channels side.channel) (spelled u)))
+passage_at t (Some side) u =
+    Some (passage_by side.second (member_entry (members_at t.channels side.channel) (spelled u)))
 
 -- what names mean by the tables, in a body or outside
 abbrev pub table_environment : Table → BodyNames → Environment

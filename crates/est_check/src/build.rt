@@ -74,7 +74,8 @@ fn push_channels(
     parts: &[Part],
     least: &mut Least,
 ) -> Result<(), AllocError>
-    ensures { OnOk result ((channels.new, least.new.at) ≡ names_of_channels (channels.old, least.old.at) parts.now) }
+    ensures { OnOk result ((channels.new, least.new.at)
+        ≡ names_of_channels (channels.old, least.old.at) parts.now) }
 {
     for part in parts {
         channels.push(part_members(alloc, part, least)?)?;
@@ -119,7 +120,8 @@ fn enter_points(
     list: &[Point],
     least: &mut Least,
 ) -> Result<(), AllocError>
-    ensures { OnOk result ((names.new, least.new.at) ≡ enter_all [] (names.old, least.old.at) (point_entries table.now body.now list.now)) }
+    ensures { OnOk result ((names.new, least.new.at)
+        ≡ enter_all [] (names.old, least.old.at) (point_entries table.now body.now list.now)) }
 {
     for item in list {
         enter_together(
@@ -140,7 +142,8 @@ fn header_names(
     header: &Header,
     least: &mut Least,
 ) -> Result<Names, AllocError>
-    ensures { IfOk result (λ n. (n, least.new.at) ≡ names_of_header table.now body.now least.old.at header.now) }
+    ensures { IfOk result (λ n. (n, least.new.at)
+        ≡ names_of_header table.now body.now least.old.at header.now) }
 {
     let mut names = Names::new(alloc);
     enter_points(table, body, &mut names, header.points.as_slice(), least)?;
@@ -156,7 +159,8 @@ fn part_names(
     part: &Part,
     least: &mut Least,
 ) -> Result<Names, AllocError>
-    ensures { IfOk result (λ n. (n, least.new.at) ≡ names_of_header_part table.now body.now least.old.at part.now) }
+    ensures { IfOk result (λ n. (n, least.new.at)
+        ≡ names_of_header_part table.now body.now least.old.at part.now) }
 {
     match part {
         Part::Header(header) => header_names(alloc, table, body, header, least),
@@ -172,7 +176,8 @@ fn header_tables(
     parts: &[Part],
     least: &mut Least,
 ) -> Result<Items<Names>, AllocError>
-    ensures { IfOk result (λ h. (h, least.new.at) ≡ names_of_headers table.now body.now ([], least.old.at) parts.now) }
+    ensures { IfOk result (λ h. (h, least.new.at)
+        ≡ names_of_headers table.now body.now ([], least.old.at) parts.now) }
 {
     let mut headers = Items::new(alloc);
     for part in parts {

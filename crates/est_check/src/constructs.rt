@@ -23,7 +23,8 @@ use est_syntax::transition::{Clause, Group, Transition};
 
 /// Checks that the `by` parts of a channel name roles of it.
 pub fn check_by_parts(members: &Members, list: &[ByPart], least: &mut Least)
-    ensures { least.new.at ≡ least_with least.old.at (by_faults (members_environment members.now) list.now) }
+    ensures { least.new.at ≡ least_with least.old.at
+        (by_faults (members_environment members.now) list.now) }
 {
     for item in list {
         check_roles(members, NameSort::Role, item.roles.as_slice(), least);
@@ -32,7 +33,8 @@ pub fn check_by_parts(members: &Members, list: &[ByPart], least: &mut Least)
 
 /// Checks the channel and the role of an interaction point.
 fn check_point(table: &Table, body: &BodyNames, point: &Point, least: &mut Least)
-    ensures { least.new.at ≡ least_with least.old.at (point_faults (table_environment table.now body.now) point.now) }
+    ensures { least.new.at ≡ least_with least.old.at
+        (point_faults (table_environment table.now body.now) point.now) }
 {
     check_use(table, body, NameSort::Channel, &point.channel, least);
     check_point_role(
@@ -45,7 +47,8 @@ fn check_point(table: &Table, body: &BodyNames, point: &Point, least: &mut Least
 
 /// Checks the channels and roles of interaction points.
 pub fn check_points(table: &Table, body: &BodyNames, list: &[Point], least: &mut Least)
-    ensures { least.new.at ≡ least_with least.old.at (points_faults (table_environment table.now body.now) list.now) }
+    ensures { least.new.at ≡ least_with least.old.at
+        (points_faults (table_environment table.now body.now) list.now) }
 {
     for item in list {
         check_point(table, body, item, least);
@@ -54,7 +57,8 @@ pub fn check_points(table: &Table, body: &BodyNames, list: &[Point], least: &mut
 
 /// Checks the headers of module variables.
 pub fn check_modvars(table: &Table, body: &BodyNames, list: &[ModvarDef], least: &mut Least)
-    ensures { least.new.at ≡ least_with least.old.at (modvars_faults (table_environment table.now body.now) list.now) }
+    ensures { least.new.at ≡ least_with least.old.at
+        (modvars_faults (table_environment table.now body.now) list.now) }
 {
     for item in list {
         check_use(table, body, NameSort::Header, &item.header, least);
@@ -63,7 +67,8 @@ pub fn check_modvars(table: &Table, body: &BodyNames, list: &[ModvarDef], least:
 
 /// Checks what an `output` sends, and where.
 fn check_sendings(table: &Table, body: &BodyNames, list: &[Sending], least: &mut Least)
-    ensures { least.new.at ≡ least_with least.old.at (sendings_faults (table_environment table.now body.now) list.now) }
+    ensures { least.new.at ≡ least_with least.old.at
+        (sendings_faults (table_environment table.now body.now) list.now) }
 {
     for item in list {
         check_sent(table, body, &item.at.name, &item.signal, least);
@@ -72,7 +77,8 @@ fn check_sendings(table: &Table, body: &BodyNames, list: &[Sending], least: &mut
 
 /// Checks a statement.
 pub fn check_statement(table: &Table, body: &BodyNames, statement: &Statement, least: &mut Least)
-    ensures { least.new.at ≡ least_with least.old.at (statement_faults (table_environment table.now body.now) statement.now) }
+    ensures { least.new.at ≡ least_with least.old.at
+        (statement_faults (table_environment table.now body.now) statement.now) }
 {
     match statement {
         Statement::Output { sendings, place: _ } => check_sendings(
@@ -96,7 +102,8 @@ pub fn check_statement(table: &Table, body: &BodyNames, statement: &Statement, l
 
 /// Checks statements.
 fn check_statements(table: &Table, body: &BodyNames, list: &[Statement], least: &mut Least)
-    ensures { least.new.at ≡ least_with least.old.at (statements_faults (table_environment table.now body.now) list.now) }
+    ensures { least.new.at ≡ least_with least.old.at
+        (statements_faults (table_environment table.now body.now) list.now) }
 {
     for item in list {
         check_statement(table, body, item, least);
@@ -105,7 +112,8 @@ fn check_statements(table: &Table, body: &BodyNames, list: &[Statement], least: 
 
 /// Checks a clause of a transition.
 fn check_clause(table: &Table, body: &BodyNames, clause: &Clause, least: &mut Least)
-    ensures { least.new.at ≡ least_with least.old.at (clause_faults (table_environment table.now body.now) clause.now) }
+    ensures { least.new.at ≡ least_with least.old.at
+        (clause_faults (table_environment table.now body.now) clause.now) }
 {
     match clause {
         Clause::From { states, place: _ } => check_uses(
@@ -131,7 +139,8 @@ fn check_clause(table: &Table, body: &BodyNames, clause: &Clause, least: &mut Le
 
 /// Checks the clauses of a transition.
 fn check_clauses(table: &Table, body: &BodyNames, list: &[Clause], least: &mut Least)
-    ensures { least.new.at ≡ least_with least.old.at (clauses_faults (table_environment table.now body.now) list.now) }
+    ensures { least.new.at ≡ least_with least.old.at
+        (clauses_faults (table_environment table.now body.now) list.now) }
 {
     for item in list {
         check_clause(table, body, item, least);
@@ -140,7 +149,8 @@ fn check_clauses(table: &Table, body: &BodyNames, list: &[Clause], least: &mut L
 
 /// Checks a transition: its clauses and its block.
 fn check_transition(table: &Table, body: &BodyNames, transition: &Transition, least: &mut Least)
-    ensures { least.new.at ≡ least_with least.old.at (transition_faults (table_environment table.now body.now) transition.now) }
+    ensures { least.new.at ≡ least_with least.old.at
+        (transition_faults (table_environment table.now body.now) transition.now) }
 {
     check_clauses(table, body, transition.clauses.as_slice(), least);
     check_statements(table, body, transition.block.statements.as_slice(), least);
@@ -148,7 +158,8 @@ fn check_transition(table: &Table, body: &BodyNames, transition: &Transition, le
 
 /// Checks transitions.
 fn check_transitions(table: &Table, body: &BodyNames, list: &[Transition], least: &mut Least)
-    ensures { least.new.at ≡ least_with least.old.at (transitions_faults (table_environment table.now body.now) list.now) }
+    ensures { least.new.at ≡ least_with least.old.at
+        (transitions_faults (table_environment table.now body.now) list.now) }
 {
     for item in list {
         check_transition(table, body, item, least);
@@ -157,7 +168,8 @@ fn check_transitions(table: &Table, body: &BodyNames, list: &[Transition], least
 
 /// Checks groups of transitions.
 fn check_groups(table: &Table, body: &BodyNames, list: &[Group], least: &mut Least)
-    ensures { least.new.at ≡ least_with least.old.at (groups_faults (table_environment table.now body.now) list.now) }
+    ensures { least.new.at ≡ least_with least.old.at
+        (groups_faults (table_environment table.now body.now) list.now) }
 {
     for item in list {
         check_transitions(table, body, item.transitions.as_slice(), least);
@@ -178,7 +190,9 @@ fn has_states(parts: &[Part]) -> bool
 
 /// Checks the first state of a body, which is there where the body has states.
 fn check_to(table: &Table, names: &BodyNames, body: &Body, to: &Option<Used>, least: &mut Least)
-    ensures { least.new.at ≡ least_with least.old.at (to_faults (table_environment table.now names.now) (out-Body body.now).name.place (has_states (out-Body body.now).parts) to.now) }
+    ensures { least.new.at ≡ least_with least.old.at
+        (to_faults (table_environment table.now names.now) (out-Body body.now).name.place
+        (has_states (out-Body body.now).parts) to.now) }
 {
     match to {
         None => least.note_if(
@@ -192,7 +206,9 @@ fn check_to(table: &Table, names: &BodyNames, body: &Body, to: &Option<Used>, le
 
 /// Checks the initialize part of a body, which is there where the body has states.
 fn check_first(table: &Table, names: &BodyNames, body: &Body, least: &mut Least)
-    ensures { least.new.at ≡ least_with least.old.at (first_faults (table_environment table.now names.now) (out-Body body.now).name.place (has_states (out-Body body.now).parts) (out-Body body.now).first) }
+    ensures { least.new.at ≡ least_with least.old.at
+        (first_faults (table_environment table.now names.now) (out-Body body.now).name.place
+        (has_states (out-Body body.now).parts) (out-Body body.now).first) }
 {
     match &body.first {
         None => least.note_if(
@@ -209,7 +225,8 @@ fn check_first(table: &Table, names: &BodyNames, body: &Body, least: &mut Least)
 
 /// Checks the initialize part and the transitions of a body.
 pub fn check_text(table: &Table, names: &BodyNames, body: &Body, least: &mut Least)
-    ensures { least.new.at ≡ least_with least.old.at (text_faults (table_environment table.now names.now) body.now) }
+    ensures { least.new.at ≡ least_with least.old.at
+        (text_faults (table_environment table.now names.now) body.now) }
 {
     check_first(table, names, body, least);
     check_groups(table, names, body.groups.as_slice(), least);

@@ -23,7 +23,8 @@ pub fn enter(
     entry: Entry,
     least: &mut Least,
 ) -> Result<(), AllocError>
-    ensures { OnOk result ((names.new, least.new.at) ≡ enter (names.old, least.old.at) used.now entry) }
+    ensures { OnOk result ((names.new, least.new.at)
+        ≡ enter (names.old, least.old.at) used.now entry) }
 {
     match names.find(&used.name) {
         Some(_) => least.note(used.place, Rule::DeclaredTwice),
@@ -40,7 +41,8 @@ fn enter_following(
     entry: Entry,
     least: &mut Least,
 ) -> Result<(), AllocError>
-    ensures { OnOk result ((names.new, least.new.at) ≡ enter_following front.now (names.old, least.old.at) used.now entry) }
+    ensures { OnOk result ((names.new, least.new.at)
+        ≡ enter_following front.now (names.old, least.old.at) used.now entry) }
 {
     match front.find(&used.name) {
         Some(_) => {
@@ -58,7 +60,8 @@ pub fn enter_together(
     entry: Entry,
     least: &mut Least,
 ) -> Result<(), AllocError>
-    ensures { OnOk result ((names.new, least.new.at) ≡ enter_all [] (names.old, least.old.at) (together_entries list.now entry)) }
+    ensures { OnOk result ((names.new, least.new.at)
+        ≡ enter_all [] (names.old, least.old.at) (together_entries list.now entry)) }
 {
     for used in list {
         enter(names, used, entry, least)?;
@@ -121,7 +124,8 @@ fn header_last(header: &Header) -> u32
 
 /// Enters the roles of a channel behind the first one.
 fn enter_other_roles(names: &mut Names, roles: &[Used], least: &mut Least) -> Result<(), AllocError>
-    ensures { OnOk result ((names.new, least.new.at) ≡ enter_all [] (names.old, least.old.at) (other_role_entries roles.now)) }
+    ensures { OnOk result ((names.new, least.new.at)
+        ≡ enter_all [] (names.old, least.old.at) (other_role_entries roles.now)) }
 {
     for used in roles {
         enter(
@@ -136,7 +140,8 @@ fn enter_other_roles(names: &mut Names, roles: &[Used], least: &mut Least) -> Re
 
 /// Enters the roles of a channel.
 pub fn enter_roles(names: &mut Names, roles: &[Used], least: &mut Least) -> Result<(), AllocError>
-    ensures { OnOk result ((names.new, least.new.at) ≡ enter_all [] (names.old, least.old.at) (role_entries roles.now)) }
+    ensures { OnOk result ((names.new, least.new.at)
+        ≡ enter_all [] (names.old, least.old.at) (role_entries roles.now)) }
 {
     match roles {
         [] => Ok(()),
@@ -211,7 +216,8 @@ fn enter_interactions(
     list: &[InteractionDef],
     least: &mut Least,
 ) -> Result<(), AllocError>
-    ensures { OnOk result ((names.new, least.new.at) ≡ enter_all roles.now (names.old, least.old.at) (interaction_entries who list.now)) }
+    ensures { OnOk result ((names.new, least.new.at)
+        ≡ enter_all roles.now (names.old, least.old.at) (interaction_entries who list.now)) }
 {
     for item in list {
         enter_following(
@@ -232,7 +238,8 @@ pub fn enter_by_parts(
     list: &[ByPart],
     least: &mut Least,
 ) -> Result<(), AllocError>
-    ensures { OnOk result ((names.new, least.new.at) ≡ enter_all roles.now (names.old, least.old.at) (by_entries roles.now list.now)) }
+    ensures { OnOk result ((names.new, least.new.at)
+        ≡ enter_all roles.now (names.old, least.old.at) (by_entries roles.now list.now)) }
 {
     for item in list {
         let who = senders(roles, item.roles.as_slice());
@@ -243,7 +250,8 @@ pub fn enter_by_parts(
 
 /// Enters the module variables of a `modvar` section.
 fn enter_modvars(names: &mut Names, list: &[ModvarDef], least: &mut Least) -> Result<(), AllocError>
-    ensures { OnOk result ((names.new, least.new.at) ≡ enter_all [] (names.old, least.old.at) (variable_entries list.now)) }
+    ensures { OnOk result ((names.new, least.new.at)
+        ≡ enter_all [] (names.old, least.old.at) (variable_entries list.now)) }
 {
     for item in list {
         enter_together(
@@ -263,7 +271,8 @@ fn enter_part(
     part: &Part,
     least: &mut Least,
 ) -> Result<(), AllocError>
-    ensures { OnOk result ((names.new, least.new.at) ≡ enter_all [] (names.old, least.old.at) (part_entries number part.now)) }
+    ensures { OnOk result ((names.new, least.new.at)
+        ≡ enter_all [] (names.old, least.old.at) (part_entries number part.now)) }
 {
     match part {
         Part::Channel(channel) => enter(
@@ -294,7 +303,8 @@ fn enter_part(
 
 /// Enters what the parts of a specification declare, but for the states of `state` sections.
 pub fn enter_parts(names: &mut Names, parts: &[Part], least: &mut Least) -> Result<(), AllocError>
-    ensures { OnOk result ((names.new, least.new.at) ≡ enter_all [] (names.old, least.old.at) (parts_entries 0 parts.now)) }
+    ensures { OnOk result ((names.new, least.new.at)
+        ≡ enter_all [] (names.old, least.old.at) (parts_entries 0 parts.now)) }
 {
     for (number, part) in parts.iter().enumerate() {
         enter_part(names, number, part, least)?;
@@ -309,7 +319,8 @@ fn enter_states(
     list: &[Used],
     least: &mut Least,
 ) -> Result<(), AllocError>
-    ensures { OnOk result ((names.new, least.new.at) ≡ enter_all front.now (names.old, least.old.at) (state_entries list.now)) }
+    ensures { OnOk result ((names.new, least.new.at)
+        ≡ enter_all front.now (names.old, least.old.at) (state_entries list.now)) }
 {
     for used in list {
         enter_following(
@@ -330,7 +341,8 @@ fn enter_state_part(
     part: &Part,
     least: &mut Least,
 ) -> Result<(), AllocError>
-    ensures { OnOk result ((names.new, least.new.at) ≡ enter_all front.now (names.old, least.old.at) (section_entries part.now)) }
+    ensures { OnOk result ((names.new, least.new.at)
+        ≡ enter_all front.now (names.old, least.old.at) (section_entries part.now)) }
 {
     match part {
         Part::States(states) => enter_states(front, names, states.as_slice(), least),
@@ -345,7 +357,8 @@ pub fn enter_state_parts(
     parts: &[Part],
     least: &mut Least,
 ) -> Result<(), AllocError>
-    ensures { OnOk result ((names.new, least.new.at) ≡ enter_all front.now (names.old, least.old.at) (body_entries parts.now)) }
+    ensures { OnOk result ((names.new, least.new.at)
+        ≡ enter_all front.now (names.old, least.old.at) (body_entries parts.now)) }
 {
     for part in parts {
         enter_state_part(front, names, part, least)?;

@@ -7,7 +7,8 @@ use thiserror::Error;
 /// The least fault of a specification, or want of memory.
 #[derive(Debug, Drop, Error)]
 pub enum CheckError {
-    /// The least fault by place: the number of a token, counted from 0, and the rule that is broken there.
+    /// The least fault by place: the number of a token, counted from 0, and the rule that is broken
+    /// there.
     #[error("token {place}: {rule:?}")]
     Fault { place: u32, rule: Rule },
     /// The check was not done for want of memory.

@@ -1,4 +1,5 @@
-//! The rules that a specification must keep beyond its grammar (ISO 9074), and checked specifications.
+//! The rules that a specification must keep beyond its grammar (ISO 9074), and checked
+//! specifications.
 #![tactic(auto)]
 
 mod build;

@@ -9,7 +9,8 @@ use indexmap::IndexMap;
 use std::alloc::{AllocError, Global};
 use std::marker::Model;
 
-/// Which roles of its channel may send an interaction, and whether the names of its `by` part are all roles.
+/// Which roles of its channel may send an interaction, and whether the names of its `by` part are
+/// all roles.
 #[derive(Clone, Copy)]
 pub struct Senders {
     pub known: bool,

@@ -41,7 +41,8 @@ fn state_names(
     parts: &[Part],
     least: &mut Least,
 ) -> Result<Names, AllocError>
-    ensures { IfOk result (λ n. (n, least.new.at) ≡ enter_all front.now ([], least.old.at) (body_entries parts.now)) }
+    ensures { IfOk result (λ n. (n, least.new.at)
+        ≡ enter_all front.now ([], least.old.at) (body_entries parts.now)) }
 {
     let mut own = Names::new(alloc);
     enter_state_parts(front, &mut own, parts, least)?;
@@ -70,13 +71,15 @@ fn own_names(
     parts: &[Part],
     least: &mut Least,
 ) -> Result<Names, AllocError>
-    ensures { IfOk result (λ n. (n, least.new.at) ≡ enter_all (header_entries table.now header) ([], least.old.at) (body_entries parts.now)) }
+    ensures { IfOk result (λ n. (n, least.new.at)
+        ≡ enter_all (header_entries table.now header) ([], least.old.at) (body_entries parts.now)) }
 {
     let none = Names::new(alloc);
     state_names(alloc, front_names(table, &none, header), parts, least)
 }
 
-/// Checks the states, the initialize part and the transitions of a body that has the header of this number.
+/// Checks the states, the initialize part and the transitions of a body that has the header of this
+/// number.
 fn check_inside(
     alloc: Global,
     table: &Table,
@@ -117,7 +120,8 @@ fn check_body(
     )
 }
 
-/// Checks a part that is a body or a `modvar` section; channels and headers are checked with the tables.
+/// Checks a part that is a body or a `modvar` section; channels and headers are checked with the
+/// tables.
 fn check_part(
     alloc: Global,
     table: &Table,

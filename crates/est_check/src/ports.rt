@@ -53,7 +53,8 @@ fn push_interactions(
     by: &ByPart,
 ) -> Result<(), AllocError>
     requires { RolesFor channel.now roles.now }
-    ensures { OnOk result (into.new ≡ into.old ++ interaction_signals (side channel.now second) by.now by.now.interactions) }
+    ensures { OnOk result (into.new ≡ into.old
+        ++ interaction_signals (side channel.now second) by.now by.now.interactions) }
 {
     let alloc = *into.items.allocator();
     let who = senders(roles, by.roles.as_slice());
@@ -185,7 +186,8 @@ fn push_named(
     side: Option<PointSide>,
     list: &[Used],
 ) -> Result<(), AllocError>
-    ensures { OnOk result (into.new ≡ into.old ++ named_ports (signals_by sides.now side) list.now) }
+    ensures { OnOk result (into.new ≡ into.old
+        ++ named_ports (signals_by sides.now side) list.now) }
 {
     let alloc = *into.items.allocator();
     for used in list {
@@ -205,7 +207,8 @@ fn push_point(
     requires skeleton { IsSkeleton spec.now }
     requires table { table.now ≡ (tables None spec.now.parts).0 }
     requires sides { sides.now ≡ sides_of spec.now.parts }
-    ensures { OnOk result (into.new ≡ into.old ++ named_ports (signals_of (side_of (spec_scope spec.now) point.now)) point.now.names) }
+    ensures { OnOk result (into.new ≡ into.old
+        ++ named_ports (signals_of (side_of (spec_scope spec.now) point.now)) point.now.names) }
 {
     let side = side_of(table, &BodyNames::outside(*into.items.allocator()), point);
     push_named(into, sides, side, point.names.as_slice())

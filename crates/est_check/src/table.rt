@@ -56,7 +56,8 @@ pub struct BodyNames {
     pub own: Names,
 }
 
-/// What a name means: nothing, something that the body around does not see, something predeclared, or this.
+/// What a name means: nothing, something that the body around does not see, something predeclared,
+/// or this.
 #[derive(Clone, Copy)]
 pub enum Found {
     Nothing,
@@ -128,7 +129,8 @@ fn undeclared(name: &Name) -> Found
 
 /// What a name means by its entry outside of all bodies.
 fn outer_found(within: bool, entry: Option<Entry>, used: &Used) -> Found
-    ensures { result ≡ outer_found (is_predeclared used.now.name.bytes) within entry used.now.place }
+    ensures { result ≡ outer_found
+        (is_predeclared used.now.name.bytes) within entry used.now.place }
 {
     match entry {
         None => undeclared(&used.name),

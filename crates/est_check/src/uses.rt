@@ -46,7 +46,8 @@ fn check_found(wanted: NameSort, place: u32, found: Found, least: &mut Least)
 
 /// Checks that a name means something of the wanted sort.
 pub fn check_use(table: &Table, body: &BodyNames, wanted: NameSort, used: &Used, least: &mut Least)
-    ensures { least.new.at ≡ least_with least.old.at (use_faults (table_environment table.now body.now) wanted used.now) }
+    ensures { least.new.at ≡ least_with least.old.at
+        (use_faults (table_environment table.now body.now) wanted used.now) }
 {
     check_found(wanted, used.place, table.look_up(body, used), least);
 }
@@ -59,7 +60,8 @@ pub fn check_uses(
     list: &[Used],
     least: &mut Least,
 )
-    ensures { least.new.at ≡ least_with least.old.at (uses_faults (table_environment table.now body.now) wanted list.now) }
+    ensures { least.new.at ≡ least_with least.old.at
+        (uses_faults (table_environment table.now body.now) wanted list.now) }
 {
     for used in list {
         check_use(table, body, wanted, used, least);
@@ -68,7 +70,8 @@ pub fn check_uses(
 
 /// Checks that each of these names within a channel means something of the wanted sort.
 pub fn check_roles(members: &Members, wanted: NameSort, list: &[Used], least: &mut Least)
-    ensures { least.new.at ≡ least_with least.old.at (uses_faults (members_environment members.now) wanted list.now) }
+    ensures { least.new.at ≡ least_with least.old.at
+        (uses_faults (members_environment members.now) wanted list.now) }
 {
     for used in list {
         let found = entry_found(members.find(&used.name));
@@ -76,9 +79,11 @@ pub fn check_roles(members: &Members, wanted: NameSort, list: &[Used], least: &m
     }
 }
 
-/// Checks the role of an interaction point in the channel of this number; nothing without a channel.
+/// Checks the role of an interaction point in the channel of this number; nothing without a
+/// channel.
 pub fn check_point_role(table: &Table, channel: Option<usize>, used: &Used, least: &mut Least)
-    ensures { least.new.at ≡ least_with least.old.at (role_faults used.now.place (member_sort_at table.now channel used.now)) }
+    ensures { least.new.at ≡ least_with least.old.at
+        (role_faults used.now.place (member_sort_at table.now channel used.now)) }
 {
     if let Some(number) = channel {
         let entry = member_of(table.channels.as_slice(), number, &used.name);
@@ -95,7 +100,8 @@ pub fn may_send(second: bool, who: Senders) -> bool
 
 /// Checks that an interaction point in this role may send an interaction, or receive it.
 fn check_direction(sending: bool, place: u32, second: bool, who: Senders, least: &mut Least)
-    ensures { least.new.at ≡ least_with least.old.at (direction_faults sending place (may_send second who) (may_send (not second) who)) }
+    ensures { least.new.at ≡ least_with least.old.at
+        (direction_faults sending place (may_send second who) (may_send (not second) who)) }
 {
     let passes = if sending {
         may_send(second, who)
@@ -110,7 +116,8 @@ fn check_direction(sending: bool, place: u32, second: bool, who: Senders, least:
 /// Checks the entry of a name that an interaction point in this role sends or receives.
 /// Without an entry the name is unknown, and what is no interaction is of a wrong sort.
 fn check_passage(sending: bool, place: u32, second: bool, entry: Option<Entry>, least: &mut Least)
-    ensures { least.new.at ≡ least_with least.old.at (passage_faults sending place (Some (passage_by second entry))) }
+    ensures { least.new.at ≡ least_with least.old.at
+        (passage_faults sending place (Some (passage_by second entry))) }
 {
     match entry {
         None => least.note(place, Rule::UnknownName),
@@ -131,7 +138,8 @@ fn check_passage_at(
     used: &Used,
     least: &mut Least,
 )
-    ensures { least.new.at ≡ least_with least.old.at (passage_faults sending used.now.place (passage_at table.now side used.now)) }
+    ensures { least.new.at ≡ least_with least.old.at
+        (passage_faults sending used.now.place (passage_at table.now side used.now)) }
 {
     if let Some(side) = side {
         let entry = member_of(table.channels.as_slice(), side.channel, &used.name);
@@ -141,7 +149,8 @@ fn check_passage_at(
 
 /// Checks an interaction that is sent at an interaction point.
 pub fn check_sent(table: &Table, body: &BodyNames, at: &Used, used: &Used, least: &mut Least)
-    ensures { least.new.at ≡ least_with least.old.at (interaction_faults (table_environment table.now body.now) true at.now used.now) }
+    ensures { least.new.at ≡ least_with least.old.at
+        (interaction_faults (table_environment table.now body.now) true at.now used.now) }
 {
     check_use(table, body, NameSort::Point, at, least);
     check_passage_at(table, table.point_side(body, at), true, used, least);
@@ -149,7 +158,8 @@ pub fn check_sent(table: &Table, body: &BodyNames, at: &Used, used: &Used, least
 
 /// Checks an interaction that is received at an interaction point.
 pub fn check_received(table: &Table, body: &BodyNames, at: &Used, used: &Used, least: &mut Least)
-    ensures { least.new.at ≡ least_with least.old.at (interaction_faults (table_environment table.now body.now) false at.now used.now) }
+    ensures { least.new.at ≡ least_with least.old.at
+        (interaction_faults (table_environment table.now body.now) false at.now used.now) }
 {
     check_use(table, body, NameSort::Point, at, least);
     check_passage_at(table, table.point_side(body, at), false, used, least);

@@ -33,4 +33,5 @@ IsTo o = (o ≡ None) ⊎ ((state : Option Used) × (place : ℕ) × (o ≡ Some
 
 -- if there is a clause, it is a `when`
 abbrev pub IsWhen : Option Clause → Type 0
-IsWhen o = (o ≡ None) ⊎ ((point : Access) × (signal : Used) × (place : ℕ) × (o ≡ Some (When point signal place)))
+IsWhen o = (o ≡ None) ⊎ ((point : Access) × (signal : Used) × (place : ℕ)
+    × (o ≡ Some (When point signal place)))

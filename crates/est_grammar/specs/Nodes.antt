@@ -1,4 +1,5 @@
--- What the parts of a syntax tree show, a layer at a time. A part that no skeleton has shows what no tree of the skeleton grammar has.
+-- What the parts of a syntax tree show, a layer at a time. A part that no skeleton has shows what
+-- no tree of the skeleton grammar has.
 use Rattle.std.specs.Prelude.{Bool, true, false, List, [], ◌∷◌, Option, Some, None, map}
 use Rattle.est_syntax.specs.declared.name.Used.{Used}
 use Rattle.est_syntax.specs.declared.expression.Access.{Access}
@@ -90,11 +91,14 @@ channel c = pair (used c.name) (two_names c.roles (nodes (map a_by_part c.by)))
 
 -- interaction points without dimensions and without a queue of their own
 abbrev pub point : points.Point → View
-point p = without p.dims (without_some p.queue (at p.place (pair (names p.names) (pair (used p.channel) (pair (used p.role) empty)))))
+point p = without p.dims (without_some p.queue
+    (at p.place (pair (names p.names) (pair (used p.channel) (pair (used p.role) empty)))))
 
 -- the header of a `systemactivity` without parameters and exports
 abbrev pub header : headers.Header → View
-header h = where_true h.system (without h.params (without h.exports (pair (used h.name) (pair (nodes (map a_point h.points)) empty))))
+header h = where_true h.system
+    (without h.params (without h.exports
+    (pair (used h.name) (pair (nodes (map a_point h.points)) empty))))
 
 -- a sending without arguments
 abbrev pub sending : Sending → View
@@ -103,7 +107,8 @@ sending s = without s.arguments (pair (access s.at) (used s.signal))
 -- an empty statement or an output
 abbrev pub statement_layer : statements.Statement → View
 statement_layer (statement.Empty place) = at place empty
-statement_layer (statement.Output sendings place) = at place (given (nodes (map a_sending sendings)))
+statement_layer (statement.Output sendings place) =
+    at place (given (nodes (map a_sending sendings)))
 statement_layer _ = nowhere
 
 -- a block of one statement and no declarations
@@ -118,7 +123,8 @@ next_state (Some state) = first (used state)
 -- the clauses from `when` on
 abbrev pub when_part : List Clause → View
 when_part [] = empty
-when_part (clause.When point signal place ∷ []) = given (at place (pair (access point) (used signal)))
+when_part (clause.When point signal place ∷ []) =
+    given (at place (pair (access point) (used signal)))
 when_part _ = nowhere
 
 -- the clauses from `to` on
@@ -159,7 +165,9 @@ first_part (Some f) = given (first_state f.to (pair (block f.block) empty))
 abbrev pub body : bodies.Body → View
 body b =
     let it = bodies.out-Body b in
-    pair (used it.name) (pair (used it.header) (pair (states it.parts) (pair (first_part it.first) (pair (nodes (map a_group it.groups)) empty))))
+    pair (used it.name) (pair (used it.header)
+    (pair (states it.parts) (pair (first_part it.first)
+    (pair (nodes (map a_group it.groups)) empty))))
 
 -- one module variable without dimensions
 abbrev pub module_variable : ModvarDef → View
@@ -167,7 +175,8 @@ module_variable m = without m.dims (at m.place (pair (alone (map a_use m.names))
 
 -- an `init` without subscripts and arguments
 abbrev pub init : statements.Statement → View
-init (statement.Init target named arguments place) = without arguments (at place (pair (access target) (used named)))
+init (statement.Init target named arguments place) =
+    without arguments (at place (pair (access target) (used named)))
 init _ = nowhere
 
 -- the initialize part of a specification, a single `init`
@@ -186,13 +195,16 @@ after_channels ps = ps
 
 -- a header, a body and one module variable, and then the rest
 abbrev pub last_parts : List parts.Part → View → View
-last_parts (part.Header h ∷ part.Body b ∷ part.Modvars (m ∷ []) ∷ []) v = pair (node (a_header h)) (pair (node (a_body b)) (pair (module_variable m) v))
+last_parts (part.Header h ∷ part.Body b ∷ part.Modvars (m ∷ []) ∷ []) v =
+    pair (node (a_header h)) (pair (node (a_body b)) (pair (module_variable m) v))
 last_parts _ v = nowhere
 
 -- a skeleton specification: channels, a header, a body, a module variable and an `init`
 abbrev pub specification : Spec → View
 specification s =
-    without_some s.queue (without_some s.scale (pair (used s.name) (pair (nodes (channels_in s.parts)) (last_parts (after_channels s.parts) (initialization s.first)))))
+    without_some s.queue (without_some s.scale
+    (pair (used s.name) (pair (nodes (channels_in s.parts))
+    (last_parts (after_channels s.parts) (initialization s.first)))))
 
 -- the layer of each part
 abbrev pub layer : Node → View

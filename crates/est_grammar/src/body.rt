@@ -92,7 +92,8 @@ fn empty_block(reader: &mut Reader) -> Block
 
 // { transition }
 fn groups(reader: &mut Reader) -> Groups
-    ensures { Goes skeleton (rep (rule grammar.transition)) reader.old (nodes (map node.a_group result)) reader.new }
+    ensures { Goes skeleton (rep (rule grammar.transition)) reader.old
+        (nodes (map node.a_group result)) reader.new }
 {
     let mut items = Groups::new(reader.alloc);
     while reader.sees(TokenKind::Reserved(ReservedWord::Trans)) {

@@ -17,7 +17,8 @@ use est_syntax::type_text::VarDefs;
 
 // "channel" ident "(" ident "," ident ")" ";" by { by }
 pub fn channel(reader: &mut Reader) -> Channel
-    ensures { Goes skeleton (rule grammar.channel) reader.old (shown (node.a_channel result)) reader.new }
+    ensures { Goes skeleton (rule grammar.channel) reader.old
+        (shown (node.a_channel result)) reader.new }
 {
     reader.word(ReservedWord::Channel);
     let name = reader.name();
@@ -36,7 +37,8 @@ pub fn channel(reader: &mut Reader) -> Channel
 
 // by { by }
 fn by_parts(reader: &mut Reader) -> ByParts
-    ensures { Goes skeleton (grammar.several (rule grammar.by)) reader.old (nodes (map node.a_by_part result)) reader.new }
+    ensures { Goes skeleton (grammar.several (rule grammar.by)) reader.old
+        (nodes (map node.a_by_part result)) reader.new }
 {
     let first = by(reader);
     let mut items = ByParts::new(reader.alloc);
@@ -50,7 +52,8 @@ fn by_parts(reader: &mut Reader) -> ByParts
 
 // "by" ident ":" ident ";" { ident ";" }
 fn by(reader: &mut Reader) -> ByPart
-    ensures { Goes skeleton (rule grammar.by) reader.old (shown (node.a_by_part result)) reader.new }
+    ensures { Goes skeleton (rule grammar.by) reader.old
+        (shown (node.a_by_part result)) reader.new }
 {
     reader.word(ReservedWord::By);
     let roles = one_name(reader);
@@ -64,7 +67,8 @@ fn by(reader: &mut Reader) -> ByPart
 
 // ident ";" { ident ";" }
 fn interactions(reader: &mut Reader) -> Interactions
-    ensures { Goes skeleton (grammar.several grammar.interaction) reader.old (nodes (map node.an_interaction result)) reader.new }
+    ensures { Goes skeleton (grammar.several grammar.interaction) reader.old
+        (nodes (map node.an_interaction result)) reader.new }
 {
     let first = interaction(reader);
     let mut items = Interactions::new(reader.alloc);
@@ -78,7 +82,8 @@ fn interactions(reader: &mut Reader) -> Interactions
 
 // ident ";"
 fn interaction(reader: &mut Reader) -> InteractionDef
-    ensures { Goes skeleton grammar.interaction reader.old (shown (node.an_interaction result)) reader.new }
+    ensures { Goes skeleton grammar.interaction reader.old
+        (shown (node.an_interaction result)) reader.new }
 {
     let name = reader.name();
     reader.symbol(Symbol::Semicolon);

@@ -16,7 +16,8 @@ use est_syntax::type_text::{TypeTexts, VarDefs};
 
 // "module" ident "systemactivity" ";" "ip" point { point } "end" ";"
 pub fn header(reader: &mut Reader) -> Header
-    ensures { Goes skeleton (rule grammar.header) reader.old (shown (node.a_header result)) reader.new }
+    ensures { Goes skeleton (rule grammar.header) reader.old
+        (shown (node.a_header result)) reader.new }
 {
     reader.word(ReservedWord::Module);
     let name = reader.name();
@@ -39,7 +40,8 @@ pub fn header(reader: &mut Reader) -> Header
 
 // point { point }
 fn points(reader: &mut Reader) -> Points
-    ensures { Goes skeleton (grammar.several (rule grammar.point)) reader.old (nodes (map node.a_point result)) reader.new }
+    ensures { Goes skeleton (grammar.several (rule grammar.point)) reader.old
+        (nodes (map node.a_point result)) reader.new }
 {
     let first = point(reader);
     let mut items = Points::new(reader.alloc);
@@ -53,7 +55,8 @@ fn points(reader: &mut Reader) -> Points
 
 // ident { "," ident } ":" ident "(" ident ")" ";"
 fn point(reader: &mut Reader) -> Point
-    ensures { Goes skeleton (rule grammar.point) reader.old (shown (node.a_point result)) reader.new }
+    ensures { Goes skeleton (rule grammar.point) reader.old
+        (shown (node.a_point result)) reader.new }
 {
     let place = reader.at;
     let names = names(reader);

@@ -27,7 +27,8 @@ use est_syntax::type_text::TypeTexts;
 //     "modvar" ident ":" ident ";"
 //     "initialize" "begin" "init" ident "with" ident [ ";" ] "end" ";" "end" "."
 pub fn specification(reader: &mut Reader) -> Spec
-    ensures { Goes skeleton (rule grammar.specification) reader.old (shown (node.a_specification result)) reader.new }
+    ensures { Goes skeleton (rule grammar.specification) reader.old
+        (shown (node.a_specification result)) reader.new }
 {
     reader.word(ReservedWord::Specification);
     let name = reader.name();
@@ -55,7 +56,8 @@ pub fn specification(reader: &mut Reader) -> Spec
 
 // channel { channel }
 fn channels(reader: &mut Reader) -> Parts
-    ensures goes { Goes skeleton (grammar.several (rule grammar.channel)) reader.old (nodes (node.channels_in result)) reader.new }
+    ensures goes { Goes skeleton (grammar.several (rule grammar.channel)) reader.old
+        (nodes (node.channels_in result)) reader.new }
     ensures all { reader.new.outcome ≡ Outcome.Well → AllChannels result }
 {
     let first = channel(reader);
@@ -70,7 +72,8 @@ fn channels(reader: &mut Reader) -> Parts
 
 // ident ":" ident
 fn module_variable(reader: &mut Reader) -> ModvarDef
-    ensures { Goes skeleton grammar.module_variable reader.old (node.module_variable result) reader.new }
+    ensures { Goes skeleton grammar.module_variable reader.old
+        (node.module_variable result) reader.new }
 {
     let place = reader.at;
     let names = one_name(reader);
@@ -87,7 +90,8 @@ fn module_variable(reader: &mut Reader) -> ModvarDef
 
 // "initialize" "begin" "init" ident "with" ident [ ";" ] "end" ";" "end" "."
 fn initialization(reader: &mut Reader) -> Statement
-    ensures { Goes skeleton grammar.initialization reader.old (node.initialization result) reader.new }
+    ensures { Goes skeleton grammar.initialization reader.old
+        (node.initialization result) reader.new }
 {
     reader.word(ReservedWord::Initialize);
     reader.word(ReservedWord::Begin);

@@ -20,7 +20,8 @@ use est_syntax::transition::{Clause, Clauses, Group, Transition, Transitions};
 
 // "trans" and one transition
 pub fn group(reader: &mut Reader) -> Group
-    ensures { Goes skeleton (rule grammar.transition) reader.old (shown (node.a_group result)) reader.new }
+    ensures { Goes skeleton (rule grammar.transition) reader.old
+        (shown (node.a_group result)) reader.new }
 {
     let first = transition(reader);
     let mut transitions = Transitions::new(reader.alloc);
@@ -30,7 +31,8 @@ pub fn group(reader: &mut Reader) -> Group
 
 // "trans" [ "from" .. ] [ "to" .. ] [ "when" .. ] "begin" [ output ] "end" ";"
 fn transition(reader: &mut Reader) -> Transition
-    ensures { Goes skeleton (rule grammar.transition) reader.old (shown (node.a_transition result)) reader.new }
+    ensures { Goes skeleton (rule grammar.transition) reader.old
+        (shown (node.a_transition result)) reader.new }
 {
     reader.word(ReservedWord::Trans);
     let clauses = clauses(reader);
@@ -135,7 +137,8 @@ fn block(reader: &mut Reader) -> Block
 
 // [ output ], alone in a list
 fn statements(reader: &mut Reader) -> Statements
-    ensures { Goes skeleton grammar.statement reader.old (alone (map node.a_statement result)) reader.new }
+    ensures { Goes skeleton grammar.statement reader.old
+        (alone (map node.a_statement result)) reader.new }
 {
     let statement = statement(reader);
     let mut items = Statements::new(reader.alloc);
@@ -145,7 +148,8 @@ fn statements(reader: &mut Reader) -> Statements
 
 // [ "output" ident "." ident { "," ident "." ident } ]
 fn statement(reader: &mut Reader) -> Statement
-    ensures { Goes skeleton grammar.statement reader.old (shown (node.a_statement result)) reader.new }
+    ensures { Goes skeleton grammar.statement reader.old
+        (shown (node.a_statement result)) reader.new }
 {
     let place = reader.at;
     if !reader.sees(TokenKind::Reserved(ReservedWord::Output)) {
@@ -158,7 +162,8 @@ fn statement(reader: &mut Reader) -> Statement
 
 // ident "." ident { "," ident "." ident }
 fn sendings(reader: &mut Reader) -> Sendings
-    ensures { Goes skeleton (grammar.listed grammar.dotted) reader.old (nodes (map node.a_sending result)) reader.new }
+    ensures { Goes skeleton (grammar.listed grammar.dotted) reader.old
+        (nodes (map node.a_sending result)) reader.new }
 {
     let first = sending(reader);
     let mut items = Sendings::new(reader.alloc);

@@ -1,4 +1,5 @@
-//! What holds the items of every crate: a list, a box and a shared value, which contracts see as what they hold.
+//! What holds the items of every crate: a list, a box and a shared value, which contracts see as
+//! what they hold.
 #![tactic(auto)]
 
 pub mod boxed;

@@ -39,7 +39,8 @@ impl<T: Drop> Shared<T> {
         }
     }
 
-    /// One more owner of the same value, which is not copied. Errs where there can be no more owners.
+    /// One more owner of the same value, which is not copied. Errs where there can be no more
+    /// owners.
     pub fn share(&self) -> Result<Shared<T>, AllocError>
         ensures { IfOk result (λ shared. shared ≡ self.now) }
     {

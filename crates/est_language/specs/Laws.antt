@@ -7,16 +7,22 @@ use Rattle.est_language.specs.Places.{HasTree, HasPartial, IsFirstBadPlace}
 
 -- a list of tokens has at most one first bad place by a grammar
 abbrev pub AtMostOneBadPlace : Type 0 → Type 0 → Type 0 → Type 0 → Type 0
-AtMostOneBadPlace Token V T P = (L : Language Token V T P) (g : Grammar T P) (d : ℕ) (s : List Token) (i j : ℕ) → IsFirstBadPlace L g d s i → IsFirstBadPlace L g d s j → i ≡ j
+AtMostOneBadPlace Token V T P = (L : Language Token V T P) (g : Grammar T P) (d : ℕ)
+    (s : List Token) (i j : ℕ) → IsFirstBadPlace L g d s i → IsFirstBadPlace L g d s j → i ≡ j
 
 -- the first n tokens of a list that has a tree have a partial tree, whatever n is
 abbrev pub FrontsOfTree : Type 0 → Type 0 → Type 0 → Type 0 → Type 0
-FrontsOfTree Token V T P = (L : Language Token V T P) (g : Grammar T P) (d : ℕ) (s : List Token) (t : Shape V) (n : ℕ) → n ≤ length s → HasTree L g d s t → HasPartial L g d s n
+FrontsOfTree Token V T P = (L : Language Token V T P) (g : Grammar T P) (d : ℕ) (s : List Token)
+    (t : Shape V) (n : ℕ) → n ≤ length s → HasTree L g d s t → HasPartial L g d s n
 
 -- where the first n tokens have a partial tree, so have the first m, for each m up to n
 abbrev pub FrontsOfPartial : Type 0 → Type 0 → Type 0 → Type 0 → Type 0
-FrontsOfPartial Token V T P = (L : Language Token V T P) (g : Grammar T P) (d : ℕ) (s : List Token) (m n : ℕ) → m ≤ n → HasPartial L g d s n → HasPartial L g d s m
+FrontsOfPartial Token V T P = (L : Language Token V T P) (g : Grammar T P) (d : ℕ) (s : List Token)
+    (m n : ℕ) → m ≤ n → HasPartial L g d s n → HasPartial L g d s m
 
--- where one token decides each choice of a grammar and of the productions, by a table that says enough of these, a list of tokens has at most one tree, whatever the levels
+-- where one token decides each choice of a grammar and of the productions, by a table that says
+-- enough of these, a list of tokens has at most one tree, whatever the levels
 abbrev pub AtMostOneTree : Type 0 → Type 0 → Type 0 → Type 0 → Type 0
-AtMostOneTree Token V T P = (L : Language Token V T P) (S : Marks T P) (g : Grammar T P) (d e : ℕ) (s : List Token) (t u : Shape V) → Fits L S → ((p : P) → OneTokenDecides L S (L.production p)) → OneTokenDecides L S g → HasTree L g d s t → HasTree L g e s u → t ≡ u
+AtMostOneTree Token V T P = (L : Language Token V T P) (S : Marks T P) (g : Grammar T P) (d e : ℕ)
+    (s : List Token) (t u : Shape V) → Fits L S → ((p : P) → OneTokenDecides L S (L.production p))
+    → OneTokenDecides L S g → HasTree L g d s t → HasTree L g e s u → t ≡ u

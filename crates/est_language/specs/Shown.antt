@@ -42,6 +42,8 @@ module _ {V N : Type 0} (layer : N → View V N) where
     s_without : Shows (perhaps []) nothing
     s_with : {n : N} {t : Shape V} → Shows (node n) t → Shows (perhaps (n ∷ [])) (some t)
     s_none : Shows (nodes []) nothing
-    s_more : {n : N} {ns : List N} {t u : Shape V} → Shows (node n) t → Shows (nodes ns) u → Shows (nodes (n ∷ ns)) (both t u)
+    s_more : {n : N} {ns : List N} {t u : Shape V} → Shows (node n) t → Shows (nodes ns) u
+        → Shows (nodes (n ∷ ns)) (both t u)
     s_no_run : {f : List N → View V N} → Shows (runs f []) nothing
-    s_run : {f : List N → View V N} (ms : List N) {ns : List N} {t u : Shape V} → Shows (f ms) t → Shows (runs f ns) u → Shows (runs f (ms ++ ns)) (both t u)
+    s_run : {f : List N → View V N} (ms : List N) {ns : List N} {t u : Shape V} → Shows (f ms) t
+        → Shows (runs f ns) u → Shows (runs f (ms ++ ns)) (both t u)

@@ -5,13 +5,17 @@ use Rattle.std.specs.Str.{byte}
 abbrev pub is_blank : ℕ → Bool
 is_blank b = (b == 9) || (b == 10) || (b == 12) || (b == 13) || (b == 32)
 
--- How many bytes the mark has that begins a comment at a place, `{` or `(*`: 0 where none stands there (ISO 7185, 6.1.8).
+-- How many bytes the mark has that begins a comment at a place, `{` or `(*`: 0 where none stands
+-- there (ISO 7185, 6.1.8).
 unfoldable pub opening : List ℕ → ℕ → ℕ
-opening text place = if slice_index text place == byte "{" then 1 else if (slice_index text place == byte "(") && (slice_index text (place + 1) == byte "*") then 2 else 0
+opening text place = if slice_index text place == byte "{" then 1 else if
+    (slice_index text place == byte "(") && (slice_index text (place + 1) == byte "*") then 2 else 0
 
--- How many bytes the mark has that ends a comment at a place, `}` or `*)`: 0 where none stands there (ISO 7185, 6.1.8).
+-- How many bytes the mark has that ends a comment at a place, `}` or `*)`: 0 where none stands
+-- there (ISO 7185, 6.1.8).
 unfoldable pub closing : List ℕ → ℕ → ℕ
-closing text place = if slice_index text place == byte "}" then 1 else if (slice_index text place == byte "*") && (slice_index text (place + 1) == byte ")") then 2 else 0
+closing text place = if slice_index text place == byte "}" then 1 else if
+    (slice_index text place == byte "*") && (slice_index text (place + 1) == byte ")") then 2 else 0
 
 -- The first mark from a place on that ends a comment ends at `to`.
 pub record IsFirstEnd (text : List ℕ) (from to : ℕ) : Type 0 where
@@ -25,7 +29,8 @@ pub record IsFirstEnd (text : List ℕ) (from to : ℕ) : Type 0 where
 pub record IsUnended (text : List ℕ) (from : ℕ) : Type 0 where
   pub none : (mark : ℕ) → from ≤ mark → closing text mark ≡ 0
 
--- From one place up to another stands one comment: a mark that begins it, and all up to the first mark behind that which ends one, whichever began it.
+-- From one place up to another stands one comment: a mark that begins it, and all up to the first
+-- mark behind that which ends one, whichever began it.
 pub record IsComment (text : List ℕ) (from to : ℕ) : Type 0 where
   pub begins : 0 < opening text from
   pub ended : IsFirstEnd text (from + opening text from) to
@@ -35,8 +40,11 @@ pub record IsOpenComment (text : List ℕ) (place : ℕ) : Type 0 where
   pub begins : 0 < opening text place
   pub unended : IsUnended text (place + opening text place)
 
--- From one place up to another stand blanks and comments, in any order and number, and nothing else.
+-- From one place up to another stand blanks and comments, in any order and number, and nothing
+-- else.
 pub data IsBetween (text : List ℕ) : ℕ → ℕ → Type 0 where
   nothing : (place : ℕ) → IsBetween text place place
-  blank : (from to : ℕ) → is_blank (slice_index text from) ≡ true → IsBetween text (from + 1) to → IsBetween text from to
-  comment : (from middle to : ℕ) → IsComment text from middle → IsBetween text middle to → IsBetween text from to
+  blank : (from to : ℕ) → is_blank (slice_index text from) ≡ true → IsBetween text (from + 1) to
+      → IsBetween text from to
+  comment : (from middle to : ℕ) → IsComment text from middle → IsBetween text middle to
+      → IsBetween text from to

@@ -8,7 +8,8 @@ use Rattle.est_lexer.specs.TokenList.{IsTokenList}
 
 -- A text has one token list.
 abbrev pub TokenListIsUnique : Type 0
-TokenListIsUnique = (text : List ℕ) (xs ys : List Token) → IsTokenList text xs → IsTokenList text ys → xs ≡ ys
+TokenListIsUnique =
+    (text : List ℕ) (xs ys : List Token) → IsTokenList text xs → IsTokenList text ys → xs ≡ ys
 
 -- No spelling stands twice.
 abbrev pub are_distinct : List Word → Bool

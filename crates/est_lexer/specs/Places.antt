@@ -18,4 +18,5 @@ last_end tokens = option_map_or end_of (slice_get tokens (length tokens - 1)) 0
 
 -- Where the token of a place starts; the place behind all tokens lies where the last one ends.
 abbrev pub offset_at : List Token → ℕ → ℕ
-offset_at tokens place = option_map_or (λ token. token.start) (slice_get tokens place) (last_end tokens)
+offset_at tokens place =
+    option_map_or (λ token. token.start) (slice_get tokens place) (last_end tokens)

@@ -26,10 +26,13 @@ groups table = map (λ group. rows group.now) table
 abbrev pub all_of : List (List Word) → List Word
 all_of tables = flat_map (λ table. table) tables
 
--- The words of the first table begin with this letter, those of the next with the next one, and so on.
+-- The words of the first table begin with this letter, those of the next with the next one, and so
+-- on.
 abbrev pub is_by_letter : ℕ → List (List Word) → Bool
 is_by_letter letter [] = true
-is_by_letter letter (table ∷ tables) = list_all (λ w. to_ascii_lowercase (slice_index w.0 0) == letter) table && is_by_letter (letter + 1) tables
+is_by_letter letter (table ∷ tables) = list_all
+    (λ w. to_ascii_lowercase (slice_index w.0 0) == letter) table && is_by_letter
+    (letter + 1) tables
 
 -- The token stands at a place and is the longest one there.
 pub record IsTokenAt (text : List ℕ) (place : ℕ) (token : Token) : Type 0 where

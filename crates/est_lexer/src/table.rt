@@ -179,7 +179,8 @@ fn find_by_letter(table: &[&[Word]], bytes: &[u8]) -> Option<TokenKind>
     requires by_letter { IsTrue (is_by_letter 97 (groups table.now)) }
     requires some { 0 < length bytes.now }
     requires letter { is_ascii_alphabetic (slice_index bytes.now 0) ≡ true }
-    ensures { result ≡ option_map (λ w. w.1) (find (λ w. str_eq_ignore_ascii_case w.0 bytes.now) (all_of (groups table.now))) }
+    ensures { result ≡ option_map (λ w. w.1)
+        (find (λ w. str_eq_ignore_ascii_case w.0 bytes.now) (all_of (groups table.now))) }
 {
     find_word(
         table[(bytes[0].to_ascii_lowercase() - b'a') as usize],
@@ -189,7 +190,8 @@ fn find_by_letter(table: &[&[Word]], bytes: &[u8]) -> Option<TokenKind>
 
 // The kind of the first of these words that has these bytes, in any letter case.
 fn find_word(words: &[Word], bytes: &[u8]) -> Option<TokenKind>
-    ensures { result ≡ option_map (λ w. w.1) (find (λ w. str_eq_ignore_ascii_case w.0 bytes.now) (rows words.now)) }
+    ensures { result ≡ option_map (λ w. w.1)
+        (find (λ w. str_eq_ignore_ascii_case w.0 bytes.now) (rows words.now)) }
 {
     for word in words {
         if word.0.eq_ignore_ascii_case(bytes) {
@@ -202,14 +204,16 @@ fn find_word(words: &[Word], bytes: &[u8]) -> Option<TokenKind>
 /// The length and the kind of the longest symbol that these bytes begin with.
 #[tactic(auto, unfolding(crate::specs::Words::symbols))]
 pub(crate) fn symbol_before(rest: &[u8]) -> Option<(usize, TokenKind)>
-    ensures { result ≡ option_map (λ w. (length w.0, w.1)) (find (λ w. starts_with nat_eq rest.now w.0) symbols) }
+    ensures { result ≡ option_map (λ w. (length w.0, w.1))
+        (find (λ w. starts_with nat_eq rest.now w.0) symbols) }
 {
     find_prefix(&SYMBOLS, rest)
 }
 
 // The length and the kind of the first of these symbols that the bytes begin with.
 fn find_prefix(symbols: &[Word], rest: &[u8]) -> Option<(usize, TokenKind)>
-    ensures { result ≡ option_map (λ w. (length w.0, w.1)) (find (λ w. starts_with nat_eq rest.now w.0) (rows symbols.now)) }
+    ensures { result ≡ option_map (λ w. (length w.0, w.1))
+        (find (λ w. starts_with nat_eq rest.now w.0) (rows symbols.now)) }
 {
     for symbol in symbols {
         if rest.starts_with(symbol.0) {

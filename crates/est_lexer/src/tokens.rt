@@ -47,7 +47,8 @@ impl Tokens<'_> {
     /// The bytes of the token at a place.
     pub fn spelled(&self, place: u32) -> &[u8]
         requires { place < length (tokens_of self.now) }
-        ensures { IfSome (slice_get (tokens_of self.now) place) (λ token. result.now ≡ spelling (text_of self.now) token) }
+        ensures { IfSome (slice_get (tokens_of self.now) place)
+            (λ token. result.now ≡ spelling (text_of self.now) token) }
     {
         let token = self.list[place as usize];
         let start = token.start as usize;
@@ -58,8 +59,10 @@ impl Tokens<'_> {
     /// lies where the last one ends.
     pub fn line_column(&self, place: u32) -> (u32, u32)
         requires { place ≤ length (tokens_of self.now) }
-        ensures line { result.0 ≡ line_at (text_of self.now) (offset_at (tokens_of self.now) place) }
-        ensures column { result.1 ≡ column_at (text_of self.now) (offset_at (tokens_of self.now) place) }
+        ensures line { result.0 ≡ line_at (text_of self.now)
+            (offset_at (tokens_of self.now) place) }
+        ensures column { result.1
+            ≡ column_at (text_of self.now) (offset_at (tokens_of self.now) place) }
     {
         let before = &self.text[..self.offset(place)];
         (line_behind(before), column_behind(before))

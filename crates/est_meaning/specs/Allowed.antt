@@ -22,11 +22,13 @@ pub record IsOfPort (spec : Spec) (i : Interaction) (port : Port) (signal : Sign
 
 -- the port receives the interaction (ISO 9074, 7, channel definition)
 unfoldable pub IsReceivable : Spec → Interaction → Type 0
-IsReceivable spec i = (port : Port) × (signal : Signal) × IsOfPort spec i port signal × IsTrue signal.receives
+IsReceivable spec i =
+    (port : Port) × (signal : Signal) × IsOfPort spec i port signal × IsTrue signal.receives
 
 -- the port sends the interaction
 unfoldable pub IsSendable : Spec → Interaction → Type 0
-IsSendable spec i = (port : Port) × (signal : Signal) × IsOfPort spec i port signal × IsTrue signal.sends
+IsSendable spec i =
+    (port : Port) × (signal : Signal) × IsOfPort spec i port signal × IsTrue signal.sends
 
 -- an event may stand in a trace of the specification
 abbrev pub IsAllowed : Spec → Event → Type 0

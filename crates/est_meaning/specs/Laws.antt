@@ -18,7 +18,9 @@ use Rattle.est_meaning.specs.Run.{Setup, Place, IsBegun, IsRun, IsBoundedRun, Ta
 
 -- one firing leads from a situation to one situation at most, with one list of events
 abbrev pub StepsAreUnique : Type 0
-StepsAreUnique = (limit : ℕ) (spec : Spec) (s : Situation) (f : Firing) (next other : Situation) (outs others : List Event) → IsStep limit spec s f next outs → IsStep limit spec s f other others → (next ≡ other) × (outs ≡ others)
+StepsAreUnique = (limit : ℕ) (spec : Spec) (s : Situation) (f : Firing) (next other : Situation)
+    (outs others : List Event) → IsStep limit spec s f next outs
+    → IsStep limit spec s f other others → (next ≡ other) × (outs ≡ others)
 
 -- a run leads to one situation and one list of events
 abbrev pub RunsAreUnique : Type 0
@@ -26,7 +28,8 @@ RunsAreUnique = (c : Setup) (run : List Move) (p q : Place) → IsRun c run p �
 
 -- what a bounded run begins with is a bounded run
 abbrev pub BoundedRunsBeginBounded : Type 0
-BoundedRunsBeginBounded = (c : Setup) (later earlier : List Move) (p : Place) → IsBoundedRun c (later ++ earlier) p → (q : Place) × IsBoundedRun c earlier q
+BoundedRunsBeginBounded = (c : Setup) (later earlier : List Move) (p : Place)
+    → IsBoundedRun c (later ++ earlier) p → (q : Place) × IsBoundedRun c earlier q
 
 -- behind a run a firing is a step without an outside event
 pub record IsSilentFiring (c : Setup) (earlier : List Move) (f : Firing) : Type 0 where
@@ -47,11 +50,13 @@ AreSilent c earlier (m ∷ moves) = IsSilent c (moves ++ earlier) m × AreSilent
 
 -- nowhere in a run are more moves in a row silent firings than the setup allows
 abbrev pub HasFewInARow : Setup → List Move → Type 0
-HasFewInARow c run = (later moves earlier : List Move) → run ≡ later ++ (moves ++ earlier) → length moves ≡ c.silent + 1 → AreSilent c earlier moves → ⊥
+HasFewInARow c run = (later moves earlier : List Move) → run ≡ later ++ (moves ++ earlier)
+    → length moves ≡ c.silent + 1 → AreSilent c earlier moves → ⊥
 
 -- the bounded runs are the runs with few silent firings in a row
 abbrev pub BoundedMeansFewInARow : Type 0
-BoundedMeansFewInARow = (c : Setup) (run : List Move) (p : Place) → IsBoundedRun c run p ↔ (IsRun c run p × HasFewInARow c run)
+BoundedMeansFewInARow = (c : Setup) (run : List Move) (p : Place)
+    → IsBoundedRun c run p ↔ (IsRun c run p × HasFewInARow c run)
 
 -- each event agrees with the one that is expected in its place, and there are as many
 abbrev pub EachAgrees : List Event → List Event → Type 0
@@ -81,8 +86,10 @@ pub record RunOrderIsStrictTotal : Type 0 where
 
 -- where a trace is within its limits, no run along it brings the clock past 10^15
 abbrev pub ClockStaysBounded : Type 0
-ClockStaysBounded = (c : Setup) (run : List Move) (p : Place) → IsBegun c → IsAllowedTrace c.spec c.trace → IsRun c run p
-    → (p.situation.clock ≤ 10 ^ 15) × ((q : Place) (taken : Takes c p q) → p.situation.clock + units_of taken.event ≤ 10 ^ 15)
+ClockStaysBounded = (c : Setup) (run : List Move) (p : Place) → IsBegun c
+    → IsAllowedTrace c.spec c.trace → IsRun c run p
+    → (p.situation.clock ≤ 10 ^ 15)
+    × ((q : Place) (taken : Takes c p q) → p.situation.clock + units_of taken.event ≤ 10 ^ 15)
 
 -- the first row is that of the root
 abbrev pub BeginsWithRoot : List Row → Type 0
@@ -92,13 +99,18 @@ BeginsWithRoot (r ∷ rs) = (r.number ≡ 1) × (r.parent ≡ 0)
 -- the numbers of these rows ascend, from one number on and up to another that none of them has
 abbrev pub AreAscending : ℕ → ℕ → List Row → Type 0
 AreAscending from to [] = Unit {0}
-AreAscending from to (r ∷ rs) = (from ≤ r.number) × (r.number < to) × AreAscending (r.number + 1) to rs
+AreAscending from to (r ∷ rs) =
+    (from ≤ r.number) × (r.number < to) × AreAscending (r.number + 1) to rs
 
--- in each situation of a run the rows begin with the root's, and their numbers ascend from 1 and lie below that of the next instance
+-- in each situation of a run the rows begin with the root's, and their numbers ascend from 1 and
+-- lie below that of the next instance
 abbrev pub RowsAreInOrder : Type 0
-RowsAreInOrder = (c : Setup) (run : List Move) (p : Place) → IsBegun c → IsRun c run p → BeginsWithRoot p.situation.rows × AreAscending 1 p.situation.next p.situation.rows
+RowsAreInOrder = (c : Setup) (run : List Move) (p : Place) → IsBegun c → IsRun c run p
+    → BeginsWithRoot p.situation.rows × AreAscending 1 p.situation.next p.situation.rows
 
 -- no possible firing faults, nor does the start of a specification whose root has a body
 pub record BlocksDoNotFault : Type 0 where
-  pub firings : (limit : ℕ) (spec : Spec) (s : Situation) (f : Firing) (fault : BlockFault) → IsPossible limit spec s f → outcome limit spec s f ≢ Fault fault
-  pub starts : (limit : ℕ) (spec : Spec) (body : Body) (fault : BlockFault) → root_of spec ≡ Some body → start_of limit spec ≢ Fault fault
+  pub firings : (limit : ℕ) (spec : Spec) (s : Situation) (f : Firing) (fault : BlockFault)
+      → IsPossible limit spec s f → outcome limit spec s f ≢ Fault fault
+  pub starts : (limit : ℕ) (spec : Spec) (body : Body) (fault : BlockFault)
+      → root_of spec ≡ Some body → start_of limit spec ≢ Fault fault

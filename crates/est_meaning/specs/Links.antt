@@ -47,16 +47,20 @@ is_at p (Some q) = is_point p q
 abbrev pub attached_in : Spec → Situation → InteractionPoint → Row → Option InteractionPoint
 attached_in spec s p parent = find (λ e. is_at p (s.down e)) (external_of spec parent)
 
--- the interaction point of the parent to which this one is attached, where there is one (ISO 9074, 7, attach-statement)
+-- the interaction point of the parent to which this one is attached, where there is one (ISO 9074,
+-- 7, attach-statement)
 abbrev pub above : Spec → Situation → InteractionPoint → Option InteractionPoint
-above spec s p = option_and_then (attached_in spec s p) (option_and_then (λ (r : Row). row_of s r.parent) (row_of s p.instance))
+above spec s p = option_and_then (attached_in spec s p)
+    (option_and_then (λ (r : Row). row_of s r.parent) (row_of s p.instance))
 
 -- along at most n attachments, as long as there is one
-abbrev pub follow : (InteractionPoint → Option InteractionPoint) → ℕ → InteractionPoint → InteractionPoint
+abbrev pub follow : (InteractionPoint → Option InteractionPoint) → ℕ → InteractionPoint
+    → InteractionPoint
 follow next zero p = p
 follow next (suc n) p = option_map_or (follow next n) (next p) p
 
--- up from an interaction point as long as it can; no chain has more attachments than there are instances (ISO 9074, 5, attachments)
+-- up from an interaction point as long as it can; no chain has more attachments than there are
+-- instances (ISO 9074, 5, attachments)
 abbrev pub up : Spec → Situation → InteractionPoint → InteractionPoint
 up spec s p = follow (above spec s) (length s.rows) p
 
@@ -66,7 +70,8 @@ bottom s p = follow s.down (length s.rows) p
 
 -- ROUTES
 
--- where an output goes: to an interaction point, out of a port, or nowhere (ISO 9074, 7, output-statement)
+-- where an output goes: to an interaction point, out of a port, or nowhere (ISO 9074, 7,
+-- output-statement)
 pub data Route : Type 0 where
   Within : InteractionPoint → Route
   Outside : ℕ → Route
@@ -77,12 +82,14 @@ abbrev pub outside : Option ℕ → Route
 outside None = Lost
 outside (Some port) = Outside port
 
--- from the top of a climb an output crosses a connection, where there is one (ISO 9074, 7, connect-statement)
+-- from the top of a climb an output crosses a connection, where there is one (ISO 9074, 7,
+-- connect-statement)
 abbrev pub crossed : Spec → Situation → InteractionPoint → Option InteractionPoint → Route
 crossed spec s q (Some other) = Within (bottom s other)
 crossed spec s q None = outside (port_number spec q)
 
--- an output climbs, crosses a connection where there is one and goes down again; else it leaves at an external interaction point of the root, and is lost elsewhere
+-- an output climbs, crosses a connection where there is one and goes down again; else it leaves at
+-- an external interaction point of the root, and is lost elsewhere
 abbrev pub routed : Spec → Situation → InteractionPoint → Route
 routed spec s p = let q = up spec s p in crossed spec s q (s.peer q)
 
@@ -100,7 +107,8 @@ queue_in spec p (Some declared) = queue_by p (discipline spec declared)
 
 -- where the header of an instance declares an interaction point
 abbrev pub declaration_of : Spec → Situation → InteractionPoint → Option Declared
-declaration_of spec s p = option_and_then (λ (r : Row). find (is_declared p.name) (declared_of spec r)) (row_of s p.instance)
+declaration_of spec s p = option_and_then
+    (λ (r : Row). find (is_declared p.name) (declared_of spec r)) (row_of s p.instance)
 
 -- the queue of an interaction point in a situation
 abbrev pub queue_of : Spec → Situation → InteractionPoint → QueueName

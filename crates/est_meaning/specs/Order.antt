@@ -1,6 +1,7 @@
 -- The order of firings and of runs.
 --
--- Runs are read from their last move back to the first, so that `m ∷ earlier` is the run `earlier` with one more move m.
+-- Runs are read from their last move back to the first, so that `m ∷ earlier` is the run `earlier`
+-- with one more move m.
 use Rattle.std.specs.Prelude.{◌≡◌, ◌<◌, ◌≤◌, ◌⊎◌, ℕ, List, [], ◌∷◌, ◌++◌, map, length}
 use Rattle.est_syntax.specs.Least.{IsIn}
 use Rattle.est_meaning.specs.declared.run.Firing.{Firing}
@@ -11,7 +12,9 @@ use Rattle.est_meaning.specs.declared.run.Move.TheVariants.{Take, Fire}
 
 -- by instance, transition and choice
 unfoldable pub FiringBefore : Firing → Firing → Type 0
-FiringBefore f g = (f.instance < g.instance) ⊎ ((f.instance ≡ g.instance) × ((f.transition < g.transition) ⊎ ((f.transition ≡ g.transition) × (f.choice < g.choice))))
+FiringBefore f g = (f.instance < g.instance)
+    ⊎ ((f.instance ≡ g.instance)
+    × ((f.transition < g.transition) ⊎ ((f.transition ≡ g.transition) × (f.choice < g.choice))))
 
 -- a firing comes before each of these
 abbrev pub IsBeforeAll : Firing → List Firing → Type 0
@@ -25,7 +28,8 @@ IsAscending (f ∷ fs) = IsBeforeAll f fs × IsAscending fs
 
 -- MARKS
 
--- what is done after a run: the next event is taken, the guards are evaluated, and firings are tried
+-- what is done after a run: the next event is taken, the guards are evaluated, and firings are
+-- tried
 pub data Mark : Type 0 where
   Taking : Mark
   Guarding : Mark
@@ -56,10 +60,12 @@ marks_of = map mark_of
 abbrev pub StartsWith : {X : Type 0} → List X → List X → Type 0
 StartsWith {X} run start = (later : List X) × (run ≡ later ++ start)
 
--- of two lists of marks the first mark in which they differ decides, and where one is the beginning of the other, it is the earlier
+-- of two lists of marks the first mark in which they differ decides, and where one is the beginning
+-- of the other, it is the earlier
 pub data Before (x y : List Mark) : Type 0 where
   longer : (m : Mark) → StartsWith y (m ∷ x) → Before x y
-  differs : (common : List Mark) (m n : Mark) → MarkBefore m n → StartsWith x (m ∷ common) → StartsWith y (n ∷ common) → Before x y
+  differs : (common : List Mark) (m n : Mark) → MarkBefore m n → StartsWith x (m ∷ common)
+      → StartsWith y (n ∷ common) → Before x y
 
 -- RUNS
 

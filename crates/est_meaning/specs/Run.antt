@@ -1,6 +1,7 @@
 -- Runs of a specification along a trace.
 --
--- These definitions read a run from its last move back to its first, so that `m ∷ earlier` is the run `earlier` with one more move m.
+-- These definitions read a run from its last move back to its first, so that `m ∷ earlier` is the
+-- run `earlier` with one more move m.
 use Rattle.std.specs.Prelude.{◌≡◌, ℕ, ◌+◌, ◌≤◌, ◌⊎◌, List, [], ◌∷◌, ◌++◌, length, take}
 use Rattle.est_syntax.specs.declared.specification.Spec.{Spec}
 use Rattle.est_meaning.specs.declared.event.Event.{Event}
@@ -53,9 +54,11 @@ IsFromOutside (event.Passes units) = Unit {0}
 
 -- where a run stands behind a taken event
 abbrev pub after_taking : Setup → Place → Event → Place
-after_taking c p e = record { situation = after_event c.spec p.situation e; events = p.events ++ e ∷ []; silent_in_row = 0 }
+after_taking c p e = record
+    { situation = after_event c.spec p.situation e; events = p.events ++ e ∷ []; silent_in_row = 0 }
 
--- the trace goes on behind the events so far with an arrival or a passing of time, and this event happens
+-- the trace goes on behind the events so far with an arrival or a passing of time, and this event
+-- happens
 pub record Takes (c : Setup) (p q : Place) : Type 0 where
   pub event : Event
   pub rest : List Event
@@ -63,14 +66,16 @@ pub record Takes (c : Setup) (p q : Place) : Type 0 where
   pub next : c.trace ≡ p.events ++ event ∷ rest
   pub leads : q ≡ after_taking c p event
 
--- how many silent firings stand last behind one more firing: a silent one adds one, and one with an outside event leaves none
+-- how many silent firings stand last behind one more firing: a silent one adds one, and one with an
+-- outside event leaves none
 abbrev pub silent_after : ℕ → List Event → ℕ
 silent_after many [] = many + 1
 silent_after many (e ∷ es) = 0
 
 -- where a run stands behind a step
 abbrev pub after_firing : Place → Situation → List Event → Place
-after_firing p s outs = record { situation = s; events = p.events ++ outs; silent_in_row = silent_after p.silent_in_row outs }
+after_firing p s outs = record
+    { situation = s; events = p.events ++ outs; silent_in_row = silent_after p.silent_in_row outs }
 
 -- the firing is a step
 pub record Fires (c : Setup) (p : Place) (f : Firing) (q : Place) : Type 0 where
@@ -94,7 +99,8 @@ IsRun c (m ∷ earlier) p = (q : Place) × IsRun c earlier q × Moves c q m p
 -- a run in which nowhere too many silent firings stand in a row
 abbrev pub IsBoundedRun : Setup → List Move → Place → Type 0
 IsBoundedRun c [] p = p ≡ first_place c
-IsBoundedRun c (m ∷ earlier) p = (q : Place) × IsBoundedRun c earlier q × Moves c q m p × (p.silent_in_row ≤ c.silent)
+IsBoundedRun c (m ∷ earlier) p =
+    (q : Place) × IsBoundedRun c earlier q × Moves c q m p × (p.silent_in_row ≤ c.silent)
 
 -- a list begins with these items
 abbrev pub IsPrefix : {X : Type 0} → List X → List X → Type 0
@@ -141,7 +147,8 @@ pub record YieldsFirst (c : Setup) (run : List Move) (k : ℕ) : Type 0 where
   pub within : k ≤ length c.trace
   pub agree : AgreeAll (take k c.trace) (take k place.events)
 
--- a bounded run yields the first k events of the trace, or one more than it has where it explains the trace
+-- a bounded run yields the first k events of the trace, or one more than it has where it explains
+-- the trace
 abbrev pub Yields : Setup → List Move → ℕ → Type 0
 Yields c run k = YieldsFirst c run k ⊎ ((k ≡ length c.trace + 1) × Explains c run)
 
@@ -157,13 +164,15 @@ pub record IsInner (c : Setup) (run : List Move) (p : Place) : Type 0 where
 abbrev pub IsTrial : Setup → List Move → Type 0
 IsTrial c [] = ⊥
 IsTrial c (Take ∷ earlier) = ⊥
-IsTrial c (Fire f ∷ earlier) = (p : Place) × IsInner c earlier p × IsPossible c.limit c.spec p.situation f
+IsTrial c (Fire f ∷ earlier) =
+    (p : Place) × IsInner c earlier p × IsPossible c.limit c.spec p.situation f
 
 -- a trial with this outcome
 abbrev pub IsTrialWith : Setup → List Move → Outcome → Type 0
 IsTrialWith c [] o = ⊥
 IsTrialWith c (Take ∷ earlier) o = ⊥
-IsTrialWith c (Fire f ∷ earlier) o = (p : Place) × IsInner c earlier p × IsPossible c.limit c.spec p.situation f × (outcome c.limit c.spec p.situation f ≡ o)
+IsTrialWith c (Fire f ∷ earlier) o = (p : Place) × IsInner c earlier p
+    × IsPossible c.limit c.spec p.situation f × (outcome c.limit c.spec p.situation f ≡ o)
 
 -- a trial whose block faults
 abbrev pub Faults : Setup → List Move → BlockFault → Type 0

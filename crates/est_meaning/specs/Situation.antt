@@ -17,7 +17,8 @@ Map Key Thing = Key → Option Thing
 abbrev pub nothing : {Key Thing : Type 0} → Map Key Thing
 nothing key = None
 
--- an interaction point: the number of its instance, its name and its subscripts (ISO 9074, 5, interaction points)
+-- an interaction point: the number of its instance, its name and its subscripts (ISO 9074, 5,
+-- interaction points)
 pub record InteractionPoint : Type 0 where
   pub instance : ℕ
   pub name : Name
@@ -25,7 +26,8 @@ pub record InteractionPoint : Type 0 where
 
 -- both are one interaction point
 abbrev pub is_point : InteractionPoint → InteractionPoint → Bool
-is_point a b = nat_eq a.instance b.instance && (is_name a.name b.name && pointwise int_eq a.index b.index)
+is_point a b =
+    nat_eq a.instance b.instance && (is_name a.name b.name && pointwise int_eq a.index b.index)
 
 -- a queue: that of one interaction point, or the common one of an instance (ISO 9074, 5, queues)
 pub data QueueName : Type 0 where
@@ -85,7 +87,8 @@ pub record Situation : Type 0 where
 
 -- the situation before the specification's initialize part
 abbrev pub empty_situation : Situation
-empty_situation = record { rows = []; peer = nothing; down = nothing; queues = λ q. []; stamps = nothing; clock = 0; next = 1 }
+empty_situation = record
+    { rows = []; peer = nothing; down = nothing; queues = λ q. []; stamps = nothing; clock = 0; next = 1 }
 
 -- the row of a living instance
 abbrev pub row_of : Situation → ℕ → Option Row

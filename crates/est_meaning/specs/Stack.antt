@@ -30,7 +30,8 @@ abbrev pub alone : Stack → Stack
 alone stack = record { now = stack.now; below = [] }
 
 -- a call changes neither of which specifications a world speaks nor its limit
-pub record Keeps {W : Type 0} (speaks : W → Spec → Type 0) (limit : W → ℕ) (old new : W) : Type 0 where
+pub record Keeps {W : Type 0} (speaks : W → Spec → Type 0) (limit : W → ℕ)
+    (old new : W) : Type 0 where
   pub forward : (spec : Spec) → speaks old spec → speaks new spec
   pub backward : (spec : Spec) → speaks new spec → speaks old spec
   pub limit_is : limit new ≡ limit old
@@ -40,7 +41,8 @@ abbrev pub SameStack : {W : Type 0} → (W → Spec → Type 0) → (W → Spec 
 SameStack speaks stack old new = (spec : Spec) → speaks old spec → stack new spec ≡ stack old spec
 
 -- these are exactly the possible firings, in order
-pub record AreOptions (limit : ℕ) (spec : Spec) (s : Situation) (firings : List Firing) : Type 0 where
+pub record AreOptions (limit : ℕ) (spec : Spec) (s : Situation)
+    (firings : List Firing) : Type 0 where
   pub ascending : IsAscending firings
   pub sound : (f : Firing) → IsIn f firings → IsPossible limit spec s f
   pub complete : (f : Firing) → IsPossible limit spec s f → IsIn f firings
@@ -63,14 +65,19 @@ FiredAs Limit (fired.Fault g) events old new = ⊥
 FiredAs Limit fired.Limit events old new = (events ≡ []) × (new ≡ old)
 
 -- a world as it is after a start
-pub record IsFresh {W : Type 0} (speaks : W → Spec → Type 0) (stack : W → Spec → Stack) (limit fired : W → ℕ) (statements : ℕ) (world : W) (outs : List Event) : Type 0 where
+pub record IsFresh {W : Type 0} (speaks : W → Spec → Type 0) (stack : W → Spec → Stack)
+    (limit fired : W → ℕ) (statements : ℕ) (world : W) (outs : List Event) : Type 0 where
   pub limit_is : limit world ≡ statements
   pub unfired : fired world ≡ 0
-  pub start : (spec : Spec) → speaks world spec → start_of statements spec ≡ Done (stack world spec).now outs
+  pub start : (spec : Spec) → speaks world spec
+      → start_of statements spec ≡ Done (stack world spec).now outs
   pub bottom : (spec : Spec) → speaks world spec → (stack world spec).below ≡ []
 
 -- the answer of a start for its own specification
-abbrev pub StartedAs : {W : Type 0} → (W → Spec → Type 0) → (W → Spec → Stack) → (W → ℕ) → (W → ℕ) → ℕ → Spec → Started W → Type 0
-StartedAs speaks stack limit fired statements own (started.Ready world outs) = speaks world own × IsFresh speaks stack limit fired statements world outs
-StartedAs speaks stack limit fired statements own (started.Fault f) = start_of statements own ≡ Fault f
+abbrev pub StartedAs : {W : Type 0} → (W → Spec → Type 0) → (W → Spec → Stack) → (W → ℕ) → (W → ℕ)
+    → ℕ → Spec → Started W → Type 0
+StartedAs speaks stack limit fired statements own (started.Ready world outs) =
+    speaks world own × IsFresh speaks stack limit fired statements world outs
+StartedAs speaks stack limit fired statements own (started.Fault f) =
+    start_of statements own ≡ Fault f
 StartedAs speaks stack limit fired statements own started.Limit = start_of statements own ≡ Limit

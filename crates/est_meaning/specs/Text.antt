@@ -1,6 +1,7 @@
 -- What the text of a specification declares.
 --
--- These definitions serve skeletons: no interaction point has subscripts, and each `trans` holds one transition.
+-- These definitions serve skeletons: no interaction point has subscripts, and each `trans` holds
+-- one transition.
 use Rattle.std.specs.Prelude.{ℕ, zero, suc, Bool, false, List, [], ◌∷◌, map, find, Option, Some, None, unwrap_or, option_and_then, slice_get}
 use Rattle.std.specs.List.{filter_map, flat_map}
 use Rattle.std.specs.Option.{option_or}
@@ -50,11 +51,13 @@ body_in _ = None
 
 -- the module header of a name (ISO 9074, 7, module header definition)
 abbrev pub header_named : Spec → Name → Option Header
-header_named spec name = find (λ (h : Header). uses_name name h.name) (filter_map header_in spec.parts)
+header_named spec name =
+    find (λ (h : Header). uses_name name h.name) (filter_map header_in spec.parts)
 
 -- the module body of a name (ISO 9074, 7, module body definition)
 abbrev pub body_named : Spec → Name → Option Body
-body_named spec name = find (λ (b : Body). uses_name name (out-Body b).name) (filter_map body_in spec.parts)
+body_named spec name =
+    find (λ (b : Body). uses_name name (out-Body b).name) (filter_map body_in spec.parts)
 
 -- the header that a body is for
 abbrev pub header_of : Spec → Body → Option Header
@@ -71,7 +74,8 @@ pub record Declared : Type 0 where
 abbrev pub declared_in : Point → List Declared
 declared_in point = map (λ (u : Used). record { name = u.name; point = point }) point.names
 
--- the external interaction points of a header in the order of the text (ISO 9074, 7, module header definition)
+-- the external interaction points of a header in the order of the text (ISO 9074, 7, module header
+-- definition)
 abbrev pub points_of : Header → List Declared
 points_of header = flat_map declared_in header.points
 
@@ -84,7 +88,8 @@ points_in (Some header) = points_of header
 abbrev pub is_declared : Name → Declared → Bool
 is_declared name declared = is_name name declared.name
 
--- how the interactions of an interaction point are queued: as its declaration says, else as the specification's `default`, else individually (ISO 9074, 7, queue discipline)
+-- how the interactions of an interaction point are queued: as its declaration says, else as the
+-- specification's `default`, else individually (ISO 9074, 7, queue discipline)
 abbrev pub discipline : Spec → Declared → Queue
 discipline spec declared = unwrap_or (option_or declared.point.queue spec.queue) Individual
 
@@ -103,7 +108,8 @@ root_of spec = root_in spec spec.first
 
 -- TRANSITIONS
 
--- the transitions of a body, numbered from 1 in the order of their blocks (ISO 9074, 7, transition declaration)
+-- the transitions of a body, numbered from 1 in the order of their blocks (ISO 9074, 7, transition
+-- declaration)
 abbrev pub transitions_of : Body → List Transition
 transitions_of body = flat_map (λ (g : Group). (out-Group g).transitions) (out-Body body).groups
 

@@ -30,7 +30,9 @@ pub trait World {
         ensures keeps { Keeps speaks limit self.old self.new }
         ensures fired { fired self.new ≡ fired self.old }
         ensures stack { SameStack speaks stack self.old self.new }
-        ensures offers { IfOk result (λ offers. (spec : Spec) → speaks self.old spec → OffersAre (limit self.old) spec (stack self.old spec).now offers into.new.items) };
+        ensures offers { IfOk result
+            (λ offers. (spec : Spec) → speaks self.old spec
+            → OffersAre (limit self.old) spec (stack self.old spec).now offers into.new.items) };
 
     /// Tries a possible firing. It counts, whatever comes of it.
     fn fire(
@@ -39,27 +41,38 @@ pub trait World {
         firing: &Firing,
         outs: &mut Vec<Event>,
     ) -> Result<Fired, AllocError>
-        requires possible { (spec : Spec) → speaks self.old spec → IsPossible (limit self.old) spec (stack self.old spec).now firing.now }
+        requires possible { (spec : Spec) → speaks self.old spec
+            → IsPossible (limit self.old) spec (stack self.old spec).now firing.now }
         requires room { fired self.old < 2 ^ 64 - 1 }
         ensures keeps { Keeps speaks limit self.old self.new }
         ensures fired { fired self.new ≡ fired self.old + 1 }
-        ensures answer { IfOk result (λ answer. (spec : Spec) → speaks self.old spec → FiredAs (outcome (limit self.old) spec (stack self.old spec).now firing.now) answer outs.new.items (stack self.old spec) (stack self.new spec)) }
-        ensures err { OnErr result (SameStack speaks stack self.old self.new × (outs.new.items ≡ [])) };
+        ensures answer { IfOk result
+            (λ answer. (spec : Spec) → speaks self.old spec
+            → FiredAs (outcome (limit self.old) spec
+            (stack self.old spec).now firing.now) answer outs.new.items (stack self.old spec)
+            (stack self.new spec)) }
+        ensures err { OnErr result
+            (SameStack speaks stack self.old self.new × (outs.new.items ≡ [])) };
 
     /// Lets an interaction arrive that its port can receive.
     fn arrive(&mut self, alloc: Global, event: &Event) -> Result<(), AllocError>
         requires { (spec : Spec) → speaks self.old spec → IsArrival spec event.now }
         ensures keeps { Keeps speaks limit self.old self.new }
         ensures fired { fired self.new ≡ fired self.old }
-        ensures ok { OnOk result ((spec : Spec) → speaks self.old spec → stack self.new spec ≡ pushed (after_event spec (stack self.old spec).now event.now) (stack self.old spec)) }
+        ensures ok { OnOk result ((spec : Spec) → speaks self.old spec
+            → stack self.new spec ≡ pushed (after_event spec (stack self.old spec).now event.now)
+            (stack self.old spec)) }
         ensures err { OnErr result (SameStack speaks stack self.old self.new) };
 
     /// Lets time pass.
     fn pass(&mut self, alloc: Global, units: u64) -> Result<(), AllocError>
-        requires { (spec : Spec) → speaks self.old spec → (stack self.old spec).now.clock + units ≤ 10 ^ 15 }
+        requires { (spec : Spec) → speaks self.old spec
+            → (stack self.old spec).now.clock + units ≤ 10 ^ 15 }
         ensures keeps { Keeps speaks limit self.old self.new }
         ensures fired { fired self.new ≡ fired self.old }
-        ensures ok { OnOk result ((spec : Spec) → speaks self.old spec → stack self.new spec ≡ pushed (later (stack self.old spec).now units) (stack self.old spec)) }
+        ensures ok { OnOk result ((spec : Spec) → speaks self.old spec
+            → stack self.new spec ≡ pushed (later (stack self.old spec).now units)
+            (stack self.old spec)) }
         ensures err { OnErr result (SameStack speaks stack self.old self.new) };
 
     /// Undoes the last move.
@@ -67,17 +80,20 @@ pub trait World {
         requires { (spec : Spec) → speaks self.old spec → 0 < length (stack self.old spec).below }
         ensures keeps { Keeps speaks limit self.old self.new }
         ensures fired { fired self.new ≡ fired self.old }
-        ensures stack { (spec : Spec) → speaks self.old spec → stack self.old spec ≡ pushed (stack self.old spec).now (stack self.new spec) };
+        ensures stack { (spec : Spec) → speaks self.old spec
+            → stack self.old spec ≡ pushed (stack self.old spec).now (stack self.new spec) };
 
     /// Keeps the current situation alone.
     fn forget(&mut self)
         ensures keeps { Keeps speaks limit self.old self.new }
         ensures fired { fired self.new ≡ fired self.old }
-        ensures stack { (spec : Spec) → speaks self.old spec → stack self.new spec ≡ alone (stack self.old spec) };
+        ensures stack { (spec : Spec) → speaks self.old spec
+            → stack self.new spec ≡ alone (stack self.old spec) };
 
     /// How many moves can be undone.
     fn depth(&self) -> u64
-        ensures { (spec : Spec) → speaks self.now spec → result ≡ length (stack self.now spec).below };
+        ensures { (spec : Spec) → speaks self.now spec
+            → result ≡ length (stack self.now spec).below };
 
     /// It speaks of one specification at least.
     ghost spoken: { (world : Self) → ∥ ((spec : Spec) × speaks world spec) ∥₁ };

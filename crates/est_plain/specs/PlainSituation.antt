@@ -69,7 +69,8 @@ awaited_by p = record { at = p.0.now; signal = p.1.now }
 -- ports and interactions have numbers of 32 bits
 pub record HasFew (ports : List Port) : Type 0 where
   pub ports_few : length ports < 2 ^ 32
-  pub signals_few : (k : ℕ) (port : Port) → slice_get ports k ≡ Some port → length port.signals < 2 ^ 32
+  pub signals_few : (k : ℕ) (port : Port) → slice_get ports k ≡ Some port
+      → length port.signals < 2 ^ 32
 
 -- QUEUES
 
@@ -79,7 +80,8 @@ has_name name point = is_name name point.name
 
 -- the interaction point shares the common queue
 abbrev pub shares : List PointQueue → Name → Bool
-shares points name = option_map_or (λ (p : PointQueue). p.is_shared) (find (has_name name) points) false
+shares points name =
+    option_map_or (λ (p : PointQueue). p.is_shared) (find (has_name name) points) false
 
 -- the interaction point of the root with this name
 abbrev pub point_named : Name → InteractionPoint
@@ -111,7 +113,17 @@ without_first test (w ∷ ws) = if test w then ws else w ∷ without_first test 
 -- a situation of the root alone, without links and stamps
 abbrev pub bare : Body → Option Name → (QueueName → List Item) → ℕ → Situation
 bare body state queues clock =
-    record { rows = record (root_row body) { state = state } ∷ []; peer = nothing; down = nothing; queues = queues; stamps = nothing; clock = clock; next = 2 }
+    record {
+      rows = record (root_row body) { state = state }
+          ∷ [];
+      peer =
+          nothing;
+      down = nothing;
+      queues = queues;
+      stamps = nothing;
+      clock = clock;
+      next = 2;
+    }
 
 -- what a plain situation stands for
 abbrev pub situation_of : List PointQueue → Body → Held → Situation
@@ -131,7 +143,8 @@ head_matches at signal (Some x) = is_name at x.at && is_name signal x.signal
 -- the awaited interaction stands at the head of its queue, or none is awaited
 abbrev pub arrived_in : List PointQueue → List Waiting → Option Awaited → Bool
 arrived_in points waiting None = true
-arrived_in points waiting (Some w) = head_matches w.at.name.name w.signal.name (find (waits_in points (queue_named points w.at.name.name)) waiting)
+arrived_in points waiting (Some w) = head_matches w.at.name.name w.signal.name
+    (find (waits_in points (queue_named points w.at.name.name)) waiting)
 
 -- the clauses of a transition hold in a plain situation
 abbrev pub is_enabled_in : List PointQueue → Held → Transition → Bool
@@ -139,7 +152,8 @@ is_enabled_in points h t = fits_state (from_of t) h.state && arrived_in points h
 
 -- the transition of a firing of the root
 abbrev pub choice_in : List Transition → Firing → Option Transition
-choice_in transitions f = if nat_eq f.choice 1 then (if nat_eq f.instance 1 then numbered transitions f.transition else None) else None
+choice_in transitions f = if nat_eq f.choice 1 then
+    (if nat_eq f.instance 1 then numbered transitions f.transition else None) else None
 
 -- BLOCKS
 
@@ -150,11 +164,13 @@ is_port name port = is_point (point_named name) (port_point port)
 -- port and number of an interaction that leaves
 abbrev pub signal_in : List Port → Name → ℕ → Option Port → Option (ℕ × ℕ)
 signal_in ports signal k None = None
-signal_in ports signal k (Some port) = option_map_or (λ j. Some (k, j)) (position (is_signal signal) port.signals) None
+signal_in ports signal k (Some port) =
+    option_map_or (λ j. Some (k, j)) (position (is_signal signal) port.signals) None
 
 -- where an output of the root leaves, if it does
 abbrev pub leaving : List Port → Name → Name → Option (ℕ × ℕ)
-leaving ports at signal = option_map_or (λ k. signal_in ports signal k (slice_get ports k)) (position (is_port at) ports) None
+leaving ports at signal = option_map_or (λ k. signal_in ports signal k (slice_get ports k))
+    (position (is_port at) ports) None
 
 -- the event that an output makes, if it leaves
 abbrev pub departures : Option (ℕ × ℕ) → List Event
@@ -164,7 +180,8 @@ departures (Some n) = event.Leaves (record { port = n.0; signal = n.1; values = 
 -- the outside events behind an output
 abbrev pub sent_in : List Port → List Sending → List Event → List Event
 sent_in ports [] outs = outs
-sent_in ports (x ∷ xs) outs = sent_in ports xs (outs ++ departures (leaving ports x.at.name.name x.signal.name))
+sent_in ports (x ∷ xs) outs =
+    sent_in ports xs (outs ++ departures (leaving ports x.at.name.name x.signal.name))
 
 -- the outside events behind a statement
 abbrev pub entered_in : List Port → Statement → List Event → List Event
@@ -188,7 +205,8 @@ EndsAs None false outs = Unit {0}
 -- what waits behind a transition that took the interaction that it awaits
 abbrev pub taken_in : List PointQueue → List Waiting → Option Awaited → List Waiting
 taken_in points waiting None = waiting
-taken_in points waiting (Some w) = without_first (waits_in points (queue_named points w.at.name.name)) waiting
+taken_in points waiting (Some w) =
+    without_first (waits_in points (queue_named points w.at.name.name)) waiting
 
 -- the state behind a transition that names this one or none
 abbrev pub next_in : Option Name → Option Used → Option Name
@@ -197,7 +215,12 @@ next_in state (Some u) = Some u.name
 
 -- the situation behind a transition whose block is done
 abbrev pub stepped : List PointQueue → Transition → Held → Held
-stepped points t h = record { state = next_in h.state (to_of t); waiting = taken_in points h.waiting (when_of t); clock = h.clock }
+stepped points t h = record {
+  state = next_in h.state (to_of t);
+  waiting = taken_in points h.waiting
+      (when_of t);
+  clock = h.clock;
+}
 
 -- the situation in which one more item waits
 abbrev pub joined : Waiting → Held → Held
@@ -210,7 +233,8 @@ delayed units h = record h { clock = h.clock + units }
 -- what an arrival adds to what waits
 abbrev pub arrival_as : Port → Interaction → Option Signal → List Waiting
 arrival_as port i None = []
-arrival_as port i (Some signal) = record { at = port.name; signal = signal.name; values = i.values } ∷ []
+arrival_as port i (Some signal) =
+    record { at = port.name; signal = signal.name; values = i.values } ∷ []
 
 -- what an arrival at a port adds to what waits
 abbrev pub arrival_at : Interaction → Option Port → List Waiting
@@ -226,7 +250,8 @@ abbrev pub FirstIs : List Port → ℕ → Option FirstPart → Option (Option N
 FirstIs ports left None None outs = ⊥
 FirstIs ports left None (Some state) outs = (state ≡ None) × (outs ≡ [])
 FirstIs ports left (Some part) None outs = block_in ports part.block.statements left [] ≡ None
-FirstIs ports left (Some part) (Some state) outs = (state ≡ next_in None part.to) × (block_in ports part.block.statements left [] ≡ Some outs)
+FirstIs ports left (Some part) (Some state) outs =
+    (state ≡ next_in None part.to) × (block_in ports part.block.statements left [] ≡ Some outs)
 
 -- OPTIONS
 
@@ -235,7 +260,11 @@ abbrev pub firing_at : ℕ → Firing
 firing_at k = record { instance = 1; transition = k + 1; choice = 1 }
 
 -- the firings of the first n transitions that pass a test, in order
-pub record ListsFirst (test : Transition → Bool) (transitions : List Transition) (n : ℕ) (firings : List Firing) : Type 0 where
+pub record ListsFirst (test : Transition → Bool) (transitions : List Transition) (n : ℕ)
+    (firings : List Firing) : Type 0 where
   pub ascending : IsAscending firings
-  pub sound : (f : Firing) → IsIn f firings → (k : ℕ) × (k < n) × (f ≡ firing_at k) × ((t : Transition) × (slice_get transitions k ≡ Some t) × (test t ≡ true))
-  pub complete : (k : ℕ) (t : Transition) → k < n → slice_get transitions k ≡ Some t → test t ≡ true → IsIn (firing_at k) firings
+  pub sound : (f : Firing) → IsIn f firings
+      → (k : ℕ) × (k < n) × (f ≡ firing_at k)
+      × ((t : Transition) × (slice_get transitions k ≡ Some t) × (test t ≡ true))
+  pub complete : (k : ℕ) (t : Transition) → k < n → slice_get transitions k ≡ Some t → test t ≡ true
+      → IsIn (firing_at k) firings

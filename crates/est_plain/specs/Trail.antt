@@ -26,4 +26,5 @@ trail h = record { now = held h.current; below = befores (held h.current) (rever
 
 -- what a trail stands for
 abbrev pub stack_of : List PointQueue → Body → Trail → Stack
-stack_of points body trail = record { now = situation_of points body trail.now; below = map (situation_of points body) trail.below }
+stack_of points body trail = record
+    { now = situation_of points body trail.now; below = map (situation_of points body) trail.below }

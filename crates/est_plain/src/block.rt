@@ -158,7 +158,8 @@ pub fn run_block(
     outs: &mut Vec<Event>,
 ) -> Result<bool, AllocError>
     requires { HasFew ports.now }
-    ensures { IfOk result (λ is_done. EndsAs (block_in ports.now statements.now limit outs.old.items) is_done outs.new.items) }
+    ensures { IfOk result (λ is_done. EndsAs
+        (block_in ports.now statements.now limit outs.old.items) is_done outs.new.items) }
 {
     let mut left = limit;
     for statement in statements.as_slice() {
@@ -177,7 +178,8 @@ pub fn take_awaited(
     transition: &Transition,
     waiting: &mut VecDeque<Waiting>,
 ) -> Option<Taken>
-    ensures items { waiting.new.items ≡ taken_in points.now waiting.old.items (when_of transition.now) }
+    ensures items { waiting.new.items
+        ≡ taken_in points.now waiting.old.items (when_of transition.now) }
     ensures back { put_back result waiting.new.items ≡ waiting.old.items }
     ensures place { HasPlace (deque_capacity waiting.new) result waiting.new.items }
     ensures capacity { deque_capacity waiting.new ≡ deque_capacity waiting.old }
@@ -273,7 +275,8 @@ pub fn list_enabled(
 ) -> Result<(), AllocError>
     requires few { length transitions.now < 2 ^ 32 }
     requires empty { into.old.items ≡ [] }
-    ensures { OnOk result (ListsFirst (is_enabled_in points.now (held plain.now)) (referred transitions.now) (length transitions.now) into.new.items) }
+    ensures { OnOk result (ListsFirst (is_enabled_in points.now (held plain.now))
+        (referred transitions.now) (length transitions.now) into.new.items) }
 {
     for (index, transition) in transitions.iter().enumerate() {
         if is_enabled(points, plain, transition) {

@@ -42,7 +42,8 @@ impl History {
 
     /// Puts an item behind all that waits.
     pub fn arrive(&mut self, item: Waiting) -> Result<(), AllocError>
-        ensures ok { OnOk result (trail self.new ≡ onto (joined item (trail self.old).now) (trail self.old)) }
+        ensures ok { OnOk result (trail self.new
+            ≡ onto (joined item (trail self.old).now) (trail self.old)) }
         ensures err { OnErr result (trail self.new ≡ trail self.old) }
     {
         self.undos.reserve(1)?;
@@ -54,7 +55,8 @@ impl History {
     /// Lets time pass.
     pub fn pass(&mut self, units: u64) -> Result<(), AllocError>
         requires { (trail self.old).now.clock + units < 2 ^ 64 }
-        ensures ok { OnOk result (trail self.new ≡ onto (delayed units (trail self.old).now) (trail self.old)) }
+        ensures ok { OnOk result (trail self.new
+            ≡ onto (delayed units (trail self.old).now) (trail self.old)) }
         ensures err { OnErr result (trail self.new ≡ trail self.old) }
     {
         let clock = self.current.clock;
@@ -70,7 +72,8 @@ impl History {
         points: &[PointQueue],
         transition: &Transition,
     ) -> Result<(), AllocError>
-        ensures ok { OnOk result (trail self.new ≡ onto (stepped points.now transition.now (trail self.old).now) (trail self.old)) }
+        ensures ok { OnOk result (trail self.new
+            ≡ onto (stepped points.now transition.now (trail self.old).now) (trail self.old)) }
         ensures err { OnErr result (trail self.new ≡ trail self.old) }
     {
         let next = state_after(alloc, transition, &self.current.state)?;

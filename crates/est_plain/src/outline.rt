@@ -15,7 +15,8 @@ use std::alloc::{AllocError, Global};
 
 /// Whether an interaction point shares the common queue.
 fn is_shared(spec: &Spec, point: &Point) -> bool
-    ensures { result ≡ is_common (discipline spec.now (record { name = point.now.channel.name; point = point.now })) }
+    ensures { result ≡ is_common
+        (discipline spec.now (record { name = point.now.channel.name; point = point.now })) }
 {
     match point.queue {
         Some(Queue::Common) => true,
@@ -35,7 +36,8 @@ fn queue_for(
     point: &Point,
     used: &Used,
 ) -> Result<PointQueue, AllocError>
-    ensures { IfOk result (λ queue. queue ≡ queue_for spec.now (record { name = used.now.name; point = point.now })) }
+    ensures { IfOk result (λ queue. queue
+        ≡ queue_for spec.now (record { name = used.now.name; point = point.now })) }
 {
     Ok(PointQueue {
         name: used.name.copy(alloc)?,
@@ -50,7 +52,8 @@ fn push_queues(
     point: &Point,
     into: &mut Vec<PointQueue>,
 ) -> Result<(), AllocError>
-    ensures { OnOk result (into.new.items ≡ into.old.items ++ map (queue_for spec.now) (declared_in point.now)) }
+    ensures { OnOk result (into.new.items ≡ into.old.items
+        ++ map (queue_for spec.now) (declared_in point.now)) }
 {
     for used in point.names.as_slice() {
         into.push(queue_for(alloc, spec, point, used)?)?;
@@ -60,7 +63,8 @@ fn push_queues(
 
 /// The external interaction points of a header.
 pub fn queues_of(alloc: Global, spec: &Spec, header: &Header) -> Result<Vec<PointQueue>, AllocError>
-    ensures { IfOk result (λ queues. queues.items ≡ map (queue_for spec.now) (points_of header.now)) }
+    ensures { IfOk result (λ queues. queues.items
+        ≡ map (queue_for spec.now) (points_of header.now)) }
 {
     let mut queues = Vec::new(alloc);
     for point in header.points.as_slice() {
@@ -71,7 +75,8 @@ pub fn queues_of(alloc: Global, spec: &Spec, header: &Header) -> Result<Vec<Poin
 
 /// Appends the transitions behind one `trans`.
 fn push_transitions<'c>(group: &'c Group, into: &mut Vec<&'c Transition>) -> Result<(), AllocError>
-    ensures { OnOk result (referred into.new.items ≡ referred into.old.items ++ (out-Group group.now).transitions) }
+    ensures { OnOk result (referred into.new.items ≡ referred into.old.items
+        ++ (out-Group group.now).transitions) }
 {
     for transition in group.transitions.as_slice() {
         into.push(transition)?;

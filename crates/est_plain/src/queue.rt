@@ -50,7 +50,8 @@ pub fn head<'w>(
     waiting: &'w VecDeque<Waiting>,
     name: &Name,
 ) -> Option<&'w Waiting>
-    ensures { option_copied result ≡ find (waits_in points.now (queue_named points.now name.now)) waiting.now.items }
+    ensures { option_copied result
+        ≡ find (waits_in points.now (queue_named points.now name.now)) waiting.now.items }
 {
     waiting
         .iter()
@@ -59,7 +60,8 @@ pub fn head<'w>(
 
 /// Where the head of the queue of an interaction point stands.
 fn head_index(points: &[PointQueue], waiting: &VecDeque<Waiting>, name: &Name) -> Option<usize>
-    ensures { result ≡ position (waits_in points.now (queue_named points.now name.now)) waiting.now.items }
+    ensures { result ≡ position
+        (waits_in points.now (queue_named points.now name.now)) waiting.now.items }
 {
     waiting
         .iter()
@@ -72,7 +74,8 @@ pub fn take_head(
     waiting: &mut VecDeque<Waiting>,
     name: &Name,
 ) -> Option<Taken>
-    ensures items { waiting.new.items ≡ without_first (waits_in points.now (queue_named points.now name.now)) waiting.old.items }
+    ensures items { waiting.new.items
+        ≡ without_first (waits_in points.now (queue_named points.now name.now)) waiting.old.items }
     ensures back { put_back result waiting.new.items ≡ waiting.old.items }
     ensures place { HasPlace (deque_capacity waiting.new) result waiting.new.items }
     ensures capacity { deque_capacity waiting.new ≡ deque_capacity waiting.old }

@@ -22,7 +22,8 @@ pub struct Waiting {
     pub values: Values,
 }
 
-/// A plain situation of the one instance: its state, all that waits in order of arrival, and the clock.
+/// A plain situation of the one instance: its state, all that waits in order of arrival, and the
+/// clock.
 #[derive(Drop)]
 pub struct PlainSituation {
     pub state: Option<Name>,

@@ -154,7 +154,8 @@ impl<'c> PlainWorld<'c> {
         requires left { left + 1 < 2 ^ 32 }
         requires few { HasFew ports.now }
         requires few_transitions { length (transitions_of root.now) < 2 ^ 32 }
-        ensures { IfOk result (λ started. StartedAs ⟦<PlainWorld<'c> as World>⟧.speaks ⟦<PlainWorld<'c> as World>⟧.stack ⟦<PlainWorld<'c> as World>⟧.limit ⟦<PlainWorld<'c> as World>⟧.fired (left + 1) spec.now started) }
+        ensures { IfOk result
+            (λ started. StartedAs ⟦<PlainWorld<'c> as World>⟧.speaks ⟦<PlainWorld<'c> as World>⟧.stack ⟦<PlainWorld<'c> as World>⟧.limit ⟦<PlainWorld<'c> as World>⟧.fired (left + 1) spec.now started) }
     {
         let points = queues_for(alloc, spec, root)?;
         let transitions = transitions_of(alloc, root)?;
@@ -183,7 +184,8 @@ impl<'c> PlainWorld<'c> {
         checked: &'c Checked,
         statements: u32,
     ) -> Result<Started<PlainWorld<'c>>, AllocError>
-        ensures { IfOk result (λ started. StartedAs ⟦<PlainWorld<'c> as World>⟧.speaks ⟦<PlainWorld<'c> as World>⟧.stack ⟦<PlainWorld<'c> as World>⟧.limit ⟦<PlainWorld<'c> as World>⟧.fired statements checked.now started) }
+        ensures { IfOk result
+            (λ started. StartedAs ⟦<PlainWorld<'c> as World>⟧.speaks ⟦<PlainWorld<'c> as World>⟧.stack ⟦<PlainWorld<'c> as World>⟧.limit ⟦<PlainWorld<'c> as World>⟧.fired statements checked.now started) }
     {
         PlainWorld::of_spec(alloc, checked.spec(), checked.ports(), statements)
     }
@@ -197,7 +199,8 @@ impl<'c> PlainWorld<'c> {
     ) -> Result<Started<PlainWorld<'c>>, AllocError>
         requires ports { ports.now ≡ ports_of spec.now }
         requires skeleton { IsSkeleton spec.now }
-        ensures { IfOk result (λ started. StartedAs ⟦<PlainWorld<'c> as World>⟧.speaks ⟦<PlainWorld<'c> as World>⟧.stack ⟦<PlainWorld<'c> as World>⟧.limit ⟦<PlainWorld<'c> as World>⟧.fired statements spec.now started) }
+        ensures { IfOk result
+            (λ started. StartedAs ⟦<PlainWorld<'c> as World>⟧.speaks ⟦<PlainWorld<'c> as World>⟧.stack ⟦<PlainWorld<'c> as World>⟧.limit ⟦<PlainWorld<'c> as World>⟧.fired statements spec.now started) }
     {
         if statements == 0 {
             return Ok(Started::Limit);

@@ -19,7 +19,8 @@ use Rattle.est_reader.specs.Moving.{Does, Same}
 abbrev pub Rule : Type 0 → Type 0
 Rule P = Grammar Test P
 
--- What a tree keeps: the alternatives chosen, the turns of repetitions, and names, values, codes and places.
+-- What a tree keeps: the alternatives chosen, the turns of repetitions, and names, values, codes
+-- and places.
 abbrev pub Shape : Type 0
 Shape = grammar.Shape Kept
 
@@ -27,7 +28,8 @@ Shape = grammar.Shape Kept
 abbrev pub View : Type 0 → Type 0
 View N = shown.View Kept N
 
--- The syntax of one sort of texts: its productions, what is known of each, and what the parts of a value show, a layer at a time.
+-- The syntax of one sort of texts: its productions, what is known of each, and what the parts of a
+-- value show, a layer at a time.
 pub record Syntax (P N : Type 0) : Type 0 where
   pub production : P → Rule P
   pub marks : Marks Test P
@@ -47,19 +49,25 @@ used u = at u.place (kept (name u.name.bytes))
 
 -- g has a tree from a up to b, and this view shows its shape
 abbrev pub Finds : {P N : Type 0} → Syntax P N → Tokens → Rule P → ℕ → ℕ → View N → ℕ → Type 0
-Finds X tokens g d a v b = (t : Shape) × Found (language X.production (text_of tokens)) X.marks (tokens_of tokens) g d a b t × Shows X.layer v t
+Finds X tokens g d a v b = (t : Shape)
+    × Found (language X.production (text_of tokens)) X.marks (tokens_of tokens) g d a b t
+    × Shows X.layer v t
 
 -- g is refused at i, and where z says so for want of levels
 abbrev pub Fails : {P N : Type 0} → Syntax P N → Tokens → Rule P → ℕ → ℕ → ℕ → Bool → Type 0
-Fails X tokens g d a i z = Refused (language X.production (text_of tokens)) X.marks (tokens_of tokens) g d a i z
+Fails X tokens g d a i z =
+    Refused (language X.production (text_of tokens)) X.marks (tokens_of tokens) g d a i z
 
 -- A reader of g comes to the end of a tree that the view shows, or to the first bad place.
-pub record Goes {P N : Type 0} (X : Syntax P N) (g : Rule P) (old : Reader) (v : View N) (new : Reader) : Type 0 where
-  pub moves : Does (Finds X old.tokens.now g old.levels old.at v) (Fails X old.tokens.now g old.levels old.at) old.at old.outcome new.at new.outcome
+pub record Goes {P N : Type 0} (X : Syntax P N) (g : Rule P) (old : Reader) (v : View N)
+    (new : Reader) : Type 0 where
+  pub moves : Does (Finds X old.tokens.now g old.levels old.at v)
+      (Fails X old.tokens.now g old.levels old.at) old.at old.outcome new.at new.outcome
   pub same : Same old new
 
 -- A reader of g puts items last in a list, and a layer of these items shows what was read.
-pub record Adds {A P N : Type 0} (X : Syntax P N) (g : Rule P) (f : List N → View N) (part : A → N) (old : Reader) (items items' : List A) (new : Reader) : Type 0 where
+pub record Adds {A P N : Type 0} (X : Syntax P N) (g : Rule P) (f : List N → View N) (part : A → N)
+    (old : Reader) (items items' : List A) (new : Reader) : Type 0 where
   pub run : List A
   pub goes : Goes X g old (f (map part run)) new
   pub added : new.outcome ≡ Well → items' ≡ items ++ run

@@ -17,8 +17,9 @@ bit Wrong = 0
 bit TooDeep = 0
 bit NoMemory = 0
 
--- From a place and an outcome to others. Where all was well, P holds of the place that is reached, or Q of the place that is refused
--- (true: for want of levels), or memory ran out, which says nothing. Where it was not, nothing changes.
+-- From a place and an outcome to others. Where all was well, P holds of the place that is reached,
+-- or Q of the place that is refused (true: for want of levels), or memory ran out, which says
+-- nothing. Where it was not, nothing changes.
 abbrev pub Does : (ℕ → Type 0) → (ℕ → Bool → Type 0) → ℕ → Outcome → ℕ → Outcome → Type 0
 Does P Q a Well b Well = P b
 Does P Q a Well b Wrong = Q b false
@@ -70,7 +71,8 @@ pub record Same (old new : Reader) : Type 0 where
 
 -- the token at the place is taken, where a test of it is met; else it is refused
 pub record Steps (met : Bool) (old new : Reader) : Type 0 where
-  pub steps : Does (λ b. (met ≡ true) × (b ≡ old.at + 1)) (λ b z. (met ≡ false) × (b ≡ old.at) × (z ≡ false)) old.at old.outcome new.at new.outcome
+  pub steps : Does (λ b. (met ≡ true) × (b ≡ old.at + 1))
+      (λ b z. (met ≡ false) × (b ≡ old.at) × (z ≡ false)) old.at old.outcome new.at new.outcome
   pub same : Same old new
 
 -- a token that meets the test is taken
@@ -83,7 +85,8 @@ NotThere tokens test a b z = (stands tokens a test ≡ false) × (b ≡ a) × (z
 
 -- a token that meets the test is taken, or the reader stays and is wrong
 pub record Takes (test : Test) (old new : Reader) : Type 0 where
-  pub takes : Does (Taken old.tokens.now test old.at) (NotThere old.tokens.now test old.at) old.at old.outcome new.at new.outcome
+  pub takes : Does (Taken old.tokens.now test old.at)
+      (NotThere old.tokens.now test old.at) old.at old.outcome new.at new.outcome
   pub same : Same old new
 
 -- there is a token, of which P holds
@@ -95,7 +98,8 @@ Token_is (Some token) P = P token
 pub record TakesName (old : Reader) (used : Used) (new : Reader) : Type 0 where
   pub takes : Does
       (λ b. Taken old.tokens.now (kind Identifier) old.at b
-      × Token_is (slice_get (tokens_of old.tokens.now) old.at) (λ token. used.name.bytes ≡ lowered (text_of old.tokens.now) token))
+      × Token_is (slice_get (tokens_of old.tokens.now) old.at)
+      (λ token. used.name.bytes ≡ lowered (text_of old.tokens.now) token))
       (NotThere old.tokens.now (kind Identifier) old.at) old.at old.outcome new.at new.outcome
   pub place : used.place ≡ old.at
   pub same : Same old new
@@ -104,23 +108,28 @@ pub record TakesName (old : Reader) (used : Used) (new : Reader) : Type 0 where
 pub record TakesNumber (low high : ℕ) (old : Reader) (value : ℕ) (new : Reader) : Type 0 where
   pub takes : Does
       (λ b. Taken old.tokens.now (number low high) old.at b
-      × Token_is (slice_get (tokens_of old.tokens.now) old.at) (λ token. value_in (text_of old.tokens.now) token ≡ value))
+      × Token_is (slice_get (tokens_of old.tokens.now) old.at)
+      (λ token. value_in (text_of old.tokens.now) token ≡ value))
       (NotThere old.tokens.now (number low high) old.at) old.at old.outcome new.at new.outcome
   pub bounded : value ≤ high
   pub same : Same old new
 
 -- the identifier at the place is this in lower case, or none stands there
 abbrev pub IsNamedAt : Tokens → ℕ → Option (List ℕ) → Type 0
-IsNamedAt tokens at (Some bytes) = (name : List ℕ) → stands tokens at (named name) ≡ bytes_eq name bytes
+IsNamedAt tokens at (Some bytes) =
+    (name : List ℕ) → stands tokens at (named name) ≡ bytes_eq name bytes
 IsNamedAt tokens at None = (name : List ℕ) → stands tokens at (named name) ≡ false
 
 -- the value of the number at the place, where one within these bounds stands there
 abbrev pub FindsNumber : ℕ → ℕ → Tokens → ℕ → Option ℕ → Type 0
 FindsNumber low high tokens at (Some value) =
-    (stands tokens at (number low high) ≡ true) × Token_is (slice_get (tokens_of tokens) at) (λ token. value_in (text_of tokens) token ≡ value) × (value ≤ high)
+    (stands tokens at (number low high) ≡ true)
+    × Token_is (slice_get (tokens_of tokens) at)
+    (λ token. value_in (text_of tokens) token ≡ value) × (value ≤ high)
 FindsNumber low high tokens at None = stands tokens at (number low high) ≡ false
 
--- how many levels there are, and whether all goes well, as a number that gets smaller with each level
+-- how many levels there are, and whether all goes well, as a number that gets smaller with each
+-- level
 abbrev pub weight : Reader → ℕ
 weight reader = reader.levels * 2 + bit reader.outcome
 
@@ -153,11 +162,13 @@ pub record Still (old new : Reader) : Type 0 where
   pub same : Same old new
 
 -- the reader stays, and where all is well the item is put last
-pub record Kept {T : Type 0} (old new : Reader) (items : List T) (item : T) (items' : List T) : Type 0 where
+pub record Kept {T : Type 0} (old new : Reader) (items : List T) (item : T)
+    (items' : List T) : Type 0 where
   pub still : Still old new
   pub added : new.outcome ≡ Well → items' ≡ items ++ item ∷ []
 
 -- the reader stays, and where all is well the item is put last, if there is one
-pub record KeptSome {T : Type 0} (old new : Reader) (items : List T) (item : Option T) (items' : List T) : Type 0 where
+pub record KeptSome {T : Type 0} (old new : Reader) (items : List T) (item : Option T)
+    (items' : List T) : Type 0 where
   pub still : Still old new
   pub added : new.outcome ≡ Well → items' ≡ items ++ option_to_list item

@@ -11,8 +11,8 @@ use Rattle.est_lexer.specs.Places.{text_of, tokens_of}
 use Rattle.est_lexer.specs.Spans.{spelling}
 use Rattle.est_language.specs.Grammar.{Grammar, Language, meets}
 
--- A test of one token: it is of a kind; it is a word or a symbol, or an identifier, which is spelled so in lower case and may be
--- written in any letter case; or it is a number within bounds.
+-- A test of one token: it is of a kind; it is a word or a symbol, or an identifier, which is
+-- spelled so in lower case and may be written in any letter case; or it is a number within bounds.
 pub data Test : Type 0 where
   kind : TokenKind → Test
   spelled : List ℕ → Test
@@ -54,7 +54,8 @@ abbrev pub holds : List ℕ → Test → Token → Bool
 holds text (kind k) token = is_same token.kind k
 holds text (spelled word) token = is_spelled token.kind && bytes_eq word (lowered text token)
 holds text (named name) token = is_same token.kind Identifier && bytes_eq name (lowered text token)
-holds text (number low high) token = is_same token.kind Number && (nat_le low (value_in text token) && nat_le (value_in text token) high)
+holds text (number low high) token = is_same token.kind Number &&
+    (nat_le low (value_in text token) && nat_le (value_in text token) high)
 
 -- whether a token that meets the test stands at the place
 abbrev pub stands : Tokens → ℕ → Test → Bool
@@ -83,13 +84,15 @@ implies (named name) (spelled word) = bytes_eq name word
 implies (number low high) (number from to) = nat_le from low && nat_le high to
 implies _ _ = false
 
--- What a tree keeps of a token: the value of a number, the code of a character, and of any other token its spelling in lower case.
+-- What a tree keeps of a token: the value of a number, the code of a character, and of any other
+-- token its spelling in lower case.
 pub data Kept : Type 0 where
   name : List ℕ → Kept
   value : ℕ → Kept
   code : ℕ → Kept
 
--- what is kept of a token of this kind and spelling; the character of a constant stands after its first quote
+-- what is kept of a token of this kind and spelling; the character of a constant stands after its
+-- first quote
 abbrev pub kept_as : TokenKind → List ℕ → Kept
 kept_as Number bytes = value (value_of bytes)
 kept_as Character bytes = code (slice_index bytes 1)
@@ -105,4 +108,5 @@ kept_of text token = kept_as token.kind (spelling text token)
 
 -- the language of these productions over the tokens of a text
 abbrev pub language : {P : Type 0} → (P → Grammar Test P) → List ℕ → Language Token Kept Test P
-language production text = record { holds = holds text; keeps = kept_of text; production = production }
+language production text =
+    record { holds = holds text; keeps = kept_of text; production = production }

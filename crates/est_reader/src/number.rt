@@ -5,7 +5,8 @@ ghost use Rattle.est_reader.specs.Tests.{value_of};
 
 /// The value of decimal digits, where it is at most this.
 pub fn value_up_to(digits: &[u8], high: u32) -> Option<u32>
-    ensures { MatchOption result (high < value_of digits.now) (λ value. (value ≡ value_of digits.now) × (value ≤ high)) }
+    ensures { MatchOption result (high < value_of digits.now)
+        (λ value. (value ≡ value_of digits.now) × (value ≤ high)) }
 {
     let mut value: u64 = 0;
     for digit in digits {

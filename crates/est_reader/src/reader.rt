@@ -115,7 +115,8 @@ impl Reader<'_> {
 
     /// Takes the token at the place, where a test of it is met; else the reading is wrong here.
     pub fn step(&mut self, met: bool)
-        requires { self.old.outcome ≡ Well → met ≡ true → self.old.at < length (tokens_of self.old.tokens.now) }
+        requires { self.old.outcome ≡ Well → met ≡ true
+            → self.old.at < length (tokens_of self.old.tokens.now) }
         ensures { Steps met self.old self.new }
     {
         if self.is_well() {
@@ -197,7 +198,9 @@ impl Reader<'_> {
     fn lowered(&mut self, place: u32) -> Items<u8>
         requires { self.old.outcome ≡ Well → place < length (tokens_of self.old.tokens.now) }
         ensures still { Still self.old self.new }
-        ensures lowered { self.new.outcome ≡ Well → IfSome (slice_get (tokens_of self.old.tokens.now) place) (λ token. result ≡ is_lowered (text_of self.old.tokens.now) token) }
+        ensures lowered { self.new.outcome ≡ Well
+            → IfSome (slice_get (tokens_of self.old.tokens.now) place)
+            (λ token. result ≡ is_lowered (text_of self.old.tokens.now) token) }
     {
         if self.is_well() {
             match self.tokens.spelled(place).to_ascii_lowercase(self.alloc) {
@@ -213,7 +216,8 @@ impl Reader<'_> {
     /// The name of the identifier that comes next, in lower case, where one does.
     pub fn name_here(&mut self) -> Option<Vec<u8>>
         ensures still { Still self.old self.new }
-        ensures named { self.new.outcome ≡ Well → IsNamedAt self.old.tokens.now self.old.at (option_map (λ bytes. bytes.items) result) }
+        ensures named { self.new.outcome ≡ Well
+            → IsNamedAt self.old.tokens.now self.old.at (option_map (λ bytes. bytes.items) result) }
     {
         if !self.stands(TokenKind::Identifier) {
             return None;
@@ -230,7 +234,8 @@ impl Reader<'_> {
     // The value of the number at the place, where one stands there within these bounds.
     fn number_here(&self, low: u32, high: u32) -> Option<u32>
         ensures found { FindsNumber low high self.now.tokens.now self.now.at result }
-        ensures inside { is_some result ≡ true → self.now.at < length (tokens_of self.now.tokens.now) }
+        ensures inside { is_some result ≡ true
+            → self.now.at < length (tokens_of self.now.tokens.now) }
     {
         if !self.stands(TokenKind::Number) {
             return None;

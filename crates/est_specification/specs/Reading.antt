@@ -13,12 +13,16 @@ pub record IsSpecification (text : List ℕ) (tokens : List Token) (spec : Spec)
   pub tree : HasOneTree text tokens spec
   pub good : IsGood spec
 
--- The tokens are refused by the grammar at this place, or have one tree with this least fault; want of memory says nothing of them.
+-- The tokens are refused by the grammar at this place, or have one tree with this least fault; want
+-- of memory says nothing of them.
 abbrev pub IsNoSpecification : List ℕ → List Token → SpecificationError → Type 0
-IsNoSpecification text tokens (errors.BadToken place) = IsRefusal text tokens (refusals.BadToken place)
-IsNoSpecification text tokens (errors.LeftOut place) = IsRefusal text tokens (refusals.LeftOut place)
+IsNoSpecification text tokens (errors.BadToken place) =
+    IsRefusal text tokens (refusals.BadToken place)
+IsNoSpecification text tokens (errors.LeftOut place) =
+    IsRefusal text tokens (refusals.LeftOut place)
 IsNoSpecification text tokens (errors.NotYet place) = IsRefusal text tokens (refusals.NotYet place)
-IsNoSpecification text tokens (errors.BrokenRule place rule) = (spec : Spec) × HasOneTree text tokens spec × IsLeastFault spec place rule
+IsNoSpecification text tokens (errors.BrokenRule place rule) =
+    (spec : Spec) × HasOneTree text tokens spec × IsLeastFault spec place rule
 IsNoSpecification text tokens (errors.Memory error) = Unit {0}
 
 -- what read_specification answers: the specification that the tokens are, or why they are none

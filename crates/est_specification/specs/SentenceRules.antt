@@ -7,8 +7,10 @@ use Rattle.est_syntax.specs.Breaks.{Breaks}
 use Rattle.est_grammar.specs.Answer.{HasOneTree}
 use Rattle.est_check.specs.SkeletonRules.{IsSkeletonRule}
 
--- A sentence of at most 1,048,576 tokens breaks no rules but those on unknown names, doubled names, sorts, directions and first states.
+-- A sentence of at most 1,048,576 tokens breaks no rules but those on unknown names, doubled names,
+-- sorts, directions and first states.
 abbrev pub SentencesBreakFew : Type 0
 SentencesBreakFew =
-    (text : List ℕ) (tokens : List Token) (spec : Spec) → HasOneTree text tokens spec → length tokens ≤ 1048576
+    (text : List ℕ) (tokens : List Token) (spec : Spec) → HasOneTree text tokens spec
+    → length tokens ≤ 1048576
     → (place : ℕ) (r : Rule) → Breaks spec place r → IsSkeletonRule r

@@ -6,4 +6,5 @@ use Rattle.est_grammar.specs.Answer.{HasOneTree}
 
 -- The tokens of a text have the one tree of at most one specification.
 abbrev pub SpecificationsAreUnique : Type 0
-SpecificationsAreUnique = (text : List ℕ) (tokens : List Token) (a b : Spec) → HasOneTree text tokens a → HasOneTree text tokens b → a ≡ b
+SpecificationsAreUnique = (text : List ℕ) (tokens : List Token) (a b : Spec)
+    → HasOneTree text tokens a → HasOneTree text tokens b → a ≡ b

@@ -6,16 +6,17 @@ use Rattle.est_syntax.specs.declared.sort.NameSort.TheVariants as sort
 use Rattle.est_syntax.specs.declared.channel.Channel.{Channel}
 use Rattle.est_syntax.specs.Names.{Sort, channel, header, body, module_variable, point, state, role, interaction, Side, Declaration, Scope, Meaning, nothing, unseen, predeclared, seen, meaning, declared_in, spelled, channel_region, channel_by, role_named}
 
--- an interaction named at an interaction point: its channel has no such name, has it as something else,
--- does not say who sends it, or lets the point send and receive it so
+-- an interaction named at an interaction point: its channel has no such name, has it as something
+-- else, does not say who sends it, or lets the point send and receive it so
 pub data Passage : Type 0 where
   missing : Passage
   no_interaction : Passage
   unclear : Passage
   passes : (sends receives : Bool) → Passage
 
--- What names mean in a scope: the sort of a name, the sort of a role of the channel that a name means,
--- and an interaction at the interaction point that a name means; none where there is no such channel or point.
+-- What names mean in a scope: the sort of a name, the sort of a role of the channel that a name
+-- means, and an interaction at the interaction point that a name means; none where there is no such
+-- channel or point.
 pub record Environment : Type 0 where
   pub sort_of : Used → Meaning NameSort
   pub role_of : Used → Used → Option (Meaning NameSort)
@@ -74,14 +75,18 @@ abbrev pub has_role : Channel → Bool → List Used → Bool
 has_role c second [] = false
 has_role c second (u ∷ us) = is_role second (role_named c u) || has_role c second us
 
--- how an interaction passes that may be sent and received so: unclear where a role that sends it is unknown
+-- how an interaction passes that may be sent and received so: unclear where a role that sends it is
+-- unknown
 abbrev pub passage_with : Bool → Bool → Bool → Passage
 passage_with known sends receives = if known then passes sends receives else unclear
 
--- how what is declared in a channel passes at one side: the side sends what its role may send, and receives what the other role may send
+-- how what is declared in a channel passes at one side: the side sends what its role may send, and
+-- receives what the other role may send
 abbrev pub passage_in : Side → Sort → Passage
 passage_in side (interaction part i) =
-    passage_with (are_roles side.channel part.roles) (has_role side.channel side.is_second part.roles) (has_role side.channel (not side.is_second) part.roles)
+    passage_with (are_roles side.channel part.roles)
+    (has_role side.channel side.is_second part.roles)
+    (has_role side.channel (not side.is_second) part.roles)
 passage_in side _ = no_interaction
 
 -- how a name passes at one side by its declaration in the channel: missing where there is none
@@ -92,7 +97,8 @@ passage_by side (Some d) = passage_in side d.sort
 -- how a name passes at a side, where there is a side
 abbrev pub passage_at : Option Side → Used → Option Passage
 passage_at None u = None
-passage_at (Some side) u = Some (passage_by side (declared_in (channel_region side.channel) (spelled u)))
+passage_at (Some side) u =
+    Some (passage_by side (declared_in (channel_region side.channel) (spelled u)))
 
 -- the side of the interaction point that is declared, where one is and has a side
 abbrev pub side_in : Sort → Option Side

@@ -1,4 +1,5 @@
--- The faults of each part of a specification in an environment (ISO 9074, constraints; ISO 7185, 6.2).
+-- The faults of each part of a specification in an environment (ISO 9074, constraints; ISO 7185,
+-- 6.2).
 use Rattle.std.specs.Prelude.{ℕ, Bool, true, false, ◌||◌, List, [], ◌∷◌, ◌++◌, Option, Some, None, if◌then◌else◌}
 use Rattle.est_syntax.specs.declared.name.Used.{Used}
 use Rattle.est_syntax.specs.declared.sort.NameSort.{NameSort}
@@ -46,7 +47,8 @@ takes sort.Role sort.Role = true
 takes sort.Interaction sort.Interaction = true
 takes _ _ = false
 
--- a name of this meaning where a sort is wanted: it is unknown, not seen, or of another sort; what is predeclared is of no such sort
+-- a name of this meaning where a sort is wanted: it is unknown, not seen, or of another sort; what
+-- is predeclared is of no such sort
 abbrev pub used_as : NameSort → ℕ → Meaning NameSort → List Fault
 used_as wanted place nothing = broken place rule.UnknownName
 used_as wanted place unseen = broken place rule.NotSeenHere
@@ -70,7 +72,8 @@ is_among name (other ∷ names) = is_name name other || is_among name names
 -- names that are declared again, behind the names of these
 abbrev pub twice_faults : List (List ℕ) → List Used → List Fault
 twice_faults before [] = []
-twice_faults before (u ∷ us) = broken_if (is_among (spelled u) before) u.place rule.DeclaredTwice ++ twice_faults (before ++ spelled u ∷ []) us
+twice_faults before (u ∷ us) = broken_if (is_among (spelled u) before) u.place rule.DeclaredTwice
+    ++ twice_faults (before ++ spelled u ∷ []) us
 
 -- the names that a region declares, with their places
 abbrev pub names_of : Region → List Used
@@ -89,7 +92,8 @@ by_faults env (b ∷ bs) = uses_faults env sort.Role b.roles ++ by_faults env bs
 
 -- a channel: its names, and the roles of its `by` parts
 abbrev pub channel_faults : Channel → List Fault
-channel_faults c = twice_faults [] (names_of (channel_region c)) ++ by_faults (channel_environment c) c.by
+channel_faults c =
+    twice_faults [] (names_of (channel_region c)) ++ by_faults (channel_environment c) c.by
 
 -- the role of an interaction point, at this place; only where its channel is one
 abbrev pub role_faults : ℕ → Option (Meaning NameSort) → List Fault
@@ -98,7 +102,8 @@ role_faults place (Some found) = used_as sort.Role place found
 
 -- interaction points that are declared together: their channel and their role
 abbrev pub point_faults : Environment → Point → List Fault
-point_faults env p = use_faults env sort.Channel p.channel ++ role_faults p.role.place (env.role_of p.channel p.role)
+point_faults env p =
+    use_faults env sort.Channel p.channel ++ role_faults p.role.place (env.role_of p.channel p.role)
 
 -- the interaction points of a header
 abbrev pub points_faults : Environment → List Point → List Fault
@@ -107,7 +112,8 @@ points_faults env (p ∷ ps) = point_faults env p ++ points_faults env ps
 
 -- a header: its names, and the channels and roles of its interaction points
 abbrev pub header_faults : Scope → Header → List Fault
-header_faults scope h = twice_faults [] (names_of (points_region scope h.points)) ++ points_faults (environment scope) h.points
+header_faults scope h = twice_faults [] (names_of (points_region scope h.points))
+    ++ points_faults (environment scope) h.points
 
 -- module variables: their headers
 abbrev pub modvars_faults : Environment → List ModvarDef → List Fault
@@ -117,24 +123,29 @@ modvars_faults env (m ∷ ms) = use_faults env sort.Header m.header ++ modvars_f
 -- an interaction that is to be sent, or else received, and whether each may be
 abbrev pub direction_faults : Bool → ℕ → Bool → Bool → List Fault
 direction_faults true place sends receives = if sends then [] else broken place rule.WrongDirection
-direction_faults false place sends receives = if receives then [] else broken place rule.WrongDirection
+direction_faults false place sends receives =
+    if receives then [] else broken place rule.WrongDirection
 
--- an interaction that is sent, or else received, at an interaction point; only where the point has a channel and a role
+-- an interaction that is sent, or else received, at an interaction point; only where the point has
+-- a channel and a role
 abbrev pub passage_faults : Bool → ℕ → Option Passage → List Fault
 passage_faults sending place None = []
 passage_faults sending place (Some missing) = broken place rule.UnknownName
 passage_faults sending place (Some no_interaction) = broken place rule.WrongSort
 passage_faults sending place (Some unclear) = []
-passage_faults sending place (Some (passes sends receives)) = direction_faults sending place sends receives
+passage_faults sending place (Some (passes sends receives)) =
+    direction_faults sending place sends receives
 
 -- an interaction point and the interaction that is sent, or else received, there
 abbrev pub interaction_faults : Environment → Bool → Used → Used → List Fault
-interaction_faults env sending at u = use_faults env sort.Point at ++ passage_faults sending u.place (env.passage_of at u)
+interaction_faults env sending at u =
+    use_faults env sort.Point at ++ passage_faults sending u.place (env.passage_of at u)
 
 -- what an `output` sends, and where
 abbrev pub sendings_faults : Environment → List Sending → List Fault
 sendings_faults env [] = []
-sendings_faults env (o ∷ os) = interaction_faults env true o.at.name o.signal ++ sendings_faults env os
+sendings_faults env (o ∷ os) =
+    interaction_faults env true o.at.name o.signal ++ sendings_faults env os
 
 -- a statement: the names that it uses
 abbrev pub statement_faults : Environment → Statement → List Fault
@@ -178,7 +189,8 @@ transitions_faults env (t ∷ ts) = transition_faults env t ++ transitions_fault
 -- all transitions of a body
 abbrev pub groups_faults : Environment → List Group → List Fault
 groups_faults env [] = []
-groups_faults env (g ∷ gs) = transitions_faults env (out-Group g).transitions ++ groups_faults env gs
+groups_faults env (g ∷ gs) =
+    transitions_faults env (out-Group g).transitions ++ groups_faults env gs
 
 -- whether states are declared among these parts
 abbrev pub has_states : List Part → Bool
@@ -186,15 +198,18 @@ has_states [] = false
 has_states (part.States us ∷ ps) = true
 has_states (_ ∷ ps) = has_states ps
 
--- the first state of a body that has states or none, at the place of its name; a body with states has a first one
+-- the first state of a body that has states or none, at the place of its name; a body with states
+-- has a first one
 abbrev pub to_faults : Environment → ℕ → Bool → Option Used → List Fault
 to_faults env place states None = broken_if states place rule.NoFirstState
 to_faults env place states (Some u) = use_faults env sort.State u
 
--- the initialize part of a body: its first state and its statements; a body with states has such a part
+-- the initialize part of a body: its first state and its statements; a body with states has such a
+-- part
 abbrev pub first_faults : Environment → ℕ → Bool → Option FirstPart → List Fault
 first_faults env place states None = broken_if states place rule.NoFirstState
-first_faults env place states (Some f) = to_faults env place states f.to ++ statements_faults env f.block.statements
+first_faults env place states (Some f) =
+    to_faults env place states f.to ++ statements_faults env f.block.statements
 
 -- the initialize part and the transitions of a body
 abbrev pub text_faults : Environment → Body → List Fault
@@ -206,7 +221,8 @@ text_faults env b =
 abbrev pub body_faults : Scope → Body → List Fault
 body_faults scope b =
     use_faults (environment scope) sort.Header (out-Body b).header
-    ++ twice_faults (spellings_of (header_region scope b)) (names_of (parts_region (out-Body b).parts))
+    ++ twice_faults (spellings_of (header_region scope b))
+    (names_of (parts_region (out-Body b).parts))
     ++ text_faults (environment (body_scope scope b)) b
 
 -- a part, but for the parts that stand in it and for its own name
@@ -219,4 +235,5 @@ part_faults scope _ = []
 
 -- the names that a specification declares, and its one statement
 abbrev pub outer_faults : Spec → List Fault
-outer_faults s = twice_faults [] (names_of (parts_region s.parts)) ++ statement_faults (environment (spec_scope s)) s.first
+outer_faults s = twice_faults [] (names_of (parts_region s.parts))
+    ++ statement_faults (environment (spec_scope s)) s.first

@@ -5,7 +5,8 @@ use Rattle.est_syntax.specs.declared.kind.Kind.{Kind, out-Kind}
 use Rattle.est_syntax.specs.declared.kind.Kind.TheOpen as kind
 use Rattle.est_syntax.specs.declared.kind.FieldKind.{FieldKind}
 
--- what an ordinal kind that is no part of another holds: the integers of this profile, false and true, the characters, the constants of an enumeration from 0
+-- what an ordinal kind that is no part of another holds: the integers of this profile, false and
+-- true, the characters, the constants of an enumeration from 0
 abbrev pub Holds : Kind → ℤ → Type 0
 Holds host z = held (out-Kind host)
   where
@@ -28,13 +29,20 @@ is_ordinal k = ordinal (out-Kind k)
     ordinal (kind.Part host low high) = true
     ordinal _ = false
 
--- A kind whose parts have hosts that hold their bounds in order, whose enumerations have constants, and whose subscripts and set members are ordinals.
+-- A kind whose parts have hosts that hold their bounds in order, whose enumerations have constants,
+-- and whose subscripts and set members are ordinals.
 pub data IsWellFormed : Kind → Type 0 where
   integers : {k : Kind} → out-Kind k ≡ kind.Integer → IsWellFormed k
   booleans : {k : Kind} → out-Kind k ≡ kind.Boolean → IsWellFormed k
   characters : {k : Kind} → out-Kind k ≡ kind.Char → IsWellFormed k
-  constants : {k : Kind} (place : ℕ) (names : List Name) → out-Kind k ≡ kind.Enumeration place names → 0 < length names → IsWellFormed k
-  part : {k : Kind} (host : Kind) (low high : ℤ) → out-Kind k ≡ kind.Part host low high → Holds host low → Holds host high → low ≤ℤ high → IsWellFormed k
-  sets : {k : Kind} (base : Kind) → out-Kind k ≡ kind.SetOf base → IsTrue (is_ordinal base) → IsWellFormed base → IsWellFormed k
-  arrays : {k : Kind} (index of : Kind) → out-Kind k ≡ kind.ArrayOf index of → IsTrue (is_ordinal index) → IsWellFormed index → IsWellFormed of → IsWellFormed k
-  records : {k : Kind} (fields : List FieldKind) → out-Kind k ≡ kind.Fields fields → ((i : ℕ) (field : FieldKind) → slice_get fields i ≡ Some field → IsWellFormed field.kind) → IsWellFormed k
+  constants : {k : Kind} (place : ℕ) (names : List Name) → out-Kind k ≡ kind.Enumeration place names
+      → 0 < length names → IsWellFormed k
+  part : {k : Kind} (host : Kind) (low high : ℤ) → out-Kind k ≡ kind.Part host low high
+      → Holds host low → Holds host high → low ≤ℤ high → IsWellFormed k
+  sets : {k : Kind} (base : Kind) → out-Kind k ≡ kind.SetOf base → IsTrue (is_ordinal base)
+      → IsWellFormed base → IsWellFormed k
+  arrays : {k : Kind} (index of : Kind) → out-Kind k ≡ kind.ArrayOf index of
+      → IsTrue (is_ordinal index) → IsWellFormed index → IsWellFormed of → IsWellFormed k
+  records : {k : Kind} (fields : List FieldKind) → out-Kind k ≡ kind.Fields fields
+      → ((i : ℕ) (field : FieldKind) → slice_get fields i ≡ Some field → IsWellFormed field.kind)
+      → IsWellFormed k

@@ -1,4 +1,5 @@
--- What the parts of a specification declare, and what a name means at a place (ISO 9074, scope of identifiers; ISO 7185, 6.2.2).
+-- What the parts of a specification declare, and what a name means at a place (ISO 9074, scope of
+-- identifiers; ISO 7185, 6.2.2).
 use Rattle.std.specs.Prelude.{ℕ, ◌==◌, Bool, true, false, nat_lt, max, List, [], ◌∷◌, ◌++◌, Option, Some, None, if◌then◌else◌, codes}
 use Rattle.std.specs.List.{list_any}
 use Rattle.std.specs.Cmp.Lexicographic.{pointwise}
@@ -62,12 +63,14 @@ abbrev pub in_force : Option Declaration → ℕ → Option Declaration → Opti
 in_force None place other = other
 in_force (Some d) place other = if nat_lt d.last place then Some d else other
 
--- the innermost declaration of a name that is in force at a place, of regions that are given from the innermost on
+-- the innermost declaration of a name that is in force at a place, of regions that are given from
+-- the innermost on
 abbrev pub found : List Region → List ℕ → ℕ → Option Declaration
 found [] name place = None
 found (r ∷ rs) name place = in_force (declared_in r name) place (found rs name place)
 
--- what lies around a place: the regions of the innermost body and those around that body, each the innermost first, and the bodies
+-- what lies around a place: the regions of the innermost body and those around that body, each the
+-- innermost first, and the bodies
 pub record Scope : Type 0 where
   pub own : List Region
   pub around : List Region
@@ -76,14 +79,16 @@ pub record Scope : Type 0 where
 -- the predeclared names, whose region lies around every specification (ISO 7185, 6.2.2)
 unfoldable pub predeclared_names : List (List ℕ)
 predeclared_names =
-    codes "integer" ∷ codes "boolean" ∷ codes "char" ∷ codes "false" ∷ codes "true" ∷ codes "maxint" ∷ codes "ord" ∷ codes "chr" ∷ codes "succ" ∷ codes "pred" ∷ codes "abs"
+    codes "integer" ∷ codes "boolean" ∷ codes "char" ∷ codes "false" ∷ codes "true" ∷ codes "maxint"
+    ∷ codes "ord" ∷ codes "chr" ∷ codes "succ" ∷ codes "pred" ∷ codes "abs"
     ∷ codes "odd" ∷ codes "sqr" ∷ []
 
 -- whether a name is predeclared
 abbrev pub is_predeclared : List ℕ → Bool
 is_predeclared name = list_any (λ word. is_name word name) predeclared_names
 
--- what a name means: nothing, something of a body around that the own body does not see, a predeclared thing, or this
+-- what a name means: nothing, something of a body around that the own body does not see, a
+-- predeclared thing, or this
 pub data Meaning (D : Type 0) : Type 0 where
   nothing : Meaning D
   unseen : Meaning D
@@ -97,7 +102,8 @@ is_shared (header h) = true
 is_shared (body b) = true
 is_shared _ = false
 
--- the meaning of a name, predeclared or not, with this declaration in the own body, and this one around it
+-- the meaning of a name, predeclared or not, with this declaration in the own body, and this one
+-- around it
 abbrev pub meaning_by : Bool → Option Declaration → Option Declaration → Meaning Declaration
 meaning_by known (Some d) other = seen d
 meaning_by known None (Some d) = if is_shared d.sort then seen d else unseen
@@ -105,7 +111,8 @@ meaning_by known None None = if known then predeclared else nothing
 
 -- what a name means at its place
 abbrev pub meaning : Scope → Used → Meaning Declaration
-meaning scope u = meaning_by (is_predeclared (spelled u)) (found scope.own (spelled u) u.place) (found scope.around (spelled u) u.place)
+meaning scope u = meaning_by (is_predeclared (spelled u)) (found scope.own (spelled u) u.place)
+    (found scope.around (spelled u) u.place)
 
 -- a declaration of this name
 abbrev pub declaration : Used → ℕ → Sort → Declaration
@@ -129,7 +136,8 @@ roles_region (u ∷ us) = declaration u u.place (role false) ∷ other_roles us
 -- the interactions that stand behind one `by` of a channel
 abbrev pub interactions_region : ByPart → List InteractionDef → Region
 interactions_region b [] = []
-interactions_region b (i ∷ is) = declaration i.name i.name.place (interaction b i) ∷ interactions_region b is
+interactions_region b (i ∷ is) =
+    declaration i.name i.name.place (interaction b i) ∷ interactions_region b is
 
 -- the interactions of a channel, part by part
 abbrev pub by_region : List ByPart → Region
@@ -181,7 +189,8 @@ states_region (u ∷ us) = declaration u u.place state ∷ states_region us
 -- the module variables of a `modvar` section
 abbrev pub modvars_region : List ModvarDef → Region
 modvars_region [] = []
-modvars_region (m ∷ ms) = declared_together m.names m.header.place (module_variable m) ++ modvars_region ms
+modvars_region (m ∷ ms) =
+    declared_together m.names m.header.place (module_variable m) ++ modvars_region ms
 
 -- what a part declares in the region that it stands in
 abbrev pub part_region : Part → Region
@@ -235,16 +244,20 @@ abbrev pub side_by : Option Channel → Used → Option Side
 side_by None u = None
 side_by (Some c) u = side_with c (role_named c u)
 
--- The side of an interaction point, where its channel and its role are such. The scope may be that around a body for its header, further in
--- than the header: a name is looked up at its own place, and what the parts of a body in between declare stands behind that place, so it is
--- not in force there. What such a body has of its own header may stand before it; no sentence has a body within a body.
+-- The side of an interaction point, where its channel and its role are such. The scope may be that
+-- around a body for its header, further in than the header: a name is looked up at its own place,
+-- and what the parts of a body in between declare stands behind that place, so it is not in force
+-- there. What such a body has of its own header may stand before it; no sentence has a body within
+-- a body.
 abbrev pub side_of : Scope → Point → Option Side
 side_of scope p = side_by (channel_by (meaning scope p.channel)) p.role
 
--- the interaction points of a header that stands in this scope, or for which a body does, as `side_of` says
+-- the interaction points of a header that stands in this scope, or for which a body does, as
+-- `side_of` says
 abbrev pub points_region : Scope → List Point → Region
 points_region scope [] = []
-points_region scope (p ∷ ps) = declared_together p.names p.role.place (point p (side_of scope p)) ++ points_region scope ps
+points_region scope (p ∷ ps) =
+    declared_together p.names p.role.place (point p (side_of scope p)) ++ points_region scope ps
 
 -- the header that is declared, where one is
 abbrev pub header_in : Sort → Option Header
@@ -261,8 +274,8 @@ abbrev pub header_names : Scope → Option Header → Region
 header_names scope None = []
 header_names scope (Some h) = points_region scope h.points
 
--- The names that a body has of its header. The header may stand further out than the body: its channels are looked up at their own
--- places, as `side_of` says.
+-- The names that a body has of its header. The header may stand further out than the body: its
+-- channels are looked up at their own places, as `side_of` says.
 abbrev pub header_region : Scope → Body → Region
 header_region scope b = header_names scope (header_by (meaning scope (out-Body b).header))
 
@@ -272,4 +285,9 @@ body_region scope b = header_region scope b ++ parts_region (out-Body b).parts
 
 -- the regions within a body
 abbrev pub body_scope : Scope → Body → Scope
-body_scope scope b = record { own = body_region scope b ∷ []; around = scope.own ++ scope.around; bodies = b ∷ scope.bodies }
+body_scope scope b = record {
+  own = body_region scope b ∷ [];
+  around = scope.own ++ scope.around;
+  bodies = b
+      ∷ scope.bodies;
+}

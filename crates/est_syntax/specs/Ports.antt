@@ -22,10 +22,12 @@ header_of_variable scope (Some m) = header_by (meaning scope m.header)
 
 -- the header of the module that a statement starts: that of its module variable
 abbrev pub header_started : Scope → Statement → Option Header
-header_started scope (Init target body arguments place) = header_of_variable scope (modvar_by (meaning scope target.name))
+header_started scope (Init target body arguments place) =
+    header_of_variable scope (modvar_by (meaning scope target.name))
 header_started scope _ = None
 
--- the interactions of one part of a channel in order: a side sends what its role may send, and receives what the other role may send
+-- the interactions of one part of a channel in order: a side sends what its role may send, and
+-- receives what the other role may send
 abbrev pub interaction_signals : Side → ByPart → List InteractionDef → List Signal
 interaction_signals side b [] = []
 interaction_signals side b (i ∷ is) =
@@ -42,7 +44,8 @@ abbrev pub by_signals : Side → List ByPart → List Signal
 by_signals side [] = []
 by_signals side (b ∷ bs) = interaction_signals side b b.interactions ++ by_signals side bs
 
--- the signals of an interaction point: the interactions of its channel, or none where it has no side
+-- the signals of an interaction point: the interactions of its channel, or none where it has no
+-- side
 abbrev pub signals_of : Option Side → List Signal
 signals_of None = []
 signals_of (Some side) = by_signals side side.channel.by
@@ -50,12 +53,14 @@ signals_of (Some side) = by_signals side side.channel.by
 -- interaction points that are declared together, which have the same signals
 abbrev pub named_ports : List Signal → List Used → List Port
 named_ports signals [] = []
-named_ports signals (u ∷ us) = record { name = u.name; index_kinds = []; index = []; signals = signals } ∷ named_ports signals us
+named_ports signals (u ∷ us) = record
+    { name = u.name; index_kinds = []; index = []; signals = signals } ∷ named_ports signals us
 
 -- the interaction points of a header in order, each with its signals
 abbrev pub point_ports : Scope → List Point → List Port
 point_ports scope [] = []
-point_ports scope (p ∷ ps) = named_ports (signals_of (side_of scope p)) p.names ++ point_ports scope ps
+point_ports scope (p ∷ ps) =
+    named_ports (signals_of (side_of scope p)) p.names ++ point_ports scope ps
 
 -- the interaction points of a header, where there is one
 abbrev pub header_ports : Scope → Option Header → List Port

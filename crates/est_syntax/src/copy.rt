@@ -49,7 +49,8 @@ pub fn copy_values(alloc: Global, values: &Values) -> Result<Values, AllocError>
 }
 
 impl Kind {
-    /// An equal kind, which shares what this one is made of. Errs where that can have no more owners.
+    /// An equal kind, which shares what this one is made of. Errs where that can have no more
+    /// owners.
     pub fn copy(&self) -> Result<Kind, AllocError>
         ensures { IfOk result (λ kind. kind ≡ self.now) }
     {

@@ -19,7 +19,8 @@ pub type Signals = Items<Signal>;
 /// The signals of one side of a channel, which all its ports share.
 pub type SharedSignals = Shared<Signals>;
 
-/// A port, with the kinds of its subscripts and its own subscripts where it is an element of an array.
+/// A port, with the kinds of its subscripts and its own subscripts where it is an element of an
+/// array.
 #[derive(Drop)]
 pub struct Port {
     pub name: Name,

@@ -25,7 +25,8 @@ pub enum Rule {
     NotWritable,
     /// A function calls a procedure, or has a statement that only Estelle knows, as `output`.
     NotInFunction,
-    /// By its role an interaction point cannot receive what is awaited there, or send what is output.
+    /// By its role an interaction point cannot receive what is awaited there, or send what is
+    /// output.
     WrongDirection,
     /// A delayed transition also awaits an interaction or makes a choice.
     DelayNotAlone,
@@ -33,9 +34,11 @@ pub enum Rule {
     NoFirstState,
     /// A specification has a variable for a module that is no system, or a body one for a system.
     WrongAttribute,
-    /// A module would start with a body for another header than its own, or within that body itself.
+    /// A module would start with a body for another header than its own, or within that body
+    /// itself.
     WrongBody,
-    /// Two interaction points cannot be linked: for where they belong, or for their channels or roles.
+    /// Two interaction points cannot be linked: for where they belong, or for their channels or
+    /// roles.
     WrongLink,
     /// Two choices of one `case` have the same constant.
     CaseTwice,
