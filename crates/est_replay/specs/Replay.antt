@@ -1,6 +1,7 @@
 -- What a replay answers of an explanation.
 --
--- Moves stand in the order in which they are made. Runs are read from their last move back, so that `reverse moves` is the run of these moves.
+-- Moves stand in the order in which they are made. Runs are read from their last move back, so that
+-- `reverse moves` is the run of these moves.
 use Rattle.std.specs.Prelude.{◌≡◌, ◌≢◌, ℕ, ◌+◌, ◌<◌, ◌⊎◌, List, [], ◌∷◌, ◌++◌, length, take, reverse}
 use Rattle.est_syntax.specs.declared.specification.Spec.{Spec}
 use Rattle.est_syntax.specs.Breaks.{IsGood}
@@ -22,7 +23,9 @@ use Rattle.est_replay.specs.declared.verdict.Replayed.TheVariants.{Confirmed, Re
 
 -- CHECKS
 
--- the events agree with the trace where these moves are left: all of them, and behind the last move those up to the claim (which asks again for all where the claim is above the number of the trace's events)
+-- the events agree with the trace where these moves are left: all of them, and behind the last move
+-- those up to the claim (which asks again for all where the claim is above the number of the
+-- trace's events)
 abbrev pub Agrees : Setup → ℕ → List Move → Place → Type 0
 Agrees c claim [] p = IsPrefix (take claim p.events) c.trace
 Agrees c claim (m ∷ left) p = Follows c p
@@ -31,13 +34,18 @@ Agrees c claim (m ∷ left) p = Follows c p
 abbrev pub HasNoEvent : Setup → Place → Type 0
 HasNoEvent c p = (q : Place) → Takes c p q → ⊥
 
--- the first check of a firing that fails: settled, possible, the block's outcome, the outside events, the silent firings in a row
+-- the first check of a firing that fails: settled, possible, the block's outcome, the outside
+-- events, the silent firings in a row
 abbrev pub FiringFails : Setup → (Place → Type 0) → Place → Firing → Why → Type 0
-FiringFails c agrees p f why.Limit = (IsSettled c.limit c.spec p.situation → ⊥) ⊎ (IsPossible c.limit c.spec p.situation f × (outcome c.limit c.spec p.situation f ≡ Limit))
-FiringFails c agrees p f why.NotOffered = IsSettled c.limit c.spec p.situation × (IsPossible c.limit c.spec p.situation f → ⊥)
-FiringFails c agrees p f (why.Fault fault) = IsPossible c.limit c.spec p.situation f × (outcome c.limit c.spec p.situation f ≡ Fault fault)
+FiringFails c agrees p f why.Limit = (IsSettled c.limit c.spec p.situation → ⊥)
+    ⊎ (IsPossible c.limit c.spec p.situation f × (outcome c.limit c.spec p.situation f ≡ Limit))
+FiringFails c agrees p f why.NotOffered =
+    IsSettled c.limit c.spec p.situation × (IsPossible c.limit c.spec p.situation f → ⊥)
+FiringFails c agrees p f (why.Fault fault) =
+    IsPossible c.limit c.spec p.situation f × (outcome c.limit c.spec p.situation f ≡ Fault fault)
 FiringFails c agrees p f why.WrongOutput = (q : Place) × Fires c p f q × (agrees q → ⊥)
-FiringFails c agrees p f why.TooSilent = (q : Place) × Fires c p f q × agrees q × (c.silent < q.silent_in_row)
+FiringFails c agrees p f why.TooSilent =
+    (q : Place) × Fires c p f q × agrees q × (c.silent < q.silent_in_row)
 FiringFails c agrees p f (why.NoStart fault) = ⊥
 FiringFails c agrees p f why.NoEvent = ⊥
 FiringFails c agrees p f why.NotAll = ⊥
@@ -82,40 +90,51 @@ pub record FailsAtEnd (c : Setup) (moves : List Move) (claim at : ℕ) (w : Why)
 
 -- a check fails at the start, at a move or at the end, and all before it pass
 abbrev pub IsRejected : Setup → List Move → ℕ → ℕ → Why → Type 0
-IsRejected c moves claim at w = FailsAtStart c moves claim at w ⊎ (FailsAtMove c moves claim at w ⊎ FailsAtEnd c moves claim at w)
+IsRejected c moves claim at w = FailsAtStart c moves claim at w
+    ⊎ (FailsAtMove c moves claim at w ⊎ FailsAtEnd c moves claim at w)
 
 -- ANSWERS
 
--- the answer from a start that is ready: confirmed where the moves are a bounded run that yields the claim, else the first check that fails
+-- the answer from a start that is ready: confirmed where the moves are a bounded run that yields
+-- the claim, else the first check that fails
 abbrev pub IsAnswer : Setup → List Move → ℕ → Replayed → Type 0
 IsAnswer c moves claim (Confirmed events) = (events ≡ claim) × Yields c (reverse moves) claim
 IsAnswer c moves claim (Rejected at w) = IsRejected c moves claim at w
 
 -- what a replay on a world is a replay of
 abbrev pub setup_of : ℕ → ℕ → List Event → Stack → List Event → Spec → Setup
-setup_of limit silent trace stack outs spec = record { spec = spec; limit = limit; silent = silent; trace = trace; start = stack.now; start_outs = outs }
+setup_of limit silent trace stack outs spec = record
+    { spec = spec; limit = limit; silent = silent; trace = trace; start = stack.now; start_outs = outs }
 
 -- the answer from what comes of the start
 abbrev pub AnswersFrom : ℕ → ℕ → Spec → List Event → List Move → ℕ → Replayed → Outcome → Type 0
-AnswersFrom limit silent spec trace moves claim answer (Done s outs) = IsAnswer (record { spec = spec; limit = limit; silent = silent; trace = trace; start = s; start_outs = outs }) moves claim answer
-AnswersFrom limit silent spec trace moves claim answer (Fault fault) = answer ≡ Rejected 0 (why.NoStart fault)
+AnswersFrom limit silent spec trace moves claim answer (Done s outs) = IsAnswer
+    (record { spec = spec; limit = limit; silent = silent; trace = trace; start = s; start_outs = outs }) moves claim answer
+AnswersFrom limit silent spec trace moves claim answer (Fault fault) =
+    answer ≡ Rejected 0 (why.NoStart fault)
 AnswersFrom limit silent spec trace moves claim answer Limit = answer ≡ Rejected 0 why.Limit
 
 -- the answer of a replay
 abbrev pub IsReplay : ℕ → ℕ → Spec → List Event → List Move → ℕ → Replayed → Type 0
-IsReplay limit silent spec trace moves claim answer = AnswersFrom limit silent spec trace moves claim answer (start_of limit spec)
+IsReplay limit silent spec trace moves claim answer =
+    AnswersFrom limit silent spec trace moves claim answer (start_of limit spec)
 
 -- no two answers fit one explanation
 abbrev pub OneAnswer : Type 0
-OneAnswer = (limit silent : ℕ) (spec : Spec) (trace : List Event) (moves : List Move) (claim : ℕ) (a b : Replayed)
-    → IsReplay limit silent spec trace moves claim a → IsReplay limit silent spec trace moves claim b → a ≡ b
+OneAnswer = (limit silent : ℕ) (spec : Spec) (trace : List Event) (moves : List Move) (claim : ℕ)
+    (a b : Replayed)
+    → IsReplay limit silent spec trace moves claim a
+    → IsReplay limit silent spec trace moves claim b → a ≡ b
 
 -- behind the last move a claim above the number of the trace's events asks for all events
 abbrev pub ClaimsBeyondAskAll : Type 0
-ClaimsBeyondAskAll = (c : Setup) (claim : ℕ) (p : Place) → length c.trace < claim → Agrees c claim [] p → Follows c p
+ClaimsBeyondAskAll =
+    (c : Setup) (claim : ℕ) (p : Place) → length c.trace < claim → Agrees c claim [] p → Follows c p
 
 -- no answer for a skeleton that breaks no rule speaks of a fault, of the start or of a block
 abbrev pub SkeletonsDoNotFault : Type 0
-SkeletonsDoNotFault = (limit silent : ℕ) (spec : Spec) (trace : List Event) (moves : List Move) (claim : ℕ) (answer : Replayed)
+SkeletonsDoNotFault = (limit silent : ℕ) (spec : Spec) (trace : List Event) (moves : List Move)
+    (claim : ℕ) (answer : Replayed)
     → IsSkeleton spec → IsGood spec → IsReplay limit silent spec trace moves claim answer
-    → (at : ℕ) (fault : BlockFault) → (answer ≢ Rejected at (why.NoStart fault)) × (answer ≢ Rejected at (why.Fault fault))
+    → (at : ℕ) (fault : BlockFault) → (answer ≢ Rejected at (why.NoStart fault))
+    × (answer ≢ Rejected at (why.Fault fault))

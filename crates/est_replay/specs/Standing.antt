@@ -25,17 +25,20 @@ pub record Suits (c : Setup) (spec : Spec) (limit silent : ℕ) (trace : List Ev
   pub allowed : IsAllowedTrace c.spec c.trace
 
 -- the setup of a replay that has not begun
-pub record IsSetup (c : Setup) (spec : Spec) (limit silent : ℕ) (trace : List Event) (stack : Stack) (outs : List Event) : Type 0 where
+pub record IsSetup (c : Setup) (spec : Spec) (limit silent : ℕ) (trace : List Event) (stack : Stack)
+    (outs : List Event) : Type 0 where
   pub suits : Suits c spec limit silent trace
   pub start_is : c.start ≡ stack.now
   pub outs_are : c.start_outs ≡ outs
 
 -- the place where the events so far are the first of the trace
 abbrev pub place_of : Stack → List Event → Standing → Place
-place_of stack trace at = record { situation = stack.now; events = take at.events trace; silent_in_row = at.silent_in_row }
+place_of stack trace at = record
+    { situation = stack.now; events = take at.events trace; silent_in_row = at.silent_in_row }
 
 -- a bounded run leads there
-pub record IsReady (c : Setup) (spec : Spec) (limit silent : ℕ) (trace : List Event) (stack : Stack) (at : Standing) : Type 0 where
+pub record IsReady (c : Setup) (spec : Spec) (limit silent : ℕ) (trace : List Event) (stack : Stack)
+    (at : Standing) : Type 0 where
   pub suits : Suits c spec limit silent trace
   pub run : List Move
   pub is_run : IsBoundedRun c run (place_of stack trace at)
@@ -46,7 +49,8 @@ pub record StandsAt (s : Situation) (at : Standing) (p : Place) : Type 0 where
   pub many : length p.events ≡ at.events
   pub silent_in_row_is : p.silent_in_row ≡ at.silent_in_row
 
--- how many events are compared at most where these moves are left: one more than the trace has stands for all
+-- how many events are compared at most where these moves are left: one more than the trace has
+-- stands for all
 abbrev pub asked_of : ℕ → ℕ → List Move → ℕ
 asked_of many claim [] = claim
 asked_of many claim (m ∷ left) = many + 1
@@ -57,14 +61,20 @@ AgreesUpTo c asked p = IsPrefix (take asked p.events) c.trace
 
 -- what came of a move: a place at which the replay then stands, or the first check that fails
 abbrev pub HasMoved : Setup → ℕ → Place → Move → Situation → Moved → Type 0
-HasMoved c asked p m s (Passed at) = (q : Place) × Moves c p m q × (q.silent_in_row ≤ c.silent) × AgreesUpTo c asked q × StandsAt s at q
+HasMoved c asked p m s (Passed at) = (q : Place) × Moves c p m q × (q.silent_in_row ≤ c.silent)
+    × AgreesUpTo c asked q × StandsAt s at q
 HasMoved c asked p m s (Failed w) = MoveFails c (AgreesUpTo c asked) p m w
 
 -- what comes of the events of a firing
 abbrev pub HasLanded : List Event → ℕ → ℕ → Standing → List Event → Moved → Type 0
-HasLanded trace silent asked at outs (Passed next) = IsPrefix (take asked (take at.events trace ++ outs)) trace × (next.events ≡ at.events + length outs) × (next.silent_in_row ≡ silent_after at.silent_in_row outs) × (next.silent_in_row ≤ silent)
-HasLanded trace silent asked at outs (Failed why.WrongOutput) = IsPrefix (take asked (take at.events trace ++ outs)) trace → ⊥
-HasLanded trace silent asked at outs (Failed why.TooSilent) = IsPrefix (take asked (take at.events trace ++ outs)) trace × (silent < silent_after at.silent_in_row outs)
+HasLanded trace silent asked at outs (Passed next) = IsPrefix
+    (take asked (take at.events trace ++ outs)) trace × (next.events ≡ at.events + length outs)
+    × (next.silent_in_row ≡ silent_after at.silent_in_row outs) × (next.silent_in_row ≤ silent)
+HasLanded trace silent asked at outs (Failed why.WrongOutput) =
+    IsPrefix (take asked (take at.events trace ++ outs)) trace → ⊥
+HasLanded trace silent asked at outs (Failed why.TooSilent) = IsPrefix
+    (take asked (take at.events trace ++ outs)) trace
+    × (silent < silent_after at.silent_in_row outs)
 HasLanded trace silent asked at outs (Failed (why.NoStart fault)) = ⊥
 HasLanded trace silent asked at outs (Failed why.Limit) = ⊥
 HasLanded trace silent asked at outs (Failed why.NoEvent) = ⊥
@@ -74,13 +84,18 @@ HasLanded trace silent asked at outs (Failed why.NotAll) = ⊥
 
 -- behind so many of the moves the replay stands at the place of a run that passes every check
 abbrev pub IsStanding : Setup → ℕ → List Move → ℕ → Situation → Standing → Type 0
-IsStanding c claim moves made s at = (p : Place) × IsPassed c claim (reverse (take made moves)) (drop made moves) p × StandsAt s at p
+IsStanding c claim moves made s at =
+    (p : Place) × IsPassed c claim (reverse (take made moves)) (drop made moves) p × StandsAt s at p
 
--- so many events meet the claim, where those up to the claim agree with a trace of so many: there are as many, or the claim is one more than the trace has and there are just these
+-- so many events meet the claim, where those up to the claim agree with a trace of so many: there
+-- are as many, or the claim is one more than the trace has and there are just these
 abbrev pub IsMet : ℕ → ℕ → ℕ → Type 0
-IsMet claim many events = ((claim ≤ many) × (claim ≤ events)) ⊎ ((claim ≡ many + 1) × (events ≡ many))
+IsMet claim many events =
+    ((claim ≤ many) × (claim ≤ events)) ⊎ ((claim ≡ many + 1) × (events ≡ many))
 
--- what is answered behind so many moves with so many events: the claim where it is met, else that the moves do not yield it
+-- what is answered behind so many moves with so many events: the claim where it is met, else that
+-- the moves do not yield it
 abbrev pub IsEnding : ℕ → ℕ → ℕ → ℕ → Replayed → Type 0
 IsEnding claim many moves events (Confirmed k) = (k ≡ claim) × IsMet claim many events
-IsEnding claim many moves events (Rejected at w) = (at ≡ moves + 1) × (w ≡ why.NotAll) × (IsMet claim many events → ⊥)
+IsEnding claim many moves events (Rejected at w) =
+    (at ≡ moves + 1) × (w ≡ why.NotAll) × (IsMet claim many events → ⊥)

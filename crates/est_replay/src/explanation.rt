@@ -49,7 +49,8 @@ pub fn read_explanation(alloc: Global, tokens: &Tokens) -> Result<Explanation, E
 
 // explanation = "explanation" "1" { move } "yields" number .
 fn whole_explanation(reader: &mut Reader) -> Explanation
-    ensures { Goes explaining grammar.explanation reader.old (node (an_explanation result)) reader.new }
+    ensures { Goes explaining grammar.explanation reader.old
+        (node (an_explanation result)) reader.new }
 {
     reader.take_word(b"explanation");
     let _version = reader.number(1, 1);

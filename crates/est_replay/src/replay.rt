@@ -104,10 +104,16 @@ fn take_next<W: World>(
 ) -> Result<Moved, AllocError>
     ghost setup: { Spec → Setup }
     requires within { at.events ≤ length expected.now.trace.now }
-    requires ready { (spec : Spec) → W.speaks world.old spec → IsReady (setup spec) spec (W.limit world.old) expected.now.silent expected.now.trace.now (W.stack world.old spec) at }
+    requires ready { (spec : Spec) → W.speaks world.old spec
+        → IsReady (setup spec) spec (W.limit world.old) expected.now.silent expected.now.trace.now
+        (W.stack world.old spec) at }
     ensures keeps { Keeps W.speaks W.limit world.old world.new }
     ensures fired { W.fired world.new ≡ W.fired world.old }
-    ensures moved { IfOk result (λ moved. (spec : Spec) → W.speaks world.old spec → HasMoved (setup spec) expected.now.asked (place_of (W.stack world.old spec) expected.now.trace.now at) Move.Take (W.stack world.new spec).now moved) }
+    ensures moved { IfOk result
+        (λ moved. (spec : Spec) → W.speaks world.old spec
+        → HasMoved (setup spec) expected.now.asked
+        (place_of (W.stack world.old spec) expected.now.trace.now at) Move.Take
+        (W.stack world.new spec).now moved) }
 {
     let trace = expected.trace;
     if at.events >= trace.len() {
@@ -163,10 +169,16 @@ fn fire<W: World>(
     ghost setup: { Spec → Setup }
     requires within { at.events ≤ length expected.now.trace.now }
     requires room { W.fired world.old < 2 ^ 64 - 1 }
-    requires ready { (spec : Spec) → W.speaks world.old spec → IsReady (setup spec) spec (W.limit world.old) expected.now.silent expected.now.trace.now (W.stack world.old spec) at }
+    requires ready { (spec : Spec) → W.speaks world.old spec
+        → IsReady (setup spec) spec (W.limit world.old) expected.now.silent expected.now.trace.now
+        (W.stack world.old spec) at }
     ensures keeps { Keeps W.speaks W.limit world.old world.new }
     ensures fired { W.fired world.new ≤ W.fired world.old + 1 }
-    ensures moved { IfOk result (λ moved. (spec : Spec) → W.speaks world.old spec → HasMoved (setup spec) expected.now.asked (place_of (W.stack world.old spec) expected.now.trace.now at) (Move.Fire firing.now) (W.stack world.new spec).now moved) }
+    ensures moved { IfOk result
+        (λ moved. (spec : Spec) → W.speaks world.old spec
+        → HasMoved (setup spec) expected.now.asked
+        (place_of (W.stack world.old spec) expected.now.trace.now at) (Move.Fire firing.now)
+        (W.stack world.new spec).now moved) }
 {
     let mut firings = Vec::new(alloc);
     match world.options(alloc, &mut firings)? {
@@ -195,10 +207,16 @@ fn make<W: World>(
     ghost setup: { Spec → Setup }
     requires within { at.events ≤ length expected.now.trace.now }
     requires room { W.fired world.old < 2 ^ 64 - 1 }
-    requires ready { (spec : Spec) → W.speaks world.old spec → IsReady (setup spec) spec (W.limit world.old) expected.now.silent expected.now.trace.now (W.stack world.old spec) at }
+    requires ready { (spec : Spec) → W.speaks world.old spec
+        → IsReady (setup spec) spec (W.limit world.old) expected.now.silent expected.now.trace.now
+        (W.stack world.old spec) at }
     ensures keeps { Keeps W.speaks W.limit world.old world.new }
     ensures fired { W.fired world.new ≤ W.fired world.old + 1 }
-    ensures moved { IfOk result (λ moved. (spec : Spec) → W.speaks world.old spec → HasMoved (setup spec) expected.now.asked (place_of (W.stack world.old spec) expected.now.trace.now at) next.now (W.stack world.new spec).now moved) }
+    ensures moved { IfOk result
+        (λ moved. (spec : Spec) → W.speaks world.old spec
+        → HasMoved (setup spec) expected.now.asked
+        (place_of (W.stack world.old spec) expected.now.trace.now at) next.now
+        (W.stack world.new spec).now moved) }
 {
     match next {
         Move::Take => take_next(alloc, world, expected, at),
@@ -223,7 +241,8 @@ fn is_met(claim: u32, trace_len: usize, events: usize) -> bool
 fn end(replaying: &Replaying<'_>, events: usize) -> Replayed
     requires short { length replaying.now.trace.now ≤ 200000 }
     requires few { length replaying.now.moves.now < 2 ^ 32 - 1 }
-    ensures { IsEnding replaying.now.claim (length replaying.now.trace.now) (length replaying.now.moves.now) events result }
+    ensures { IsEnding replaying.now.claim (length replaying.now.trace.now)
+        (length replaying.now.moves.now) events result }
 {
     if is_met(replaying.claim, replaying.trace.len(), events) {
         Replayed::Confirmed {
@@ -248,10 +267,14 @@ fn replay_moves<W: World>(
     requires room { W.fired world.old ≤ 2 ^ 63 }
     requires few { length replaying.now.moves.now < 2 ^ 32 - 1 }
     requires short { length replaying.now.trace.now ≤ 200000 }
-    requires start { (spec : Spec) → W.speaks world.old spec → IsSetup (setup spec) spec (W.limit world.old) replaying.now.silent replaying.now.trace.now (W.stack world.old spec) start_outs.now }
+    requires start { (spec : Spec) → W.speaks world.old spec
+        → IsSetup (setup spec) spec (W.limit world.old) replaying.now.silent replaying.now.trace.now
+        (W.stack world.old spec) start_outs.now }
     ensures keeps { Keeps W.speaks W.limit world.old world.new }
     ensures fired { W.fired world.new ≤ W.fired world.old + length replaying.now.moves.now }
-    ensures answer { IfOk result (λ answer. (spec : Spec) → W.speaks world.old spec → IsAnswer (setup spec) replaying.now.moves.now replaying.now.claim answer) }
+    ensures answer { IfOk result
+        (λ answer. (spec : Spec) → W.speaks world.old spec
+        → IsAnswer (setup spec) replaying.now.moves.now replaying.now.claim answer) }
 {
     let trace = replaying.trace;
     let moves = replaying.moves;
@@ -297,13 +320,18 @@ pub fn replay_in<W: World>(
     start_outs: &[Event],
     replaying: &Replaying<'_>,
 ) -> Result<Replayed, AllocError>
-    requires start { (spec : Spec) → W.speaks world.old spec → start_of (W.limit world.old) spec ≡ Done (W.stack world.old spec).now start_outs.now }
+    requires start { (spec : Spec) → W.speaks world.old spec
+        → start_of (W.limit world.old) spec ≡ Done (W.stack world.old spec).now start_outs.now }
     requires room { W.fired world.old ≤ 2 ^ 63 }
-    requires allowed { (spec : Spec) → W.speaks world.old spec → IsAllowedTrace spec replaying.now.trace.now }
+    requires allowed { (spec : Spec) → W.speaks world.old spec
+        → IsAllowedTrace spec replaying.now.trace.now }
     requires few { length replaying.now.moves.now < 2 ^ 32 - 1 }
     ensures keeps { Keeps W.speaks W.limit world.old world.new }
     ensures fired { W.fired world.new ≤ W.fired world.old + length replaying.now.moves.now }
-    ensures answer { IfOk result (λ answer. (spec : Spec) → W.speaks world.old spec → IsAnswer (setup_of (W.limit world.old) replaying.now.silent replaying.now.trace.now (W.stack world.old spec) start_outs.now spec) replaying.now.moves.now replaying.now.claim answer) }
+    ensures answer { IfOk result
+        (λ answer. (spec : Spec) → W.speaks world.old spec
+        → IsAnswer (setup_of (W.limit world.old) replaying.now.silent replaying.now.trace.now
+        (W.stack world.old spec) start_outs.now spec) replaying.now.moves.now replaying.now.claim answer) }
 {
     replay_moves(alloc, world, start_outs, replaying)
 }

@@ -11,7 +11,8 @@ use Rattle.est_trace.specs.Grammar.{passes}
 
 -- the interaction is of one of the ports and of one of its signals, which passes it in this
 -- direction and has no parameters, and it has no values
-pub record IsAtPort (direction : Direction) (ports : List Port) (interaction : Interaction) : Type 0 where
+pub record IsAtPort (direction : Direction) (ports : List Port)
+    (interaction : Interaction) : Type 0 where
   pub port : Port
   pub signal : Signal
   pub port_is : slice_get ports interaction.port ≡ Some port

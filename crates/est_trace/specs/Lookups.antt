@@ -29,7 +29,8 @@ Finds f xs old answer new = new.outcome ≡ Well → IsChosen f xs old.tokens.no
 
 -- the token that begins an item's alternative is taken, and the answer is the number of the item;
 -- or the token begins none
-pub record Chooses {A : Type 0} (f : A → Rule) (xs : List A) (old : Reader) (n : ℕ) (new : Reader) : Type 0 where
+pub record Chooses {A : Type 0} (f : A → Rule) (xs : List A) (old : Reader) (n : ℕ)
+    (new : Reader) : Type 0 where
   pub chooses : Does
       (λ b. IsChosen f xs old.tokens.now old.at (Some n) × (b ≡ old.at + 1))
       (λ b z. IsChosen f xs old.tokens.now old.at None × (b ≡ old.at) × (z ≡ false))

@@ -18,8 +18,8 @@ use Rattle.est_trace.specs.Nodes.{a_trace, layer}
 abbrev pub traces : List ℕ → Language Token Kept Test (List Port)
 traces text = language events text
 
--- the tokens of the text are a text of the trace, which has at most so many events: they have a tree
--- of a shape that it shows
+-- the tokens of the text are a text of the trace, which has at most so many events: they have a
+-- tree of a shape that it shows
 abbrev pub IsTraceOfAtMost : ℕ → List Port → List ℕ → List Token → List Event → Type 0
 IsTraceOfAtMost most ports text tokens events =
     (t : Shape) × HasTree (traces text) (trace ports) most tokens t

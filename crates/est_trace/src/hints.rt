@@ -77,7 +77,8 @@ impl Hints {
 
     // The number of the signal of this name, where a hint tells it.
     fn tried(&self, signals: &[Signal], name: &[u8]) -> Option<usize>
-        ensures { IfSome result (λ number. slice_get (map signal_name signals.now) number ≡ Some name.now) }
+        ensures { IfSome result (λ number. slice_get (map signal_name signals.now) number
+            ≡ Some name.now) }
     {
         let numbers = self.numbers.get(name)?;
         for number in numbers {

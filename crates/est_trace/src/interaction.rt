@@ -26,7 +26,8 @@ pub fn interaction(
     direction: Direction,
 ) -> Interaction
     requires { IsDirectory directory.now }
-    ensures { Goes tracing (one_of (a_port direction) directory.now.ports.now) reader.old (node (an_interaction result)) reader.new }
+    ensures { Goes tracing (one_of (a_port direction) directory.now.ports.now) reader.old
+        (node (an_interaction result)) reader.new }
 {
     let port = port(reader, directory, hints, direction);
     let signals = signals_at(directory, port);

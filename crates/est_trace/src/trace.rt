@@ -33,7 +33,8 @@ pub const MOST_EVENTS: u32 = 200_000;
 
 /// The trace of a specification that the tokens are, or the first token that is refused.
 pub fn read_trace(alloc: Global, checked: &Checked, tokens: &Tokens) -> Result<Trace, TraceError>
-    ensures reads { ReadsTrace (ports_of checked.now) (text_of tokens.now) (tokens_of tokens.now) result }
+    ensures reads { ReadsTrace (ports_of checked.now) (text_of tokens.now)
+        (tokens_of tokens.now) result }
     ensures allowed { IfOk result (λ x. IsAllowedTrace checked.now x) }
 {
     let _spec = checked.spec();
@@ -77,7 +78,8 @@ fn instead(found: Trace, error: TraceError) -> Result<Trace, TraceError>
 // The trace that comes next, for a specification with these ports.
 fn trace_of(reader: &mut Reader, ports: &Ports) -> Trace
     requires { ArePlain ports.now }
-    ensures reads { Goes tracing (grammar.trace ports.now) reader.old (node (a_trace result)) reader.new }
+    ensures reads { Goes tracing (grammar.trace ports.now) reader.old
+        (node (a_trace result)) reader.new }
     ensures counts { CountsTrace ports.now reader.old reader.new }
 {
     match directory_of(reader.alloc, ports) {
@@ -98,7 +100,8 @@ fn trace_of(reader: &mut Reader, ports: &Ports) -> Trace
 // trace = "trace" "1" { event } "end" .
 fn whole_trace(reader: &mut Reader, directory: &Directory, hints: &mut Hints) -> Trace
     requires { IsDirectory directory.now }
-    ensures reads { Goes tracing (grammar.trace directory.now.ports.now) reader.old (node (a_trace result)) reader.new }
+    ensures reads { Goes tracing (grammar.trace directory.now.ports.now) reader.old
+        (node (a_trace result)) reader.new }
     ensures counts { CountsTrace directory.now.ports.now reader.old reader.new }
 {
     reader.take_word(b"trace");
@@ -111,7 +114,8 @@ fn whole_trace(reader: &mut Reader, directory: &Directory, hints: &mut Hints) ->
 // { event }, each event within a level of its own: the levels count the events.
 fn events(reader: &mut Reader, directory: &Directory, hints: &mut Hints) -> Trace
     requires { IsDirectory directory.now }
-    ensures reads { Goes tracing (rule directory.now.ports.now) reader.old (node (some_events result)) reader.new }
+    ensures reads { Goes tracing (rule directory.now.ports.now) reader.old
+        (node (some_events result)) reader.new }
     ensures counts { CountsEvents directory.now.ports.now reader.old reader.new }
 {
     let levels = reader.levels;
@@ -147,7 +151,8 @@ fn enter(reader: &mut Reader)
 // event = "time" number | "in" port "." signal | "out" port "." signal .
 fn event(reader: &mut Reader, directory: &Directory, hints: &mut Hints) -> Event
     requires { IsDirectory directory.now }
-    ensures { Goes tracing (grammar.event directory.now.ports.now) reader.old (node (an_event result)) reader.new }
+    ensures { Goes tracing (grammar.event directory.now.ports.now) reader.old
+        (node (an_event result)) reader.new }
 {
     if reader.sees_word(b"in") {
         reader.take_word(b"in");
