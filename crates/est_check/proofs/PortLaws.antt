@@ -44,62 +44,80 @@ use Rattle.est_check.proofs.Parts.{or_part, members_list, members_are, TableFor}
 use Rattle.est_check.proofs.Sound.{IsYes, Known, KnownMeaning, known_meaning, all_known, all_flat, table_for}
 
 -- the roles of each channel's table
-pub roles_at_for : (least : Option Fault) (ps : List Part) (k : ℕ) (c : Channel) → ChannelFor ps k c → RolesFor c (members_by (slice_get (members_list least ps) k)).roles
+pub roles_at_for : (least : Option Fault) (ps : List Part) (k : ℕ) (c : Channel) → ChannelFor ps k c
+    → RolesFor c (members_by (slice_get (members_list least ps) k)).roles
 roles_at_for least [] k c h = absurd (none-some (part.Channel c) h)
-roles_at_for least (p ∷ ps) zero c h = subst (λ q. RolesFor c (names_of_channel_part least q).0.roles) (sym (ap (or_part p) h)) (roles_for c least)
+roles_at_for least (p ∷ ps) zero c h =
+    subst (λ q. RolesFor c (names_of_channel_part least q).0.roles) (sym (ap (or_part p) h)) (roles_for c least)
 roles_at_for least (p ∷ ps) (suc k) c h = roles_at_for (names_of_channel_part least p).1 ps k c h
 
-pub roles_at : (ps : List Part) (k : ℕ) (c : Channel) → ChannelFor ps k c → RolesFor c (members_at (tables None ps).0.channels k).roles
+pub roles_at : (ps : List Part) (k : ℕ) (c : Channel) → ChannelFor ps k c
+    → RolesFor c (members_at (tables None ps).0.channels k).roles
 roles_at ps k c h =
     let o : Declared = enter_all [] ([], None) (parts_entries 0 ps) in
-    subst (λ ms. RolesFor c (members_by (slice_get ms k)).roles) (sym (members_are [] o.1 ps)) (roles_at_for o.1 ps k c h)
+    subst (λ ms. RolesFor c (members_by (slice_get ms k)).roles) (sym (members_are [] o.1 ps))
+    (roles_at_for o.1 ps k c h)
 
 -- the roles of a part, by the number of the part
-pub part_roles_at : (ps : List Part) (k : ℕ) (p : Part) → slice_get ps k ≡ Some p → PartRolesFor p (members_at (tables None ps).0.channels k).roles
+pub part_roles_at : (ps : List Part) (k : ℕ) (p : Part) → slice_get ps k ≡ Some p
+    → PartRolesFor p (members_at (tables None ps).0.channels k).roles
 part_roles_at ps k (part.Channel c) h = roles_at ps k c h
 part_roles_at ps k _ h = tt
 
 -- who may send by the table of a channel may do so by the channel
-pub senders_may : (c : Channel) (roles : Entries) → RolesFor c roles → (second : Bool) (us : List Used) → may_send second (senders roles us) ≡ has_role c second us
+pub senders_may : (c : Channel) (roles : Entries) → RolesFor c roles → (second : Bool) (us : List Used)
+    → may_send second (senders roles us) ≡ has_role c second us
 senders_may c roles h second us =
-    ap (may_send second) (senders_for c roles h record { known = true; first = false; second = false } us) ∙ may_send_for c us second
+    ap (may_send second) (senders_for c roles h record { known = true; first = false; second = false } us)
+    ∙ may_send_for c us second
 
 -- the signals of a channel, by the number of its part
-pub role_signals_at : (second : Bool) (ps : List Part) (k : ℕ) (c : Channel) → slice_get ps k ≡ Some (part.Channel c) → get_or (role_signals second ps) k [] ≡ channel_signals second c
+pub role_signals_at : (second : Bool) (ps : List Part) (k : ℕ) (c : Channel)
+    → slice_get ps k ≡ Some (part.Channel c) → get_or (role_signals second ps) k [] ≡ channel_signals second c
 role_signals_at second [] k c h = absurd (none-some (part.Channel c) h)
 role_signals_at second (p ∷ ps) zero c h = ap (part_signals second) (ap (or_part p) h)
 role_signals_at second (p ∷ ps) (suc k) c h = role_signals_at second ps k c h
 
-pub sides_at : (second : Bool) (ps : List Part) (k : ℕ) → get_or (if second then (sides_of ps).second else (sides_of ps).first) k [] ≡ get_or (role_signals second ps) k []
+pub sides_at : (second : Bool) (ps : List Part) (k : ℕ)
+    → get_or (if second then (sides_of ps).second else (sides_of ps).first) k [] ≡ get_or (role_signals second ps) k []
 sides_at true ps k = refl
 sides_at false ps k = refl
 
 -- the signals of a side
-pub side_signals_are : (ps : List Part) (q : PointSide) (s : Side) → slice_get ps q.channel ≡ Some (part.Channel s.channel) → q.second ≡ s.is_second
+pub side_signals_are : (ps : List Part) (q : PointSide) (s : Side)
+    → slice_get ps q.channel ≡ Some (part.Channel s.channel) → q.second ≡ s.is_second
     → get_or (if q.second then (sides_of ps).second else (sides_of ps).first) q.channel [] ≡ by_signals s s.channel.by
 side_signals_are ps q s h e =
-    sides_at q.second ps q.channel ∙ role_signals_at q.second ps q.channel s.channel h ∙ ap (λ b. channel_signals b s.channel) e
+    sides_at q.second ps q.channel
+    ∙ role_signals_at q.second ps q.channel s.channel h
+    ∙ ap (λ b. channel_signals b s.channel) e
 
 -- the side of an interaction point of a skeleton
-pub side_is : (s : Spec) → IsSkeleton s → (p : Point) → SideFor s.parts (table_side (tables None s.parts).0 least_faults.outside p) (side_of (spec_scope s) p)
+pub side_is : (s : Spec) → IsSkeleton s → (p : Point)
+    → SideFor s.parts (table_side (tables None s.parts).0 least_faults.outside p) (side_of (spec_scope s) p)
 side_is s sk p =
     let for : TableFor s.parts (parts_region s.parts) (tables None s.parts).0 = table_for s.parts (all_flat sk)
     in side_outside s.parts (parts_region s.parts) (tables None s.parts).0 for.outer for.channels p
 
 -- the signals of an interaction point by its side in the tables
-pub signals_by_are : (ps : List Part) (q : Option PointSide) (side : Option Side) → SideFor ps q side → signals_by (sides_of ps) q ≡ signals_of side
+pub signals_by_are : (ps : List Part) (q : Option PointSide) (side : Option Side) → SideFor ps q side
+    → signals_by (sides_of ps) q ≡ signals_of side
 signals_by_are ps None None h = refl
 signals_by_are ps None (Some s) h = absurd h
 signals_by_are ps (Some q) None h = absurd h
 signals_by_are ps (Some q) (Some s) h = side_signals_are ps q s h.0 h.1
 
 -- the signals of an interaction point of a skeleton
-pub point_signals_are : (s : Spec) → IsSkeleton s → (p : Point) (t : Table) (b : BodyNames) (sides : Sides) (q : Option PointSide)
+pub point_signals_are : (s : Spec) → IsSkeleton s → (p : Point) (t : Table) (b : BodyNames) (sides : Sides)
+    (q : Option PointSide)
     → t ≡ (tables None s.parts).0 → b ≡ least_faults.outside → sides ≡ sides_of s.parts → table_side t b p ≡ q
     → signals_by sides q ≡ signals_of (side_of (spec_scope s) p)
 point_signals_are s sk p t b sides q t_is b_is sides_are q_is =
-    let at : table_side (tables None s.parts).0 least_faults.outside p ≡ q = sym (λ i. table_side (t_is i) (b_is i) p) ∙ q_is
-    in ap (λ x. signals_by x q) sides_are ∙ signals_by_are s.parts q (side_of (spec_scope s) p) (subst (λ o. SideFor s.parts o (side_of (spec_scope s) p)) at (side_is s sk p))
+    let at : table_side (tables None s.parts).0 least_faults.outside p ≡ q =
+    sym (λ i. table_side (t_is i) (b_is i) p) ∙ q_is in
+    ap (λ x. signals_by x q) sides_are
+    ∙ signals_by_are s.parts q (side_of (spec_scope s) p)
+    (subst (λ o. SideFor s.parts o (side_of (spec_scope s) p)) at (side_is s sk p))
 
 -- what is no fault
 abbrev pub NoFault : List Fault → Type 0

@@ -1,6 +1,8 @@
 -- The signals of the channels at either role.
 use Rattle.std.specs.Prelude.{◌≡◌, Bool, true, false, List, [], ◌∷◌, Option, Some, None, get_or, if◌then◌else◌}
+use Rattle.est_syntax.specs.declared.name.Name.{Name}
 use Rattle.est_syntax.specs.declared.name.Used.{Used}
+use Rattle.est_syntax.specs.declared.ports.Port.{Port}
 use Rattle.est_syntax.specs.declared.ports.Signal.{Signal}
 use Rattle.est_syntax.specs.declared.channel.Channel.{Channel}
 use Rattle.est_syntax.specs.declared.header.Header.{Header}
@@ -47,6 +49,10 @@ sides_of ps = record { first = role_signals false ps; second = role_signals true
 abbrev pub signals_by : Sides → Option PointSide → List Signal
 signals_by sides None = []
 signals_by sides (Some q) = get_or (if q.second then sides.second else sides.first) q.channel []
+
+-- a port of this name with these signals, which is no element of an array
+abbrev pub bare_port : Name → List Signal → Port
+bare_port name signals = record { name = name; index_kinds = []; index = []; signals = signals }
 
 -- the first header of these parts
 abbrev pub first_header : List Part → Option Header

@@ -170,7 +170,8 @@ fn good_ports(alloc: Global, spec: &Spec) -> Result<Ports, CheckError>
     }
 }
 
-/// Checks a specification. The tree of one that is refused, or for which memory is wanting, is dropped.
+/// Checks a specification. The tree of one that is refused, or for which memory is wanting, is
+/// dropped.
 pub fn check(alloc: Global, tree: SyntaxTree) -> Result<Checked, CheckError>
     requires { IsSkeleton tree }
 

@@ -4,10 +4,12 @@
 ghost use Rattle.std.specs.Prelude.{◌≡◌, ◌++◌, ◌≤◌, [], OnOk, IfOk, None, get_or, if◌then◌else◌};
 ghost use Rattle.est_syntax.specs.Breaks.{IsGood};
 ghost use Rattle.est_syntax.specs.Names.{side_of, spec_scope};
-ghost use Rattle.est_syntax.specs.Ports.{interaction_signals, by_signals, signals_of, named_ports, point_ports, ports_of};
+ghost use Rattle.est_syntax.specs.Ports.{interaction_signals, by_signals, signals_of};
+ghost use Rattle.est_syntax.specs.Ports.{named_ports, point_ports, ports_of};
 ghost use Rattle.est_check.specs.LeastFaults.{tables};
 ghost use Rattle.est_check.specs.Skeleton.{IsSkeleton};
-ghost use Rattle.est_check.specs.Signals.{RolesFor, PartRolesFor, side, channel_signals, part_signals, role_signals, sides_of, signals_by};
+ghost use Rattle.est_check.specs.Signals.{RolesFor, PartRolesFor, side, channel_signals};
+ghost use Rattle.est_check.specs.Signals.{part_signals, role_signals, sides_of, signals_by, bare_port};
 ghost use Rattle.est_check.specs.Tables.{members_at};
 ghost use Rattle.est_check.specs.Counts.{body_count, group_count, transition_count};
 
@@ -164,7 +166,7 @@ fn port(
     side: Option<PointSide>,
     name: &Name,
 ) -> Result<Port, AllocError>
-    ensures { IfOk result (λ p. p ≡ record { name = name.now; index_kinds = []; index = []; signals = signals_by sides.now side }) }
+    ensures { IfOk result (λ p. p ≡ bare_port name.now (signals_by sides.now side)) }
 {
     let name = name.copy(alloc)?;
     let signals = side_signals(alloc, sides, side)?;

@@ -84,7 +84,7 @@ module _ {Token V T P : Type 0} {L : Language Token V T P} {S : Marks T P} (fits
 
       no_more : i < length s → (levels : ℕ) → HasPartial L g levels s (i + 1) → ⊥
       no_more l e y = omega (arith, h.most e (i + 1) tt (omega arith) (omega arith) y)
-  explained (too_deep_at i) h = (record { no_tree = no_tree; inside = h.inside; front = h.partial; no_more = no_more }, (h.more refl).0, (suc d, subst (λ v. HasPartial L g (suc d) s v) (sym (add-one i)) (h.more refl).1))
+  explained (too_deep_at i) h = (record { no_tree = no_tree; inside = h.inside; front = h.partial; no_more = no_more }, (h.more refl).0, subst (λ v. HasPartial L g v s (i + 1)) (sym (add-one d)) (subst (λ v. HasPartial L g (suc d) s v) (sym (add-one i)) (h.more refl).1))
     where
       no_tree : (u : Shape V) → HasTree L g d s u → ⊥
       no_tree u y = omega (arith, (h.only d (length s) (length s) u (omega arith) (omega arith) (omega arith) y).2)

@@ -32,8 +32,8 @@ abbrev pub SaysWhy : {Token V T P : Type 0} → Language Token V T P → Grammar
 SaysWhy L g d s unsaid = Unit {0}
 -- whatever the number of levels
 SaysWhy L g d s (wrong_at i) = IsFirstBadPlace L g d s i × (i < length s → (levels : ℕ) → HasPartial L g levels s (i + 1) → ⊥)
--- for want of levels alone
-SaysWhy L g d s (too_deep_at i) = IsFirstBadPlace L g d s i × (i < length s) × ((levels : ℕ) × HasPartial L g levels s (i + 1))
+-- for want of one level: with one more, the token opens it
+SaysWhy L g d s (too_deep_at i) = IsFirstBadPlace L g d s i × (i < length s) × HasPartial L g (d + 1) s (i + 1)
 
 -- what a reader of a whole list by g answers: the value whose shape is that of its one tree, or why it has none
 abbrev pub Answers : {A E Token V T P : Type 0} → Language Token V T P → (E → Cause) → Grammar T P → ℕ → List Token → (A → Shape V) → Result A E → Type 0

@@ -12,10 +12,10 @@ use Rattle.est_reader.specs.declared.reader.Reader.{Reader}
 use Rattle.est_reader.specs.declared.outcome.Outcome.{Outcome}
 use Rattle.est_reader.specs.declared.outcome.Outcome.TheVariants.{Well, Wrong, TooDeep, NoMemory}
 use Rattle.est_reader.specs.Tests.{Test, holds, stands, apart, implies, language}
-use Rattle.est_reader.specs.Moving.{bit, Does, Sees, Same, Taken, NotThere, Takes, OpensAt, Opens, Closes, Still}
+use Rattle.est_reader.specs.Moving.{bit, Does, Sees, NoneSeen, Same, Taken, NotThere, Takes, OpensAt, Opens, Closes, Still}
 use Rattle.est_reader.specs.Going.{Rule, View, Syntax, IsFit, Finds, Fails, Goes}
 use Rattle.est_reader.proofs.Apart.{far, near, implies-holds}
-use Rattle.est_reader.proofs.Steps.{onto, after, stay, was_well, sees_well, sees_it, sees_not, NoneSeen, none_meets, same_here, same_on, bit_small}
+use Rattle.est_reader.proofs.Steps.{onto, after, stay, was_well, sees_well, sees_it, sees_not, none_meets, same_here, same_on, bit_small}
 
 -- What holds whatever is known of the productions.
 module _ {P N : Type 0} {X : Syntax P N} where

@@ -4,3 +4,4 @@ pub mod Steps
 pub mod Going
 pub mod Turns
 pub mod Single
+pub mod Whole

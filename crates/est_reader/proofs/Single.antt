@@ -30,7 +30,7 @@ kept_name Character bytes e = cc
 kept_name (Symbol symbol) bytes e = cc
 kept_name Bad bytes e = cc
 
-kept_number : (k : TokenKind) (bytes : List ℕ) → is_same k Number ≡ true → kept_as k bytes ≡ value (value_of bytes)
+pub kept_number : (k : TokenKind) (bytes : List ℕ) → is_same k Number ≡ true → kept_as k bytes ≡ value (value_of bytes)
 kept_number Identifier bytes e = cc
 kept_number (Reserved word) bytes e = cc
 kept_number (LeftOut t) bytes e = cc

@@ -2,12 +2,13 @@
 use Rattle.std.proofs.Common.{◌≡◌, ℕ, ◌+◌, ◌*◌, ◌-◌, ◌<◌, ◌≤◌, Bool, true, false, List, [], ◌∷◌, length, refl, sym, ◌∙◌, inl, inr, subst, arith, slice_get}
 use Rattle.est_lexer.specs.declared.tokens.Tokens.{Tokens}
 use Rattle.est_lexer.specs.Places.{text_of, tokens_of}
-use Rattle.est_language.specs.Marks.{MeetsOne}
+use Rattle.est_language.specs.Marks.{MeetsOne, implies_one, covered}
+use Rattle.est_language.proofs.Members.{and_left, and_right}
 use Rattle.est_reader.specs.declared.reader.Reader.{Reader}
 use Rattle.est_reader.specs.declared.outcome.Outcome.{Outcome}
 use Rattle.est_reader.specs.declared.outcome.Outcome.TheVariants.{Well, Wrong, TooDeep, NoMemory}
-use Rattle.est_reader.specs.Tests.{Test, holds, stands}
-use Rattle.est_reader.specs.Moving.{bit, Does, Seen, Sees, Same, Taken, NotThere, Takes, weight, OpensAt, Opens, Still}
+use Rattle.est_reader.specs.Tests.{Test, holds, stands, implies}
+use Rattle.est_reader.specs.Moving.{bit, Does, Seen, Sees, NoneSeen, OneSeen, Same, Taken, NotThere, Takes, weight, OpensAt, Opens, Still}
 
 -- what is done does more, or less
 pub onto : (P P' : ℕ → Type 0) (Q Q' : ℕ → Bool → Type 0) (a b : ℕ) (o o' : Outcome)
@@ -70,10 +71,12 @@ sees_it {A} {k} x = seen_is A.outcome (stands A.tokens.now A.at k) true (sees_we
 pub sees_not : {A : Reader} {k : Test} → A.outcome ≡ Well → Sees A k false → stands A.tokens.now A.at k ≡ false
 sees_not {A} {k} w x = seen_is A.outcome (stands A.tokens.now A.at k) false w x.seen
 
--- no token of these kinds comes next
-abbrev pub NoneSeen : Reader → List Test → Type 0
-NoneSeen A [] = Unit {0}
-NoneSeen A (k ∷ ks) = Sees A k false × NoneSeen A ks
+-- the test that is met, among several
+pub seen_among : (A : Reader) (ks ls : List Test) → covered implies ks ls ≡ true → OneSeen A ks
+    → (k : Test) × (implies_one implies k ls ≡ true) × Sees A k true
+seen_among A [] ls e s = elim s [ ]
+seen_among A (k ∷ ks) ls e (inl s) = (k, and_left (implies_one implies k ls) _ e, s)
+seen_among A (k ∷ ks) ls e (inr s) = seen_among A ks ls (and_right (implies_one implies k ls) _ e) s
 
 pub none_meets : (A : Reader) (ks : List Test) → A.outcome ≡ Well → NoneSeen A ks → MeetsOne (holds (text_of A.tokens.now)) (slice_get (tokens_of A.tokens.now) A.at) ks → ⊥
 none_meets A [] w n m = m

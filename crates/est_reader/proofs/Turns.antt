@@ -12,10 +12,10 @@ use Rattle.est_reader.specs.declared.reader.Reader.{Reader}
 use Rattle.est_reader.specs.declared.outcome.Outcome.{Outcome}
 use Rattle.est_reader.specs.declared.outcome.Outcome.TheVariants.{Well, Wrong, TooDeep, NoMemory}
 use Rattle.est_reader.specs.Tests.{Test, holds, stands, apart, implies, language}
-use Rattle.est_reader.specs.Moving.{bit, Does, Sees, Same, Taken, NotThere, Takes, Still, Kept}
+use Rattle.est_reader.specs.Moving.{bit, Does, Sees, NoneSeen, Same, Taken, NotThere, Takes, Still, Kept}
 use Rattle.est_reader.specs.Going.{Rule, Shape, View, Finds, Fails, Goes, Adds}
 use Rattle.est_reader.proofs.Apart.{far}
-use Rattle.est_reader.proofs.Steps.{onto, after, stay, sees_well, sees_it, sees_not, NoneSeen, same_here, same_on, bit_small, left_of, taken, shift}
+use Rattle.est_reader.proofs.Steps.{onto, after, stay, sees_well, sees_it, sees_not, same_here, same_on, bit_small, left_of, taken, shift}
 use Rattle.est_reader.proofs.Going.{Known, from, begins_it, begins_not}
 
 module _ {P N : Type 0} (K : Known P N) where

@@ -1,5 +1,5 @@
 -- What the small steps of a reader do to it.
-use Rattle.std.specs.Prelude.{◌≡◌, ℕ, ◌+◌, ◌*◌, ◌<◌, ◌≤◌, Bool, true, false, List, [], ◌∷◌, ◌++◌, Option, Some, None, option_to_list, slice_get, bytes_eq}
+use Rattle.std.specs.Prelude.{◌≡◌, ℕ, ◌+◌, ◌*◌, ◌<◌, ◌≤◌, ◌⊎◌, Bool, true, false, List, [], ◌∷◌, ◌++◌, Option, Some, None, slice_get, bytes_eq}
 use Rattle.est_lexer.specs.declared.kind.Token.{Token}
 use Rattle.est_lexer.specs.declared.kind.TokenKind.TheVariants.{Identifier}
 use Rattle.est_lexer.specs.declared.tokens.Tokens.{Tokens}
@@ -45,6 +45,21 @@ Seen NoMemory s r = r ≡ false
 -- the answer says whether all went well and a token that meets the test comes next
 pub record Sees (reader : Reader) (test : Test) (r : Bool) : Type 0 where
   pub seen : Seen reader.outcome (stands reader.tokens.now reader.at test) r
+
+-- no token comes next that meets one of the tests, or not all went well
+abbrev pub NoneSeen : Reader → List Test → Type 0
+NoneSeen reader [] = Unit {0}
+NoneSeen reader (test ∷ tests) = Sees reader test false × NoneSeen reader tests
+
+-- all went well and a token comes next that meets one of the tests
+abbrev pub OneSeen : Reader → List Test → Type 0
+OneSeen reader [] = ⊥
+OneSeen reader (test ∷ tests) = Sees reader test true ⊎ OneSeen reader tests
+
+-- the answer says whether all went well and a token that meets one of the tests comes next
+abbrev pub SeesOne : Reader → List Test → Bool → Type 0
+SeesOne reader tests true = OneSeen reader tests
+SeesOne reader tests false = NoneSeen reader tests
 
 -- the tokens and the levels stay, the place goes onward, and nothing that went wrong goes well
 pub record Same (old new : Reader) : Type 0 where
@@ -141,8 +156,3 @@ pub record Still (old new : Reader) : Type 0 where
 pub record Kept {T : Type 0} (old new : Reader) (items : List T) (item : T) (items' : List T) : Type 0 where
   pub still : Still old new
   pub added : new.outcome ≡ Well → items' ≡ items ++ item ∷ []
-
--- the reader stays, and where all is well the item is put last, if there is one
-pub record KeptSome {T : Type 0} (old new : Reader) (items : List T) (item : Option T) (items' : List T) : Type 0 where
-  pub still : Still old new
-  pub added : new.outcome ≡ Well → items' ≡ items ++ option_to_list item

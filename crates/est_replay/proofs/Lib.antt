@@ -1,5 +1,6 @@
-pub mod Parts
-pub mod Shapes
+pub mod Explaining
+pub mod OneExplanation
+pub mod Answering
 pub mod Checks
 pub mod Events
 pub mod Moving

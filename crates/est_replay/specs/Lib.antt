@@ -1,5 +1,5 @@
 pub mod Grammar
-pub mod Shapes
+pub mod Nodes
 pub mod Reading
 pub mod Replay
 pub mod Standing

@@ -1,23 +1,25 @@
 //! Explanation texts.
 
-ghost use Rattle.std.specs.Prelude.{◌≡◌, ◌+◌, ◌≤◌, ◌<◌, length, true, IfOk};
+ghost use Rattle.std.specs.Prelude.{◌≤◌, length, map, true, IfOk};
 ghost use Rattle.est_lexer.specs.Places.{text_of, tokens_of};
 ghost use Rattle.est_language.specs.Grammar.{rep};
-ghost use Rattle.est_texts.specs.Tests.{said};
-ghost use Rattle.est_texts.specs.Takes.{stands};
-ghost use Rattle.est_replay.specs.Grammar.{move as a_move, explanation as an_explanation};
-ghost use Rattle.est_replay.specs.Shapes.{move_shape, moves_shape, explanation_shape};
-ghost use Rattle.est_replay.specs.Reading.{Reads, Onward, ReadsExplanation};
+ghost use Rattle.est_language.specs.Shown.{node, nodes, pair, kept};
+ghost use Rattle.est_reader.specs.Tests.{said};
+ghost use Rattle.est_reader.specs.Moving.{Sees, SeesOne};
+ghost use Rattle.est_reader.specs.Going.{Goes};
+ghost use Rattle.est_replay.specs.Grammar as grammar;
+ghost use Rattle.est_replay.specs.Nodes.{a_move, an_explanation, firing_view, explaining};
+ghost use Rattle.est_replay.specs.Reading.{ReadsExplanation};
 
 use crate::error::ExplanationError;
 use est_lexer::tokens::Tokens;
 use est_meaning::run::{Firing, Move, Run};
-use est_texts::token::{expect_number, expect_word, word_is};
-use std::alloc::Global;
+use est_reader::{Outcome, Reader};
+use std::alloc::{AllocError, Global};
 
 /// How a trace is said to come about: the moves, and how many of its events they are said to
 /// yield, plus one for all with nothing behind them.
-#[derive(Debug, Drop)]
+#[derive(Drop)]
 pub struct Explanation {
     pub moves: Run,
     pub claim: u32,
@@ -28,65 +30,76 @@ pub fn read_explanation(alloc: Global, tokens: &Tokens) -> Result<Explanation, E
     ensures reads { ReadsExplanation (text_of tokens.now) (tokens_of tokens.now) result }
     ensures few { IfOk result (λ x. length x.moves ≤ length (tokens_of tokens.now)) }
 {
-    let (found, end) = sentence(alloc, tokens)?;
-    if end == tokens.count() {
-        Ok(found)
-    } else {
-        Err(ExplanationError::BadToken { place: end })
+    let mut reader = Reader::new(alloc, tokens, 0);
+    let found = whole_explanation(&mut reader);
+    let place = reader.at;
+    match reader.outcome {
+        Outcome::Well => {
+            if place == tokens.count() {
+                Ok(found)
+            } else {
+                Err(ExplanationError::BadToken { place })
+            }
+        }
+        Outcome::Wrong => Err(ExplanationError::BadToken { place }),
+        Outcome::TooDeep => Err(ExplanationError::BadToken { place }),
+        Outcome::NoMemory => Err(ExplanationError::Memory(AllocError)),
     }
 }
 
-// "explanation" "1" { move } "yields" number
-fn sentence(alloc: Global, tokens: &Tokens) -> Result<(Explanation, u32), ExplanationError>
-    ensures reads { Reads tokens.now an_explanation 0 explanation_shape result }
-    ensures onward { Onward tokens.now 0 result }
-    ensures few { IfOk result (λ x. length x.0.moves ≤ x.1) }
+// explanation = "explanation" "1" { move } "yields" number .
+fn whole_explanation(reader: &mut Reader) -> Explanation
+    ensures { Goes explaining grammar.explanation reader.old (node (an_explanation result)) reader.new }
 {
-    let at_version = expect_word(tokens, 0, b"explanation")?;
-    let (_, at_moves) = expect_number(tokens, at_version, 1, 1)?;
-    let (moves, at_yields) = moves(alloc, tokens, at_moves)?;
-    let at_claim = expect_word(tokens, at_yields, b"yields")?;
-    let (claim, end) = expect_number(tokens, at_claim, 0, 200_001)?;
-    Ok((Explanation { moves, claim }, end))
+    reader.take_word(b"explanation");
+    let _version = reader.number(1, 1);
+    let moves = moves(reader);
+    reader.take_word(b"yields");
+    let claim = reader.number(0, 200_001);
+    Explanation { moves, claim }
 }
 
 // { move }
-fn moves(alloc: Global, tokens: &Tokens, at: u32) -> Result<(Run, u32), ExplanationError>
-    requires { at ≤ length (tokens_of tokens.now) }
-    ensures reads { Reads tokens.now (rep a_move) at moves_shape result }
-    ensures onward { Onward tokens.now at result }
-    ensures few { IfOk result (λ x. length x.0 + at ≤ x.1) }
+fn moves(reader: &mut Reader) -> Run
+    ensures { Goes explaining (rep grammar.move) reader.old (nodes (map a_move result)) reader.new }
 {
-    let mut moves = Run::new(alloc);
-    let mut at = at;
-    loop {
-        if word_is(tokens, at, b"take") {
-            moves.push(Move::Take)?;
-            at += 1;
-        } else if word_is(tokens, at, b"fire") {
-            let (firing, end) = fire(tokens, at)?;
-            moves.push(firing)?;
-            at = end;
-        } else {
-            return Ok((moves, at));
-        }
+    let mut moves = Run::new(reader.alloc);
+    while begins_move(reader) {
+        let next = next_move(reader);
+        reader.keep(&mut moves, next);
     }
+    moves
 }
 
-// "fire" number number number
-fn fire(tokens: &Tokens, at: u32) -> Result<(Move, u32), ExplanationError>
-    requires inside { at < length (tokens_of tokens.now) }
-    requires fire { stands tokens.now at (said "fire") ≡ true }
-    ensures reads { Reads tokens.now a_move at move_shape result }
-    ensures onward { Onward tokens.now at result }
+// Whether a move begins here.
+fn begins_move(reader: &Reader) -> bool
+    ensures { SeesOne reader.now grammar.move_starts result }
 {
-    let (instance, at_transition) = expect_number(tokens, at + 1, 0, 999_999_999)?;
-    let (transition, at_choice) = expect_number(tokens, at_transition, 0, 999_999_999)?;
-    let (choice, end) = expect_number(tokens, at_choice, 0, 999_999_999)?;
-    let firing = Firing {
+    reader.sees_word(b"take") || reader.sees_word(b"fire")
+}
+
+// move = "take" | "fire" firing .
+fn next_move(reader: &mut Reader) -> Move
+    ensures { Goes explaining grammar.move reader.old (node (a_move result)) reader.new }
+{
+    if reader.sees_word(b"fire") {
+        reader.take_word(b"fire");
+        return Move::Fire(firing(reader));
+    }
+    reader.take_word(b"take");
+    Move::Take
+}
+
+// firing = number number number .
+fn firing(reader: &mut Reader) -> Firing
+    ensures { Goes explaining grammar.firing reader.old (firing_view result) reader.new }
+{
+    let instance = reader.number(0, 999_999_999);
+    let transition = reader.number(0, 999_999_999);
+    let choice = reader.number(0, 999_999_999);
+    Firing {
         instance,
         transition,
         choice,
-    };
-    Ok((Move::Fire(firing), end))
+    }
 }

@@ -36,14 +36,14 @@ struct Expected<'t> {
 }
 
 /// How many events there are so far, and how many silent firings stand last in a row.
-#[derive(Clone, Copy, Debug)]
+#[derive(Clone, Copy)]
 struct Standing {
     events: usize,
     silent_in_row: u32,
 }
 
 /// What came of a move: where the replay then stands, or the first check that fails.
-#[derive(Clone, Copy, Debug)]
+#[derive(Clone, Copy)]
 enum Moved {
     Passed(Standing),
     Failed(Why),

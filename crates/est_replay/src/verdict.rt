@@ -3,7 +3,7 @@
 use est_meaning::run::BlockFault;
 
 /// Why an explanation is rejected.
-#[derive(Clone, Copy, Debug, PartialEq, Eq)]
+#[derive(Clone, Copy, PartialEq, Eq)]
 pub enum Why {
     /// The specification's initialize part faults.
     NoStart(BlockFault),
@@ -24,7 +24,7 @@ pub enum Why {
 }
 
 /// What came of a replay.
-#[derive(Clone, Copy, Debug, PartialEq, Eq)]
+#[derive(Clone, Copy, PartialEq, Eq)]
 pub enum Replayed {
     /// The moves yield the claim.
     Confirmed { events: u32 },

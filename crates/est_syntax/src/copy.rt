@@ -21,6 +21,7 @@ impl Name {
 
 impl Value {
     /// An equal value.
+    #[cycle(copy)]
     pub fn copy(&self, alloc: Global) -> Result<Value, AllocError>
         ensures { IfOk result (λ value. value ≡ self.now) }
     {
@@ -30,18 +31,13 @@ impl Value {
             Value::Set(members) => Ok(Value::Set(Ordinals {
                 items: Vec::from_slice(alloc, members.as_slice())?,
             })),
-            Value::Group(parts) => {
-                let mut items = Vec::new(alloc);
-                for part in &parts.items {
-                    items.push(part.copy(alloc)?)?;
-                }
-                Ok(Value::Group(Values { items }))
-            }
+            Value::Group(parts) => Ok(Value::Group(copy_values(alloc, parts)?)),
         }
     }
 }
 
 /// Equal values in the same order.
+#[cycle(copy)]
 pub fn copy_values(alloc: Global, values: &Values) -> Result<Values, AllocError>
     ensures { IfOk result (λ copies. copies ≡ values.now) }
 {

@@ -42,7 +42,7 @@ pub enum Rule {
 }
 
 /// A rule that is broken at a place, the number of a token from 0.
-#[derive(Clone, Copy, Debug, PartialEq, Eq)]
+#[derive(Clone, Copy, PartialEq, Eq)]
 pub struct Fault {
     pub place: u32,
     pub rule: Rule,

@@ -8,16 +8,7 @@ use Rattle.est_meaning.specs.declared.event.Event.{Event}
 use Rattle.est_meaning.specs.declared.event.Event.TheVariants.{Arrives, Leaves, Passes}
 use Rattle.est_meaning.specs.Allowed.{IsReceivable, IsSendable, IsAllowed, IsAllowedTrace}
 use Rattle.est_trace.specs.declared.error.TraceError.{TraceError}
-use Rattle.est_trace.proofs.Shapes.{HasNoValues, HaveNoValues}
 use Rattle.est_trace.specs.AtPorts.{IsAtPorts, AreAtPorts}
-
-no_value : (ports : List Port) (e : Event) → IsAtPorts ports e → HasNoValues e
-no_value ports (Arrives i) h = h.no_values
-no_value ports (Leaves i) h = h.no_values
-no_value ports (Passes units) h = tt
-
-pub no_values : (ports : List Port) (xs : List Event) → AreAtPorts ports xs → HaveNoValues xs
-no_values ports xs h = λ k d l. no_value ports (get_or xs k d) (h k d l)
 
 allowed : (s : Spec) (e : Event) → IsAtPorts (ports_of s) e → IsAllowed s e
 unfolding IsReceivable IsSendable

@@ -10,9 +10,10 @@ use Rattle.est_lexer.specs.Places.{text_of, tokens_of}
 use Rattle.est_language.specs.Grammar.{word, when}
 use Rattle.est_language.proofs.Laws as laws
 use Rattle.est_language.proofs.Exits.{not_met}
-use Rattle.est_texts.specs.Tests.{named, holds}
-use Rattle.est_texts.specs.Takes.{stands, IsNamedAt}
-use Rattle.est_trace.specs.Grammar.{Rule, tracing, marks}
+use Rattle.est_reader.specs.Tests.{named, holds, stands}
+use Rattle.est_reader.specs.Moving.{IsNamedAt}
+use Rattle.est_trace.specs.Grammar.{Rule, marks}
+use Rattle.est_trace.specs.Reading.{traces}
 use Rattle.est_trace.specs.Skeletons.{HaveDifferentNames}
 use Rattle.est_trace.specs.Tables.{IsNumberOf}
 use Rattle.est_trace.specs.Lookups.{IsChosen}
@@ -50,14 +51,14 @@ module _ {A : Type 0} (name : A → List ℕ) (allowed : A → Bool) (rest : A �
   alternative x = when (allowed x) (word (named (name x)) (rest x))
 
   named_so : (bytes : List ℕ) (x : A) → IsNamedAt tokens at (Some bytes) → stands tokens at (named (name x)) ≡ bytes_eq (name x) bytes
-  named_so bytes x s = s.1 (name x)
+  named_so bytes x s = s (name x)
 
   pub chosen : (bytes : List ℕ) (i : ℕ) (x : A) → IsNamedAt tokens at (Some bytes) → slice_get xs i ≡ Some x → name x ≡ bytes → allowed x ≡ true → IsChosen alternative xs tokens at (Some i)
   chosen bytes i x s e n w = (x, e, laws.when_meets (holds (text_of tokens)) marks (allowed x) (word (named (name x)) (rest x)) (slice_get (tokens_of tokens) at) w (inl (named_so bytes x s ∙ (bytes_eq-Decides (name x) bytes).1 n)))
 
   none_chosen : ((j : ℕ) (y : A) → slice_get xs j ≡ Some y → allowed y ≡ true → stands tokens at (named (name y)) ≡ true → ⊥) → IsChosen alternative xs tokens at None
   none_chosen h m =
-      let r = laws.one_of_begins (tracing (text_of tokens)) marks alternative xs (slice_get (tokens_of tokens) at) m in
+      let r = laws.one_of_begins (traces (text_of tokens)) marks alternative xs (slice_get (tokens_of tokens) at) m in
       let b = laws.when_begins (holds (text_of tokens)) marks (allowed r.1) (word (named (name r.1)) (rest r.1)) (slice_get (tokens_of tokens) at) r.3 in
       h r.0 r.1 r.2 b.0 (only_one (text_of tokens) (named (name r.1)) (slice_get (tokens_of tokens) at) b.1)
 

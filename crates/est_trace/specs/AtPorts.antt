@@ -9,7 +9,8 @@ use Rattle.est_trace.specs.declared.direction.Direction.{Direction}
 use Rattle.est_trace.specs.declared.direction.Direction.TheVariants.{In, Out}
 use Rattle.est_trace.specs.Grammar.{passes}
 
--- the interaction is of one of the ports and of one of its signals, which passes it in this direction and has no parameters, and it has no values
+-- the interaction is of one of the ports and of one of its signals, which passes it in this
+-- direction and has no parameters, and it has no values
 pub record IsAtPort (direction : Direction) (ports : List Port) (interaction : Interaction) : Type 0 where
   pub port : Port
   pub signal : Signal

@@ -1,18 +1,18 @@
 -- The grammar of traces, for the ports of one specification.
 use Rattle.std.specs.Prelude.{ℕ, Bool, true, List, [], ◌∷◌}
 use Rattle.std.specs.List.{list_any}
-use Rattle.est_lexer.specs.declared.kind.Token.{Token}
-use Rattle.est_language.specs.Grammar.{Grammar, Language, done, word, token, seq, alt, opt, deeper, rule, when, one_of}
+use Rattle.est_language.specs.Grammar.{done, word, token, seq, alt, opt, deeper, rule, when, one_of}
 use Rattle.est_language.specs.Marks.{Marks}
 use Rattle.est_syntax.specs.declared.ports.Signal.{Signal}
 use Rattle.est_syntax.specs.declared.ports.Port.{Port}
-use Rattle.est_texts.specs.Tests.{Test, said, named, number, language}
+use Rattle.est_reader.specs.Tests.{Test, said, named, number}
+use Rattle.est_reader.specs.Going as going
 use Rattle.est_trace.specs.declared.direction.Direction.{Direction}
 use Rattle.est_trace.specs.declared.direction.Direction.TheVariants.{In, Out}
 
 -- The productions are named by lists of ports.
 abbrev pub Rule : Type 0
-Rule = Grammar Test (List Port)
+Rule = going.Rule (List Port)
 
 -- whether a signal passes its port in this direction: the port receives it, or sends it
 abbrev pub passes : Direction → Signal → Bool
@@ -23,25 +23,31 @@ passes Out signal = signal.sends
 abbrev pub some_pass : Direction → List Signal → Bool
 some_pass direction signals = list_any (passes direction) signals
 
--- a signal that passes in this direction: its name. The ports of skeletons have no parameters, so no value stands behind it.
+-- a signal that passes in this direction: its name. The ports of skeletons have no parameters, so
+-- no value stands after it.
 abbrev pub signal : Direction → Signal → Rule
 signal direction x = when (passes direction x) (word (named x.name.bytes) done)
 
--- the signal of a port, behind "."
-abbrev pub port_signal : Direction → Port → Rule
-port_signal direction p = word (said ".") (one_of (signal direction) p.signals)
+-- "." and one of these signals
+abbrev pub dot_signal : Direction → List Signal → Rule
+dot_signal direction signals = word (said ".") (one_of (signal direction) signals)
 
--- a port that some signal passes in this direction, "." and such a signal. The ports of skeletons are elements of no array, so no subscript stands behind the name.
+-- a port that some signal passes in this direction, "." and such a signal. The ports of skeletons
+-- are elements of no array, so no subscript stands after the name.
 abbrev pub port : Direction → Port → Rule
-port direction p = when (some_pass direction p.signals) (word (named p.name.bytes) (port_signal direction p))
+port direction p =
+    when (some_pass direction p.signals)
+    (word (named p.name.bytes) (dot_signal direction p.signals))
 
 -- "time" number
 abbrev pub time : Rule
 time = word (said "time") (token (number 0 2147483647))
 
--- event = ( "in" | "out" ) port "." signal | "time" number .
+-- event = "time" number | "in" port "." signal | "out" port "." signal .
 abbrev pub event : List Port → Rule
-event ports = alt (word (said "in") (one_of (port In) ports)) (alt (word (said "out") (one_of (port Out) ports)) time)
+event ports =
+    alt time
+    (alt (word (said "in") (one_of (port In) ports)) (word (said "out") (one_of (port Out) ports)))
 
 -- { event }, each event within a level of its own: the levels count the events.
 abbrev pub events : List Port → Rule
@@ -51,14 +57,10 @@ events ports = opt (deeper (seq (event ports) (rule ports)))
 abbrev pub trace : List Port → Rule
 trace ports = word (said "trace") (word (number 1 1) (seq (rule ports) (word (said "end") done)))
 
--- traces over the tokens of a text
-abbrev pub tracing : List ℕ → Language Token ℕ Test (List Port)
-tracing text = language events text
-
 -- the words that an event begins with
 abbrev pub event_starts : List Port → List Test
-event_starts ports = said "in" ∷ said "out" ∷ said "time" ∷ []
+event_starts ports = said "time" ∷ said "in" ∷ said "out" ∷ []
 
--- only an event goes on behind events
+-- only an event goes on after events
 abbrev pub marks : Marks Test (List Port)
 marks = record { starts = event_starts; goes_on = event_starts; is_empty = λ ports. true }

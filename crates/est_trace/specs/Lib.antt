@@ -1,7 +1,8 @@
 pub mod Grammar
-pub mod Shapes
+pub mod Nodes
 pub mod Skeletons
 pub mod Lookups
+pub mod Counting
 pub mod Reading
 pub mod Tables
 pub mod Directories

@@ -5,7 +5,8 @@ use Rattle.est_syntax.specs.declared.ports.Port.{Port}
 
 -- no two items have one name
 abbrev pub HaveDifferentNames : {A : Type 0} → (A → List ℕ) → List A → Type 0
-HaveDifferentNames {A} name xs = (i j : ℕ) (x y : A) → slice_get xs i ≡ Some x → slice_get xs j ≡ Some y → name x ≡ name y → i ≡ j
+HaveDifferentNames {A} name xs =
+    (i j : ℕ) (x y : A) → slice_get xs i ≡ Some x → slice_get xs j ≡ Some y → name x ≡ name y → i ≡ j
 
 -- a port that is no element of an array, with few signals, without parameters, whose names differ
 pub record IsPlainPort (p : Port) : Type 0 where

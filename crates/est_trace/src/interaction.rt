@@ -1,49 +1,67 @@
 //! Interactions at ports.
 
-ghost use Rattle.std.specs.Prelude.{◌≡◌, ◌≤◌, length, [], IfOk};
-ghost use Rattle.est_lexer.specs.Places.{tokens_of};
+ghost use Rattle.std.specs.Prelude.{◌≤◌, length};
 ghost use Rattle.est_language.specs.Grammar.{one_of};
-ghost use Rattle.est_trace.specs.Grammar.{port as a_port};
-ghost use Rattle.est_trace.specs.Shapes.{interaction_shape};
-ghost use Rattle.est_trace.specs.Directories.{IsDirectory};
-ghost use Rattle.est_trace.specs.AtPorts.{IsAtPort};
-ghost use Rattle.est_trace.specs.Reading.{Reads, Onward};
+ghost use Rattle.est_language.specs.Shown.{node};
+ghost use Rattle.est_reader.specs.Going.{Goes};
+ghost use Rattle.est_trace.specs.Grammar.{signal as a_signal, port as a_port};
+ghost use Rattle.est_trace.specs.Nodes.{an_interaction, tracing};
+ghost use Rattle.est_trace.specs.Skeletons.{HaveDifferentNames};
+ghost use Rattle.est_trace.specs.Directories.{signal_name, IsDirectory};
+ghost use Rattle.est_trace.specs.Lookups.{Chooses};
 
 use crate::direction::Direction;
-use crate::error::TraceError;
-use crate::lookup::{Directory, find_port, find_signal};
-use est_lexer::tokens::Tokens;
+use crate::hints::Hints;
+use crate::lookup::{Directory, find_port, find_signal, signals_at};
 use est_meaning::event::Interaction;
+use est_reader::Reader;
 use est_syntax::kind::Values;
-use est_texts::token::expect_word;
-use std::alloc::Global;
+use est_syntax::ports::Signal;
 
 // port "." signal
 pub fn interaction(
-    alloc: Global,
+    reader: &mut Reader,
     directory: &Directory,
-    tokens: &Tokens,
-    at: u32,
+    hints: &mut Hints,
     direction: Direction,
-) -> Result<(Interaction, u32), TraceError>
-    requires inside { at ≤ length (tokens_of tokens.now) }
-    requires directory { IsDirectory directory.now }
-    ensures reads { Reads tokens.now (one_of (a_port direction) directory.now.ports.now) 0 at interaction_shape result }
-    ensures onward { Onward tokens.now at result }
-    ensures at_port { IfOk result (λ x. IsAtPort direction directory.now.ports.now x.0) }
+) -> Interaction
+    requires { IsDirectory directory.now }
+    ensures { Goes tracing (one_of (a_port direction) directory.now.ports.now) reader.old (node (an_interaction result)) reader.new }
 {
-    let Some(port) = find_port(alloc, directory, tokens, at, direction)? else {
-        return Err(TraceError::BadToken { place: at });
-    };
-    let at_signal = expect_word(tokens, at + 1, b".")?;
-    let Some(signal) = find_signal(alloc, directory, port, tokens, at_signal, direction)? else {
-        return Err(TraceError::BadToken { place: at_signal });
-    };
-    let values = Values::new(alloc);
-    let found = Interaction {
+    let port = port(reader, directory, hints, direction);
+    let signals = signals_at(directory, port);
+    reader.take_word(b".");
+    let signal = signal(reader, signals, hints, direction);
+    let values = Values::new(reader.alloc);
+    Interaction {
         port,
         signal,
         values,
-    };
-    Ok((found, at_signal + 1))
+    }
+}
+
+// The name of a port that some signal passes in this direction.
+fn port(
+    reader: &mut Reader,
+    directory: &Directory,
+    hints: &mut Hints,
+    direction: Direction,
+) -> u32
+    requires { IsDirectory directory.now }
+    ensures { Chooses (a_port direction) directory.now.ports.now reader.old result reader.new }
+{
+    let found = find_port(reader, directory, hints, direction);
+    reader.step(found.is_some());
+    found.unwrap_or(0)
+}
+
+// The name of a signal that passes in this direction.
+fn signal(reader: &mut Reader, signals: &[Signal], hints: &mut Hints, direction: Direction) -> u32
+    requires different { HaveDifferentNames signal_name signals.now }
+    requires few { length signals.now ≤ 1048576 }
+    ensures { Chooses (a_signal direction) signals.now reader.old result reader.new }
+{
+    let found = find_signal(reader, signals, hints, direction);
+    reader.step(found.is_some());
+    found.unwrap_or(0)
 }

@@ -3,6 +3,7 @@
 
 mod direction;
 pub mod error;
+mod hints;
 mod interaction;
 mod lookup;
 mod table;

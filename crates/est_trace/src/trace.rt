@@ -1,30 +1,32 @@
 //! Trace texts.
 
-ghost use Rattle.std.specs.Prelude.{◌≡◌, ◌≤◌, length, slice_get, [], IfOk};
-ghost use Rattle.std.specs.Bool.{Decides};
+ghost use Rattle.std.specs.Prelude.{◌≡◌, ◌≤◌, [], length, IfOk, Err};
 ghost use Rattle.est_lexer.specs.Places.{text_of, tokens_of};
 ghost use Rattle.est_language.specs.Grammar.{rule};
-ghost use Rattle.est_language.specs.Marks.{MeetsOne};
+ghost use Rattle.est_language.specs.Shown.{node};
 ghost use Rattle.est_syntax.specs.Ports.{ports_of};
 ghost use Rattle.est_meaning.specs.Allowed.{IsAllowedTrace};
-ghost use Rattle.est_texts.specs.Tests.{holds};
-ghost use Rattle.est_trace.specs.Grammar.{event as an_event, trace as a_trace, event_starts};
-ghost use Rattle.est_trace.specs.Shapes.{event_shape, events_shape, trace_shape};
+ghost use Rattle.est_reader.specs.Moving.{OneSeen, SeesOne};
+ghost use Rattle.est_reader.specs.Going.{Goes};
+ghost use Rattle.est_trace.specs.Grammar as grammar;
+ghost use Rattle.est_trace.specs.Nodes.{an_event, some_events, a_trace, tracing};
 ghost use Rattle.est_trace.specs.Skeletons.{ArePlain};
 ghost use Rattle.est_trace.specs.Directories.{IsDirectory};
-ghost use Rattle.est_trace.specs.AtPorts.{IsAtPorts, AreAtPorts};
-ghost use Rattle.est_trace.specs.Reading.{Reads, Onward, CountsEvents, CountsTrace, ReadsTrace};
+ghost use Rattle.est_trace.specs.AtPorts.{AreAtPorts};
+ghost use Rattle.est_trace.specs.Counting.{Enters, CountsEvents, CountsTrace};
+ghost use Rattle.est_trace.specs.Reading.{ReadsTrace};
 
 use crate::direction::Direction;
 use crate::error::TraceError;
+use crate::hints::Hints;
 use crate::interaction::interaction;
 use crate::lookup::{Directory, directory_of};
 use est_check::Checked;
 use est_lexer::tokens::Tokens;
 use est_meaning::event::{Event, Trace};
+use est_reader::{Outcome, Reader};
 use est_syntax::ports::Ports;
-use est_texts::token::{expect_number, expect_word, word_is};
-use std::alloc::Global;
+use std::alloc::{AllocError, Global};
 
 /// The most events that a trace may have.
 pub const MOST_EVENTS: u32 = 200_000;
@@ -39,108 +41,122 @@ pub fn read_trace(alloc: Global, checked: &Checked, tokens: &Tokens) -> Result<T
     read_events(alloc, ports, tokens)
 }
 
-/// The trace that the tokens are, for a specification with these ports, or the first token that
-/// is refused.
-pub(crate) fn read_events(
-    alloc: Global,
-    ports: &Ports,
-    tokens: &Tokens,
-) -> Result<Trace, TraceError>
+// The trace that the tokens are, for a specification with these ports, or the first token that is
+// refused.
+fn read_events(alloc: Global, ports: &Ports, tokens: &Tokens) -> Result<Trace, TraceError>
     requires { ArePlain ports.now }
     ensures reads { ReadsTrace ports.now (text_of tokens.now) (tokens_of tokens.now) result }
     ensures at_ports { IfOk result (λ x. AreAtPorts ports.now x) }
     ensures few { IfOk result (λ x. length x ≤ MOST_EVENTS) }
 {
-    let directory = directory_of(alloc, ports)?;
-    let (found, end) = sentence(alloc, &directory, tokens, MOST_EVENTS)?;
-    if end == tokens.count() {
-        Ok(found)
-    } else {
-        Err(TraceError::BadToken { place: end })
-    }
-}
-
-// "trace" "1" { event } "end"
-fn sentence(
-    alloc: Global,
-    directory: &Directory,
-    tokens: &Tokens,
-    most: u32,
-) -> Result<(Trace, u32), TraceError>
-    requires { IsDirectory directory.now }
-    ensures reads { Reads tokens.now (a_trace directory.now.ports.now) most 0 trace_shape result }
-    ensures counts { CountsTrace directory.now.ports.now most tokens.now result }
-    ensures onward { Onward tokens.now 0 result }
-    ensures at_ports { IfOk result (λ x. AreAtPorts directory.now.ports.now x.0) }
-    ensures few { IfOk result (λ x. length x.0 ≤ most) }
-{
-    let at_version = expect_word(tokens, 0, b"trace")?;
-    let (_, at_events) = expect_number(tokens, at_version, 1, 1)?;
-    let (found, at_end) = events(alloc, directory, tokens, most, at_events)?;
-    let end = expect_word(tokens, at_end, b"end")?;
-    Ok((found, end))
-}
-
-// { event }
-fn events(
-    alloc: Global,
-    directory: &Directory,
-    tokens: &Tokens,
-    most: u32,
-    at: u32,
-) -> Result<(Trace, u32), TraceError>
-    requires inside { at ≤ length (tokens_of tokens.now) }
-    requires directory { IsDirectory directory.now }
-    ensures reads { Reads tokens.now (rule directory.now.ports.now) most at events_shape result }
-    ensures counts { CountsEvents directory.now.ports.now most tokens.now at result }
-    ensures onward { Onward tokens.now at result }
-    ensures at_ports { IfOk result (λ x. AreAtPorts directory.now.ports.now x.0) }
-    ensures few { IfOk result (λ x. length x.0 ≤ most) }
-{
-    let mut found = Trace::new(alloc);
-    let mut at = at;
-    let mut left = most;
-    while begins(tokens, at) {
-        if left == 0 {
-            return Err(TraceError::TooMany { place: at });
+    let mut reader = Reader::new(alloc, tokens, MOST_EVENTS);
+    let found = trace_of(&mut reader, ports);
+    let place = reader.at;
+    match reader.outcome {
+        Outcome::Well => {
+            if place == tokens.count() {
+                Ok(found)
+            } else {
+                instead(found, TraceError::BadToken { place })
+            }
         }
-        let (next, end) = event(alloc, directory, tokens, at)?;
-        found.push(next)?;
-        at = end;
-        left -= 1;
+        Outcome::Wrong => instead(found, TraceError::BadToken { place }),
+        Outcome::TooDeep => instead(found, TraceError::TooMany { place }),
+        Outcome::NoMemory => instead(found, TraceError::Memory(AllocError)),
     }
-    Ok((found, at))
 }
 
-// Whether an event begins at the place.
-fn begins(tokens: &Tokens, at: u32) -> bool
-    ensures { Decides result (MeetsOne (holds (text_of tokens.now)) (slice_get (tokens_of tokens.now) at) (event_starts [])) }
+// An error in the place of a trace.
+fn instead(found: Trace, error: TraceError) -> Result<Trace, TraceError>
+    ensures { result ≡ Err error }
 {
-    word_is(tokens, at, b"in") || word_is(tokens, at, b"out") || word_is(tokens, at, b"time")
+    drop(found);
+    Err(error)
 }
 
-// ( "in" | "out" ) port "." signal | "time" number
-fn event(
-    alloc: Global,
-    directory: &Directory,
-    tokens: &Tokens,
-    at: u32,
-) -> Result<(Event, u32), TraceError>
-    requires inside { at ≤ length (tokens_of tokens.now) }
-    requires directory { IsDirectory directory.now }
-    ensures reads { Reads tokens.now (an_event directory.now.ports.now) 0 at event_shape result }
-    ensures onward { Onward tokens.now at result }
-    ensures at_ports { IfOk result (λ x. IsAtPorts directory.now.ports.now x.0) }
+// The trace that comes next, for a specification with these ports.
+fn trace_of(reader: &mut Reader, ports: &Ports) -> Trace
+    requires { ArePlain ports.now }
+    ensures reads { Goes tracing (grammar.trace ports.now) reader.old (node (a_trace result)) reader.new }
+    ensures counts { CountsTrace ports.now reader.old reader.new }
 {
-    if word_is(tokens, at, b"in") {
-        let (arrival, end) = interaction(alloc, directory, tokens, at + 1, Direction::In)?;
-        Ok((Event::Arrives(arrival), end))
-    } else if word_is(tokens, at, b"out") {
-        let (departure, end) = interaction(alloc, directory, tokens, at + 1, Direction::Out)?;
-        Ok((Event::Leaves(departure), end))
+    match directory_of(reader.alloc, ports) {
+        Ok(directory) => {
+            let mut hints = Hints::new(reader.alloc);
+            let found = whole_trace(reader, &directory, &mut hints);
+            drop(hints);
+            drop(directory);
+            found
+        }
+        Err(_) => {
+            reader.spend();
+            Trace::new(reader.alloc)
+        }
+    }
+}
+
+// trace = "trace" "1" { event } "end" .
+fn whole_trace(reader: &mut Reader, directory: &Directory, hints: &mut Hints) -> Trace
+    requires { IsDirectory directory.now }
+    ensures reads { Goes tracing (grammar.trace directory.now.ports.now) reader.old (node (a_trace result)) reader.new }
+    ensures counts { CountsTrace directory.now.ports.now reader.old reader.new }
+{
+    reader.take_word(b"trace");
+    let _version = reader.number(1, 1);
+    let found = events(reader, directory, hints);
+    reader.take_word(b"end");
+    found
+}
+
+// { event }, each event within a level of its own: the levels count the events.
+fn events(reader: &mut Reader, directory: &Directory, hints: &mut Hints) -> Trace
+    requires { IsDirectory directory.now }
+    ensures reads { Goes tracing (rule directory.now.ports.now) reader.old (node (some_events result)) reader.new }
+    ensures counts { CountsEvents directory.now.ports.now reader.old reader.new }
+{
+    let levels = reader.levels;
+    let mut found = Trace::new(reader.alloc);
+    while begins_event(reader) {
+        enter(reader);
+        let next = event(reader, directory, hints);
+        reader.keep(&mut found, next);
+    }
+    reader.close(levels);
+    found
+}
+
+// Whether an event begins here.
+fn begins_event(reader: &Reader) -> bool
+    ensures { SeesOne reader.now (grammar.event_starts []) result }
+{
+    reader.sees_word(b"time") || reader.sees_word(b"in") || reader.sees_word(b"out")
+}
+
+// Takes a level for the event that begins here.
+fn enter(reader: &mut Reader)
+    requires { OneSeen reader.old (grammar.event_starts []) }
+    ensures { Enters reader.old reader.new }
+{
+    if reader.levels == 0 {
+        reader.outcome = Outcome::TooDeep;
     } else {
-        let at_units = expect_word(tokens, at, b"time")?;
-        let (units, end) = expect_number(tokens, at_units, 0, 2_147_483_647)?;
-        Ok((Event::Passes(units), end))
+        reader.levels = reader.levels - 1;
     }
+}
+
+// event = "time" number | "in" port "." signal | "out" port "." signal .
+fn event(reader: &mut Reader, directory: &Directory, hints: &mut Hints) -> Event
+    requires { IsDirectory directory.now }
+    ensures { Goes tracing (grammar.event directory.now.ports.now) reader.old (node (an_event result)) reader.new }
+{
+    if reader.sees_word(b"in") {
+        reader.take_word(b"in");
+        return Event::Arrives(interaction(reader, directory, hints, Direction::In));
+    }
+    if reader.sees_word(b"out") {
+        reader.take_word(b"out");
+        return Event::Leaves(interaction(reader, directory, hints, Direction::Out));
+    }
+    reader.take_word(b"time");
+    Event::Passes(reader.number(0, 2_147_483_647))
 }

@@ -9,10 +9,14 @@ if_ok a (Ok x) = a
 if_ok a (Err e) = tt
 
 pub ports-requires-clause-good : goal.ports-requires-clause-good
-ports-requires-clause-good c = good c.args.spec.now c.requires.skeleton c.args.least c.requires.least c.in-None.is
+ports-requires-clause-good c =
+    good c.args.spec.now c.requires.skeleton c.args.least c.requires.least c.in-None.is
 
 pub returns-in-None-clause-good : goal.returns-in-None-clause-good
-returns-in-None-clause-good c = if_ok (good c.args.spec.now c.requires.skeleton c.args.least c.requires.least c.in-None.is) c.map_err.result
+returns-in-None-clause-good c =
+    if_ok (good c.args.spec.now c.requires.skeleton c.args.least c.requires.least c.in-None.is)
+    c.map_err.result
 
 pub returns-in-Some-clause-fault : goal.returns-in-Some-clause-fault
-returns-in-Some-clause-fault c = least c.args.spec.now c.requires.skeleton c.args.least c.in-Some.fault c.requires.least c.in-Some.is
+returns-in-Some-clause-fault c =
+    least c.args.spec.now c.requires.skeleton c.args.least c.in-Some.fault c.requires.least c.in-Some.is

@@ -10,7 +10,11 @@ use Rattle.est_check.proofs.ports.push_interactions.Goals as goal
 pub loop-item-preserved : goal.loop-item-preserved
 loop-item-preserved c =
     let may : (b : Bool) → may_send b c.senders-who.result ≡ has_role c.args.channel.now b c.args.by.now.roles =
-    λ b. ap (may_send b) (c.senders-who.ensures ∙ ap (senders c.args.roles.now) c.as_slice.ensures) ∙ senders_may c.args.channel.now c.args.roles.now c.requires b c.args.by.now.roles in
-    let sends : c.may_send.result ≡ has_role c.args.channel.now c.args.second c.args.by.now.roles = c.may_send.ensures ∙ may c.args.second in
-    let receives : c.may_send-in-loop-item.result ≡ has_role c.args.channel.now (not c.args.second) c.args.by.now.roles = c.may_send-in-loop-item.ensures ∙ may (not c.args.second) in
+    λ b. ap (may_send b) (c.senders-who.ensures ∙ ap (senders c.args.roles.now) c.as_slice.ensures)
+    ∙ senders_may c.args.channel.now c.args.roles.now c.requires b c.args.by.now.roles in
+    let sends : c.may_send.result ≡ has_role c.args.channel.now c.args.second c.args.by.now.roles =
+    c.may_send.ensures ∙ may c.args.second in
+    let receives : c.may_send-in-loop-item.result
+    ≡ has_role c.args.channel.now (not c.args.second) c.args.by.now.roles =
+    c.may_send-in-loop-item.ensures ∙ may (not c.args.second) in
     grind (arith, common_steps, sends, receives)

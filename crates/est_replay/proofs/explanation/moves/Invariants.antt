@@ -1,17 +1,14 @@
-use Rattle.std.proofs.Common.{length, ◌+◌, ◌-◌, ◌≤◌, map}
-use Rattle.est_lexer.specs.Places.{text_of, tokens_of}
+use Rattle.std.proofs.Common.{map}
 use Rattle.est_language.specs.Grammar.{rep}
-use Rattle.est_language.proofs.Laws.{Turns}
-use Rattle.est_replay.specs.Grammar.{explaining, marks, move}
-use Rattle.est_replay.specs.Shapes.{move_shape}
-use Rattle.est_replay.proofs.Parts.{fits}
+use Rattle.est_reader.proofs.Steps.{left_of}
+use Rattle.est_reader.proofs.Turns.{Turning, Each}
+use Rattle.est_replay.specs.Grammar.{move}
+use Rattle.est_replay.specs.Nodes.{a_move}
+use Rattle.est_replay.proofs.Explaining.{known}
 use Rattle.est_replay.proofs.explanation.moves.Given as goal
 
-abbrev pub invariant-loop-moves : goal.invariant-loop-moves
-invariant-loop-moves l = record {
-  turns : Turns (explaining (text_of l.tokens)) marks (fits (text_of l.tokens)) (tokens_of l.tokens) (rep move) (rep move) 0 l.fn.at l.at (map move_shape l.moves);
-  few : length l.moves + l.fn.at ≤ l.at;
-}
+abbrev pub invariant-loop-reader : goal.invariant-loop-reader
+invariant-loop-reader l = Turning known (rep move) (rep move) l.fn.reader (Each known (map a_move l.moves)) l.reader
 
-abbrev pub decreases-loop-moves : goal.decreases-loop-moves
-decreases-loop-moves l = length (tokens_of l.tokens) - l.at
+abbrev pub decreases-loop-reader : goal.decreases-loop-reader
+decreases-loop-reader l = left_of l.reader

@@ -1,15 +1,31 @@
 use Rattle.std.proofs.Common.{sym, ◌∙◌}
-use Rattle.std.proofs.lemmas.Result.{err_from_is_err_and}
-use Rattle.est_replay.proofs.Parts.{whole_found, whole_then_more, whole_refused}
+use Rattle.est_lexer.specs.Places.{text_of, tokens_of}
+use Rattle.est_replay.proofs.OneExplanation.{few}
+use Rattle.est_replay.proofs.Answering.{read, behind, wrong, not_deep}
 use Rattle.est_replay.proofs.explanation.read_explanation.Goals as goal
 
-pub returns-in_err-found-clause-reads : goal.returns-in_err-found-clause-reads
-returns-in_err-found-clause-reads c =
-    let p = err_from_is_err_and c.from_residual.result c.from_residual.ensures.1 in
-    rw (p.1, p.2) (whole_refused c.args.tokens.now c.in_err-found.field-0.0 c.in_err-found.ensures.reads)
+pub returns-then-place-count-clause-reads : goal.returns-then-place-count-clause-reads
+returns-then-place-count-clause-reads c =
+    let n = c.new-reader.ensures in
+    read c.whole_explanation-found.ensures record { tokens_are = n.tokens; at = n.at; levels = n.levels; well = n.outcome } c.in-Well.is (c.if-place-count.true ∙ c.count.ensures)
 
-pub returns-then-end-count-clause-reads : goal.returns-then-end-count-clause-reads
-returns-then-end-count-clause-reads c = whole_found c.args.tokens.now c.in_ok-found.found c.in_ok-found.end (c.if-end-count.true ∙ c.count.ensures) c.in_ok-found.ensures.reads
+pub returns-then-place-count-clause-few : goal.returns-then-place-count-clause-few
+returns-then-place-count-clause-few c =
+    let n = c.new-reader.ensures in
+    let r = read c.whole_explanation-found.ensures record { tokens_are = n.tokens; at = n.at; levels = n.levels; well = n.outcome } c.in-Well.is (c.if-place-count.true ∙ c.count.ensures) in
+    few (text_of c.args.tokens.now) (tokens_of c.args.tokens.now) c.whole_explanation-found.result r.0
 
-pub returns-else-end-count-clause-reads : goal.returns-else-end-count-clause-reads
-returns-else-end-count-clause-reads c = whole_then_more c.args.tokens.now c.in_ok-found.end _ (λ e. c.if-end-count.false (e ∙ sym c.count.ensures)) c.in_ok-found.ensures.reads
+pub returns-else-place-count-clause-reads : goal.returns-else-place-count-clause-reads
+returns-else-place-count-clause-reads c =
+    let n = c.new-reader.ensures in
+    behind c.whole_explanation-found.ensures record { tokens_are = n.tokens; at = n.at; levels = n.levels; well = n.outcome } c.in-Well.is (λ e. c.if-place-count.false (e ∙ sym c.count.ensures))
+
+pub returns-in-Wrong-clause-reads : goal.returns-in-Wrong-clause-reads
+returns-in-Wrong-clause-reads c =
+    let n = c.new-reader.ensures in
+    wrong c.whole_explanation-found.ensures record { tokens_are = n.tokens; at = n.at; levels = n.levels; well = n.outcome } c.in-Wrong.is
+
+pub returns-in-TooDeep-clause-reads : goal.returns-in-TooDeep-clause-reads
+returns-in-TooDeep-clause-reads c =
+    let n = c.new-reader.ensures in
+    absurd (not_deep c.whole_explanation-found.ensures record { tokens_are = n.tokens; at = n.at; levels = n.levels; well = n.outcome } c.in-TooDeep.is)

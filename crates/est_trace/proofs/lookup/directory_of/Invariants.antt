@@ -1,9 +1,7 @@
 use Rattle.std.proofs.Common.{◌≡◌, map, take}
 use Rattle.est_trace.specs.Tables.{names_in}
-use Rattle.est_trace.specs.Directories.{port_name, kept_of, told_by}
+use Rattle.est_trace.specs.Directories.{port_name}
 use Rattle.est_trace.proofs.lookup.directory_of.Given as goal
 
 abbrev pub invariant-loop-port : goal.invariant-loop-port
-invariant-loop-port l =
-    (names_in l.names ≡ map port_name (take l.port-index l.listed)) ×
-    (map told_by l.rows.items ≡ map kept_of (take l.port-index l.listed))
+invariant-loop-port l = names_in l.names ≡ map port_name (take l.port-index l.listed)

@@ -1,44 +1,76 @@
-use Rattle.std.proofs.Common.{rules, true, false, ◌≡◌, subst, sym, ◌∙◌, Some, None, slice_get}
+use Rattle.std.proofs.Common.{◌≡◌, ◌<◌, true, false, length, subst, sym, ap, ◌∙◌, Some, None, slice_get, refl, arith}
 use Rattle.std.specs.Option.{option_map}
-use Rattle.est_texts.specs.Takes.{IsNamedAt}
-use Rattle.est_trace.specs.Grammar.{some_pass, port_signal}
+use Rattle.std.proofs.lemmas.Option.{slice_get_within, get_or_from_slice_get}
+use Rattle.est_reader.specs.Moving.{IsNamedAt}
+use Rattle.est_trace.specs.Grammar.{some_pass, dot_signal}
 use Rattle.est_trace.specs.Tables.{names_in, IsNumberOf}
 use Rattle.est_trace.specs.Directories.{port_name}
 use Rattle.est_trace.proofs.Choices.{chosen, no_word, no_name, not_allowed}
-use Rattle.est_trace.proofs.Directories.{port_and_row}
+use Rattle.est_trace.proofs.Found.{port_at}
 use Rattle.est_trace.proofs.lookup.find_port.Goals as goal
 
-pub returns-in_default : goal.returns-in_default
-returns-in_default c =
-    no_word port_name (λ p. some_pass c.args.direction p.signals) (port_signal c.args.direction) c.args.directory.now.ports.now c.args.tokens.now c.args.at
-    (subst (λ o. IsNamedAt c.args.tokens.now c.args.at (option_map (λ bytes. bytes.items) o)) c.in_default.is c.in_ok-name.ensures)
+pub returns-in_default-clause-found : goal.returns-in_default-clause-found
+returns-in_default-clause-found c = λ w.
+    let tk = c.args.reader.now.tokens.now in
+    let at = c.args.reader.now.at in
+    no_word port_name (λ p. some_pass c.args.direction p.signals) (λ p. dot_signal c.args.direction p.signals) c.args.directory.now.ports.now tk at
+    (subst (λ o. IsNamedAt tk at (option_map (λ bytes. bytes.items) o)) c.in_default.is (c.name_here.ensures.named w))
 
-pub returns-in_default-number_of : goal.returns-in_default-number_of
-returns-in_default-number_of c =
+pub returns-in_default-number_of-clause-found : goal.returns-in_default-number_of-clause-found
+returns-in_default-number_of-clause-found c = λ w.
+    let tk = c.args.reader.now.tokens.now in
+    let at = c.args.reader.now.at in
     let bytes = c.in-Some.name.items in
-    let s : IsNamedAt c.args.tokens.now c.args.at (Some bytes) = subst (λ o. IsNamedAt c.args.tokens.now c.args.at (option_map (λ bytes. bytes.items) o)) c.in-Some.is c.in_ok-name.ensures in
-    no_name port_name (λ p. some_pass c.args.direction p.signals) (port_signal c.args.direction) c.args.directory.now.ports.now c.args.tokens.now c.args.at
-    bytes s (names_in c.args.directory.now.names) c.requires.named
-    (subst (λ v. IsNumberOf v (names_in c.args.directory.now.names) None) c.deref.ensures.value c.in_default-number_of.ensures)
+    let names = names_in c.args.directory.now.names in
+    no_name port_name (λ p. some_pass c.args.direction p.signals) (λ p. dot_signal c.args.direction p.signals) c.args.directory.now.ports.now tk at bytes
+    (subst (λ o. IsNamedAt tk at (option_map (λ bytes. bytes.items) o)) c.in-Some.is (c.name_here.ensures.named w))
+    names c.requires.named (subst (λ v. IsNumberOf v names None) c.deref.ensures.value c.in_default-number_of.ensures)
 
-pub returns-then-not-is_passed : goal.returns-then-not-is_passed
-returns-then-not-is_passed c =
+pub bounds-directory-number : goal.bounds-directory-number
+bounds-directory-number c =
     let d = c.args.directory.now in
-    let i = c.in-Some-number_of.port in
-    let bytes = c.in-Some.name.items in
-    let s : IsNamedAt c.args.tokens.now c.args.at (Some bytes) = subst (λ o. IsNamedAt c.args.tokens.now c.args.at (option_map (λ bytes. bytes.items) o)) c.in-Some.is c.in_ok-name.ensures in
-    let r : c.is_passed.result ≡ false = search rules in
-    let q = port_and_row d c.requires i bytes c.index.result.now c.args.direction (subst (λ v. slice_get (names_in d.names) i ≡ Some v) c.deref.ensures.value c.in-Some-number_of.ensures) c.index.ensures in
-    not_allowed port_name (λ p. some_pass c.args.direction p.signals) (port_signal c.args.direction) d.ports.now c.args.tokens.now c.args.at
-    bytes s c.requires.plain.different i q.0 q.1 q.2 (sym q.3 ∙ sym c.is_passed.ensures ∙ r)
+    let i = c.in-Some-number_of.number in
+    let p = port_at d c.requires i c.deref.result.now c.in-Some-number_of.ensures in
+    slice_get_within d.ports.now i p.0 p.1
 
-pub returns : goal.returns
-returns c =
+pub offset_bounds-directory-number : goal.offset_bounds-directory-number
+offset_bounds-directory-number c =
     let d = c.args.directory.now in
-    let i = c.in-Some-number_of.port in
+    let i = c.in-Some-number_of.number in
+    let p = port_at d c.requires i c.deref.result.now c.in-Some-number_of.ensures in
+    omega (arith, slice_get_within d.ports.now i p.0 p.1, c.requires.plain.few)
+
+pub overflow_cast-result : goal.overflow_cast-result
+overflow_cast-result c =
+    let d = c.args.directory.now in
+    let i = c.in-Some-number_of.number in
+    let p = port_at d c.requires i c.deref.result.now c.in-Some-number_of.ensures in
+    omega (arith, slice_get_within d.ports.now i p.0 p.1, c.requires.plain.few)
+
+pub returns-in-Ok-true-clause-found : goal.returns-in-Ok-true-clause-found
+returns-in-Ok-true-clause-found c = λ w.
+    let tk = c.args.reader.now.tokens.now in
+    let at = c.args.reader.now.at in
+    let d = c.args.directory.now in
+    let i = c.in-Some-number_of.number in
     let bytes = c.in-Some.name.items in
-    let s : IsNamedAt c.args.tokens.now c.args.at (Some bytes) = subst (λ o. IsNamedAt c.args.tokens.now c.args.at (option_map (λ bytes. bytes.items) o)) c.in-Some.is c.in_ok-name.ensures in
-    let r : c.is_passed.result ≡ true = search rules in
-    let q = port_and_row d c.requires i bytes c.index.result.now c.args.direction (subst (λ v. slice_get (names_in d.names) i ≡ Some v) c.deref.ensures.value c.in-Some-number_of.ensures) c.index.ensures in
-    chosen port_name (λ p. some_pass c.args.direction p.signals) (port_signal c.args.direction) d.ports.now c.args.tokens.now c.args.at
-    bytes i q.0 s q.1 q.2 (sym q.3 ∙ sym c.is_passed.ensures ∙ r)
+    let p = port_at d c.requires i bytes (subst (λ v. slice_get (names_in d.names) i ≡ Some v) c.deref.ensures.value c.in-Some-number_of.ensures) in
+    let same : p.0.signals ≡ c.as_slice-signals.result.now =
+        ap (λ v. v.signals) (sym (get_or_from_slice_get d.ports.now i p.0 c.index-directory-number.result p.1)) ∙ sym (c.as_slice-signals.ensures ∙ c.get.ensures) in
+    chosen port_name (λ p. some_pass c.args.direction p.signals) (λ p. dot_signal c.args.direction p.signals) d.ports.now tk at bytes i p.0
+    (subst (λ o. IsNamedAt tk at (option_map (λ bytes. bytes.items) o)) c.in-Some.is (c.name_here.ensures.named w)) p.1 p.2
+    (ap (some_pass c.args.direction) same ∙ sym (sym c.in-Ok-true.field-0-test ∙ c.in-Ok-true.ensures))
+
+pub returns-in-Ok-false-clause-found : goal.returns-in-Ok-false-clause-found
+returns-in-Ok-false-clause-found c = λ w.
+    let tk = c.args.reader.now.tokens.now in
+    let at = c.args.reader.now.at in
+    let d = c.args.directory.now in
+    let i = c.in-Some-number_of.number in
+    let bytes = c.in-Some.name.items in
+    let p = port_at d c.requires i bytes (subst (λ v. slice_get (names_in d.names) i ≡ Some v) c.deref.ensures.value c.in-Some-number_of.ensures) in
+    let same : p.0.signals ≡ c.as_slice-signals.result.now =
+        ap (λ v. v.signals) (sym (get_or_from_slice_get d.ports.now i p.0 c.index-directory-number.result p.1)) ∙ sym (c.as_slice-signals.ensures ∙ c.get.ensures) in
+    not_allowed port_name (λ p. some_pass c.args.direction p.signals) (λ p. dot_signal c.args.direction p.signals) d.ports.now tk at bytes
+    (subst (λ o. IsNamedAt tk at (option_map (λ bytes. bytes.items) o)) c.in-Some.is (c.name_here.ensures.named w)) c.requires.plain.different i p.0 p.1 p.2
+    (ap (some_pass c.args.direction) same ∙ sym (sym c.in-Ok-false.field-0-test ∙ c.in-Ok-false.ensures))

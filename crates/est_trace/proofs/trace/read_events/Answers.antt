@@ -1,28 +1,34 @@
-use Rattle.std.proofs.Common.{sym, ◌∙◌, subst, Ok, Err}
-use Rattle.std.proofs.lemmas.Result.{err_from_is_err_and}
-use Rattle.est_lexer.specs.Places.{text_of, tokens_of}
-use Rattle.est_trace.specs.declared.error.TraceError.TheVariants.{BadToken}
-use Rattle.est_trace.specs.Reading.{ReadsTrace}
-use Rattle.est_trace.specs.AtPorts.{AreAtPorts}
-use Rattle.est_trace.proofs.AtPorts.{no_values}
-use Rattle.est_trace.proofs.Fullness.{whole_found, whole_then_more, whole_refused}
+use Rattle.std.proofs.Common.{sym, ◌∙◌, refl}
+use Rattle.est_trace.proofs.Answering.{read, read_at_ports, more_tokens, wrong, too_many}
 use Rattle.est_trace.proofs.trace.read_events.Goals as goal
 
-pub returns-in_err-found-clause-reads : goal.returns-in_err-found-clause-reads
-returns-in_err-found-clause-reads c =
-    let p = err_from_is_err_and c.from_residual-in_err-found.result c.from_residual-in_err-found.ensures.1 in
-    let ports = c.in_ok-directory.directory.ports.now in
-    rw (p.1, p.2) (subst (λ v. ReadsTrace v (text_of c.args.tokens.now) (tokens_of c.args.tokens.now) (Err c.in_err-found.field-0.0)) c.in_ok-directory.ensures.ports (whole_refused c.args.tokens.now ports c.in_err-found.field-0.0 c.in_err-found.ensures.reads c.in_err-found.ensures.counts))
+pub returns-then-place-count-clause-reads : goal.returns-then-place-count-clause-reads
+returns-then-place-count-clause-reads c =
+    let n = c.new-reader.ensures in
+    read c.trace_of-found.ensures.reads record { tokens_are = n.tokens; at = n.at; levels = n.levels; well = n.outcome } c.in-Well.is (c.if-place-count.true ∙ c.count.ensures)
 
-pub returns-then-end-count-clause-reads : goal.returns-then-end-count-clause-reads
-returns-then-end-count-clause-reads c =
-    let ports = c.in_ok-directory.directory.ports.now in
-    subst (λ v. ReadsTrace v (text_of c.args.tokens.now) (tokens_of c.args.tokens.now) (Ok c.in_ok-found.found)) c.in_ok-directory.ensures.ports (whole_found c.args.tokens.now ports c.in_ok-found.found c.in_ok-found.end (c.if-end-count.true ∙ c.count.ensures) (no_values ports c.in_ok-found.found c.in_ok-found.ensures.at_ports) c.in_ok-found.ensures.reads)
+pub returns-then-place-count-clause-at_ports : goal.returns-then-place-count-clause-at_ports
+returns-then-place-count-clause-at_ports c =
+    let n = c.new-reader.ensures in
+    (read_at_ports c.trace_of-found.ensures.reads record { tokens_are = n.tokens; at = n.at; levels = n.levels; well = n.outcome } c.in-Well.is (c.if-place-count.true ∙ c.count.ensures) c.requires).0
 
-pub returns-clause-reads : goal.returns-clause-reads
-returns-clause-reads c =
-    let ports = c.in_ok-directory.directory.ports.now in
-    subst (λ v. ReadsTrace v (text_of c.args.tokens.now) (tokens_of c.args.tokens.now) (Err (BadToken c.in_ok-found.end))) c.in_ok-directory.ensures.ports (whole_then_more c.args.tokens.now ports c.in_ok-found.end _ (λ e. c.if-end-count.false (e ∙ sym c.count.ensures)) c.in_ok-found.ensures.reads)
+pub returns-then-place-count-clause-few : goal.returns-then-place-count-clause-few
+returns-then-place-count-clause-few c =
+    let n = c.new-reader.ensures in
+    (read_at_ports c.trace_of-found.ensures.reads record { tokens_are = n.tokens; at = n.at; levels = n.levels; well = n.outcome } c.in-Well.is (c.if-place-count.true ∙ c.count.ensures) c.requires).1
 
-pub returns-then-end-count-clause-at_ports : goal.returns-then-end-count-clause-at_ports
-returns-then-end-count-clause-at_ports c = subst (λ v. AreAtPorts v c.in_ok-found.found) c.in_ok-directory.ensures.ports c.in_ok-found.ensures.at_ports
+pub returns-else-place-count-clause-reads : goal.returns-else-place-count-clause-reads
+returns-else-place-count-clause-reads c =
+    let n = c.new-reader.ensures in
+    rw c.instead.ensures (more_tokens c.trace_of-found.ensures.reads record { tokens_are = n.tokens; at = n.at; levels = n.levels; well = n.outcome } c.in-Well.is (λ e. c.if-place-count.false (e ∙ sym c.count.ensures)))
+
+pub returns-in-Wrong-clause-reads : goal.returns-in-Wrong-clause-reads
+returns-in-Wrong-clause-reads c =
+    let n = c.new-reader.ensures in
+    rw c.instead-in-Wrong.ensures (wrong c.trace_of-found.ensures.reads record { tokens_are = n.tokens; at = n.at; levels = n.levels; well = n.outcome } c.in-Wrong.is)
+
+pub returns-in-TooDeep-clause-reads : goal.returns-in-TooDeep-clause-reads
+returns-in-TooDeep-clause-reads c =
+    let n = c.new-reader.ensures in
+    rw c.instead-in-TooDeep.ensures
+    (too_many c.trace_of-found.ensures.reads record { tokens_are = n.tokens; at = n.at; levels = n.levels; well = n.outcome } c.trace_of-found.ensures.counts c.in-TooDeep.is)

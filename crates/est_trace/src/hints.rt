@@ -1,0 +1,168 @@
+//! Where signals were found before.
+
+ghost use Rattle.std.specs.Prelude.{◌≡◌, true, map, slice_get, Some, IfOk, IfSome, is_some, bytes_eq};
+ghost use Rattle.est_trace.specs.Grammar.{passes as does_pass, some_pass as some_do_pass};
+ghost use Rattle.est_trace.specs.Directories.{signal_name};
+ghost use Rattle.est_trace.specs.Tables.{IsNumberOf};
+
+use crate::direction::Direction;
+use est_syntax::ports::Signal;
+use indexmap::IndexMap;
+use std::alloc::{AllocError, Global};
+
+/// Where signals were found in lists of signals. All ports of one side of a channel share one
+/// list, so what was found at one port mostly stands at the same place of the list of another one.
+/// It is tried there first, which keeps the work from growing with ports times signals. A hint is
+/// always looked at, so it may be wrong.
+#[derive(Drop)]
+pub struct Hints {
+    alloc: Global,
+    numbers: IndexMap<Vec<u8>, Vec<usize>>,
+    received: Vec<usize>,
+    sent: Vec<usize>,
+}
+
+impl Hints {
+    /// No hints.
+    pub fn new(alloc: Global) -> Hints {
+        Hints {
+            alloc,
+            numbers: IndexMap::new(alloc),
+            received: Vec::new(alloc),
+            sent: Vec::new(alloc),
+        }
+    }
+
+    /// Whether some of the signals passes in this direction.
+    pub fn some_pass(
+        &mut self,
+        signals: &[Signal],
+        direction: Direction,
+    ) -> Result<bool, AllocError>
+        ensures { IfOk result (λ found. found ≡ some_do_pass direction signals.now) }
+    {
+        let places = match direction {
+            Direction::In => &mut self.received,
+            Direction::Out => &mut self.sent,
+        };
+        if one_passes(places.as_slice(), signals, direction) {
+            return Ok(true);
+        }
+        match first_passing(signals, direction) {
+            Some(number) => {
+                places.push(number)?;
+                Ok(true)
+            }
+            None => Ok(false),
+        }
+    }
+
+    /// The number of the signal of this name.
+    pub fn number_of(
+        &mut self,
+        signals: &[Signal],
+        name: &[u8],
+    ) -> Result<Option<usize>, AllocError>
+        ensures { IfOk result (λ found. IsNumberOf name.now (map signal_name signals.now) found) }
+    {
+        if let Some(number) = self.tried(signals, name) {
+            return Ok(Some(number));
+        }
+        let found = first_named(signals, name);
+        if found.is_some() {
+            self.learn(signals)?;
+        }
+        Ok(found)
+    }
+
+    // The number of the signal of this name, where a hint tells it.
+    fn tried(&self, signals: &[Signal], name: &[u8]) -> Option<usize>
+        ensures { IfSome result (λ number. slice_get (map signal_name signals.now) number ≡ Some name.now) }
+    {
+        let numbers = self.numbers.get(name)?;
+        for number in numbers {
+            if *number < signals.len() && is_named(&signals[*number], name) {
+                return Some(*number);
+            }
+        }
+        None
+    }
+
+    // Notes the numbers of these signals.
+    fn learn(&mut self, signals: &[Signal]) -> Result<(), AllocError> {
+        for (number, signal) in signals.iter().enumerate() {
+            self.note(signal.name.bytes.as_slice(), number)?;
+        }
+        Ok(())
+    }
+
+    // Notes a number of a name.
+    fn note(&mut self, name: &[u8], number: usize) -> Result<(), AllocError> {
+        if let Some(numbers) = self.numbers.get_mut(name) {
+            if !numbers.contains(&number) {
+                numbers.push(number)?;
+            }
+            return Ok(());
+        }
+        let mut numbers = Vec::new(self.alloc);
+        numbers.push(number)?;
+        let key = Vec::from_slice(self.alloc, name)?;
+        self.numbers.insert(key, numbers)?;
+        Ok(())
+    }
+}
+
+/// Whether the signal passes its port in this direction.
+pub fn passes(signal: &Signal, direction: Direction) -> bool
+    ensures { result ≡ does_pass direction signal.now }
+{
+    match direction {
+        Direction::In => signal.receives,
+        Direction::Out => signal.sends,
+    }
+}
+
+// Whether the signal has this name.
+fn is_named(signal: &Signal, name: &[u8]) -> bool
+    ensures { result ≡ bytes_eq (signal_name signal.now) name.now }
+{
+    signal.name.bytes.as_slice() == name
+}
+
+// The number of the first signal that passes in this direction.
+fn first_passing(signals: &[Signal], direction: Direction) -> Option<usize>
+    ensures { is_some result ≡ some_do_pass direction signals.now }
+{
+    for number in 0..signals.len() {
+        if passes(&signals[number], direction) {
+            return Some(number);
+        }
+    }
+    None
+}
+
+// The number of the first signal of this name.
+fn first_named(signals: &[Signal], name: &[u8]) -> Option<usize>
+    ensures { IsNumberOf name.now (map signal_name signals.now) result }
+{
+    for number in 0..signals.len() {
+        if is_named(&signals[number], name) {
+            return Some(number);
+        }
+    }
+    None
+}
+
+// Whether a signal of one of these numbers passes in this direction.
+fn one_passes(numbers: &[usize], signals: &[Signal], direction: Direction) -> bool
+    ensures { result ≡ true → some_do_pass direction signals.now ≡ true }
+{
+    for number in numbers {
+        if let Some(signal) = signals.get(*number) {
+            if passes(signal, direction) {
+                return true;
+            }
+        }
+    }
+    false
+}
