@@ -17,7 +17,10 @@ all_of_each _ _ a = absurd a
 
 pub one_by_one : AgreementIsOneByOne
 one_by_one = record {
-  all = λ expected es. (λ e. subst (λ xs. EachAgrees xs es) e (each_itself es), all_of_each expected es);
+  all = λ expected es. (
+    λ e. subst (λ xs. EachAgrees xs es) e (each_itself es),
+    all_of_each expected es,
+  );
   first = λ expected es. (
     λ p. (es, p.0, p.1, refl),
     λ q. (q.1, q.2 ∙ ap (λ xs. xs ++ q.1) (sym q.3)),

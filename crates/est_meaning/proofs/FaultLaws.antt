@@ -58,7 +58,8 @@ made_ends limit spec left o body e = subst (λ x. IsNoFault (made limit spec lef
 
 begun_ends : (limit : ℕ) (spec : Spec) (left : ℕ) (first : Statement) (body : Body) → root_in spec first ≡ Some body → IsNoFault (begun limit spec left first)
 begun_ends limit spec zero first body e = tt
-begun_ends limit spec (suc left) first body e = made_ends limit spec left (root_in spec first) body e
+begun_ends limit spec (suc left) first body e =
+    made_ends limit spec left (root_in spec first) body e
 
 start_ends : (limit : ℕ) (spec : Spec) (body : Body) → root_of spec ≡ Some body → IsNoFault (start_of limit spec)
 unfolding start_of

@@ -80,7 +80,8 @@ block_ordered spec number [] left s t outs others h e = subst Ordered (done_situ
 block_ordered spec number (x ∷ xs) zero s t outs others h e = absurd (limit_done t others e)
 block_ordered spec number (x ∷ xs) (suc left) s t outs others h e =
     let r = all_sent spec number (sendings_of x) s outs in
-    block_ordered spec number xs left r.situation t r.outs others (sent_ordered spec number (sendings_of x) s outs h) e
+    let sent = sent_ordered spec number (sendings_of x) s outs h in
+    block_ordered spec number xs left r.situation t r.outs others sent e
 
 completed_ordered : (limit : ℕ) (spec : Spec) (fired : Option Firing) (number : ℕ) (state : Option Used) (o : Outcome) (t : Situation) (others : List Event)
     → ((s : Situation) (outs : List Event) → o ≡ Done s outs → Ordered s) → completed limit spec fired number state o ≡ Done t others → Ordered t
@@ -139,7 +140,8 @@ made_ordered limit spec left t (Some body) outs e = initialized_ordered limit sp
 
 begun_ordered : (limit : ℕ) (spec : Spec) (left : ℕ) (first : Statement) (t : Situation) (outs : List Event) → begun limit spec left first ≡ Done t outs → Ordered t
 begun_ordered limit spec zero first t outs e = absurd (limit_done t outs e)
-begun_ordered limit spec (suc left) first t outs e = made_ordered limit spec left t (root_in spec first) outs e
+begun_ordered limit spec (suc left) first t outs e =
+    made_ordered limit spec left t (root_in spec first) outs e
 
 start_ordered : (limit : ℕ) (spec : Spec) (t : Situation) (outs : List Event) → start_of limit spec ≡ Done t outs → Ordered t
 unfolding start_of

@@ -69,7 +69,8 @@ block_clock spec number [] left s t outs others e = ap (λ (w : Situation). w.cl
 block_clock spec number (x ∷ xs) zero s t outs others e = absurd (limit_done t others e)
 block_clock spec number (x ∷ xs) (suc left) s t outs others e =
     let r = all_sent spec number (sendings_of x) s outs in
-    block_clock spec number xs left r.situation t r.outs others e ∙ sent_clock spec number (sendings_of x) s outs
+    block_clock spec number xs left r.situation t r.outs others e
+    ∙ sent_clock spec number (sendings_of x) s outs
 
 state_clock : (s : Situation) (number : ℕ) (state : Option Used) → (with_state s number state).clock ≡ s.clock
 state_clock s number None = refl
@@ -130,7 +131,8 @@ made_clock limit spec left t (Some body) outs e = initialized_clock limit spec l
 
 begun_clock : (limit : ℕ) (spec : Spec) (left : ℕ) (first : Statement) (t : Situation) (outs : List Event) → begun limit spec left first ≡ Done t outs → t.clock ≡ 0
 begun_clock limit spec zero first t outs e = absurd (limit_done t outs e)
-begun_clock limit spec (suc left) first t outs e = made_clock limit spec left t (root_in spec first) outs e
+begun_clock limit spec (suc left) first t outs e =
+    made_clock limit spec left t (root_in spec first) outs e
 
 -- the clock begins at 0
 pub start_clock : (limit : ℕ) (spec : Spec) (t : Situation) (outs : List Event) → start_of limit spec ≡ Done t outs → t.clock ≡ 0

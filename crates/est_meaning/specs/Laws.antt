@@ -59,11 +59,14 @@ EachAgrees [] [] = Unit {0}
 EachAgrees (x ∷ expected) (e ∷ es) = Agrees x e × EachAgrees expected es
 EachAgrees _ _ = ⊥
 
--- lists of events agree where their events do, and the first of those that are expected are a list of them
+-- lists of events agree where their events do one by one; those that agree with the first
+-- of a list agree with a front of it
 pub record AgreementIsOneByOne : Type 0 where
   pub all : (expected es : List Event) → AgreeAll expected es ↔ EachAgrees expected es
   pub first : (expected es : List Event)
-      → AgreeFirst expected es ↔ ((front : List Event) × (rest : List Event) × (expected ≡ front ++ rest) × AgreeAll front es)
+      → AgreeFirst expected es
+      ↔ ((front : List Event) × (rest : List Event)
+      × (expected ≡ front ++ rest) × AgreeAll front es)
 
 -- what a run yields has no gaps below it, and a run without moves yields at least 0
 pub record YieldsAllBelow : Type 0 where

@@ -100,7 +100,10 @@ IsBoundedRun c (m ∷ earlier) p = (q : Place) × IsBoundedRun c earlier q × Mo
 abbrev pub IsPrefix : {X : Type 0} → List X → List X → Type 0
 IsPrefix {X} part whole = (rest : List X) × (whole ≡ part ++ rest)
 
--- AGREEMENT: what a trace says of the events of a run; what a run follows, explains and yields is told by these alone
+-- AGREEMENT
+--
+-- What a trace says of the events of a run. What a run follows, explains and yields is told by
+-- these alone.
 
 -- an event is the one that is expected
 abbrev pub Agrees : Event → Event → Type 0

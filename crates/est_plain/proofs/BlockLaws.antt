@@ -86,7 +86,8 @@ module _ (spec : Spec) (body : Body) where
     block_is [] left outs = refl
     block_is (x ∷ xs) zero outs = refl
     block_is (x ∷ xs) (suc left) outs =
-        ap (λ (r : Sent). block_meaning spec 1 xs left r.situation r.outs) (all_sent_is (sendings_of x) outs)
+        ap (λ (r : Sent). block_meaning spec 1 xs left r.situation r.outs)
+        (all_sent_is (sendings_of x) outs)
         ∙ block_is xs left (sent_in (ports_of spec) (sendings_of x) outs)
 
 -- PORTS

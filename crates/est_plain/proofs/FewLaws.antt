@@ -40,7 +40,8 @@ grouped : (gs : List Group) → length (flat_map (λ (g : Group). (out-Group g).
 grouped [] = refl
 grouped (g ∷ gs) = omega (arith, length-append (out-Group g).transitions (flat_map (λ (h : Group). (out-Group h).transitions) gs), grouped gs)
 
-root_counted : (s : Spec) (started : Option Used) (b : Body) → option_and_then (λ (u : Used). body_named s u.name) started ≡ Some b
+root_counted : (s : Spec) (started : Option Used) (b : Body)
+    → option_and_then (λ (u : Used). body_named s u.name) started ≡ Some b
     → length (transitions_of b) ≤ transition_count s.parts
 root_counted s (Some named) b e =
     omega (arith, grouped (out-Body b).groups, counted s.parts b (found_in (λ (x : Body). uses_name named.name (out-Body x).name) s.parts b e))
@@ -48,7 +49,8 @@ root_counted s None b e = cc
 
 -- the transitions of the root are few
 pub few_transitions : (s : Spec) → IsSkeleton s → (b : Body) → root_of s ≡ Some b → length (transitions_of b) < 2 ^ 32
-few_transitions s sk b e = omega (arith, root_counted s (started_by s.first) b e, sk.few_transitions)
+few_transitions s sk b e =
+    omega (arith, root_counted s (started_by s.first) b e, sk.few_transitions)
 
 -- so are the ports and their signals
 pub few_ports : (s : Spec) → IsSkeleton s → HasFew (ports_of s)

@@ -1,5 +1,5 @@
 -- What the small steps of a reader do to it.
-use Rattle.std.specs.Prelude.{◌≡◌, ℕ, ◌+◌, ◌*◌, ◌<◌, ◌≤◌, ◌⊎◌, Bool, true, false, List, [], ◌∷◌, ◌++◌, Option, Some, None, slice_get, bytes_eq}
+use Rattle.std.specs.Prelude.{◌≡◌, ℕ, ◌+◌, ◌*◌, ◌<◌, ◌≤◌, ◌⊎◌, Bool, true, false, List, [], ◌∷◌, ◌++◌, Option, Some, None, option_to_list, slice_get, bytes_eq}
 use Rattle.est_lexer.specs.declared.kind.Token.{Token}
 use Rattle.est_lexer.specs.declared.kind.TokenKind.TheVariants.{Identifier}
 use Rattle.est_lexer.specs.declared.tokens.Tokens.{Tokens}
@@ -156,3 +156,8 @@ pub record Still (old new : Reader) : Type 0 where
 pub record Kept {T : Type 0} (old new : Reader) (items : List T) (item : T) (items' : List T) : Type 0 where
   pub still : Still old new
   pub added : new.outcome ≡ Well → items' ≡ items ++ item ∷ []
+
+-- the reader stays, and where all is well the item is put last, if there is one
+pub record KeptSome {T : Type 0} (old new : Reader) (items : List T) (item : Option T) (items' : List T) : Type 0 where
+  pub still : Still old new
+  pub added : new.outcome ≡ Well → items' ≡ items ++ option_to_list item

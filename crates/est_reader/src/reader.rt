@@ -44,7 +44,7 @@ impl<'t> Reader<'t> {
 
 impl Reader<'_> {
     ghost use Rattle.est_reader.specs.Tests.{kind, spelled, stands as does_stand, lowered as is_lowered};
-    ghost use Rattle.est_reader.specs.Moving.{IsTest, Sees, Steps, Takes, TakesName, TakesNumber, IsNamedAt, FindsNumber, Opens, Closes, Still, Kept};
+    ghost use Rattle.est_reader.specs.Moving.{IsTest, Sees, Steps, Takes, TakesName, TakesNumber, IsNamedAt, FindsNumber, Opens, Closes, Still, Kept, KeptSome};
     ghost use Rattle.est_lexer.specs.declared.kind.TokenKind.TheVariants.{Reserved, Symbol as Special};
     ghost use Rattle.est_reader.specs.declared.outcome.Outcome.TheVariants.{Well};
     ghost use Rattle.std.specs.Str.{str_to_ascii_lowercase};
@@ -255,6 +255,16 @@ impl Reader<'_> {
         match items.push(item) {
             Ok(_) => {}
             Err(_) => self.spend(),
+        }
+    }
+
+    /// Puts an item last, if there is one.
+    pub fn keep_some<T: Drop>(&mut self, items: &mut Items<T>, item: Option<T>)
+        ensures { KeptSome self.old self.new items.old item items.new }
+    {
+        match item {
+            Some(item) => self.keep(items, item),
+            None => {}
         }
     }
 

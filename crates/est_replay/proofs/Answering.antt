@@ -1,5 +1,5 @@
 -- From what a reader of an explanation does to the answer.
-use Rattle.std.proofs.Common.{◌≡◌, ℕ, length, refl, sym, subst, Ok, Err}
+use Rattle.std.proofs.Common.{◌≡◌, length, refl, subst, Ok, Err}
 use Rattle.est_lexer.specs.declared.tokens.Tokens.{Tokens}
 use Rattle.est_lexer.specs.Places.{text_of, tokens_of}
 use Rattle.est_language.specs.Shown.{Shows, node}

@@ -1,9 +1,8 @@
 -- One explanation shows a shape, and it has no more moves than its text has tokens.
-use Rattle.std.proofs.Common.{◌≡◌, ℕ, ◌+◌, ◌≤◌, List, [], ◌∷◌, length, map, refl, sym, ap, subst, arith}
+use Rattle.std.proofs.Common.{◌≡◌, ℕ, ◌+◌, ◌≤◌, List, [], ◌∷◌, length, map, refl, ap, arith}
 use Rattle.est_lexer.specs.declared.kind.Token.{Token}
-use Rattle.est_language.specs.Grammar.{rep, alt, word, Tree, t_word, t_seq, t_left, t_right, t_rep_out, t_rep_in}
-use Rattle.est_language.specs.Places.{HasTree}
-use Rattle.est_language.specs.Shown.{Shows, node, nodes, s_empty, s_kept, s_pair, s_first, s_second, s_node, s_none, s_more}
+use Rattle.est_language.specs.Grammar.{rep, Tree, t_word, t_seq, t_left, t_right, t_rep_out, t_rep_in}
+use Rattle.est_language.specs.Shown.{Shows, node, nodes, s_kept, s_pair, s_first, s_second, s_node, s_none, s_more}
 use Rattle.est_language.proofs.Trees.{tree_forward}
 use Rattle.est_meaning.specs.declared.run.Firing.{Firing}
 use Rattle.est_meaning.specs.declared.run.Move.{Move}

@@ -4,13 +4,13 @@ use Rattle.std.specs.List.{filter_map}
 use Rattle.std.proofs.Common.{◌≡◌, true, List, [], ◌∷◌, ◌++◌, inl, inr, Some, None, cond, refl, sym, ap, subst, ◌∙◌}
 use Rattle.est_syntax.specs.declared.name.Used.{Used}
 use Rattle.est_syntax.specs.declared.sort.NameSort.TheVariants as sort
-use Rattle.est_syntax.specs.declared.specification.Channel.{Channel}
-use Rattle.est_syntax.specs.declared.specification.Header.{Header}
-use Rattle.est_syntax.specs.declared.specification.Body.{Body, out-Body}
-use Rattle.est_syntax.specs.declared.specification.ModvarDef.{ModvarDef}
-use Rattle.est_syntax.specs.declared.specification.Statement.{Statement}
-use Rattle.est_syntax.specs.declared.specification.Statement.TheVariants as statement
-use Rattle.est_syntax.specs.declared.specification.Part.TheVariants as part
+use Rattle.est_syntax.specs.declared.channel.Channel.{Channel}
+use Rattle.est_syntax.specs.declared.header.Header.{Header}
+use Rattle.est_syntax.specs.declared.body.Body.{Body, out-Body}
+use Rattle.est_syntax.specs.declared.header.ModvarDef.{ModvarDef}
+use Rattle.est_syntax.specs.declared.statement.Statement.{Statement}
+use Rattle.est_syntax.specs.declared.statement.Statement.TheVariants as statement
+use Rattle.est_syntax.specs.declared.body.Part.TheVariants as part
 use Rattle.est_syntax.specs.declared.specification.Spec.{Spec}
 use Rattle.est_syntax.specs.Names.{Sort, Declaration, Meaning, nothing, unseen, predeclared, seen, meaning, spelled, is_name, parts_region, spec_scope}
 use Rattle.est_syntax.specs.Names as names
@@ -68,10 +68,9 @@ used_body s sk u h =
     ∙ ap (λ t. cond t (Some sk.body) None) e
 
 started_body : (s : Spec) (sk : IsSkeleton s) (st : Statement) → IsInit st → NoFault (statement_faults (environment (spec_scope s)) st) → root_in s st ≡ Some sk.body
-started_body s sk (statement.Empty place) i h = absurd i
-started_body s sk (statement.Output sendings place) i h = absurd i
 started_body s sk (statement.Init target named arguments place) i h =
     used_body s sk named (λ f j. h f (in_second f (use_faults (environment (spec_scope s)) sort.ModuleVariable target.name) (use_faults (environment (spec_scope s)) sort.Body named) j))
+started_body s sk _ i h = absurd i
 
 pub root_is : (s : Spec) (sk : IsSkeleton s) → IsGood s → root_of s ≡ Some sk.body
 root_is s sk good =

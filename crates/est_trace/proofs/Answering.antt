@@ -1,5 +1,5 @@
 -- From what a reader of a trace does to the answer.
-use Rattle.std.proofs.Common.{◌≡◌, ℕ, ◌≤◌, true, List, length, refl, sym, subst, Ok, Err}
+use Rattle.std.proofs.Common.{◌≡◌, ℕ, ◌≤◌, true, List, length, refl, subst, Ok, Err}
 use Rattle.est_lexer.specs.declared.tokens.Tokens.{Tokens}
 use Rattle.est_lexer.specs.Places.{text_of, tokens_of}
 use Rattle.est_language.specs.Shown.{Shows, node}
@@ -45,7 +45,7 @@ module _ {tokens : Tokens} {ports : List Port} {A B : Reader} {x : List Event} (
   too_many c w =
       let Q = λ (i : ℕ) (z : _). z ≡ true → IsFull ports 200000 (text_of tokens) (tokens_of tokens) i in
       let moves : Does (λ b. Unit {0}) Q A.at Well B.at B.outcome =
-          subst (λ o. Does (λ b. Unit {0}) Q A.at o B.at B.outcome) s.well
-          (subst (λ d. Does (λ b. Unit {0}) (λ i z. z ≡ true → IsFull ports d (text_of tokens) (tokens_of tokens) i) A.at A.outcome B.at B.outcome) s.levels
-          (subst (λ ts. Does (λ b. Unit {0}) (λ i z. z ≡ true → IsFull ports A.levels (text_of ts) (tokens_of ts) i) A.at A.outcome B.at B.outcome) s.tokens_are (c s.at))) in
+      subst (λ o. Does (λ b. Unit {0}) Q A.at o B.at B.outcome) s.well
+      (subst (λ d. Does (λ b. Unit {0}) (λ i z. z ≡ true → IsFull ports d (text_of tokens) (tokens_of tokens) i) A.at A.outcome B.at B.outcome) s.levels
+      (subst (λ ts. Does (λ b. Unit {0}) (λ i z. z ≡ true → IsFull ports A.levels (text_of ts) (tokens_of ts) i) A.at A.outcome B.at B.outcome) s.tokens_are (c s.at))) in
       ((whole_deep known g s w).0, got_deep (λ b. Unit {0}) Q A.at B.at B.outcome moves w refl)

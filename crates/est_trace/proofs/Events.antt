@@ -4,7 +4,7 @@ use Rattle.est_lexer.specs.declared.tokens.Tokens.{Tokens}
 use Rattle.est_lexer.specs.Places.{text_of, tokens_of}
 use Rattle.est_language.specs.Grammar.{word, done, one_of, when, rule, seq, deeper, nothing, some, both, Tree, t_rule, t_opt_in, t_opt_out, t_deeper, t_seq, Partial, p_none, p_word, p_left, p_right, p_first}
 use Rattle.est_language.specs.Marks.{MeetsOne, Apart, can_begin, can_go_on}
-use Rattle.est_language.specs.Reading.{Found, Refused}
+use Rattle.est_language.specs.Reading.{Found}
 use Rattle.est_language.specs.Shown.{Shows, node, s_empty, s_pair, s_given, s_node}
 use Rattle.est_language.proofs.Laws as laws
 use Rattle.est_language.proofs.Parts as parts
@@ -16,16 +16,16 @@ use Rattle.est_reader.specs.declared.reader.Reader.{Reader}
 use Rattle.est_reader.specs.declared.outcome.Outcome.{Outcome}
 use Rattle.est_reader.specs.declared.outcome.Outcome.TheVariants.{Well, Wrong, TooDeep, NoMemory}
 use Rattle.est_reader.specs.Tests.{Test, said, named, holds, stands}
-use Rattle.est_reader.specs.Moving.{bit, Does, Seen, Sees, NoneSeen, OneSeen, Same, Closes, Still, Kept}
+use Rattle.est_reader.specs.Moving.{bit, Does, Seen, Sees, NoneSeen, OneSeen, Closes, Still, Kept}
 use Rattle.est_reader.specs.Going.{Shape, Finds, Fails, Goes}
-use Rattle.est_reader.proofs.Steps.{onto, after, stay, seen_among, sees_well, sees_it, none_meets, left_of, bit_small, was_well}
+use Rattle.est_reader.proofs.Steps.{onto, after, stay, seen_among, sees_well, sees_it, none_meets, left_of, bit_small}
 use Rattle.est_reader.proofs.Going.{begins_it}
 use Rattle.est_reader.proofs.Turns.{lessens}
 use Rattle.est_reader.proofs.Whole.{flat_not_deep}
 use Rattle.est_trace.specs.declared.direction.Direction.{Direction}
 use Rattle.est_trace.specs.declared.direction.Direction.TheVariants.{In, Out}
 use Rattle.est_trace.specs.Grammar.{Rule, passes, some_pass, signal, dot_signal, port, event, marks, event_starts}
-use Rattle.est_trace.specs.Nodes.{View, some_events, an_event, layer, tracing}
+use Rattle.est_trace.specs.Nodes.{some_events, an_event, layer, tracing}
 use Rattle.est_trace.specs.Counting.{EntersAt, Enters, CountsEvents}
 use Rattle.est_trace.specs.Reading.{traces, nested, IsFullAfter}
 use Rattle.est_trace.proofs.Closed.{event_closed}
@@ -137,8 +137,7 @@ module _ (tokens : Tokens) (ports : List Port) where
   refused : (d a e b i : ℕ) (w : Bool) (es : List Event) → 0 < e → BeginsEvent b → SoFar d a e b es
       → Fails tracing tokens (event ports) (e - 1) b i w → Stops d a i w
   refused d a e b i w es l m y z =
-      let F = fits (text_of tokens) in
-      (
+      let F = fits (text_of tokens) in (
         y.context.off i w (laws.rule_refused F (laws.opt_refused F m (laws.deeper_refused F l (laws.seq_refused_first F event_apart z)))),
         λ q. absurd (flat_not_deep (event_flat ports) (subst (λ v. Fails tracing tokens (event ports) (e - 1) b i v) q z)),
       )
@@ -146,8 +145,7 @@ module _ (tokens : Tokens) (ports : List Port) where
   too_many : (d a e b : ℕ) (es : List Event) → e ≡ 0 → BeginsEvent b → SoFar d a e b es
       → Stops d a b true
   too_many d a e b es z m y =
-      let F = fits (text_of tokens) in
-      (
+      let F = fits (text_of tokens) in (
         y.context.off b true (laws.rule_refused F (laws.opt_refused F m (subst (λ v. Fails tracing tokens (deeper (seq (event ports) (rule ports))) v b b true) (sym z)
             (too_deep_any (laws.some_inside (traces (text_of tokens)) (tokens_of tokens) b (event_starts ports) m) (p_first (event_partial tokens b ports m)))))),
         λ q. (y.shapes, omega (arith, y.count, z), y.tree b nothing (t_rule t_opt_out), m),
@@ -156,8 +154,7 @@ module _ (tokens : Tokens) (ports : List Port) where
   all_found : (d a e b : ℕ) (es : List Event) → (BeginsEvent b → ⊥) → SoFar d a e b es
       → Finds tracing tokens (rule ports) d a (node (some_events es)) b
   all_found d a e b es n y =
-      let F = fits (text_of tokens) in
-      (
+      let F = fits (text_of tokens) in (
         nested y.shapes nothing,
         y.context.on b nothing (laws.rule_found F (laws.opt_out F refl y.context.inside n)),
         subst (λ v. Shows layer (node (some_events v)) (nested y.shapes nothing)) (append-nil es) (y.shows [] nothing (s_node s_empty)),
@@ -236,8 +233,8 @@ module _ (ports : List Port) where
       let f = so_far y (seen_well ports B s) in
       let m = subst (λ v. BeginsEvent v ports B.at) y.tokens (begins_seen ports B s) in
       let step : Does (λ i. SoFar tk ports A.levels A.at C.levels i (es ++ x ∷ [])) (Stops tk ports A.levels A.at) A.at Well D.at D.outcome =
-          one_step tk ports A.levels A.at B.levels B.at C.levels C.at D.at C.outcome D.outcome es x m f.1 n.enters n.place
-          (subst (λ v. Does (Finds tracing v (event ports) C.levels C.at (node (an_event x))) (Fails tracing v (event ports) C.levels C.at) C.at C.outcome D.at D.outcome) (n.tokens ∙ y.tokens) g.moves) in
+      one_step tk ports A.levels A.at B.levels B.at C.levels C.at D.at C.outcome D.outcome es x m f.1 n.enters n.place
+      (subst (λ v. Does (Finds tracing v (event ports) C.levels C.at (node (an_event x))) (Fails tracing v (event ports) C.levels C.at) C.at C.outcome D.at D.outcome) (n.tokens ∙ y.tokens) g.moves) in
       let P = λ (i : ℕ). SoFar tk ports A.levels A.at C.levels i (es ++ x ∷ []) in
       let R = λ (i : ℕ). SoFar tk ports A.levels A.at E.levels i es' in
       let Q = Stops tk ports A.levels A.at in
@@ -286,7 +283,7 @@ module _ (ports : List Port) where
       go Well w e = subst (λ v. left_of E < v) (same_left w) (lessens known refl (seen_there w) g k)
       go TooDeep w e =
           let q : Does (Finds tracing C.tokens.now (event ports) C.levels C.at (node (an_event x))) (Fails tracing C.tokens.now (event ports) C.levels C.at) C.at TooDeep D.at D.outcome =
-              subst (λ o. Does (Finds tracing C.tokens.now (event ports) C.levels C.at (node (an_event x))) (Fails tracing C.tokens.now (event ports) C.levels C.at) C.at o D.at D.outcome) w g.moves in
+          subst (λ o. Does (Finds tracing C.tokens.now (event ports) C.levels C.at (node (an_event x))) (Fails tracing C.tokens.now (event ports) C.levels C.at) C.at o D.at D.outcome) w g.moves in
           stopped q.0 q.1
       go Wrong w e = elim e [ ]
       go NoMemory w e = elim e [ ]

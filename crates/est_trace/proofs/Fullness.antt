@@ -1,8 +1,8 @@
 -- Where the events of a trace are too many.
-use Rattle.std.proofs.Common.{◌≡◌, ℕ, suc, ◌+◌, ◌<◌, ◌≤◌, Bool, true, false, List, [], ◌∷◌, length, refl, sym, ◌∙◌, ap, subst, arith, add-one}
+use Rattle.std.proofs.Common.{◌≡◌, ℕ, suc, ◌+◌, ◌<◌, ◌≤◌, Bool, true, false, List, [], ◌∷◌, length, sym, ◌∙◌, subst, arith, add-one}
 use Rattle.est_lexer.specs.declared.tokens.Tokens.{Tokens}
 use Rattle.est_lexer.specs.Places.{text_of, tokens_of}
-use Rattle.est_language.specs.Grammar.{At, rule, deeper, nothing, some, both, Tree, t_rule, t_opt_in, t_opt_out, t_deeper, t_seq, Partial, p_rule, p_opt, p_deeper, p_first, p_second, p_word}
+use Rattle.est_language.specs.Grammar.{rule, nothing, Tree, t_rule, t_opt_in, t_opt_out, t_deeper, t_seq, Partial, p_rule, p_opt, p_deeper, p_first, p_second, p_word}
 use Rattle.est_language.specs.Places.{HasPartial}
 use Rattle.est_language.specs.Answers.{SaysWhy, wrong_at}
 use Rattle.est_language.proofs.Laws as laws
@@ -14,7 +14,7 @@ use Rattle.est_reader.specs.Tests.{Test, said, number, stands}
 use Rattle.est_reader.specs.Moving.{Does, Taken, NotThere, Takes, Same}
 use Rattle.est_reader.specs.Going.{Shape}
 use Rattle.est_reader.proofs.Steps.{onto, after}
-use Rattle.est_trace.specs.Grammar.{event, trace, event_starts}
+use Rattle.est_trace.specs.Grammar.{trace, event_starts}
 use Rattle.est_trace.specs.Counting.{CountsEvents, CountsTrace}
 use Rattle.est_trace.specs.Reading.{traces, nested, IsFullAfter, IsFull}
 use Rattle.est_trace.proofs.Events.{event_flat, event_partial, BeginsEvent}
@@ -36,8 +36,7 @@ module _ (tokens : Tokens) (ports : List Port) where
       let ts = f.2.0 in
       let m = f.2.3 in
       let l = laws.some_inside (traces (text_of tokens)) (tokens_of tokens) i (event_starts ports) m in
-      let w : 2 ≤ i = trees.tree_forward (traces (text_of tokens)) (tokens_of tokens) (length (tokens_of tokens)) f.2.2 in
-      (
+      let w : 2 ≤ i = trees.tree_forward (traces (text_of tokens)) (tokens_of tokens) (length (tokens_of tokens)) f.2.2 in (
         l,
         subst (λ v. HasPartial (traces (text_of tokens)) (trace ports) (suc d) (tokens_of tokens) v) (sym (add-one i))
             (p_word (said "trace") (omega arith) f.0 (p_word (number 1 1) (omega arith) f.1 (p_first (full_goes_on d 2 i ts f.2.2 f.2.1 l m)))),
@@ -79,12 +78,12 @@ trace_counted ports {A} {B} {C} {D} {E} x y s h z e =
     let Y = λ (a i : ℕ). IsFullAfter ports A.levels (text_of tk) (tokens_of tk) a i in
     let Z = λ (a i : ℕ). (stands tk a (number 1 1) ≡ true) × Y (a + 1) i in
     let c : Does (λ b. Unit {0}) (λ i v. v ≡ true → Y C.at i) C.at C.outcome D.at D.outcome =
-        subst (λ d. Does (λ b. Unit {0}) (λ i v. v ≡ true → IsFullAfter ports d (text_of tk) (tokens_of tk) C.at i) C.at C.outcome D.at D.outcome) (y.same.levels ∙ x.same.levels)
-        (subst (λ ts. Does (λ b. Unit {0}) (λ i v. v ≡ true → IsFullAfter ports C.levels (text_of ts) (tokens_of ts) C.at i) C.at C.outcome D.at D.outcome) (y.same.tokens ∙ x.same.tokens) h) in
+    subst (λ d. Does (λ b. Unit {0}) (λ i v. v ≡ true → IsFullAfter ports d (text_of tk) (tokens_of tk) C.at i) C.at C.outcome D.at D.outcome) (y.same.levels ∙ x.same.levels)
+    (subst (λ ts. Does (λ b. Unit {0}) (λ i v. v ≡ true → IsFullAfter ports C.levels (text_of ts) (tokens_of ts) C.at i) C.at C.outcome D.at D.outcome) (y.same.tokens ∙ x.same.tokens) h) in
     let b : Does (λ b. Unit {0}) (λ i v. v ≡ true → Z B.at i) B.at B.outcome E.at E.outcome =
-        subst (λ ts. Does (λ b. Unit {0}) (λ i v. v ≡ true → (stands ts B.at (number 1 1) ≡ true) × Y (B.at + 1) i) B.at B.outcome E.at E.outcome) x.same.tokens (counts_after B C E Y y (counts_before C D E (λ i. Y C.at i) c z)) in
+    subst (λ ts. Does (λ b. Unit {0}) (λ i v. v ≡ true → (stands ts B.at (number 1 1) ≡ true) × Y (B.at + 1) i) B.at B.outcome E.at E.outcome) x.same.tokens (counts_after B C E Y y (counts_before C D E (λ i. Y C.at i) c z)) in
     let Whole = λ (i : ℕ) (v : Bool). v ≡ true → (stands tk A.at (said "trace") ≡ true) × (stands tk (A.at + 1) (number 1 1) ≡ true) × Y (A.at + 1 + 1) i in
     let a : Does (λ b. Unit {0}) Whole A.at A.outcome E.at E.outcome =
-        onto (λ b. Unit {0}) (λ b. Unit {0}) (λ i v. v ≡ true → (stands tk A.at (said "trace") ≡ true) × Z (A.at + 1) i) Whole A.at E.at A.outcome E.outcome
-        (λ w p. p) (λ w v q r. let f = q r in (f.0, f.1.0, f.1.1)) (counts_after A B E Z x b) in
+    onto (λ b. Unit {0}) (λ b. Unit {0}) (λ i v. v ≡ true → (stands tk A.at (said "trace") ≡ true) × Z (A.at + 1) i) Whole A.at E.at A.outcome E.outcome
+    (λ w p. p) (λ w v q r. let f = q r in (f.0, f.1.0, f.1.1)) (counts_after A B E Z x b) in
     subst (λ n. Does (λ b. Unit {0}) (λ i v. v ≡ true → (stands tk n (said "trace") ≡ true) × (stands tk (n + 1) (number 1 1) ≡ true) × Y (n + 1 + 1) i) A.at A.outcome E.at E.outcome) e a

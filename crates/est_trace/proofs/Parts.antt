@@ -1,10 +1,9 @@
 -- Ports and signals, as they are found and refused.
-use Rattle.std.proofs.Common.{◌≡◌, ℕ, zero, suc, ◌+◌, ◌<◌, ◌≤◌, Bool, true, false, List, [], ◌∷◌, length, refl, sym, ◌∙◌, ap, subst, slice_get, Option, Some, None, is_some, arith}
+use Rattle.std.proofs.Common.{◌≡◌, ℕ, zero, suc, ◌+◌, ◌<◌, Bool, true, false, List, length, refl, sym, ◌∙◌, ap, subst, slice_get, Option, Some, None, is_some}
 use Rattle.std.specs.Option.{unwrap_or}
 use Rattle.est_lexer.specs.declared.tokens.Tokens.{Tokens}
 use Rattle.est_lexer.specs.Places.{text_of, tokens_of}
 use Rattle.est_language.specs.Grammar.{word, done, one_of, nothing, pick, meets}
-use Rattle.est_language.specs.Marks.{MeetsOne}
 use Rattle.est_language.specs.Reading.{Found}
 use Rattle.est_language.specs.Shown.{Shows, empty, s_empty, s_first, s_second}
 use Rattle.est_language.proofs.Laws as laws
@@ -14,9 +13,9 @@ use Rattle.est_reader.specs.declared.reader.Reader.{Reader}
 use Rattle.est_reader.specs.declared.outcome.Outcome.{Outcome}
 use Rattle.est_reader.specs.declared.outcome.Outcome.TheVariants.{Well, Wrong, TooDeep, NoMemory}
 use Rattle.est_reader.specs.Tests.{named, holds}
-use Rattle.est_reader.specs.Moving.{Does, Same, Still, Steps}
+use Rattle.est_reader.specs.Moving.{Does, Still, Steps}
 use Rattle.est_reader.specs.Going.{Shape, Finds, Fails, Goes}
-use Rattle.est_reader.proofs.Steps.{onto, after, same_on, still_well}
+use Rattle.est_reader.proofs.Steps.{onto, after, same_on}
 use Rattle.est_reader.proofs.Going.{from}
 use Rattle.est_trace.specs.declared.direction.Direction.{Direction}
 use Rattle.est_trace.specs.Grammar.{Rule, passes, some_pass, signal, dot_signal, port, marks}
@@ -25,7 +24,6 @@ use Rattle.est_trace.specs.Skeletons.{HaveDifferentNames, ArePlain}
 use Rattle.est_trace.specs.Directories.{signal_name}
 use Rattle.est_trace.specs.Lookups.{Begins, IsChosen, Chooses, signals_of}
 use Rattle.est_trace.specs.Reading.{traces}
-use Rattle.est_trace.proofs.Lists.{some_same}
 use Rattle.est_trace.proofs.TraceFits.{fits}
 use Rattle.est_trace.proofs.Names.{only_one, signals_distinct, ports_distinct, signal_solid, port_solid}
 
@@ -108,7 +106,7 @@ signal_goes direction xs {A} {B} {n} d x =
           (λ w p.
           let b = signal_begun tk A.at direction p.0.0 p.0.2 in
           let y : Found (traces (text_of tk)) marks (tokens_of tk) (one_of (signal direction) xs) A.levels A.at (A.at + 1) (pick n nothing) =
-              laws.one_of_found F (signal direction) (signal_solid direction) xs n p.0.0 (signals_distinct (text_of tk) direction xs d) p.0.1 (laws.when_found b.0 (laws.word_end F b.1)) in
+          laws.one_of_found F (signal direction) (signal_solid direction) xs n p.0.0 (signals_distinct (text_of tk) direction xs d) p.0.1 (laws.when_found b.0 (laws.word_end F b.1)) in
           (pick n nothing, subst (λ i. Found (traces (text_of tk)) marks (tokens_of tk) (one_of (signal direction) xs) A.levels A.at i (pick n nothing)) (sym p.1) y, numbered_shows n s_empty))
           (λ w z q.
           subst (λ u. Fails tracing tk (one_of (signal direction) xs) A.levels A.at B.at u) (sym q.2) (subst (λ i. Fails tracing tk (one_of (signal direction) xs) A.levels A.at i false) (sym q.1)
@@ -161,8 +159,7 @@ module _ (direction : Direction) (ports : List Port) (plain : ArePlain ports) wh
         moves = after (λ b. IsChosen (port direction) ports tk A.at (Some n) × (b ≡ A.at + 1)) (Finds tracing tk g A.levels B.at v) (Finds tracing tk Ports A.levels A.at (numbered n v))
             (λ b z. IsChosen (port direction) ports tk A.at None × (b ≡ A.at) × (z ≡ false)) (Fails tracing tk g A.levels B.at) (Fails tracing tk Ports A.levels A.at)
             A.at B.at C.at A.outcome B.outcome C.outcome
-            (λ e p q.
-            (
+            (λ e p q. (
               pick n q.0,
               port_found tk A.levels A.at n p.0 C.at q.0 (subst (λ i. Found (traces (text_of tk)) marks (tokens_of tk) g A.levels i C.at q.0) p.1 q.1),
               numbered_shows n q.2,
@@ -175,13 +172,8 @@ module _ (direction : Direction) (ports : List Port) (plain : ArePlain ports) wh
         same = same_on x.same y.same;
       }
 
-  -- the signals of a plain port have different names, and are few
+  -- the signals of a plain port have different names
   pub signals_different : (o : Option Port) (n : ℕ) → slice_get ports n ≡ o
       → HaveDifferentNames signal_name (signals_of o)
   signals_different None n e = λ i j x y p q r. cc
   signals_different (Some p) n e = (plain.each n p e).different
-
-  pub signals_few : (o : Option Port) (n : ℕ) → slice_get ports n ≡ o
-      → length (signals_of o) ≤ 1048576
-  signals_few None n e = omega arith
-  signals_few (Some p) n e = (plain.each n p e).few

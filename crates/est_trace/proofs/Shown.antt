@@ -1,11 +1,11 @@
 -- What a trace shows tells the trace, and that it may stand at the ports.
-use Rattle.std.proofs.Common.{All, ◌≡◌, ℕ, zero, suc, ◌+◌, ◌<◌, ◌≤◌, Bool, true, false, ◌&&◌, List, [], ◌∷◌, length, refl, sym, ◌∙◌, ap, subst, arith, Option, Some, None, slice_get}
+use Rattle.std.proofs.Common.{All, ◌≡◌, ℕ, zero, suc, ◌≤◌, Bool, true, false, ◌&&◌, List, [], ◌∷◌, length, refl, sym, ◌∙◌, ap, subst, arith, Option, Some, None, slice_get}
 use Rattle.std.specs.Prelude.{nat_le}
 use Rattle.est_lexer.specs.declared.kind.Token.{Token}
 use Rattle.est_lexer.specs.declared.kind.TokenKind.TheVariants.{Number}
 use Rattle.est_lexer.specs.Kinds.{is_same}
 use Rattle.est_lexer.specs.Spans.{spelling}
-use Rattle.est_language.specs.Grammar.{one_of, when, word, rule, nothing, meets, KeptOf, Tree, t_word, t_token, t_seq, t_left, t_right, t_opt_in, t_opt_out, t_deeper, t_rule}
+use Rattle.est_language.specs.Grammar.{one_of, when, word, rule, meets, KeptOf, Tree, t_word, t_token, t_seq, t_left, t_right, t_opt_in, t_opt_out, t_deeper, t_rule}
 use Rattle.est_language.specs.Shown.{Shows, node, kept, s_empty, s_kept, s_pair, s_first, s_second, s_given, s_node}
 use Rattle.est_language.proofs.Members.{and_left}
 use Rattle.est_syntax.specs.declared.kind.Value.{Value}
@@ -13,7 +13,7 @@ use Rattle.est_syntax.specs.declared.ports.Port.{Port}
 use Rattle.est_meaning.specs.declared.event.Interaction.{Interaction}
 use Rattle.est_meaning.specs.declared.event.Event.{Event}
 use Rattle.est_meaning.specs.declared.event.Event.TheVariants.{Arrives, Leaves, Passes}
-use Rattle.est_reader.specs.Tests.{Test, number, Kept, value, value_in, kept_of, holds}
+use Rattle.est_reader.specs.Tests.{Test, number, value, value_in, holds}
 use Rattle.est_reader.specs.Going.{Shape}
 use Rattle.est_reader.proofs.Apart.{within}
 use Rattle.est_reader.proofs.Single.{kept_number}

@@ -1,5 +1,5 @@
 -- The table of the trace grammar says enough.
-use Rattle.std.proofs.Common.{◌≡◌, ℕ, true, List, [], ◌++◌, refl, inl, inr}
+use Rattle.std.proofs.Common.{ℕ, List, [], ◌++◌, refl, inl, inr}
 use Rattle.est_language.specs.Marks.{Fits, Within, can_begin, can_go_on}
 use Rattle.est_language.proofs.Members
 use Rattle.est_syntax.specs.declared.ports.Port.{Port}

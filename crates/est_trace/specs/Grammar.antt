@@ -1,5 +1,5 @@
 -- The grammar of traces, for the ports of one specification.
-use Rattle.std.specs.Prelude.{ℕ, Bool, true, List, [], ◌∷◌}
+use Rattle.std.specs.Prelude.{Bool, true, List, [], ◌∷◌}
 use Rattle.std.specs.List.{list_any}
 use Rattle.est_language.specs.Grammar.{done, word, token, seq, alt, opt, deeper, rule, when, one_of}
 use Rattle.est_language.specs.Marks.{Marks}

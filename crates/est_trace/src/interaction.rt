@@ -41,12 +41,7 @@ pub fn interaction(
 }
 
 // The name of a port that some signal passes in this direction.
-fn port(
-    reader: &mut Reader,
-    directory: &Directory,
-    hints: &mut Hints,
-    direction: Direction,
-) -> u32
+fn port(reader: &mut Reader, directory: &Directory, hints: &mut Hints, direction: Direction) -> u32
     requires { IsDirectory directory.now }
     ensures { Chooses (a_port direction) directory.now.ports.now reader.old result reader.new }
 {

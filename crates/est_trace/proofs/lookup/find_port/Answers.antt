@@ -1,4 +1,4 @@
-use Rattle.std.proofs.Common.{◌≡◌, ◌<◌, true, false, length, subst, sym, ap, ◌∙◌, Some, None, slice_get, refl, arith}
+use Rattle.std.proofs.Common.{◌≡◌, subst, sym, ap, ◌∙◌, Some, None, slice_get, arith}
 use Rattle.std.specs.Option.{option_map}
 use Rattle.std.proofs.lemmas.Option.{slice_get_within, get_or_from_slice_get}
 use Rattle.est_reader.specs.Moving.{IsNamedAt}
@@ -56,7 +56,7 @@ returns-in-Ok-true-clause-found c = λ w.
     let bytes = c.in-Some.name.items in
     let p = port_at d c.requires i bytes (subst (λ v. slice_get (names_in d.names) i ≡ Some v) c.deref.ensures.value c.in-Some-number_of.ensures) in
     let same : p.0.signals ≡ c.as_slice-signals.result.now =
-        ap (λ v. v.signals) (sym (get_or_from_slice_get d.ports.now i p.0 c.index-directory-number.result p.1)) ∙ sym (c.as_slice-signals.ensures ∙ c.get.ensures) in
+    ap (λ v. v.signals) (sym (get_or_from_slice_get d.ports.now i p.0 c.index-directory-number.result p.1)) ∙ sym (c.as_slice-signals.ensures ∙ c.get.ensures) in
     chosen port_name (λ p. some_pass c.args.direction p.signals) (λ p. dot_signal c.args.direction p.signals) d.ports.now tk at bytes i p.0
     (subst (λ o. IsNamedAt tk at (option_map (λ bytes. bytes.items) o)) c.in-Some.is (c.name_here.ensures.named w)) p.1 p.2
     (ap (some_pass c.args.direction) same ∙ sym (sym c.in-Ok-true.field-0-test ∙ c.in-Ok-true.ensures))
@@ -70,7 +70,7 @@ returns-in-Ok-false-clause-found c = λ w.
     let bytes = c.in-Some.name.items in
     let p = port_at d c.requires i bytes (subst (λ v. slice_get (names_in d.names) i ≡ Some v) c.deref.ensures.value c.in-Some-number_of.ensures) in
     let same : p.0.signals ≡ c.as_slice-signals.result.now =
-        ap (λ v. v.signals) (sym (get_or_from_slice_get d.ports.now i p.0 c.index-directory-number.result p.1)) ∙ sym (c.as_slice-signals.ensures ∙ c.get.ensures) in
+    ap (λ v. v.signals) (sym (get_or_from_slice_get d.ports.now i p.0 c.index-directory-number.result p.1)) ∙ sym (c.as_slice-signals.ensures ∙ c.get.ensures) in
     not_allowed port_name (λ p. some_pass c.args.direction p.signals) (λ p. dot_signal c.args.direction p.signals) d.ports.now tk at bytes
     (subst (λ o. IsNamedAt tk at (option_map (λ bytes. bytes.items) o)) c.in-Some.is (c.name_here.ensures.named w)) c.requires.plain.different i p.0 p.1 p.2
     (ap (some_pass c.args.direction) same ∙ sym (sym c.in-Ok-false.field-0-test ∙ c.in-Ok-false.ensures))

@@ -1,4 +1,4 @@
-use Rattle.std.proofs.Common.{◌≡◌, ◌<◌, true, false, length, map, subst, sym, ap, ◌∙◌, Some, None, slice_get, refl, arith}
+use Rattle.std.proofs.Common.{◌≡◌, map, subst, sym, ap, ◌∙◌, Some, None, slice_get, refl, arith}
 use Rattle.std.specs.Option.{option_map}
 use Rattle.std.proofs.lemmas.Option.{slice_get_within, get_or_from_slice_get}
 use Rattle.est_language.specs.Grammar.{done}

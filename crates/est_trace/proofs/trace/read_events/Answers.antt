@@ -1,4 +1,4 @@
-use Rattle.std.proofs.Common.{sym, ◌∙◌, refl}
+use Rattle.std.proofs.Common.{sym, ◌∙◌}
 use Rattle.est_trace.proofs.Answering.{read, read_at_ports, more_tokens, wrong, too_many}
 use Rattle.est_trace.proofs.trace.read_events.Goals as goal
 

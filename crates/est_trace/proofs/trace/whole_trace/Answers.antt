@@ -1,5 +1,5 @@
 use Rattle.std.proofs.Common.{refl}
-use Rattle.est_reader.proofs.Going.{part, take, then, last, rule_goes}
+use Rattle.est_reader.proofs.Going.{part, take, then, last}
 use Rattle.est_reader.proofs.Single.{number_takes}
 use Rattle.est_trace.proofs.TraceFits.{known}
 use Rattle.est_trace.proofs.Fullness.{trace_counted}
