@@ -6,13 +6,15 @@ use Rattle.est_lexer.specs.Places.{offset_at}
 use Rattle.est_lexer.specs.TokenList.{IsTokenList}
 use Rattle.est_syntax.specs.declared.specification.Spec.{Spec}
 use Rattle.est_syntax.specs.Ports.{ports_of}
-use Rattle.est_specification.specs.Reading.{IsNoSpecification}
+use Rattle.est_meaning.specs.declared.event.Event.{Event}
+use Rattle.est_replay.specs.declared.explanation.Explanation.{Explanation}
+use Rattle.est_specification.specs.Reading.{IsSpecification, IsNoSpecification}
 use Rattle.est_specification.specs.declared.error.SpecificationError.{SpecificationError}
 use Rattle.est_specification.specs.declared.error.SpecificationError.TheVariants as specification
-use Rattle.est_trace.specs.Reading.{IsTraceRefusal}
+use Rattle.est_trace.specs.Reading.{IsOnlyTraceText, IsTraceRefusal}
 use Rattle.est_trace.specs.declared.error.TraceError.{TraceError}
 use Rattle.est_trace.specs.declared.error.TraceError.TheVariants as trace
-use Rattle.est_replay.specs.Reading.{IsExplanationRefusal}
+use Rattle.est_replay.specs.Reading.{IsOnlyExplanationText, IsExplanationRefusal}
 use Rattle.est_replay.specs.declared.error.ExplanationError.{ExplanationError}
 use Rattle.est_replay.specs.declared.error.ExplanationError.TheVariants as explanation
 use Rattle.est_tool.specs.declared.file.File.{File}
@@ -38,6 +40,18 @@ SomeText None P = (text : List ℕ) × P text
 -- the file that tells these bytes holds such a text
 abbrev pub Holds : File → Option (List ℕ) → (List ℕ → List Token → Type 0) → Type 0
 Holds file told Is = SomeText told (λ text. IsText file text Is)
+
+-- the tokens of the text are this specification, and it breaks no rule
+abbrev pub OfSpecification : Spec → List ℕ → List Token → Type 0
+OfSpecification spec text tokens = IsSpecification text tokens spec
+
+-- the tokens are a text of this trace of the specification, and of no other
+abbrev pub OfTrace : Spec → List Event → List ℕ → List Token → Type 0
+OfTrace spec events text tokens = IsOnlyTraceText (ports_of spec) text tokens events
+
+-- the tokens are a text of this explanation, and of no other
+abbrev pub OfExplanation : Explanation → List ℕ → List Token → Type 0
+OfExplanation explanation text tokens = IsOnlyExplanationText text tokens explanation
 
 -- REFUSALS
 

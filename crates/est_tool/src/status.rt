@@ -23,7 +23,7 @@ pub enum Status {
     ReadFault = 8,
     /// The report could not be written.
     WriteFault = 9,
-    /// Memory was wanting.
+    /// Out of memory.
     OutOfMemory = 10,
     /// The specification has a form that is not built yet.
     NotBuilt = 12,

@@ -8,7 +8,7 @@ use est_meaning::run::Limits;
 const BUDGET: u32 = 1_000_000;
 
 /// What the words ask for.
-#[derive(Clone, Copy, Debug)]
+#[derive(Clone, Copy)]
 pub enum Command {
     /// To check the specification in the file that the word behind `check` names.
     Check,
