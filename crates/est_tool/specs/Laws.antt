@@ -8,7 +8,8 @@ use Rattle.est_tool.specs.Words.{Request, check, replay, Asks}
 -- two shelves tell a file, and tell the same bytes of it
 abbrev pub TellAlike : Seen → Seen → List ℕ → Type 0
 TellAlike shelf shelf' name =
-    (bytes : List ℕ) × (shelf.before.told name ≡ Some bytes) × (shelf'.before.told name ≡ Some bytes)
+    (bytes : List ℕ) × (shelf.before.told name ≡ Some bytes)
+    × (shelf'.before.told name ≡ Some bytes)
 
 -- two shelves tell each file that is asked for, and tell the same bytes of it
 abbrev pub TellFilesAlike : Seen → Seen → Request → Type 0

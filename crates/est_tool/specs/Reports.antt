@@ -27,7 +27,8 @@ ok_line counts =
 -- a file that is refused at a line and a column
 abbrev pub refusal_line : File → ℕ → ℕ → List ℕ → List ℕ
 refusal_line file line column why =
-    word_of file ++ codes ":" ++ decimal line ++ codes ":" ++ decimal column ++ codes ": " ++ why ++ line_feed
+    word_of file ++ codes ":" ++ decimal line ++ codes ":" ++ decimal column ++ codes ": " ++ why
+    ++ line_feed
 
 -- a file that is longer than its limit
 abbrev pub too_long_line : File → List ℕ
@@ -57,7 +58,8 @@ rule_text CaseTwice = codes "rule 18: case twice"
 -- an explanation that is confirmed for the first events of a trace
 abbrev pub first_line : ℕ → ℕ → List ℕ
 first_line claim events =
-    codes "confirmed: first " ++ decimal claim ++ codes " of " ++ decimal events ++ codes " events" ++ line_feed
+    codes "confirmed: first " ++ decimal claim ++ codes " of " ++ decimal events ++ codes " events"
+    ++ line_feed
 
 -- an explanation that is confirmed for a whole trace
 abbrev pub all_line : ℕ → List ℕ

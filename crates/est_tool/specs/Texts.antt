@@ -57,21 +57,28 @@ OfExplanation explanation text tokens = IsOnlyExplanationText text tokens explan
 
 -- what is said of an error: the status, the place and why
 abbrev pub SaysOfSpecification : SpecificationError → Status → ℕ → List ℕ → Type 0
-SaysOfSpecification (specification.BadToken at) status place why = (status ≡ BadSpec) × (place ≡ at) × (why ≡ codes "bad token")
-SaysOfSpecification (specification.LeftOut at) status place why = (status ≡ BadSpec) × (place ≡ at) × (why ≡ codes "left out")
-SaysOfSpecification (specification.NotYet at) status place why = (status ≡ NotBuilt) × (place ≡ at) × (why ≡ codes "not built yet")
-SaysOfSpecification (specification.BrokenRule at rule) status place why = (status ≡ BadSpec) × (place ≡ at) × (why ≡ rule_text rule)
+SaysOfSpecification (specification.BadToken at) status place why =
+    (status ≡ BadSpec) × (place ≡ at) × (why ≡ codes "bad token")
+SaysOfSpecification (specification.LeftOut at) status place why =
+    (status ≡ BadSpec) × (place ≡ at) × (why ≡ codes "left out")
+SaysOfSpecification (specification.NotYet at) status place why =
+    (status ≡ NotBuilt) × (place ≡ at) × (why ≡ codes "not built yet")
+SaysOfSpecification (specification.BrokenRule at rule) status place why =
+    (status ≡ BadSpec) × (place ≡ at) × (why ≡ rule_text rule)
 SaysOfSpecification (specification.Memory error) status place why = ⊥
 
 -- the same of a trace
 abbrev pub SaysOfTrace : TraceError → Status → ℕ → List ℕ → Type 0
-SaysOfTrace (trace.BadToken at) status place why = (status ≡ BadTrace) × (place ≡ at) × (why ≡ codes "bad token")
-SaysOfTrace (trace.TooMany at) status place why = (status ≡ BadTrace) × (place ≡ at) × (why ≡ codes "too many events")
+SaysOfTrace (trace.BadToken at) status place why =
+    (status ≡ BadTrace) × (place ≡ at) × (why ≡ codes "bad token")
+SaysOfTrace (trace.TooMany at) status place why =
+    (status ≡ BadTrace) × (place ≡ at) × (why ≡ codes "too many events")
 SaysOfTrace (trace.Memory error) status place why = ⊥
 
 -- the same of an explanation
 abbrev pub SaysOfExplanation : ExplanationError → Status → ℕ → List ℕ → Type 0
-SaysOfExplanation (explanation.BadToken at) status place why = (status ≡ BadExplanation) × (place ≡ at) × (why ≡ codes "bad token")
+SaysOfExplanation (explanation.BadToken at) status place why =
+    (status ≡ BadExplanation) × (place ≡ at) × (why ≡ codes "bad token")
 SaysOfExplanation (explanation.Memory error) status place why = ⊥
 
 -- how a kind of text is refused: of which tokens, with which status, at which place and why
@@ -80,22 +87,33 @@ Refusals = List ℕ → List Token → Status → ℕ → List ℕ → Type 0
 
 -- a specification: at its first bad place, or at its least broken rule
 abbrev pub RefusesSpecification : Refusals
-RefusesSpecification text tokens status place why = (error : SpecificationError) × IsNoSpecification text tokens error × SaysOfSpecification error status place why
+RefusesSpecification text tokens status place why =
+    (error : SpecificationError) × IsNoSpecification text tokens error
+    × SaysOfSpecification error status place why
 
 -- a trace of a specification: at its first bad place
 abbrev pub RefusesTrace : Spec → Refusals
-RefusesTrace spec text tokens status place why = (error : TraceError) × IsTraceRefusal (ports_of spec) text tokens error × SaysOfTrace error status place why
+RefusesTrace spec text tokens status place why =
+    (error : TraceError) × IsTraceRefusal (ports_of spec) text tokens error
+    × SaysOfTrace error status place why
 
 -- an explanation: at its first bad place
 abbrev pub RefusesExplanation : Refusals
-RefusesExplanation text tokens status place why = (error : ExplanationError) × IsExplanationRefusal text tokens error × SaysOfExplanation error status place why
+RefusesExplanation text tokens status place why =
+    (error : ExplanationError) × IsExplanationRefusal text tokens error
+    × SaysOfExplanation error status place why
 
 -- the line of a refusal at the token with this number
 abbrev pub refusal_at : File → List ℕ → List Token → ℕ → List ℕ → List ℕ
-refusal_at file text tokens place why = refusal_line file (line_at text (offset_at tokens place)) (column_at text (offset_at tokens place)) why
+refusal_at file text tokens place why =
+    refusal_line file (line_at text (offset_at tokens place))
+    (column_at text (offset_at tokens place)) why
 
 -- the tokens of a text are refused, with this status and this report
-pub record IsReported (file : File) (Refuses : Refusals) (status : Status) (report text : List ℕ) (tokens : List Token) : Type 0 where
+pub record IsReported
+    (file : File) (Refuses : Refusals) (status : Status) (report text : List ℕ)
+    (tokens : List Token)
+    : Type 0 where
   pub place : ℕ
   pub why : List ℕ
   pub refused : Refuses text tokens status place why

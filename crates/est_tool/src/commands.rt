@@ -58,7 +58,8 @@ pub(crate) fn replay_files<S: Shelf>(
     files: &ReplayFiles<'_>,
     limits: &Limits,
 ) -> Result<Report, Stop>
-    ensures { IsWork [] (replay files.now.specification.now files.now.trace.now files.now.explanation.now
+    ensures { IsWork []
+        (replay files.now.specification.now files.now.trace.now files.now.explanation.now
         limits.now.silent limits.now.statements)
         (seen
         (shelved (S.told shelf.old) (S.faults shelf.old) (S.started shelf.old) (S.taken shelf.old))

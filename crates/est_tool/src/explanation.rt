@@ -48,7 +48,7 @@ fn explanation_of(alloc: Global, text: &[u8]) -> Result<Explanation, Stop>
 
 // What is said of an error, unless memory ran out.
 fn said_of(error: ExplanationError) -> Option<Refusal>
-    ensures { IfSome result (λ refusal. SaysOfExplanation error refusal.status refusal.place refusal.why.now) }
+    ensures { IfSome result (λ said. SaysOfExplanation error said.status said.place said.why.now) }
 {
     match error {
         ExplanationError::BadToken { place } => Some(Refusal {

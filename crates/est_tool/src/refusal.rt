@@ -27,8 +27,8 @@ pub(crate) fn refuse(
     tokens: &Tokens<'_>,
     refusal: Option<Refusal>,
 ) -> Stop
-    ensures said { IfSome refusal (λ said. StopsWith said.status
-        (refusal_at file (text_of tokens.now) (tokens_of tokens.now) said.place said.why.now) result) }
+    ensures said { IfSome refusal (λ said. StopsWith said.status (refusal_at file
+        (text_of tokens.now) (tokens_of tokens.now) said.place said.why.now) result) }
     ensures unsaid { IfNone refusal (result ≡ Wanting) }
 {
     let Some(Refusal { status, place, why }) = refusal else {

@@ -47,7 +47,8 @@ fn specification_of(alloc: Global, text: &[u8]) -> Result<Checked, Stop>
 
 // What is said of an error, unless memory ran out.
 fn said_of(error: SpecificationError) -> Option<Refusal>
-    ensures { IfSome result (λ refusal. SaysOfSpecification error refusal.status refusal.place refusal.why.now) }
+    ensures { IfSome result
+        (λ said. SaysOfSpecification error said.status said.place said.why.now) }
 {
     let (status, place, why) = match error {
         SpecificationError::BadToken { place } => (Status::BadSpec, place, "bad token"),

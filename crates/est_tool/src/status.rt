@@ -3,7 +3,7 @@ ghost use Rattle.std.specs.Prelude.{◌≡◌};
 ghost use Rattle.est_tool.specs.Statuses.{code_of};
 
 /// How a call ended. Its number is the exit status of the program.
-#[derive(Clone, Copy, Debug, PartialEq, Eq)]
+#[derive(Clone, Copy, PartialEq, Eq)]
 pub enum Status {
     /// The specification is good, or the explanation is confirmed.
     Fine = 0,

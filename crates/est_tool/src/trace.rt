@@ -28,7 +28,8 @@ pub(crate) fn trace_in<S: Shelf>(
     checked: &Checked,
 ) -> Result<Trace, Stop>
     ensures allowed { IfOk result (IsAllowedTrace checked.now) }
-    ensures reads { ReadsFile Tracing name.now (OfTrace checked.now) (RefusesTrace checked.now) (seen
+    ensures reads { ReadsFile Tracing name.now
+        (OfTrace checked.now) (RefusesTrace checked.now) (seen
         (shelved (S.told shelf.old) (S.faults shelf.old) (S.started shelf.old) (S.taken shelf.old))
         (shelved (S.told shelf.new) (S.faults shelf.new) (S.started shelf.new) (S.taken shelf.new)))
         result }
@@ -41,7 +42,8 @@ pub(crate) fn trace_in<S: Shelf>(
 fn trace_of(alloc: Global, text: &[u8], checked: &Checked) -> Result<Trace, Stop>
     requires { length text.now ≤ limit_of Tracing }
     ensures allowed { IfOk result (IsAllowedTrace checked.now) }
-    ensures reads { ReadsText Tracing (OfTrace checked.now) (RefusesTrace checked.now) text.now result }
+    ensures reads { ReadsText Tracing
+        (OfTrace checked.now) (RefusesTrace checked.now) text.now result }
 {
     let tokens = lex(alloc, text)?;
     match read_trace(alloc, checked, &tokens) {
@@ -52,7 +54,7 @@ fn trace_of(alloc: Global, text: &[u8], checked: &Checked) -> Result<Trace, Stop
 
 // What is said of an error, unless memory ran out.
 fn said_of(error: TraceError) -> Option<Refusal>
-    ensures { IfSome result (λ refusal. SaysOfTrace error refusal.status refusal.place refusal.why.now) }
+    ensures { IfSome result (λ said. SaysOfTrace error said.status said.place said.why.now) }
 {
     let (place, why) = match error {
         TraceError::BadToken { place } => (place, "bad token"),
