@@ -2,7 +2,11 @@
 use Rattle.std.proofs.Common.{◌≡◌, ℕ, ◌+◌, ◌-◌, ◌≤◌, List, ◌++◌, length, take, drop, Option, Some, None, arith, ap, sym, ◌∙◌, refl, append_assoc, take-add, length-drop, length-take-le, drop-drop}
 use Rattle.std.proofs.Math.Seq.{take-append_seam}
 use Rattle.std.proofs.lemmas.List.{take-append-drop, take_rest}
-use Rattle.est_edge.specs.Pieces.{appended, IsPrefix, TakesOff}
+use Rattle.est_edge.specs.Pieces.{SameTold, appended, IsPrefix, TakesOff}
+
+-- the same is told after two parts of a call
+pub SameTold-then : {old middle new : List ℕ → Option (List ℕ)} → SameTold old middle → SameTold middle new → SameTold old new
+SameTold-then first second name = second name ∙ first name
 
 -- a front part of a list is one
 pub IsPrefix-take : (n : ℕ) (xs : List ℕ) → IsPrefix (take n xs) xs

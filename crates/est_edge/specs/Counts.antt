@@ -14,6 +14,10 @@ pub record GoesOn (old new : ℕ) : Type 0 where
   pub never_falls : old ≤ new
   pub stays_last : old ≡ last_count → new ≡ last_count
 
+-- the count of each name is as it was
+abbrev pub AllStay : (List ℕ → ℕ) → (List ℕ → ℕ) → Type 0
+AllStay old new = (name : List ℕ) → new name ≡ old name
+
 -- the count of each name goes on
 abbrev pub AllGoOn : (List ℕ → ℕ) → (List ℕ → ℕ) → Type 0
 AllGoOn old new = (name : List ℕ) → GoesOn (old name) (new name)

@@ -59,6 +59,19 @@ failing_of shelf = shelf.calls.failing.items
 abbrev pub chunk_of : MemShelf → ℕ
 chunk_of shelf = shelf.chunk
 
+-- the names that were started, in order
+abbrev pub names_started : MemShelf → List (List ℕ)
+names_started shelf = shelf.trail.names
+
+-- how often bytes were asked for since the last start
+abbrev pub times_asked : MemShelf → ℕ
+times_asked shelf = shelf.trail.asked
+
+-- nothing was started or asked for
+pub record SameCalls (old new : MemShelf) : Type 0 where
+  pub started : names_started new ≡ names_started old
+  pub asked : times_asked new ≡ times_asked old
+
 -- one call was numbered, and the rest of the plan stays
 pub record NumbersCall (old new : MemShelf) : Type 0 where
   pub made : made_by new ≡ next_number (made_by old)
@@ -87,10 +100,6 @@ pub record SameReading (old new : MemShelf) : Type 0 where
   pub rest : rest_of new ≡ rest_of old
   pub taken : taken_from new ≡ taken_from old
   pub ended : end_seen new ≡ end_seen old
-
--- the count of each name is as it was
-abbrev pub SameCounts : MemShelf → MemShelf → Type 0
-SameCounts old new = (name : List ℕ) → count_under new name ≡ count_under old name
 
 -- two names have one count: they are one name, or no file has either
 abbrev pub ShareCount : MemShelf → List ℕ → List ℕ → Type 0

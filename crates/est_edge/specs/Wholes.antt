@@ -1,6 +1,7 @@
 -- What reading a whole file answers.
 use Rattle.std.specs.Prelude.{◌≡◌, ℕ, ◌+◌, ◌<◌, ◌≤◌, List, Bool, true, length, Result, Ok, Err}
 use Rattle.std.specs.Global.{Vec}
+use Rattle.est_edge.specs.Counts.{Rose, AllStay}
 use Rattle.est_edge.specs.declared.whole.ReadError.{ReadError}
 use Rattle.est_edge.specs.declared.whole.ReadError.TheVariants.{Failed, TooLong, Memory}
 
@@ -17,3 +18,10 @@ IsTakenWhole limit taken ended (Ok read) = (length read.items ≡ taken) × (tak
 IsTakenWhole limit taken ended (Err TooLong) = taken ≡ limit + 1
 IsTakenWhole limit taken ended (Err Failed) = Unit {0}
 IsTakenWhole limit taken ended (Err (Memory _)) = Unit {0}
+
+-- A fault is answered: the count of its name rose where the file could not be read, and each count is as it was where the answer is another.
+abbrev pub AnswersFaults : List ℕ → (List ℕ → ℕ) → (List ℕ → ℕ) → Result (Vec ℕ) ReadError → Type 0
+AnswersFaults name before after (Ok read) = AllStay before after
+AnswersFaults name before after (Err TooLong) = AllStay before after
+AnswersFaults name before after (Err Failed) = Rose (before name) (after name)
+AnswersFaults name before after (Err (Memory _)) = AllStay before after

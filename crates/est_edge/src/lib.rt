@@ -10,6 +10,7 @@ mod memory_sink;
 mod places;
 mod reading;
 mod system;
+mod trail;
 mod whole;
 mod writing;
 

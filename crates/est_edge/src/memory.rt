@@ -10,6 +10,7 @@ use crate::counting::Count;
 use crate::file::MemFile;
 use crate::places::{add_last, bytes_of, first_named, raise_at, replace_at, without_place};
 use crate::reading::{Failed, Shelf};
+use crate::trail::Trail;
 use std::alloc::{AllocError, Global};
 
 /// Files in memory, for tests. Each call of `start` or `more` has a number, from 1 on, and is to
@@ -24,6 +25,7 @@ pub struct MemShelf {
     started: Option<usize>,
     taken: usize,
     ended: bool,
+    trail: Trail,
     ghost chunked: { 0 < chunk },
     ghost held: { ForSome started (λ place. place < length files.items) },
     ghost first: { ForSome started (λ place. ForSome (name_at files.items place) (λ name. place_of files.items name ≡ place)) },
@@ -31,9 +33,10 @@ pub struct MemShelf {
 }
 
 impl MemShelf {
-    ghost use Rattle.std.specs.Prelude.{◌≡◌, ℕ, ◌<◌, List, None, false, length, IsTrue, IfOk, OnOk, OnErr, IfSome, IfNone};
+    ghost use Rattle.std.specs.Prelude.{◌≡◌, ℕ, ◌<◌, List, [], None, false, length, IsTrue, IfOk, OnOk, OnErr, IfSome, IfNone};
     ghost use Rattle.est_edge.specs.Places.{place_of};
-    ghost use Rattle.est_edge.specs.Memory.{holds, bytes_under, count_under, Reads, started_name, taken_from, end_seen, made_by, failing_of, chunk_of, SamePlan, SameFiles, SameOtherFiles, SameReading, SameCounts};
+    ghost use Rattle.est_edge.specs.Counts.{AllStay};
+    ghost use Rattle.est_edge.specs.Memory.{holds, bytes_under, count_under, Reads, started_name, taken_from, end_seen, made_by, failing_of, chunk_of, SamePlan, SameFiles, SameOtherFiles, SameReading, SameCalls, names_started, times_asked};
 
     /// No file yet.
     pub fn new(alloc: Global, chunk: usize, failing: &[u64]) -> Result<MemShelf, AllocError>
@@ -45,6 +48,7 @@ impl MemShelf {
         ensures made { IfOk result (λ shelf. made_by shelf ≡ 0) }
         ensures failing { IfOk result (λ shelf. failing_of shelf ≡ failing.now) }
         ensures chunk { IfOk result (λ shelf. chunk_of shelf ≡ chunk) }
+        ensures called { IfOk result (λ shelf. (names_started shelf ≡ []) × (times_asked shelf ≡ 0)) }
     {
         Ok(MemShelf {
             alloc,
@@ -55,6 +59,7 @@ impl MemShelf {
             started: None,
             taken: 0,
             ended: false,
+            trail: Trail::new(),
         })
     }
 
@@ -62,7 +67,8 @@ impl MemShelf {
     /// read any more once it was replaced. After an `Err` nothing has changed.
     pub fn add(&mut self, name: &str, bytes: &[u8]) -> Result<(), AllocError>
         ensures plan { SamePlan self.old self.new }
-        ensures counts { SameCounts self.old self.new }
+        ensures counts { AllStay (count_under self.old) (count_under self.new) }
+        ensures called { SameCalls self.old self.new }
         ensures begun { (taken_from self.new ≡ taken_from self.old) × (end_seen self.new ≡ end_seen self.old) }
 
         ensures held { OnOk result (IsTrue (holds self.new name.now)) }
@@ -103,11 +109,11 @@ impl MemShelf {
 }
 
 impl Shelf for MemShelf {
-    ghost use Rattle.std.specs.Prelude.{◌≡◌, ℕ, ◌+◌, ◌<◌, ◌≤◌, ◌↔◌, ◌||◌, ◌&&◌, ◌==◌, List, [], false, not, Some, IfSome, OnOk, OnErr, IfOk, Ok, is_ok, is_err, is_some, length, take, min};
-    ghost use Rattle.est_edge.specs.Counts.{last_count, Rose, AllGoOn};
+    ghost use Rattle.std.specs.Prelude.{◌≡◌, ℕ, ◌+◌, ◌<◌, ◌≤◌, ◌↔◌, ◌||◌, ◌&&◌, ◌==◌, List, [], ◌∷◌, ◌++◌, false, not, Some, IfSome, OnOk, OnErr, IfOk, Ok, is_ok, is_err, is_some, length, take, min};
+    ghost use Rattle.est_edge.specs.Counts.{last_count, Rose, AllGoOn, AllStay};
     ghost use Rattle.est_edge.specs.Pieces.{SameTold, TakesOff};
     ghost use Rattle.est_edge.specs.Calls.{is_listed};
-    ghost use Rattle.est_edge.specs.Memory.{told_under, count_under, holds, Reads, rest_of, started_name, taken_from, end_seen, count_under_within, made_by, failing_of, chunk_of, NumbersCall, SameFiles, SameReading, SameCounts, SameOtherCounts};
+    ghost use Rattle.est_edge.specs.Memory.{told_under, count_under, holds, Reads, rest_of, started_name, taken_from, end_seen, count_under_within, made_by, failing_of, chunk_of, NumbersCall, SameFiles, SameReading, SameOtherCounts, names_started, times_asked};
 
     ghost told = { told_under };
 
@@ -121,11 +127,18 @@ impl Shelf for MemShelf {
 
     ghost faults = { count_under };
 
+    ghost started = { names_started };
+
+    ghost asked = { times_asked };
+
     ghost counted = { count_under_within };
 
     fn start(&mut self, name: &str) -> Result<(), Failed>
         ensures told { SameTold (told_under self.old) (told_under self.new) }
         ensures counts { AllGoOn (count_under self.old) (count_under self.new) }
+        ensures started { names_started self.new ≡ names_started self.old ++ name.now ∷ [] }
+        ensures asked { times_asked self.new ≡ 0 }
+        ensures quiet { OnOk result (AllStay (count_under self.old) (count_under self.new)) }
         ensures reads { OnOk result (Reads self.new name.now) }
         ensures left { OnOk result (IfSome (told_under self.old name.now) (λ bytes. Some (rest_of self.new) ≡ Some bytes)) }
         ensures begun { OnOk result ((taken_from self.new ≡ 0) × (end_seen self.new ≡ false)) }
@@ -136,10 +149,10 @@ impl Shelf for MemShelf {
         ensures call { NumbersCall self.old self.new }
         ensures answer { is_ok result ≡ (holds self.old name.now && not (is_listed (failing_of self.old) (made_by self.new))) }
         ensures files { SameFiles self.old self.new }
-        ensures quiet { OnOk result (SameCounts self.old self.new) }
         ensures one_count { OnErr result (SameOtherCounts self.old self.new name.now) }
         ensures reading { OnErr result (SameReading self.old self.new) }
     {
+        self.trail = self.trail.start(name);
         let place = self.place_of(name);
         let fails = self.calls.next_fails();
         let Some(place) = place else {
@@ -160,6 +173,9 @@ impl Shelf for MemShelf {
         requires { 0 < length into.old }
         ensures told { SameTold (told_under self.old) (told_under self.new) }
         ensures counts { AllGoOn (count_under self.old) (count_under self.new) }
+        ensures started { names_started self.new ≡ names_started self.old }
+        ensures asked { times_asked self.new ≡ times_asked self.old + 1 }
+        ensures quiet { OnOk result (AllStay (count_under self.old) (count_under self.new)) }
         ensures reads { (name : List ℕ) → Reads self.old name → Reads self.new name }
         ensures fits { IfOk result (λ n. n ≤ length into.new) }
         ensures piece { IfOk result (λ n. TakesOff (Some (rest_of self.old)) (take n into.new) (Some (rest_of self.new))) }
@@ -176,9 +192,9 @@ impl Shelf for MemShelf {
         ensures amount { IfOk result (λ n. n ≡ min (min (chunk_of self.old) (length into.new)) (length (rest_of self.old))) }
         ensures files { SameFiles self.old self.new }
         ensures reading { started_name self.new ≡ started_name self.old }
-        ensures quiet { OnOk result (SameCounts self.old self.new) }
         ensures one_count { OnErr result (IfSome (started_name self.old) (SameOtherCounts self.old self.new)) }
     {
+        self.trail = self.trail.ask();
         let fails = self.calls.next_fails();
         let Some(place) = self.started else {
             self.ended = true;

@@ -1,7 +1,7 @@
 //! What a shelf of files does.
 
-ghost use Rattle.std.specs.Prelude.{◌≡◌, ℕ, ◌+◌, ◌<◌, ◌≤◌, ◌↔◌, ◌||◌, ◌==◌, List, [], Bool, false, Option, IfSome, OnOk, OnErr, IfOk, Ok, length, take, min};
-ghost use Rattle.est_edge.specs.Counts.{last_count, Rose, AllGoOn};
+ghost use Rattle.std.specs.Prelude.{◌≡◌, ℕ, ◌+◌, ◌<◌, ◌≤◌, ◌↔◌, ◌||◌, ◌==◌, List, [], ◌∷◌, ◌++◌, Bool, false, Option, IfSome, OnOk, OnErr, IfOk, Ok, length, take, min};
+ghost use Rattle.est_edge.specs.Counts.{last_count, Rose, AllGoOn, AllStay};
 ghost use Rattle.est_edge.specs.Pieces.{SameTold, TakesOff};
 
 /// A fault of the outside.
@@ -28,12 +28,21 @@ pub trait Shelf {
     /// How many faults there were for each name.
     ghost faults: { Self → List ℕ → ℕ };
 
+    /// The names that `start` was called with so far, in order.
+    ghost started: { Self → List (List ℕ) };
+
+    /// How often `more` was called since the last `start`.
+    ghost asked: { Self → ℕ };
+
     /// Opens the file of this name at its front, and leaves the one that was read before. After an
     /// `Err` nothing is said of what is read and what is left.
     fn start(&mut self, name: &str) -> Result<(), Failed>
         ensures told { SameTold (told self.old) (told self.new) }
         ensures counts { AllGoOn (faults self.old) (faults self.new) }
+        ensures started { started self.new ≡ started self.old ++ name.now ∷ [] }
+        ensures asked { asked self.new ≡ 0 }
 
+        ensures quiet { OnOk result (AllStay (faults self.old) (faults self.new)) }
         ensures reads { OnOk result (reads self.new name.now) }
         ensures left { OnOk result (IfSome (told self.old name.now) (λ bytes. left self.new ≡ Some bytes)) }
         ensures begun { OnOk result ((taken self.new ≡ 0) × (ended self.new ≡ false)) }
@@ -47,8 +56,11 @@ pub trait Shelf {
         requires { 0 < length into.old }
         ensures told { SameTold (told self.old) (told self.new) }
         ensures counts { AllGoOn (faults self.old) (faults self.new) }
+        ensures started { started self.new ≡ started self.old }
+        ensures asked { asked self.new ≡ asked self.old + 1 }
         ensures reads { (name : List ℕ) → reads self.old name → reads self.new name }
 
+        ensures quiet { OnOk result (AllStay (faults self.old) (faults self.new)) }
         ensures fits { IfOk result (λ n. n ≤ length into.new) }
         ensures piece { IfOk result (λ n. TakesOff (left self.old) (take n into.new) (left self.new)) }
         ensures end { IfOk result (λ n. IfSome (left self.old) (λ rest. (n ≡ 0) ↔ (rest ≡ []))) }

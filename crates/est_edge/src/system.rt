@@ -1,9 +1,10 @@
 //! Real files and standard output.
 
-ghost use Rattle.std.specs.Prelude.{◌≡◌, ℕ, List, false};
+ghost use Rattle.std.specs.Prelude.{◌≡◌, ℕ, List, [], false};
 
 use crate::counting::Count;
 use crate::reading::{Failed, Shelf};
+use crate::trail::Trail;
 use crate::writing::Sink;
 use std::fs;
 use std::io::Read;
@@ -26,6 +27,7 @@ pub struct FileShelf<'r, R: Files + Input> {
     taken: u64,
     ended: bool,
     faults: Count,
+    trail: Trail,
 }
 
 impl<'r, R: Files + Input> FileShelf<'r, R> {
@@ -33,6 +35,8 @@ impl<'r, R: Files + Input> FileShelf<'r, R> {
     pub fn new(rt: &'r R) -> FileShelf<'r, R>
         ensures begun { (⟦<FileShelf<'r, R> as Shelf>⟧.taken result ≡ 0) × (⟦<FileShelf<'r, R> as Shelf>⟧.ended result ≡ false) }
         ensures faults { (name : List ℕ) → ⟦<FileShelf<'r, R> as Shelf>⟧.faults result name ≡ 0 }
+        ensures started { ⟦<FileShelf<'r, R> as Shelf>⟧.started result ≡ [] }
+        ensures asked { ⟦<FileShelf<'r, R> as Shelf>⟧.asked result ≡ 0 }
     {
         FileShelf {
             rt,
@@ -40,6 +44,7 @@ impl<'r, R: Files + Input> FileShelf<'r, R> {
             taken: 0,
             ended: false,
             faults: Count::new(),
+            trail: Trail::new(),
         }
     }
 }
@@ -59,9 +64,14 @@ impl<R: Files + Input> Shelf for FileShelf<'_, R> {
 
     ghost faults = { λ shelf _. shelf.faults.value };
 
+    ghost started = { λ shelf. shelf.trail.names };
+
+    ghost asked = { λ shelf. shelf.trail.asked };
+
     ghost counted = { λ shelf _. shelf.faults.within };
 
     fn start(&mut self, name: &str) -> Result<(), Failed> {
+        self.trail = self.trail.start(name);
         if name == "-" {
             self.source = Source::Input(self.rt.reader());
         } else if let Ok(file) = fs::open(self.rt, name) {
@@ -76,6 +86,7 @@ impl<R: Files + Input> Shelf for FileShelf<'_, R> {
     }
 
     fn more(&mut self, into: &mut [u8]) -> Result<usize, Failed> {
+        self.trail = self.trail.ask();
         let read = match &mut self.source {
             Source::Nothing => None,
             Source::File(file) => file.read(into).ok(),

@@ -1,9 +1,9 @@
 //! Whole files and whole outputs.
 
-ghost use Rattle.std.specs.Prelude.{◌≡◌, List, ℕ, IfSome, IsErrOf, OnOk, OnErr};
+ghost use Rattle.std.specs.Prelude.{◌≡◌, ◌+◌, ◌≤◌, List, [], ◌∷◌, ◌++◌, ℕ, IfSome, OnOk, OnErr};
 ghost use Rattle.est_edge.specs.Counts.{Rose, GoesOn, AllGoOn};
 ghost use Rattle.est_edge.specs.Pieces.{SameTold, appended, IsPrefix};
-ghost use Rattle.est_edge.specs.Wholes.{IsWhole, IsTakenWhole};
+ghost use Rattle.est_edge.specs.Wholes.{IsWhole, IsTakenWhole, AnswersFaults};
 
 use crate::reading::Shelf;
 use crate::writing::Sink;
@@ -36,7 +36,11 @@ pub fn read_whole<S: Shelf>(
     ensures counts { AllGoOn (S.faults shelf.old) (S.faults shelf.new) }
     ensures whole { IfSome (S.told shelf.old name.now) (λ bytes. IsWhole limit bytes result) }
     ensures taken { IsTakenWhole limit (S.taken shelf.new) (S.ended shelf.new) result }
-    ensures failed { IsErrOf result ReadError.Failed → Rose (S.faults shelf.old name.now) (S.faults shelf.new name.now) }
+    ensures faults { AnswersFaults name.now (S.faults shelf.old) (S.faults shelf.new) result }
+
+    // Its file alone is started, and once.
+    ensures started { S.started shelf.new ≡ S.started shelf.old ++ name.now ∷ [] }
+    ensures asked { S.asked shelf.new ≤ limit + 2 }
 {
     let limit = limit as usize;
     let mut bytes = Vec::new(alloc);
@@ -47,9 +51,11 @@ pub fn read_whole<S: Shelf>(
         let asked = PIECE.min(limit + 1 - bytes.len());
         match shelf.more(&mut piece[..asked]) {
             Ok(0) => return Ok(bytes),
-            Ok(n) => bytes
-                .extend_from_slice(&piece[..n])
-                .map_err(ReadError::Memory)?,
+            Ok(n) => {
+                if let Err(error) = bytes.extend_from_slice(&piece[..n]) {
+                    return Err(ReadError::Memory(error));
+                }
+            }
             Err(_) => return Err(ReadError::Failed),
         }
         if bytes.len() > limit {
@@ -62,6 +68,7 @@ pub fn read_whole<S: Shelf>(
 /// Writes all the bytes.
 pub fn write_whole<K: Sink>(sink: &mut K, bytes: &[u8]) -> Result<(), crate::Failed>
     ensures count { GoesOn (K.faults sink.old) (K.faults sink.new) }
+    ensures quiet { OnOk result (K.faults sink.new ≡ K.faults sink.old) }
     ensures ok { OnOk result (K.written sink.new ≡ appended (K.written sink.old) bytes.now) }
     ensures err { OnErr result ((part : List ℕ) × IsPrefix part bytes.now × (K.written sink.new ≡ appended (K.written sink.old) part)) }
     ensures failed { OnErr result (Rose (K.faults sink.old) (K.faults sink.new)) }

@@ -1,6 +1,6 @@
 //! What an output does.
 
-ghost use Rattle.std.specs.Prelude.{◌≡◌, ℕ, ◌<◌, ◌≤◌, List, Option, OnErr, IfOk, length, take};
+ghost use Rattle.std.specs.Prelude.{◌≡◌, ℕ, ◌<◌, ◌≤◌, List, Option, OnOk, OnErr, IfOk, length, take};
 ghost use Rattle.est_edge.specs.Counts.{last_count, Rose, GoesOn};
 ghost use Rattle.est_edge.specs.Pieces.{appended};
 
@@ -19,6 +19,7 @@ pub trait Sink {
         requires { 0 < length part.now }
         ensures count { GoesOn (faults self.old) (faults self.new) }
 
+        ensures quiet { OnOk result (faults self.new ≡ faults self.old) }
         ensures some { IfOk result (λ n. 0 < n) }
         ensures within { IfOk result (λ n. n ≤ length part.now) }
         ensures piece { IfOk result (λ n. written self.new ≡ appended (written self.old) (take n part.now)) }

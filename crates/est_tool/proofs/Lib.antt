@@ -1,6 +1,6 @@
-pub mod CommandLaws
-pub mod EndLaws
 pub mod OneRequest
 pub mod OneResult
+pub mod ReadLaws
 pub mod ResultLaws
 pub mod WordLaws
+pub mod WorkLaws

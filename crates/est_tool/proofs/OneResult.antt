@@ -13,7 +13,6 @@ use Rattle.est_syntax.specs.Least.{number}
 use Rattle.est_syntax.specs.Ports.{ports_of}
 use Rattle.est_check.proofs.LeastLaws.{lex}
 use Rattle.est_grammar.specs.Answer.{HasOneTree, IsFirstBadPlace, is_left_out, is_not_yet, passes}
-use Rattle.est_check.specs.Checked.{counts_of}
 use Rattle.est_meaning.specs.declared.event.Event.{Event}
 use Rattle.est_specification.specs.Reading.{IsSpecification, IsNoSpecification}
 use Rattle.est_specification.specs.declared.error.SpecificationError.{SpecificationError}
@@ -23,22 +22,22 @@ use Rattle.est_trace.specs.Reading.{IsOnlyTraceText, IsTraceRefusal, IsFull}
 use Rattle.est_trace.specs.declared.error.TraceError.{TraceError}
 use Rattle.est_trace.specs.declared.error.TraceError.TheVariants as trace
 use Rattle.est_replay.specs.Reading.{IsOnlyExplanationText, IsExplanationRefusal}
-use Rattle.est_replay.specs.Replay.{IsReplay}
 use Rattle.est_replay.specs.declared.error.ExplanationError.{ExplanationError}
 use Rattle.est_replay.specs.declared.error.ExplanationError.TheVariants as explanation
 use Rattle.est_replay.specs.declared.explanation.Explanation.{Explanation}
-use Rattle.est_replay.specs.declared.verdict.Replayed.{Replayed}
 use Rattle.est_replay.proofs.Checks.{answer_one}
 use Rattle.est_tool.specs.declared.file.File.{File}
 use Rattle.est_tool.specs.declared.file.File.TheVariants.{Specification, Trace, Explanation as Explaining}
 use Rattle.est_tool.specs.declared.status.Status.{Status}
-use Rattle.est_tool.specs.declared.status.Status.TheVariants.{Fine, BadSpec, NotBuilt}
+use Rattle.est_tool.specs.declared.status.Status.TheVariants.{BadSpec, NotBuilt}
 use Rattle.est_tool.specs.Files.{limit_of}
-use Rattle.est_tool.specs.Reports.{ok_line, replay_line, rule_text}
+use Rattle.est_tool.specs.Reports.{replay_line, rule_text}
 use Rattle.est_tool.specs.Statuses.{replay_status}
-use Rattle.est_tool.specs.Texts.{IsText, Holds, Refusals, RefusesSpecification, RefusesTrace, RefusesExplanation, SaysOfSpecification, SaysOfTrace, SaysOfExplanation, IsReported, refusal_at}
+use Rattle.est_tool.specs.Texts.{IsText, Holds, OfSpecification, OfTrace, OfExplanation, Refusals, RefusesSpecification, RefusesTrace, RefusesExplanation, SaysOfSpecification, SaysOfTrace, SaysOfExplanation, IsReported, refusal_at}
 use Rattle.est_tool.specs.Words.{check, replay}
-use Rattle.est_tool.specs.Ends.{Seen, End, reported, unread, IsTooLong, EndsAt, longer, refused, failed, CheckEnds, at_its_file, good, ReplayEnds, at_specification, at_trace, at_explanation, replayed}
+use Rattle.est_tool.specs.Seen.{Seen}
+use Rattle.est_tool.specs.inside.Work.{IsCounted, IsAnswered}
+use Rattle.est_tool.specs.Ends.{End, reported, unread, IsTooLong, EndsAt, longer, refused, failed, CheckEnds, at_its_file, good, ReplayEnds, at_specification, at_trace, at_explanation, replayed}
 use Rattle.est_tool.specs.Laws.{TellAlike, OneResult}
 
 -- what is said of the tokens of a text, with a value of type A
@@ -156,20 +155,20 @@ specifications_alike : (text : List ℕ) (tokens : List Token) (s s' : Status) (
 specifications_alike text tokens s s' place place' why why' (bad x e f) (bad y g h) =
     let at : place ≡ place' = at_most_one_bad_place _ _ _ _ place place' x y in
     (e ∙ ap (λ n. status_at tokens n) at ∙ sym g, at, f ∙ ap (λ n. why_at tokens n) at ∙ sym h)
-specifications_alike text tokens s s' place place' why why' (bad x e f) (broken spec r one least g h) = absurd (x.no_tree _ one.tree)
-specifications_alike text tokens s s' place place' why why' (broken spec r one least g h) (bad x e f) = absurd (x.no_tree _ one.tree)
+specifications_alike text tokens s s' place place' why why' (bad x e f) (broken spec r one least g h) = absurd (x.no_tree one.shape one.tree)
+specifications_alike text tokens s s' place place' why why' (broken spec r one least g h) (bad x e f) = absurd (x.no_tree one.shape one.tree)
 specifications_alike text tokens s s' place place' why why' (broken spec r one least e f) (broken spec' r' one' least' g h) =
     let same : spec' ≡ spec = same_specification text tokens spec' spec one' one in
     let fault = same_fault spec place place' r r' least (subst (λ z. IsLeastFault z place' r') same least') in
     (e ∙ sym g, fault.0, f ∙ ap rule_text fault.1 ∙ sym h)
 
 good_not_refused : (text : List ℕ) (tokens : List Token) (spec : Spec) (s : Status) (place : ℕ) (why : List ℕ) → IsSpecification text tokens spec → IsRefusedSpecification text tokens s place why → ⊥
-good_not_refused text tokens spec s place why is (bad x e f) = x.no_tree _ is.tree.tree
+good_not_refused text tokens spec s place why is (bad x e f) = x.no_tree is.tree.shape is.tree.tree
 good_not_refused text tokens spec s place why is (broken spec' r one least e f) =
     let same : spec' ≡ spec = same_specification text tokens spec' spec one is.tree in
     is.good place r (subst (λ z. IsLeastFault z place r) same least).0
 
-specifications_decided : IsDecided RefusesSpecification (λ spec text tokens. IsSpecification text tokens spec)
+specifications_decided : IsDecided RefusesSpecification OfSpecification
 specifications_decided = record {
   one_refusal = λ text tokens s s' place place' why why' x y. specifications_alike text tokens s s' place place' why why' (how_refused text tokens x.0 s place why x.1 x.2) (how_refused text tokens y.0 s' place' why' y.1 y.2);
   not_both = λ spec text tokens s place why is x. good_not_refused text tokens spec s place why is (how_refused text tokens x.0 s place why x.1 x.2);
@@ -193,11 +192,11 @@ module _ (spec : Spec) (text : List ℕ) (tokens : List Token) where
   traces_alike a (trace.Memory error) s s' place place' why why' x e y f = absurd f
 
   trace_not_refused : (events : List Event) (error : TraceError) (s : Status) (place : ℕ) (why : List ℕ) → IsOnlyTraceText (ports_of spec) text tokens events → IsTraceRefusal (ports_of spec) text tokens error → SaysOfTrace error s place why → ⊥
-  trace_not_refused events (trace.BadToken at) s place why is x e = x.0.no_tree _ is.0.1
-  trace_not_refused events (trace.TooMany at) s place why is x e = x.0.no_tree _ is.0.1
+  trace_not_refused events (trace.BadToken at) s place why is x e = x.0.no_tree is.0.0 is.0.1
+  trace_not_refused events (trace.TooMany at) s place why is x e = x.0.no_tree is.0.0 is.0.1
   trace_not_refused events (trace.Memory error) s place why is x e = e
 
-traces_decided : (spec : Spec) → IsDecided (RefusesTrace spec) (λ events text tokens. IsOnlyTraceText (ports_of spec) text tokens events)
+traces_decided : (spec : Spec) → IsDecided (RefusesTrace spec) (OfTrace spec)
 traces_decided spec = record {
   one_refusal = λ text tokens s s' place place' why why' x y. traces_alike spec text tokens x.0 y.0 s s' place place' why why' x.1 x.2 y.1 y.2;
   not_both = λ events text tokens s place why is x. trace_not_refused spec text tokens events x.0 s place why is x.1 x.2;
@@ -215,10 +214,10 @@ module _ (text : List ℕ) (tokens : List Token) where
   explanations_alike a (explanation.Memory error) s s' place place' why why' x e y f = absurd f
 
   explanation_not_refused : (read : Explanation) (error : ExplanationError) (s : Status) (place : ℕ) (why : List ℕ) → IsOnlyExplanationText text tokens read → IsExplanationRefusal text tokens error → SaysOfExplanation error s place why → ⊥
-  explanation_not_refused read (explanation.BadToken at) s place why is x e = x.no_tree _ is.0.1
+  explanation_not_refused read (explanation.BadToken at) s place why is x e = x.no_tree is.0.0 is.0.1
   explanation_not_refused read (explanation.Memory error) s place why is x e = e
 
-explanations_decided : IsDecided RefusesExplanation (λ read text tokens. IsOnlyExplanationText text tokens read)
+explanations_decided : IsDecided RefusesExplanation OfExplanation
 explanations_decided = record {
   one_refusal = λ text tokens s s' place place' why why' x y. explanations_alike text tokens x.0 y.0 s s' place place' why why' x.1 x.2 y.1 y.2;
   not_both = λ read text tokens s place why is x. explanation_not_refused text tokens read x.0 s place why is x.1 x.2;
@@ -237,8 +236,8 @@ at_once file {bytes = bytes} Is Js e f x y both =
     both p.tokens p.is (subst (λ ts. Js bytes ts) same q.is)
 
 -- a file that is too long holds no text
-holds_none : (shelf shelf' : Seen) (file : File) (name bytes : List ℕ) (Is : List ℕ → List Token → Type 0) (s : Status) (r : List ℕ) → shelf.told name ≡ Some bytes → shelf'.told name ≡ Some bytes
-    → IsTooLong shelf file name s r → Holds file (shelf'.told name) Is → ⊥
+holds_none : (shelf shelf' : Seen) (file : File) (name bytes : List ℕ) (Is : List ℕ → List Token → Type 0) (s : Status) (r : List ℕ) → shelf.before.told name ≡ Some bytes → shelf'.before.told name ≡ Some bytes
+    → IsTooLong shelf file name s r → Holds file (shelf'.before.told name) Is → ⊥
 holds_none shelf shelf' file name bytes Is s r e f long x =
     let p : IsText file bytes Is = subst (λ t. Holds file t Is) f x in
     let l : limit_of file < length bytes = subst (λ t. IfSome t (λ b. limit_of file < length b)) e long.longer in
@@ -246,7 +245,7 @@ holds_none shelf shelf' file name bytes Is s r e f long x =
 
 -- a file is too long, or its text is refused
 abbrev IsStopped : Seen → File → List ℕ → Refusals → Status → List ℕ → Type 0
-IsStopped shelf file name Refuses s r = IsTooLong shelf file name s r ⊎ Holds file (shelf.told name) (IsReported file Refuses s r)
+IsStopped shelf file name Refuses s r = IsTooLong shelf file name s r ⊎ Holds file (shelf.before.told name) (IsReported file Refuses s r)
 
 -- this holds of an end with a report
 abbrev OfReport : (Status → List ℕ → Type 0) → End → Type 0
@@ -261,15 +260,15 @@ stopped shelf file name Refuses _ (failed x) = tt
 -- a call stops at a file, or goes on behind it with the value that it holds
 data Stage {A : Type 0} (shelf : Seen) (file : File) (name : List ℕ) (Refuses : Refusals) (Good : Goods A) (Next : A → Status → List ℕ → Type 0) (s : Status) (r : List ℕ) : Type 0 where
   stops : IsStopped shelf file name Refuses s r → Stage shelf file name Refuses Good Next s r
-  goes_on : (x : A) → Holds file (shelf.told name) (Good x) → Next x s r → Stage shelf file name Refuses Good Next s r
+  goes_on : (x : A) → Holds file (shelf.before.told name) (Good x) → Next x s r → Stage shelf file name Refuses Good Next s r
 
 module _ {A : Type 0} (file : File) (name bytes : List ℕ) (Refuses : Refusals) (Good : Goods A) (decided : IsDecided Refuses Good) where
-  good_goes_on : (shelf shelf' : Seen) → shelf.told name ≡ Some bytes → shelf'.told name ≡ Some bytes → (x : A) (s : Status) (r : List ℕ) → IsStopped shelf file name Refuses s r → Holds file (shelf'.told name) (Good x) → ⊥
+  good_goes_on : (shelf shelf' : Seen) → shelf.before.told name ≡ Some bytes → shelf'.before.told name ≡ Some bytes → (x : A) (s : Status) (r : List ℕ) → IsStopped shelf file name Refuses s r → Holds file (shelf'.before.told name) (Good x) → ⊥
   good_goes_on shelf shelf' told told' x s r (inl long) is = holds_none shelf shelf' file name bytes (Good x) s r told told' long is
   good_goes_on shelf shelf' told told' x s r (inr because) is =
       at_once file (IsReported file Refuses s r) (Good x) told told' because is (λ tokens n g. decided.not_both x bytes tokens s n.place n.why g n.refused)
 
-  module _ (shelf shelf' : Seen) (told : shelf.told name ≡ Some bytes) (told' : shelf'.told name ≡ Some bytes) where
+  module _ (shelf shelf' : Seen) (told : shelf.before.told name ≡ Some bytes) (told' : shelf'.before.told name ≡ Some bytes) where
     one_report : (s s' : Status) (r r' : List ℕ) (tokens : List Token) → IsReported file Refuses s r bytes tokens → IsReported file Refuses s' r' bytes tokens → AreSame s s' r r'
     one_report s s' r r' tokens x y =
         let same = decided.one_refusal bytes tokens s s' x.place y.place x.why y.why x.refused y.refused in
@@ -295,19 +294,13 @@ module _ {A : Type 0} (file : File) (name bytes : List ℕ) (Refuses : Refusals)
 
 -- the stages of a call, with what is reported behind the last one
 abbrev AtSpecification : Seen → List ℕ → (Spec → Status → List ℕ → Type 0) → Status → List ℕ → Type 0
-AtSpecification shelf name Next = Stage shelf Specification name RefusesSpecification (λ spec text tokens. IsSpecification text tokens spec) Next
+AtSpecification shelf name Next = Stage shelf Specification name RefusesSpecification OfSpecification Next
 
 abbrev AtTrace : Seen → List ℕ → Spec → (List Event → Status → List ℕ → Type 0) → Status → List ℕ → Type 0
-AtTrace shelf name spec Next = Stage shelf Trace name (RefusesTrace spec) (λ events text tokens. IsOnlyTraceText (ports_of spec) text tokens events) Next
+AtTrace shelf name spec Next = Stage shelf Trace name (RefusesTrace spec) (OfTrace spec) Next
 
 abbrev AtExplanation : Seen → List ℕ → (Explanation → Status → List ℕ → Type 0) → Status → List ℕ → Type 0
-AtExplanation shelf name Next = Stage shelf Explaining name RefusesExplanation (λ read text tokens. IsOnlyExplanationText text tokens read) Next
-
-abbrev IsCounted : Spec → Status → List ℕ → Type 0
-IsCounted spec s r = (s ≡ Fine) × (r ≡ ok_line (counts_of spec).bodies (counts_of spec).transitions (counts_of spec).ports)
-
-abbrev IsAnswered : ℕ → ℕ → Spec → List Event → Explanation → Status → List ℕ → Type 0
-IsAnswered silent statements spec events read s r = (answer : Replayed) × IsReplay statements silent spec events read.moves read.claim answer × (s ≡ replay_status answer) × (r ≡ replay_line (length events) answer)
+AtExplanation shelf name Next = Stage shelf Explaining name RefusesExplanation OfExplanation Next
 
 one_counted : (spec : Spec) (s s' : Status) (r r' : List ℕ) → IsCounted spec s r → IsCounted spec s' r' → AreSame s s' r r'
 one_counted spec s s' r r' x y = (x.0 ∙ sym y.0, x.1 ∙ sym y.1)
@@ -342,24 +335,24 @@ replay_stages shelf specification trace explanation silent statements _ (replaye
 one_check : (shelf shelf' : Seen) (name : List ℕ) (s s' : Status) (r r' : List ℕ) → TellAlike shelf shelf' name
     → AtSpecification shelf name IsCounted s r → AtSpecification shelf' name IsCounted s' r' → AreSame s s' r r'
 one_check shelf shelf' name s s' r r' told x y =
-    one_stage Specification name told.0 RefusesSpecification (λ spec text tokens. IsSpecification text tokens spec) specifications_decided shelf shelf' told.1 told.2 IsCounted IsCounted one_counted s s' r r' x y
+    one_stage Specification name told.0 RefusesSpecification OfSpecification specifications_decided shelf shelf' told.1 told.2 IsCounted IsCounted one_counted s s' r r' x y
 
 one_replay : (shelf shelf' : Seen) (specification trace explanation : List ℕ) (silent statements : ℕ) (s s' : Status) (r r' : List ℕ) → TellAlike shelf shelf' specification → TellAlike shelf shelf' trace
     → TellAlike shelf shelf' explanation
     → Replays shelf specification trace explanation silent statements s r → Replays shelf' specification trace explanation silent statements s' r' → AreSame s s' r r'
 one_replay shelf shelf' specification trace explanation silent statements s s' r r' told traced explained x y =
-    one_stage Specification specification told.0 RefusesSpecification (λ spec text tokens. IsSpecification text tokens spec) specifications_decided shelf shelf' told.1 told.2 _ _ at_trace_one s s' r r' x y
+    one_stage Specification specification told.0 RefusesSpecification OfSpecification specifications_decided shelf shelf' told.1 told.2 _ _ at_trace_one s s' r r' x y
   where
     at_explanation_one : (spec : Spec) (events : List Event) (s s' : Status) (r r' : List ℕ) → AtExplanation shelf explanation (IsAnswered silent statements spec events) s r
         → AtExplanation shelf' explanation (IsAnswered silent statements spec events) s' r' → AreSame s s' r r'
     at_explanation_one spec events s s' r r' x y =
-        one_stage Explaining explanation explained.0 RefusesExplanation (λ read text tokens. IsOnlyExplanationText text tokens read) explanations_decided shelf shelf' explained.1 explained.2 _ _
+        one_stage Explaining explanation explained.0 RefusesExplanation OfExplanation explanations_decided shelf shelf' explained.1 explained.2 _ _
         (one_answered silent statements spec events) s s' r r' x y
 
     at_trace_one : (spec : Spec) (s s' : Status) (r r' : List ℕ) → AtTrace shelf trace spec (λ events. AtExplanation shelf explanation (IsAnswered silent statements spec events)) s r
         → AtTrace shelf' trace spec (λ events. AtExplanation shelf' explanation (IsAnswered silent statements spec events)) s' r' → AreSame s s' r r'
     at_trace_one spec s s' r r' x y =
-        one_stage Trace trace traced.0 (RefusesTrace spec) (λ events text tokens. IsOnlyTraceText (ports_of spec) text tokens events) (traces_decided spec) shelf shelf' traced.1 traced.2 _ _
+        one_stage Trace trace traced.0 (RefusesTrace spec) (OfTrace spec) (traces_decided spec) shelf shelf' traced.1 traced.2 _ _
         (at_explanation_one spec) s s' r r' x y
 
 pub result_one : OneResult

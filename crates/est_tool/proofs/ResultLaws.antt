@@ -1,9 +1,11 @@
 -- What a call writes, from what its steps answered.
-use Rattle.std.proofs.Common.{◌≡◌, ◌∙◌, ℕ, List, Option, Some, None, sym, subst, Result, Ok, Err}
+use Rattle.std.proofs.Common.{◌≡◌, ◌≢◌, ◌∙◌, refl, ap, ℕ, List, Option, Some, None, sym, subst, Result, Ok, Err}
 use Rattle.std.specs.Prelude.{String, string_bytes}
 use Rattle.std.specs.Global.{Global}
+use Rattle.est_edge.specs.Counts.{Rose, AllStay}
+use Rattle.est_tool.specs.declared.report.Report.{Report}
 use Rattle.est_lexer.specs.declared.kind.Token.{Token}
-use Rattle.est_edge.specs.Pieces.{appended}
+use Rattle.est_edge.specs.Pieces.{appended, IsPrefix}
 use Rattle.est_replay.specs.declared.verdict.Replayed.{Replayed}
 use Rattle.est_replay.specs.declared.verdict.Replayed.TheVariants.{Confirmed, Rejected}
 use Rattle.est_specification.specs.declared.error.SpecificationError.{SpecificationError}
@@ -20,9 +22,13 @@ use Rattle.est_tool.specs.declared.status.Status.TheVariants.{Fine, Refused, Bad
 use Rattle.est_tool.specs.Statuses.{replay_status}
 use Rattle.est_tool.specs.Texts.{Holds, Refusals, RefusesSpecification, RefusesTrace, RefusesExplanation, SaysOfSpecification, SaysOfTrace, SaysOfExplanation, IsReported}
 use Rattle.est_tool.specs.Words.{Request, check, replay}
-use Rattle.est_tool.specs.Ends.{Seen, End, reported, unread, EndsAt, longer, refused, failed, at_its_file, good, at_specification, at_trace, at_explanation, replayed, Ends, IsMade}
-use Rattle.est_tool.specs.Result.{Asked, Writes, HasReport, IsReportable, IsSent, whole, broken_off, IsDelivered}
-use Rattle.est_tool.proofs.EndLaws.{stop_then}
+use Rattle.est_tool.specs.Seen.{Seen, Sent}
+use Rattle.est_tool.specs.Ends.{End, reported, unread, EndsAt, longer, refused, failed, at_its_file, good, at_specification, at_trace, at_explanation, replayed, Ends}
+use Rattle.est_tool.specs.Result.{Reports, Writes, IsResult}
+use Rattle.est_tool.specs.inside.Steps.{IsQuiet}
+use Rattle.est_tool.specs.inside.Work.{IsMade, IsObeyed}
+use Rattle.est_tool.specs.inside.Written.{HasReport, IsReportable, IsSent, whole, broken_off, IsDelivered, Delivers, Sends}
+use Rattle.est_tool.proofs.WorkLaws.{made_then}
 
 -- STATUSES WITH REPORTS
 
@@ -56,7 +62,7 @@ of_refused file Refuses (Some text) status report are holds = let is : _ = holds
 
 at_file : {shelf : Seen} {file : File} {name : List ℕ} (Refuses : Refusals) (end : End) → AreReportable Refuses → EndsAt shelf file name Refuses end → IsReportable end
 at_file Refuses _ are (longer status report long) = subst HasReport (sym long.status_is) tt
-at_file {shelf} {file} {name} Refuses _ are (refused status report holds) = of_refused file Refuses (shelf.told name) status report are holds
+at_file {shelf} {file} {name} Refuses _ are (refused status report holds) = of_refused file Refuses (shelf.before.told name) status report are holds
 at_file Refuses _ are (failed rose) = tt
 
 -- how what the words ask for ends, a report has such a status
@@ -67,11 +73,6 @@ ends_reportable shelf (replay s t e silent statements) _ (at_specification end i
 ends_reportable shelf (replay s t e silent statements) _ (at_trace spec end holds is) = at_file (RefusesTrace spec) end (λ text tokens status place why refuses. of_trace refuses.0 status place why refuses.2) is
 ends_reportable shelf (replay s t e silent statements) _ (at_explanation spec events end holds traced is) = at_file RefusesExplanation end (λ text tokens status place why refuses. of_explanation refuses.0 status place why refuses.2) is
 ends_reportable shelf (replay s t e silent statements) _ (replayed spec events read answer holds traced explained is) = of_answer answer
-
--- what holds of the end of a command holds in a weaker form too
-pub made_then : {P Q : End → Type 0} (made : Result (Status × String Global) Stop) → ((end : End) → P end → Q end) → IsMade P made → IsMade Q made
-made_then (Ok made) weaker holds = weaker _ holds
-made_then (Err e) weaker holds = stop_then e weaker holds
 
 -- WRITTEN REPORTS
 
@@ -95,10 +96,10 @@ module _ (Gives : Status → List ℕ → Type 0) where
   writes_sent status report answer before after has given (broken_off _ _ part front is) = (status, report, given, part, front, is)
 
   -- and so where it may be that no report was made
-  pub writes_delivered : (P : End → Type 0) (made : Result (Status × String Global) Stop) (answer : Status) (before after : Option (List ℕ)) → ((status : Status) (report : List ℕ) → P (reported status report) → Gives status report)
+  pub writes_delivered : (P : End → Type 0) (made : Result Report Stop) (answer : Status) (before after : Option (List ℕ)) → ((status : Status) (report : List ℕ) → P (reported status report) → Gives status report)
       → IsMade IsReportable made → IsMade P made → IsDelivered made answer before after → Writes Gives answer before after
-  writes_delivered P (Ok made) answer before after gives has is sent = writes_sent made.0 (string_bytes made.1) answer before after has (gives made.0 (string_bytes made.1) is) sent
-  writes_delivered P (Err (stop.Report status report)) answer before after gives has is sent = writes_sent status (string_bytes report) answer before after has (gives status (string_bytes report) is) sent
+  writes_delivered P (Ok made) answer before after gives has is sent = writes_sent made.status (string_bytes made.text) answer before after has (gives made.status (string_bytes made.text) is) sent
+  writes_delivered P (Err (stop.Refused made)) answer before after gives has is sent = writes_sent made.status (string_bytes made.text) answer before after has (gives made.status (string_bytes made.text) is) sent
   writes_delivered P (Err stop.ReadFault) answer before after gives has is none = subst (λ a. Writes Gives a before after) (sym none.0) none.1
   writes_delivered P (Err stop.OutOfMemory) answer before after gives has is none = subst (λ a. Writes Gives a before after) (sym none.0) none.1
 
@@ -109,29 +110,67 @@ sent_no_read_fault status report answer before after has (whole _ _ is) fault = 
 sent_no_read_fault status report answer before after has (broken_off _ _ part front is) fault = cc
 
 -- the answer is a fault of a read only where a file could not be read
-pub delivered_unread : (P : End → Type 0) (made : Result (Status × String Global) Stop) (answer : Status) (before after : Option (List ℕ))
+pub delivered_unread : (P : End → Type 0) (made : Result Report Stop) (answer : Status) (before after : Option (List ℕ))
     → IsMade IsReportable made → IsMade P made → IsDelivered made answer before after → answer ≡ ReadFault → P unread
-delivered_unread P (Ok made) answer before after has is sent fault = absurd (sent_no_read_fault made.0 (string_bytes made.1) answer before after has sent fault)
-delivered_unread P (Err (stop.Report status report)) answer before after has is sent fault = absurd (sent_no_read_fault status (string_bytes report) answer before after has sent fault)
+delivered_unread P (Ok made) answer before after has is sent fault = absurd (sent_no_read_fault made.status (string_bytes made.text) answer before after has sent fault)
+delivered_unread P (Err (stop.Refused made)) answer before after has is sent fault = absurd (sent_no_read_fault made.status (string_bytes made.text) answer before after has sent fault)
 delivered_unread P (Err stop.ReadFault) answer before after has is none fault = is
 delivered_unread P (Err stop.OutOfMemory) answer before after has is none fault = let f : OutOfMemory ≡ ReadFault = sym none.0 ∙ fault in cc
 
--- WHAT THE WORDS ASK FOR
+-- RESULTS
 
 -- the report of what the words ask for has such a status
-pub asked_reportable : (words : List (String Global)) (shelf : Seen) (made : Result (Status × String Global) Stop) → Asked words (λ request. IsMade (Ends shelf request) made) → IsMade IsReportable made
-asked_reportable words shelf made asked = made_then made (ends_reportable shelf asked.0) asked.2
+pub obeyed_reportable : (words : List (String Global)) (shelf : Seen) (made : Result Report Stop) → IsObeyed words shelf made → IsMade IsReportable made
+obeyed_reportable words shelf made obeyed = made_then made (ends_reportable shelf obeyed.request) obeyed.work.ends
 
--- a fault of a read is that of what the words ask for
-pub asked_unread : (words : List (String Global)) (shelf : Seen) (made : Result (Status × String Global) Stop) (answer : Status) (before after : Option (List ℕ))
-    → Asked words (λ request. IsMade (Ends shelf request) made) → IsDelivered made answer before after → answer ≡ ReadFault → Asked words (λ request. Ends shelf request unread)
-asked_unread words shelf made answer before after asked delivered fault =
-    (asked.0, asked.1, delivered_unread (Ends shelf asked.0) made answer before after (asked_reportable words shelf made asked) asked.2 delivered fault)
+-- no count of a file rose where the answer is no fault of a read
+delivered_quiet : (shelf : Seen) (made : Result Report Stop) (answer : Status) (before after : Option (List ℕ))
+    → IsQuiet shelf made → IsDelivered made answer before after → answer ≢ ReadFault → AllStay shelf.before.faults shelf.after.faults
+delivered_quiet shelf (Ok made) answer before after quiet sent not = quiet
+delivered_quiet shelf (Err (stop.Refused made)) answer before after quiet sent not = quiet
+delivered_quiet shelf (Err stop.ReadFault) answer before after quiet none not = absurd (not none.0)
+delivered_quiet shelf (Err stop.OutOfMemory) answer before after quiet none not = quiet
 
--- and so is what is written
-pub asked_written : (words : List (String Global)) (shelf : Seen) (made : Result (Status × String Global) Stop) (answer : Status) (before after : Option (List ℕ))
-    → Asked words (λ request. IsMade (Ends shelf request) made) → IsDelivered made answer before after
-    → Writes (λ status report. Asked words (λ request. Ends shelf request (reported status report))) answer before after
-asked_written words shelf made answer before after asked delivered =
-    writes_delivered (λ status report. Asked words (λ request. Ends shelf request (reported status report))) (Ends shelf asked.0) made answer before after (λ status report is. (asked.0, asked.1, is))
-    (asked_reportable words shelf made asked) asked.2 delivered
+-- what the words ask for was done, and its report was written
+pub obeyed_result : (words : List (String Global)) (shelf : Seen) (output : Sent) (made : Result Report Stop) (answer : Status)
+    → IsObeyed words shelf made → Delivers made output answer → IsResult words shelf output answer
+obeyed_result words shelf output made answer obeyed delivers =
+    let work = obeyed.work in
+    let reportable = obeyed_reportable words shelf made obeyed in
+    record {
+      usage = (λ is. absurd (delivers.answers.asked is), λ nothing. absurd (nothing obeyed.request obeyed.asked));
+      read_fault = λ is. (obeyed.request, obeyed.asked, delivered_unread (Ends shelf obeyed.request) made answer _ _ reportable work.ends delivers.delivered is);
+      no_read_fault = delivered_quiet shelf made answer _ _ work.quiet delivers.delivered;
+      write_fault = delivers.answers.fault;
+      no_write_fault = delivers.answers.quiet;
+      written = writes_delivered (Reports words shelf) (Ends shelf obeyed.request) made answer _ _
+          (λ status report is. (obeyed.request, obeyed.asked, is)) reportable work.ends delivers.delivered;
+      told = work.told;
+      idle = λ is. absurd (delivers.answers.asked is);
+      started = λ _. (obeyed.request, obeyed.asked, work.names, work.starts, work.started);
+    }
+
+-- a report has a status with which one is written
+no_usage : (status : Status) → HasReport status → status ≢ Usage
+no_usage status has is = subst HasReport is has
+
+no_fault : (status : Status) → HasReport status → status ≢ WriteFault
+no_fault status has is = subst HasReport is has
+
+-- a report was written whole
+pub sends_whole : (report : Report) (output : Sent) (bytes : List ℕ) → bytes ≡ string_bytes report.text → HasReport report.status
+    → output.after.written ≡ appended output.before.written bytes → output.after.faults ≡ output.before.faults
+    → Sends report output report.status
+sends_whole report output bytes same has is quiet = record {
+  answers = record { asked = no_usage report.status has; fault = λ fault. absurd (no_fault report.status has fault); quiet = λ _. quiet };
+  sent = whole _ _ (is ∙ ap (appended output.before.written) same);
+}
+
+-- a write failed
+pub sends_part : (report : Report) (output : Sent) (bytes part : List ℕ) → bytes ≡ string_bytes report.text → IsPrefix part bytes
+    → output.after.written ≡ appended output.before.written part → Rose output.before.faults output.after.faults
+    → Sends report output WriteFault
+sends_part report output bytes part same front is rose = record {
+  answers = record { asked = λ e. cc; fault = λ _. rose; quiet = λ not. absurd (not refl) };
+  sent = broken_off _ _ part (subst (IsPrefix part) same front) is;
+}

@@ -3,6 +3,9 @@ pub mod Files
 pub mod Laws
 pub mod Reports
 pub mod Result
+pub mod Seen
+pub mod Started
 pub mod Statuses
 pub mod Texts
 pub mod Words
+pub mod inside

@@ -1,6 +1,7 @@
 -- The lines that reports are made of.
 use Rattle.std.specs.Prelude.{ℕ, List, [], ◌∷◌, ◌++◌, codes, if◌then◌else◌, nat_le}
 use Rattle.std.specs.Fmt.{decimal}
+use Rattle.est_check.specs.declared.counts.Counts.{Counts}
 use Rattle.est_meaning.specs.declared.run.BlockFault.{BlockFault}
 use Rattle.est_meaning.specs.declared.run.BlockFault.TheVariants.{Range, Divide, Undefined, NoCase, NoModule, LinkTaken, SelfLink, TooMany}
 use Rattle.est_replay.specs.declared.verdict.Replayed.{Replayed}
@@ -17,12 +18,17 @@ abbrev pub line_feed : List ℕ
 line_feed = 10 ∷ []
 
 -- a good specification, with the numbers of its bodies, transitions and ports
-abbrev pub ok_line : ℕ → ℕ → ℕ → List ℕ
-ok_line bodies transitions ports = codes "ok: " ++ decimal bodies ++ codes " bodies, " ++ decimal transitions ++ codes " transitions, " ++ decimal ports ++ codes " ports" ++ line_feed
+abbrev pub ok_line : Counts → List ℕ
+ok_line counts =
+    codes "ok: " ++ decimal counts.bodies ++ codes " bodies, "
+    ++ decimal counts.transitions ++ codes " transitions, "
+    ++ decimal counts.ports ++ codes " ports" ++ line_feed
 
 -- a file that is refused at a line and a column
 abbrev pub refusal_line : File → ℕ → ℕ → List ℕ → List ℕ
-refusal_line file line column why = word_of file ++ codes ":" ++ decimal line ++ codes ":" ++ decimal column ++ codes ": " ++ why ++ line_feed
+refusal_line file line column why =
+    word_of file ++ codes ":" ++ decimal line ++ codes ":" ++ decimal column ++ codes ": " ++ why
+    ++ line_feed
 
 -- a file that is longer than its limit
 abbrev pub too_long_line : File → List ℕ
@@ -51,7 +57,9 @@ rule_text CaseTwice = codes "rule 18: case twice"
 
 -- an explanation that is confirmed for the first events of a trace
 abbrev pub first_line : ℕ → ℕ → List ℕ
-first_line claim events = codes "confirmed: first " ++ decimal claim ++ codes " of " ++ decimal events ++ codes " events" ++ line_feed
+first_line claim events =
+    codes "confirmed: first " ++ decimal claim ++ codes " of " ++ decimal events ++ codes " events"
+    ++ line_feed
 
 -- an explanation that is confirmed for a whole trace
 abbrev pub all_line : ℕ → List ℕ
@@ -85,5 +93,6 @@ why_text NotAll = codes "not all"
 
 -- a replay on a trace of so many events: a claim of more than these is one of the whole trace
 abbrev pub replay_line : ℕ → Replayed → List ℕ
-replay_line events (Confirmed claim) = if nat_le claim events then first_line claim events else all_line events
+replay_line events (Confirmed claim) =
+    if nat_le claim events then first_line claim events else all_line events
 replay_line events (Rejected at why) = rejected_line at (why_text why)

@@ -1,49 +1,70 @@
--- What a call writes.
-use Rattle.std.specs.Prelude.{◌≡◌, ℕ, List, Option}
-use Rattle.std.specs.Prelude.{Result, Ok, Err, String, string_bytes}
+-- What a call answers, and what it leaves.
+use Rattle.std.specs.Prelude.{◌≡◌, ◌≢◌, ◌↔◌, ℕ, List, ◌++◌, Option, String}
 use Rattle.std.specs.Global.{Global}
-use Rattle.est_edge.specs.Pieces.{appended, IsPrefix}
-use Rattle.est_tool.specs.declared.stop.Stop.{Stop}
-use Rattle.est_tool.specs.declared.stop.Stop.TheVariants as stop
+use Rattle.est_edge.specs.Counts.{Rose, AllStay}
+use Rattle.est_edge.specs.Pieces.{SameTold, appended, IsPrefix}
 use Rattle.est_tool.specs.declared.status.Status.{Status}
 use Rattle.est_tool.specs.declared.status.Status.TheVariants.{Usage, ReadFault, WriteFault, OutOfMemory}
-use Rattle.est_tool.specs.Ends.{End, reported, unread}
-use Rattle.est_tool.specs.Words.{Request, Asks, bytes_of}
+use Rattle.est_tool.specs.Seen.{Seen, Sent}
+use Rattle.est_tool.specs.Ends.{End, reported, unread, Ends}
+use Rattle.est_tool.specs.Started.{Starts}
+use Rattle.est_tool.specs.Words.{Request, Asks, AsksNothing, bytes_of}
 
--- the words ask for something, and this holds of it
-abbrev pub Asked : List (String Global) → (Request → Type 0) → Type 0
-Asked words P = (request : Request) × Asks (bytes_of words) request × P request
+-- the words ask for something, and that ends so
+abbrev pub CallEnds : List (String Global) → Seen → End → Type 0
+CallEnds words shelf end =
+    (request : Request) × Asks (bytes_of words) request × Ends shelf request end
 
--- What a call writes that ends with a status: nothing where the words, a read or memory failed, a front part of its report where a write failed, and else the report.
-abbrev pub Writes : (Status → List ℕ → Type 0) → Status → Option (List ℕ) → Option (List ℕ) → Type 0
+-- the words ask for something, and that ends with this status and this report
+abbrev pub Reports : List (String Global) → Seen → Status → List ℕ → Type 0
+Reports words shelf status report = CallEnds words shelf (reported status report)
+
+-- A file that the words ask for could not be read: its count of faults rose, and no refusal comes
+-- before it.
+abbrev pub CannotRead : List (String Global) → Seen → Type 0
+CannotRead words shelf = CallEnds words shelf unread
+
+-- What a call writes that ends with a status: nothing where the words, a read or memory failed, a
+-- front part of its report where a write failed, and else the report.
+abbrev pub Writes :
+    (Status → List ℕ → Type 0) → Status → Option (List ℕ) → Option (List ℕ) → Type 0
 Writes Gives Usage before after = after ≡ before
 Writes Gives ReadFault before after = after ≡ before
 Writes Gives OutOfMemory before after = after ≡ before
 Writes Gives WriteFault before after =
-    (status : Status) × (report : List ℕ) × Gives status report × (part : List ℕ) × IsPrefix part report × (after ≡ appended before part)
-Writes Gives status before after = (report : List ℕ) × Gives status report × (after ≡ appended before report)
+    (status : Status) × (report : List ℕ) × Gives status report
+    × (part : List ℕ) × IsPrefix part report × (after ≡ appended before part)
+Writes Gives status before after =
+    (report : List ℕ) × Gives status report × (after ≡ appended before report)
 
--- the statuses with which a report is written
-abbrev pub HasReport : Status → Type 0
-HasReport Usage = ⊥
-HasReport ReadFault = ⊥
-HasReport WriteFault = ⊥
-HasReport OutOfMemory = ⊥
-HasReport _ = Unit {0}
+-- The files that a call starts are the first ones of those that its words ask for, in their order;
+-- a file is started only where those before it are good, and none is started twice.
+abbrev pub StartsItsFiles : List (String Global) → Seen → Type 0
+StartsItsFiles words shelf =
+    (request : Request) × Asks (bytes_of words) request
+    × (names : List (List ℕ)) × Starts shelf request names
+    × (shelf.after.started ≡ shelf.before.started ++ names)
 
--- an end with a report has such a status
-abbrev pub IsReportable : End → Type 0
-IsReportable (reported status report) = HasReport status
-IsReportable unread = Unit {0}
-
--- a report was written: whole, and its status is the answer, or a front part of it, and the answer is the fault
-pub data IsSent (status : Status) (report : List ℕ) : Status → Option (List ℕ) → Option (List ℕ) → Type 0 where
-  whole : (before after : Option (List ℕ)) → after ≡ appended before report → IsSent status report status before after
-  broken_off : (before after : Option (List ℕ)) (part : List ℕ) → IsPrefix part report → after ≡ appended before part → IsSent status report WriteFault before after
-
--- a report was written where one was made
-abbrev pub IsDelivered : Result (Status × String Global) Stop → Status → Option (List ℕ) → Option (List ℕ) → Type 0
-IsDelivered (Ok made) status before after = IsSent made.0 (string_bytes made.1) status before after
-IsDelivered (Err (stop.Report made report)) status before after = IsSent made (string_bytes report) status before after
-IsDelivered (Err stop.ReadFault) status before after = (status ≡ ReadFault) × (after ≡ before)
-IsDelivered (Err stop.OutOfMemory) status before after = (status ≡ OutOfMemory) × (after ≡ before)
+-- What a call does that ends with a status, by its words, and by what is seen of its files and of
+-- its output.
+pub record IsResult
+    (words : List (String Global)) (shelf : Seen) (output : Sent) (status : Status)
+    : Type 0 where
+  -- the words are none that the program takes, and nothing else is
+  pub usage : (status ≡ Usage) ↔ AsksNothing words
+  -- a file could not be read, and no refusal comes before it
+  pub read_fault : status ≡ ReadFault → CannotRead words shelf
+  -- else no count of a file rose
+  pub no_read_fault : status ≢ ReadFault → AllStay shelf.before.faults shelf.after.faults
+  -- the count of the output rose
+  pub write_fault : status ≡ WriteFault → Rose output.before.faults output.after.faults
+  -- else it is as it was
+  pub no_write_fault : status ≢ WriteFault → output.after.faults ≡ output.before.faults
+  -- one report is written, whole unless a write failed
+  pub written : Writes (Reports words shelf) status output.before.written output.after.written
+  -- what the shelf holds stays
+  pub told : SameTold shelf.before.told shelf.after.told
+  -- nothing is started where the words are none that the program takes
+  pub idle : status ≡ Usage → shelf.after.started ≡ shelf.before.started
+  -- else the files that they name, in their order, each once, where those before it are good
+  pub started : status ≢ Usage → StartsItsFiles words shelf

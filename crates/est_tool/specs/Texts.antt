@@ -6,13 +6,15 @@ use Rattle.est_lexer.specs.Places.{offset_at}
 use Rattle.est_lexer.specs.TokenList.{IsTokenList}
 use Rattle.est_syntax.specs.declared.specification.Spec.{Spec}
 use Rattle.est_syntax.specs.Ports.{ports_of}
-use Rattle.est_specification.specs.Reading.{IsNoSpecification}
+use Rattle.est_meaning.specs.declared.event.Event.{Event}
+use Rattle.est_replay.specs.declared.explanation.Explanation.{Explanation}
+use Rattle.est_specification.specs.Reading.{IsSpecification, IsNoSpecification}
 use Rattle.est_specification.specs.declared.error.SpecificationError.{SpecificationError}
 use Rattle.est_specification.specs.declared.error.SpecificationError.TheVariants as specification
-use Rattle.est_trace.specs.Reading.{IsTraceRefusal}
+use Rattle.est_trace.specs.Reading.{IsOnlyTraceText, IsTraceRefusal}
 use Rattle.est_trace.specs.declared.error.TraceError.{TraceError}
 use Rattle.est_trace.specs.declared.error.TraceError.TheVariants as trace
-use Rattle.est_replay.specs.Reading.{IsExplanationRefusal}
+use Rattle.est_replay.specs.Reading.{IsOnlyExplanationText, IsExplanationRefusal}
 use Rattle.est_replay.specs.declared.error.ExplanationError.{ExplanationError}
 use Rattle.est_replay.specs.declared.error.ExplanationError.TheVariants as explanation
 use Rattle.est_tool.specs.declared.file.File.{File}
@@ -39,25 +41,44 @@ SomeText None P = (text : List ℕ) × P text
 abbrev pub Holds : File → Option (List ℕ) → (List ℕ → List Token → Type 0) → Type 0
 Holds file told Is = SomeText told (λ text. IsText file text Is)
 
+-- the tokens of the text are this specification, and it breaks no rule
+abbrev pub OfSpecification : Spec → List ℕ → List Token → Type 0
+OfSpecification spec text tokens = IsSpecification text tokens spec
+
+-- the tokens are a text of this trace of the specification, and of no other
+abbrev pub OfTrace : Spec → List Event → List ℕ → List Token → Type 0
+OfTrace spec events text tokens = IsOnlyTraceText (ports_of spec) text tokens events
+
+-- the tokens are a text of this explanation, and of no other
+abbrev pub OfExplanation : Explanation → List ℕ → List Token → Type 0
+OfExplanation explanation text tokens = IsOnlyExplanationText text tokens explanation
+
 -- REFUSALS
 
 -- what is said of an error: the status, the place and why
 abbrev pub SaysOfSpecification : SpecificationError → Status → ℕ → List ℕ → Type 0
-SaysOfSpecification (specification.BadToken at) status place why = (status ≡ BadSpec) × (place ≡ at) × (why ≡ codes "bad token")
-SaysOfSpecification (specification.LeftOut at) status place why = (status ≡ BadSpec) × (place ≡ at) × (why ≡ codes "left out")
-SaysOfSpecification (specification.NotYet at) status place why = (status ≡ NotBuilt) × (place ≡ at) × (why ≡ codes "not built yet")
-SaysOfSpecification (specification.BrokenRule at rule) status place why = (status ≡ BadSpec) × (place ≡ at) × (why ≡ rule_text rule)
+SaysOfSpecification (specification.BadToken at) status place why =
+    (status ≡ BadSpec) × (place ≡ at) × (why ≡ codes "bad token")
+SaysOfSpecification (specification.LeftOut at) status place why =
+    (status ≡ BadSpec) × (place ≡ at) × (why ≡ codes "left out")
+SaysOfSpecification (specification.NotYet at) status place why =
+    (status ≡ NotBuilt) × (place ≡ at) × (why ≡ codes "not built yet")
+SaysOfSpecification (specification.BrokenRule at rule) status place why =
+    (status ≡ BadSpec) × (place ≡ at) × (why ≡ rule_text rule)
 SaysOfSpecification (specification.Memory error) status place why = ⊥
 
 -- the same of a trace
 abbrev pub SaysOfTrace : TraceError → Status → ℕ → List ℕ → Type 0
-SaysOfTrace (trace.BadToken at) status place why = (status ≡ BadTrace) × (place ≡ at) × (why ≡ codes "bad token")
-SaysOfTrace (trace.TooMany at) status place why = (status ≡ BadTrace) × (place ≡ at) × (why ≡ codes "too many events")
+SaysOfTrace (trace.BadToken at) status place why =
+    (status ≡ BadTrace) × (place ≡ at) × (why ≡ codes "bad token")
+SaysOfTrace (trace.TooMany at) status place why =
+    (status ≡ BadTrace) × (place ≡ at) × (why ≡ codes "too many events")
 SaysOfTrace (trace.Memory error) status place why = ⊥
 
 -- the same of an explanation
 abbrev pub SaysOfExplanation : ExplanationError → Status → ℕ → List ℕ → Type 0
-SaysOfExplanation (explanation.BadToken at) status place why = (status ≡ BadExplanation) × (place ≡ at) × (why ≡ codes "bad token")
+SaysOfExplanation (explanation.BadToken at) status place why =
+    (status ≡ BadExplanation) × (place ≡ at) × (why ≡ codes "bad token")
 SaysOfExplanation (explanation.Memory error) status place why = ⊥
 
 -- how a kind of text is refused: of which tokens, with which status, at which place and why
@@ -66,22 +87,33 @@ Refusals = List ℕ → List Token → Status → ℕ → List ℕ → Type 0
 
 -- a specification: at its first bad place, or at its least broken rule
 abbrev pub RefusesSpecification : Refusals
-RefusesSpecification text tokens status place why = (error : SpecificationError) × IsNoSpecification text tokens error × SaysOfSpecification error status place why
+RefusesSpecification text tokens status place why =
+    (error : SpecificationError) × IsNoSpecification text tokens error
+    × SaysOfSpecification error status place why
 
 -- a trace of a specification: at its first bad place
 abbrev pub RefusesTrace : Spec → Refusals
-RefusesTrace spec text tokens status place why = (error : TraceError) × IsTraceRefusal (ports_of spec) text tokens error × SaysOfTrace error status place why
+RefusesTrace spec text tokens status place why =
+    (error : TraceError) × IsTraceRefusal (ports_of spec) text tokens error
+    × SaysOfTrace error status place why
 
 -- an explanation: at its first bad place
 abbrev pub RefusesExplanation : Refusals
-RefusesExplanation text tokens status place why = (error : ExplanationError) × IsExplanationRefusal text tokens error × SaysOfExplanation error status place why
+RefusesExplanation text tokens status place why =
+    (error : ExplanationError) × IsExplanationRefusal text tokens error
+    × SaysOfExplanation error status place why
 
 -- the line of a refusal at the token with this number
 abbrev pub refusal_at : File → List ℕ → List Token → ℕ → List ℕ → List ℕ
-refusal_at file text tokens place why = refusal_line file (line_at text (offset_at tokens place)) (column_at text (offset_at tokens place)) why
+refusal_at file text tokens place why =
+    refusal_line file (line_at text (offset_at tokens place))
+    (column_at text (offset_at tokens place)) why
 
 -- the tokens of a text are refused, with this status and this report
-pub record IsReported (file : File) (Refuses : Refusals) (status : Status) (report text : List ℕ) (tokens : List Token) : Type 0 where
+pub record IsReported
+    (file : File) (Refuses : Refusals) (status : Status) (report text : List ℕ)
+    (tokens : List Token)
+    : Type 0 where
   pub place : ℕ
   pub why : List ℕ
   pub refused : Refuses text tokens status place why

@@ -1,16 +1,24 @@
 //! The commands.
-ghost use Rattle.est_edge.specs.Pieces.{SameTold};
-ghost use Rattle.est_tool.specs.Ends.{seen, CheckEnds, ReplayEnds, IsMade};
+ghost use Rattle.std.specs.Prelude.{◌-◌, ◌<◌, ◌^◌, [], ◌∷◌, length};
+ghost use Rattle.est_meaning.specs.Allowed.{IsAllowedTrace};
+ghost use Rattle.est_tool.specs.declared.file.File.TheVariants.{Specification as Specifying, Trace as Tracing};
+ghost use Rattle.est_tool.specs.Seen.{seen, shelved};
+ghost use Rattle.est_tool.specs.Texts.{Holds, OfSpecification, OfTrace};
+ghost use Rattle.est_tool.specs.Words.{check, replay};
+ghost use Rattle.est_tool.specs.inside.Work.{IsWork, Gives, IsCounted, IsAnswered};
 
 use crate::explanation::explanation_in;
-use crate::report::{ok_report, replay_report, replay_status};
+use crate::report::{Report, ok_report, replay_report, replay_status};
 use crate::specification::specification_in;
 use crate::status::Status;
 use crate::stop::Stop;
 use crate::trace::trace_in;
+use est_check::Checked;
 use est_edge::Shelf;
+use est_meaning::event::Trace;
 use est_meaning::run::Limits;
 use est_replay::checked::replay;
+use est_replay::explanation::Explanation;
 use std::alloc::Global;
 
 /// The names of the files of a replay.
@@ -22,17 +30,25 @@ pub(crate) struct ReplayFiles<'n> {
 }
 
 /// Checks the specification in a file.
-pub(crate) fn check_file<S: Shelf>(
-    alloc: Global,
-    shelf: &mut S,
-    name: &str,
-) -> Result<(Status, String), Stop>
-    ensures told { SameTold (S.told shelf.old) (S.told shelf.new) }
-    ensures ends { IsMade (CheckEnds (seen (S.told shelf.old) (S.faults shelf.old) (S.faults shelf.new) (S.taken shelf.new)) name.now) result }
+pub(crate) fn check_file<S: Shelf>(alloc: Global, shelf: &mut S, name: &str) -> Result<Report, Stop>
+    ensures { IsWork [] (check name.now) (seen
+        (shelved (S.told shelf.old) (S.faults shelf.old) (S.started shelf.old) (S.taken shelf.old))
+        (shelved (S.told shelf.new) (S.faults shelf.new) (S.started shelf.new) (S.taken shelf.new)))
+        result }
 {
     let checked = specification_in(alloc, shelf, name)?;
-    let report = ok_report(alloc, checked.counts())?;
-    Ok((Status::Fine, report))
+    counted(alloc, &checked)
+}
+
+// The report of a good specification.
+fn counted(alloc: Global, checked: &Checked) -> Result<Report, Stop>
+    ensures { Gives (IsCounted checked.now) result }
+{
+    let text = ok_report(alloc, checked.counts())?;
+    Ok(Report {
+        status: Status::Fine,
+        text,
+    })
 }
 
 /// Replays the explanation of a trace.
@@ -41,14 +57,84 @@ pub(crate) fn replay_files<S: Shelf>(
     shelf: &mut S,
     files: &ReplayFiles<'_>,
     limits: &Limits,
-) -> Result<(Status, String), Stop>
-    ensures told { SameTold (S.told shelf.old) (S.told shelf.new) }
-    ensures ends { IsMade (ReplayEnds (seen (S.told shelf.old) (S.faults shelf.old) (S.faults shelf.new) (S.taken shelf.new)) files.now.specification.now files.now.trace.now files.now.explanation.now limits.now.silent limits.now.statements) result }
+) -> Result<Report, Stop>
+    ensures { IsWork []
+        (replay files.now.specification.now files.now.trace.now files.now.explanation.now
+        limits.now.silent limits.now.statements)
+        (seen
+        (shelved (S.told shelf.old) (S.faults shelf.old) (S.started shelf.old) (S.taken shelf.old))
+        (shelved (S.told shelf.new) (S.faults shelf.new) (S.started shelf.new) (S.taken shelf.new)))
+        result }
 {
     let checked = specification_in(alloc, shelf, files.specification)?;
-    let trace = trace_in(alloc, shelf, files.trace, &checked)?;
+    replay_trace(alloc, shelf, files, limits, &checked)
+}
+
+// What is left of a replay once the specification was read.
+fn replay_trace<S: Shelf>(
+    alloc: Global,
+    shelf: &mut S,
+    files: &ReplayFiles<'_>,
+    limits: &Limits,
+    checked: &Checked,
+) -> Result<Report, Stop>
+    requires { Holds Specifying (S.told shelf.old files.now.specification.now)
+        (OfSpecification checked.now) }
+    ensures { IsWork (files.now.specification.now ∷ [])
+        (replay files.now.specification.now files.now.trace.now files.now.explanation.now
+        limits.now.silent limits.now.statements)
+        (seen
+        (shelved (S.told shelf.old) (S.faults shelf.old) (S.started shelf.old) (S.taken shelf.old))
+        (shelved (S.told shelf.new) (S.faults shelf.new) (S.started shelf.new) (S.taken shelf.new)))
+        result }
+{
+    let trace = trace_in(alloc, shelf, files.trace, checked)?;
+    replay_explanation(alloc, shelf, files, limits, checked, &trace)
+}
+
+// What is left of a replay once the trace was read too.
+fn replay_explanation<S: Shelf>(
+    alloc: Global,
+    shelf: &mut S,
+    files: &ReplayFiles<'_>,
+    limits: &Limits,
+    checked: &Checked,
+    trace: &Trace,
+) -> Result<Report, Stop>
+    requires allowed { IsAllowedTrace checked.now trace.now }
+    requires checked { Holds Specifying (S.told shelf.old files.now.specification.now)
+        (OfSpecification checked.now) }
+    requires traced { Holds Tracing (S.told shelf.old files.now.trace.now)
+        (OfTrace checked.now trace.now) }
+    ensures { IsWork (files.now.specification.now ∷ files.now.trace.now ∷ [])
+        (replay files.now.specification.now files.now.trace.now files.now.explanation.now
+        limits.now.silent limits.now.statements)
+        (seen
+        (shelved (S.told shelf.old) (S.faults shelf.old) (S.started shelf.old) (S.taken shelf.old))
+        (shelved (S.told shelf.new) (S.faults shelf.new) (S.started shelf.new) (S.taken shelf.new)))
+        result }
+{
     let explanation = explanation_in(alloc, shelf, files.explanation)?;
-    let answer = replay(alloc, &checked, &trace, &explanation, limits)?;
-    let report = replay_report(alloc, answer, trace.len() as u32)?;
-    Ok((replay_status(answer), report))
+    judged(alloc, checked, trace, &explanation, limits)
+}
+
+// The report of a replay.
+fn judged(
+    alloc: Global,
+    checked: &Checked,
+    trace: &Trace,
+    explanation: &Explanation,
+    limits: &Limits,
+) -> Result<Report, Stop>
+    requires allowed { IsAllowedTrace checked.now trace.now }
+    requires few { length explanation.now.moves < 2 ^ 32 - 1 }
+    ensures { Gives (IsAnswered limits.now.silent limits.now.statements
+        checked.now trace.now explanation.now) result }
+{
+    let answer = replay(alloc, checked, trace, explanation, limits)?;
+    let text = replay_report(alloc, answer, trace.len() as u32)?;
+    Ok(Report {
+        status: replay_status(answer),
+        text,
+    })
 }

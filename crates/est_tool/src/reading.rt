@@ -1,13 +1,11 @@
 //! The bytes of a file.
-ghost use Rattle.std.specs.Prelude.{◌≡◌, IfOk, IfErr};
-ghost use Rattle.est_edge.specs.Counts.{AllGoOn};
-ghost use Rattle.est_edge.specs.Pieces.{SameTold};
 ghost use Rattle.est_tool.specs.declared.status.Status.TheVariants.{TooLong as Longer};
-ghost use Rattle.est_tool.specs.Ends.{seen, reported, IsStop, IsRead, IsUnread};
+ghost use Rattle.est_tool.specs.Seen.{seen, shelved};
 ghost use Rattle.est_tool.specs.Reports.{too_long_line};
+ghost use Rattle.est_tool.specs.inside.Steps.{StopsWith, ReadsBytes};
 
 use crate::file::File;
-use crate::report::too_long_report;
+use crate::report::{Report, too_long_report};
 use crate::status::Status;
 use crate::stop::Stop;
 use est_edge::{ReadError, Shelf, read_whole};
@@ -20,10 +18,10 @@ pub(crate) fn read_text<S: Shelf>(
     name: &str,
     file: File,
 ) -> Result<Vec<u8>, Stop>
-    ensures told { SameTold (S.told shelf.old) (S.told shelf.new) }
-    ensures counts { AllGoOn (S.faults shelf.old) (S.faults shelf.new) }
-    ensures read { IfOk result (λ text. IsRead (seen (S.told shelf.old) (S.faults shelf.old) (S.faults shelf.new) (S.taken shelf.new)) file name.now text.items) }
-    ensures ended { IfErr result (IsStop (IsUnread (seen (S.told shelf.old) (S.faults shelf.old) (S.faults shelf.new) (S.taken shelf.new)) file name.now)) }
+    ensures { ReadsBytes file name.now (seen
+        (shelved (S.told shelf.old) (S.faults shelf.old) (S.started shelf.old) (S.taken shelf.old))
+        (shelved (S.told shelf.new) (S.faults shelf.new) (S.started shelf.new) (S.taken shelf.new)))
+        result }
 {
     match read_whole(alloc, shelf, name, file.limit()) {
         Ok(text) => Ok(text),
@@ -33,12 +31,15 @@ pub(crate) fn read_text<S: Shelf>(
     }
 }
 
-// Ends with the report of a file that is longer than its limit.
+// Stops with the report of a file that is longer than its limit.
 fn too_long(alloc: Global, file: File) -> Stop
-    ensures { IsStop (λ end. end ≡ reported Longer (too_long_line file)) result }
+    ensures { StopsWith Longer (too_long_line file) result }
 {
     match too_long_report(alloc, file) {
-        Ok(report) => Stop::Report(Status::TooLong, report),
+        Ok(text) => Stop::Refused(Report {
+            status: Status::TooLong,
+            text,
+        }),
         Err(_) => Stop::OutOfMemory,
     }
 }

@@ -1,17 +1,18 @@
 //! Refusals of texts.
-ghost use Rattle.std.specs.Prelude.{◌≡◌};
+ghost use Rattle.std.specs.Prelude.{◌≡◌, IfSome, IfNone};
 ghost use Rattle.est_lexer.specs.Places.{text_of, tokens_of};
-ghost use Rattle.est_tool.specs.Ends.{IsStop, reported};
+ghost use Rattle.est_tool.specs.declared.stop.Stop.TheVariants.{OutOfMemory as Wanting};
 ghost use Rattle.est_tool.specs.Texts.{refusal_at};
+ghost use Rattle.est_tool.specs.inside.Steps.{StopsWith};
 
 use crate::file::File;
-use crate::report::refusal_report;
+use crate::report::{Report, refusal_report};
 use crate::status::Status;
 use crate::stop::Stop;
 use est_lexer::tokens::Tokens;
 use std::alloc::Global;
 
-/// What is said of a text that is refused at a token, or behind the last one.
+/// What is said of a text that is refused at a token, or after the last one.
 #[derive(Clone, Copy)]
 pub(crate) struct Refusal {
     pub status: Status,
@@ -19,14 +20,23 @@ pub(crate) struct Refusal {
     pub why: &'static str,
 }
 
-/// Ends with the report of a refusal.
-pub(crate) fn refuse(alloc: Global, file: File, tokens: &Tokens<'_>, refusal: Refusal) -> Stop
-    ensures { IsStop (λ end. end ≡ reported refusal.status (refusal_at file (text_of tokens.now) (tokens_of tokens.now) refusal.place refusal.why.now)) result }
+/// Stops with the report of a refusal. Where none is known, it was memory that ran out.
+pub(crate) fn refuse(
+    alloc: Global,
+    file: File,
+    tokens: &Tokens<'_>,
+    refusal: Option<Refusal>,
+) -> Stop
+    ensures said { IfSome refusal (λ said. StopsWith said.status (refusal_at file
+        (text_of tokens.now) (tokens_of tokens.now) said.place said.why.now) result) }
+    ensures unsaid { IfNone refusal (result ≡ Wanting) }
 {
-    let Refusal { status, place, why } = refusal;
+    let Some(Refusal { status, place, why }) = refusal else {
+        return Stop::OutOfMemory;
+    };
     let (line, column) = tokens.line_column(place.min(tokens.count()));
     match refusal_report(alloc, file, line, column, why) {
-        Ok(report) => Stop::Report(status, report),
+        Ok(text) => Stop::Refused(Report { status, text }),
         Err(_) => Stop::OutOfMemory,
     }
 }

@@ -1,6 +1,8 @@
 //! The lines of reports.
 ghost use Rattle.std.specs.Prelude.{◌≡◌, ◌++◌, IfOk, codes, string_bytes};
-ghost use Rattle.est_tool.specs.Reports.{all_line, fault_text, first_line, ok_line, refusal_line, rejected_line, replay_line, rule_text, too_long_line, why_text};
+ghost use Rattle.est_tool.specs.Reports.{all_line, fault_text, first_line, ok_line, refusal_line};
+ghost use Rattle.est_tool.specs.Reports.{rejected_line, replay_line, rule_text, too_long_line};
+ghost use Rattle.est_tool.specs.Reports.{why_text};
 ghost use Rattle.est_tool.specs.Statuses.{replay_status};
 
 use crate::file::File;
@@ -11,9 +13,16 @@ use est_replay::verdict::{Replayed, Why};
 use est_syntax::rule::Rule;
 use std::alloc::{AllocError, Global};
 
+/// What a call reports.
+#[derive(Drop)]
+pub(crate) struct Report {
+    pub status: Status,
+    pub text: String,
+}
+
 /// The report of a good specification.
 pub(crate) fn ok_report(alloc: Global, counts: Counts) -> Result<String, AllocError>
-    ensures { IfOk result (λ line. string_bytes line ≡ ok_line counts.bodies counts.transitions counts.ports) }
+    ensures { IfOk result (λ line. string_bytes line ≡ ok_line counts) }
 {
     let Counts {
         bodies,

@@ -3,7 +3,7 @@ ghost use Rattle.std.specs.Prelude.{◌≡◌};
 ghost use Rattle.est_tool.specs.Statuses.{code_of};
 
 /// How a call ended. Its number is the exit status of the program.
-#[derive(Clone, Copy, Debug, PartialEq, Eq)]
+#[derive(Clone, Copy, PartialEq, Eq)]
 pub enum Status {
     /// The specification is good, or the explanation is confirmed.
     Fine = 0,
@@ -23,7 +23,7 @@ pub enum Status {
     ReadFault = 8,
     /// The report could not be written.
     WriteFault = 9,
-    /// Memory was wanting.
+    /// Out of memory.
     OutOfMemory = 10,
     /// The specification has a form that is not built yet.
     NotBuilt = 12,

@@ -2,17 +2,17 @@
 ghost use Rattle.std.specs.Prelude.{◌≡◌};
 ghost use Rattle.est_tool.specs.declared.stop.Stop.TheVariants.{OutOfMemory as Wanting};
 
-use crate::status::Status;
+use crate::report::Report;
 use std::alloc::AllocError;
 
 /// Why a function stops before its work is done.
-#[derive(Debug, Drop)]
+#[derive(Drop)]
 pub(crate) enum Stop {
-    /// A text is refused: the status, and the report that says so.
-    Report(Status, String),
+    /// A file is refused: the report that says so.
+    Refused(Report),
     /// A file could not be read.
     ReadFault,
-    /// Memory was wanting.
+    /// Out of memory.
     OutOfMemory,
 }
 

@@ -1,12 +1,12 @@
 //! The top call.
-ghost use Rattle.std.specs.Prelude.{◌≡◌, ◌≢◌, ◌↔◌};
-ghost use Rattle.est_edge.specs.Counts.{Rose};
-ghost use Rattle.est_edge.specs.Pieces.{SameTold};
-ghost use Rattle.est_tool.specs.Ends.{seen, reported, unread, Ends, IsMade};
-ghost use Rattle.est_tool.specs.Result.{Asked, Writes, HasReport, IsReportable, IsSent, IsDelivered};
-ghost use Rattle.est_tool.specs.Words.{AsksNothing, IsCommand};
+ghost use Rattle.est_tool.specs.Seen.{seen, shelved, sent};
+ghost use Rattle.est_tool.specs.Result.{IsResult};
+ghost use Rattle.est_tool.specs.Words.{IsCommand};
+ghost use Rattle.est_tool.specs.inside.Work.{IsMade, IsObeyed};
+ghost use Rattle.est_tool.specs.inside.Written.{HasReport, IsReportable, Delivers, Sends};
 
 use crate::commands::{ReplayFiles, check_file, replay_files};
+use crate::report::Report;
 use crate::status::Status;
 use crate::stop::Stop;
 use crate::words::{BadUsage, Command, read_words};
@@ -21,14 +21,11 @@ pub fn run<S: Shelf, K: Sink>(
     shelf: &mut S,
     sink: &mut K,
 ) -> Status
-    // The words are none that the program takes, and nothing else is.
-    ensures usage { (result ≡ Status.Usage) ↔ AsksNothing words.now }
-
-    // No refusal comes before the file that could not be read.
-    ensures read_fault { result ≡ Status.ReadFault → Asked words.now (λ request. Ends (seen (S.told shelf.old) (S.faults shelf.old) (S.faults shelf.new) (S.taken shelf.new)) request unread) }
-    ensures write_fault { result ≡ Status.WriteFault → Rose (K.faults sink.old) (K.faults sink.new) }
-    ensures told { SameTold (S.told shelf.old) (S.told shelf.new) }
-    ensures written { Writes (λ status report. Asked words.now (λ request. Ends (seen (S.told shelf.old) (S.faults shelf.old) (S.faults shelf.new) (S.taken shelf.new)) request (reported status report))) result (K.written sink.old) (K.written sink.new) }
+    ensures { IsResult words.now (seen
+        (shelved (S.told shelf.old) (S.faults shelf.old) (S.started shelf.old) (S.taken shelf.old))
+        (shelved (S.told shelf.new) (S.faults shelf.new) (S.started shelf.new) (S.taken shelf.new)))
+        (sent (K.written sink.old) (K.faults sink.old) (K.written sink.new) (K.faults sink.new))
+        result }
 {
     match read_words(words) {
         Ok(command) => deliver(obey(alloc, words, command, shelf), sink),
@@ -42,10 +39,12 @@ fn obey<S: Shelf>(
     words: &[String],
     command: Command,
     shelf: &mut S,
-) -> Result<(Status, String), Stop>
+) -> Result<Report, Stop>
     requires { IsCommand words.now command }
-    ensures told { SameTold (S.told shelf.old) (S.told shelf.new) }
-    ensures ends { Asked words.now (λ request. IsMade (Ends (seen (S.told shelf.old) (S.faults shelf.old) (S.faults shelf.new) (S.taken shelf.new)) request) result) }
+    ensures { IsObeyed words.now (seen
+        (shelved (S.told shelf.old) (S.faults shelf.old) (S.started shelf.old) (S.taken shelf.old))
+        (shelved (S.told shelf.new) (S.faults shelf.new) (S.started shelf.new) (S.taken shelf.new)))
+        result }
 {
     match command {
         Command::Check => check_file(alloc, shelf, words[1].as_str()),
@@ -61,29 +60,29 @@ fn obey<S: Shelf>(
 }
 
 // Writes a report that was made, and answers its status where that went well.
-fn deliver<K: Sink>(made: Result<(Status, String), Stop>, sink: &mut K) -> Status
+fn deliver<K: Sink>(made: Result<Report, Stop>, sink: &mut K) -> Status
     requires { IsMade IsReportable made }
-    ensures asked { result ≢ Status.Usage }
-    ensures delivered { IsDelivered made result (K.written sink.old) (K.written sink.new) }
-    ensures failed { result ≡ Status.WriteFault → Rose (K.faults sink.old) (K.faults sink.new) }
+    ensures { Delivers made
+        (sent (K.written sink.old) (K.faults sink.old) (K.written sink.new) (K.faults sink.new))
+        result }
 {
     match made {
-        Ok((status, report)) => send(status, report.as_bytes(), sink),
-        Err(Stop::Report(status, report)) => send(status, report.as_bytes(), sink),
+        Ok(report) => send(report, sink),
+        Err(Stop::Refused(report)) => send(report, sink),
         Err(Stop::ReadFault) => Status::ReadFault,
         Err(Stop::OutOfMemory) => Status::OutOfMemory,
     }
 }
 
 // Writes a report, and answers its status where that went well.
-fn send<K: Sink>(status: Status, report: &[u8], sink: &mut K) -> Status
-    requires { HasReport status }
-    ensures asked { result ≢ Status.Usage }
-    ensures sent { IsSent status report.now result (K.written sink.old) (K.written sink.new) }
-    ensures failed { result ≡ Status.WriteFault → Rose (K.faults sink.old) (K.faults sink.new) }
+fn send<K: Sink>(report: Report, sink: &mut K) -> Status
+    requires { HasReport report.status }
+    ensures { Sends report
+        (sent (K.written sink.old) (K.faults sink.old) (K.written sink.new) (K.faults sink.new))
+        result }
 {
-    match write_whole(sink, report) {
-        Ok(()) => status,
+    match write_whole(sink, report.text.as_bytes()) {
+        Ok(()) => report.status,
         Err(_) => Status::WriteFault,
     }
 }

@@ -1,14 +1,11 @@
 //! The text of a trace.
-ghost use Rattle.std.specs.Prelude.{◌≤◌, IfOk, IfErr, length};
-ghost use Rattle.est_edge.specs.Counts.{AllGoOn};
-ghost use Rattle.est_edge.specs.Pieces.{SameTold};
+ghost use Rattle.std.specs.Prelude.{◌≤◌, IfSome, length, IfOk};
 ghost use Rattle.est_meaning.specs.Allowed.{IsAllowedTrace};
-ghost use Rattle.est_syntax.specs.Ports.{ports_of};
-ghost use Rattle.est_trace.specs.Reading.{IsOnlyTraceText};
 ghost use Rattle.est_tool.specs.declared.file.File.TheVariants.{Trace as Tracing};
-ghost use Rattle.est_tool.specs.Ends.{seen, EndsAt, HoldsTrace, IsStop, IsRefusedText};
 ghost use Rattle.est_tool.specs.Files.{limit_of};
-ghost use Rattle.est_tool.specs.Texts.{IsText, RefusesTrace, SaysOfTrace};
+ghost use Rattle.est_tool.specs.Seen.{seen, shelved};
+ghost use Rattle.est_tool.specs.Texts.{OfTrace, RefusesTrace, SaysOfTrace};
+ghost use Rattle.est_tool.specs.inside.Steps.{ReadsFile, ReadsText};
 
 use crate::file::File;
 use crate::reading::read_text;
@@ -21,7 +18,7 @@ use est_lexer::lex::lex;
 use est_meaning::event::Trace;
 use est_trace::error::TraceError;
 use est_trace::trace::read_trace;
-use std::alloc::{AllocError, Global};
+use std::alloc::Global;
 
 /// The trace of a specification in the file of this name.
 pub(crate) fn trace_in<S: Shelf>(
@@ -30,11 +27,12 @@ pub(crate) fn trace_in<S: Shelf>(
     name: &str,
     checked: &Checked,
 ) -> Result<Trace, Stop>
-    ensures told { SameTold (S.told shelf.old) (S.told shelf.new) }
-    ensures counts { AllGoOn (S.faults shelf.old) (S.faults shelf.new) }
-    ensures allowed { IfOk result (λ events. IsAllowedTrace checked.now events) }
-    ensures good { IfOk result (λ events. HoldsTrace (seen (S.told shelf.old) (S.faults shelf.old) (S.faults shelf.new) (S.taken shelf.new)) name.now checked.now events) }
-    ensures ended { IfErr result (IsStop (EndsAt (seen (S.told shelf.old) (S.faults shelf.old) (S.faults shelf.new) (S.taken shelf.new)) Tracing name.now (RefusesTrace checked.now))) }
+    ensures allowed { IfOk result (IsAllowedTrace checked.now) }
+    ensures reads { ReadsFile Tracing name.now
+        (OfTrace checked.now) (RefusesTrace checked.now) (seen
+        (shelved (S.told shelf.old) (S.faults shelf.old) (S.started shelf.old) (S.taken shelf.old))
+        (shelved (S.told shelf.new) (S.faults shelf.new) (S.started shelf.new) (S.taken shelf.new)))
+        result }
 {
     let text = read_text(alloc, shelf, name, File::Trace)?;
     trace_of(alloc, text.as_slice(), checked)
@@ -43,30 +41,27 @@ pub(crate) fn trace_in<S: Shelf>(
 // The trace of a specification that a text within its limit is.
 fn trace_of(alloc: Global, text: &[u8], checked: &Checked) -> Result<Trace, Stop>
     requires { length text.now ≤ limit_of Tracing }
-    ensures allowed { IfOk result (λ events. IsAllowedTrace checked.now events) }
-    ensures good { IfOk result (λ events. IsText Tracing text.now (λ text tokens. IsOnlyTraceText (ports_of checked.now) text tokens events)) }
-    ensures refused { IfErr result (IsStop (IsRefusedText Tracing (RefusesTrace checked.now) text.now)) }
+    ensures allowed { IfOk result (IsAllowedTrace checked.now) }
+    ensures reads { ReadsText Tracing
+        (OfTrace checked.now) (RefusesTrace checked.now) text.now result }
 {
     let tokens = lex(alloc, text)?;
     match read_trace(alloc, checked, &tokens) {
         Ok(events) => Ok(events),
-        Err(error) => match said_of(error) {
-            Ok(refusal) => Err(refuse(alloc, File::Trace, &tokens, refusal)),
-            Err(AllocError) => Err(Stop::OutOfMemory),
-        },
+        Err(error) => Err(refuse(alloc, File::Trace, &tokens, said_of(error))),
     }
 }
 
-// What is said of an error, unless memory was wanting.
-fn said_of(error: TraceError) -> Result<Refusal, AllocError>
-    ensures { IfOk result (λ refusal. SaysOfTrace error refusal.status refusal.place refusal.why.now) }
+// What is said of an error, unless memory ran out.
+fn said_of(error: TraceError) -> Option<Refusal>
+    ensures { IfSome result (λ said. SaysOfTrace error said.status said.place said.why.now) }
 {
     let (place, why) = match error {
         TraceError::BadToken { place } => (place, "bad token"),
         TraceError::TooMany { place } => (place, "too many events"),
-        TraceError::Memory(error) => return Err(error),
+        TraceError::Memory(_) => return None,
     };
-    Ok(Refusal {
+    Some(Refusal {
         status: Status::BadTrace,
         place,
         why,

@@ -18,7 +18,7 @@ pub enum Command {
 }
 
 /// The words are none that the program takes.
-#[derive(Clone, Copy, Debug, PartialEq, Eq)]
+#[derive(Clone, Copy, PartialEq, Eq)]
 pub struct BadUsage;
 
 /// Reads the words behind the name of the program.
@@ -46,7 +46,9 @@ pub fn read_words(words: &[String]) -> Result<Command, BadUsage>
 
 // The limits that these words give, and the usual ones where there are no words.
 fn read_limits(words: &[String]) -> Option<Limits>
-    ensures limits { MatchOption result ((silent statements : ℕ) → AreLimits (bytes_of words.now) silent statements → ⊥) (λ limits. AreLimits (bytes_of words.now) limits.silent limits.statements) }
+    ensures limits { MatchOption result
+        ((silent statements : ℕ) → AreLimits (bytes_of words.now) silent statements → ⊥)
+        (λ limits. AreLimits (bytes_of words.now) limits.silent limits.statements) }
     ensures budget { IfSome result (λ limits. limits.budget ≡ usual_budget) }
 {
     match words {
@@ -70,7 +72,8 @@ fn read_limits(words: &[String]) -> Option<Limits>
 
 // The value of a decimal number of 1 to 20 digits, where it is within these bounds.
 fn number(word: &str, low: u32, high: u32) -> Option<u32>
-    ensures { MatchOption result ((value : ℕ) → IsNumber low high word.now value → ⊥) (IsNumber low high word.now) }
+    ensures { MatchOption result
+        ((value : ℕ) → IsNumber low high word.now value → ⊥) (IsNumber low high word.now) }
 {
     if word.len() > 20 || word.starts_with('+') {
         return None;

@@ -1,6 +1,6 @@
 use Rattle.std.proofs.Common.{take, ◌∙◌}
 use Rattle.std.proofs.lemmas.Result.{err_from_is_err_and}
-use Rattle.est_edge.proofs.CountLaws.{GoesOn-then}
+use Rattle.est_edge.proofs.CountLaws.{GoesOn-then, GoesOn-same}
 use Rattle.est_edge.proofs.PieceLaws.{IsPrefix-take, appended-next, next_within}
 use Rattle.est_edge.proofs.whole.write_whole.Goals as goal
 
@@ -12,6 +12,12 @@ returns-in_err-done-clause-err g c =
 pub loop-done-preserved : goal.loop-done-preserved
 loop-done-preserved g c = record {
   within = next_within c.args.bytes.now c.loop-done.done c.in_ok-done.field-0 c.loop-done.invariant.within c.in_ok-done.ensures.within;
-  count = GoesOn-then _ _ _ c.loop-done.invariant.count c.put.ensures.count;
+  quiet = c.in_ok-done.ensures.quiet ∙ c.loop-done.invariant.quiet;
   written = appended-next _ _ _ c.args.bytes.now c.loop-done.done c.in_ok-done.field-0 c.loop-done.invariant.written c.in_ok-done.ensures.piece;
 }
+
+pub returns-in_err-done-clause-count : goal.returns-in_err-done-clause-count
+returns-in_err-done-clause-count g c = GoesOn-then c.loop-done.invariant.quiet c.put.ensures.count
+
+pub returns-clause-count : goal.returns-clause-count
+returns-clause-count g c = GoesOn-same c.loop-done.invariant.quiet

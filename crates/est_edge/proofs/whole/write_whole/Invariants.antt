@@ -1,12 +1,11 @@
 use Rattle.std.proofs.Common.{length, ◌-◌, ◌≡◌, ◌≤◌, take}
-use Rattle.est_edge.specs.Counts.{GoesOn}
 use Rattle.est_edge.specs.Pieces.{appended}
 use Rattle.est_edge.proofs.whole.write_whole.Given as goal
 
 abbrev pub invariant-loop-done : goal.invariant-loop-done
 invariant-loop-done g l = record {
   within : l.done ≤ length l.bytes;
-  count : GoesOn (g.K.Sink.faults l.initial.sink) (g.K.Sink.faults l.sink);
+  quiet : g.K.Sink.faults l.sink ≡ g.K.Sink.faults l.initial.sink;
   written : g.K.Sink.written l.sink ≡ appended (g.K.Sink.written l.initial.sink) (take l.done l.bytes);
 }
 

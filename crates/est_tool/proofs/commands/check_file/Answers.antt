@@ -1,8 +1,13 @@
-use Rattle.est_tool.proofs.CommandLaws.{check_stops, check_ends}
+use Rattle.est_tool.specs.Texts.{OfSpecification, RefusesSpecification}
+use Rattle.std.proofs.Common.{refl, []}
+use Rattle.est_tool.specs.Ends.{at_its_file}
+use Rattle.est_tool.proofs.WorkLaws.{stops_at, ends_work, check_reports}
 use Rattle.est_tool.proofs.commands.check_file.Goals as goal
 
-pub returns-in_err-checked-clause-ends : goal.returns-in_err-checked-clause-ends
-returns-in_err-checked-clause-ends g c = check_stops _ _ c.from_residual.result _ c.from_residual.ensures c.in_err-checked.ensures.ended
+pub returns-in_err-checked : goal.returns-in_err-checked
+returns-in_err-checked g c =
+    stops_at OfSpecification RefusesSpecification [] _ _ c.from_residual.result _ c.from_residual.ensures c.in_err-checked.ensures refl (λ end at. at_its_file end at)
 
-pub returns-clause-ends : goal.returns-clause-ends
-returns-clause-ends g c = check_ends _ _ c.in_ok-checked.checked _ _ c.in_ok-checked.ensures.good c.counts.ensures c.in_ok-report.ensures
+pub returns : goal.returns
+returns g c =
+    ends_work OfSpecification RefusesSpecification [] _ _ _ c.counted.result _ c.in_ok-checked.ensures c.counted.ensures refl (check_reports _ _ _ c.in_ok-checked.ensures.good)

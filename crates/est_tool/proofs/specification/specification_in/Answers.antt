@@ -1,16 +1,11 @@
-use Rattle.est_tool.specs.declared.file.File.TheVariants.{Specification}
-use Rattle.est_tool.specs.Ends.{seen}
-use Rattle.est_specification.specs.Reading.{IsSpecification}
-use Rattle.est_tool.proofs.EndLaws.{unread_ended, refused_ended, held}
+use Rattle.est_tool.specs.Texts.{OfSpecification, RefusesSpecification}
+use Rattle.est_tool.proofs.ReadLaws.{reads_nothing, reads_text}
 use Rattle.est_tool.proofs.specification.specification_in.Goals as goal
 
-pub returns-in_err-text-clause-ended : goal.returns-in_err-text-clause-ended
-returns-in_err-text-clause-ended g c = unread_ended _ _ _ _ c.from_residual.result _ c.from_residual.ensures c.in_err-text.ensures.ended
+pub returns-in_err-text : goal.returns-in_err-text
+returns-in_err-text g c =
+    reads_nothing RefusesSpecification OfSpecification c.from_residual.result _ c.from_residual.ensures c.in_err-text.ensures
 
-pub returns-clause-ended : goal.returns-clause-ended
-returns-clause-ended g c = refused_ended _ _ _ _ c.as_slice.result.now c.specification_of.result (rw c.as_slice.ensures.value c.in_ok-text.ensures.read) c.specification_of.ensures.refused
-
-pub returns-clause-good : goal.returns-clause-good
-returns-clause-good g c =
-    let shelf : _ = seen (g.S.Shelf.told c.args.shelf.now) (g.S.Shelf.faults c.args.shelf.now) (g.S.Shelf.faults c.read_text.new.shelf) (g.S.Shelf.taken c.read_text.new.shelf) in
-    held shelf Specification c.args.name.now (λ x text tokens. IsSpecification text tokens x) c.as_slice.result.now c.specification_of.result (rw c.as_slice.ensures.value c.in_ok-text.ensures.read) c.specification_of.ensures.good
+pub returns : goal.returns
+returns g c =
+    reads_text RefusesSpecification OfSpecification c.specification_of.result c.in_ok-text.text c.as_slice.result.now c.as_slice.ensures.value c.in_ok-text.ensures c.specification_of.ensures

@@ -1,8 +1,8 @@
-use Rattle.est_tool.specs.Result.{whole, broken_off}
+use Rattle.est_tool.proofs.ResultLaws.{sends_whole, sends_part}
 use Rattle.est_tool.proofs.top.send.Goals as goal
 
-pub returns-in-Ok-clause-sent : goal.returns-in-Ok-clause-sent
-returns-in-Ok-clause-sent g c = whole _ _ c.in-Ok.ensures.ok
+pub returns-in-Ok : goal.returns-in-Ok
+returns-in-Ok g c = sends_whole c.args.report _ c.as_bytes.result.now c.as_bytes.ensures.value c.requires c.in-Ok.ensures.ok c.in-Ok.ensures.quiet
 
-pub returns-in-Err-clause-sent : goal.returns-in-Err-clause-sent
-returns-in-Err-clause-sent g c = broken_off _ _ c.in-Err.ensures.err.0 c.in-Err.ensures.err.1 c.in-Err.ensures.err.2
+pub returns : goal.returns
+returns g c = sends_part c.args.report _ c.as_bytes.result.now c.in-Err.ensures.err.0 c.as_bytes.ensures.value c.in-Err.ensures.err.1 c.in-Err.ensures.err.2 c.in-Err.ensures.failed

@@ -1,5 +1,5 @@
-use Rattle.est_tool.proofs.EndLaws.{is_text}
+use Rattle.est_tool.proofs.ReadLaws.{reads_good}
 use Rattle.est_tool.proofs.trace.trace_of.Goals as goal
 
-pub returns-in-Ok-clause-good : goal.returns-in-Ok-clause-good
-returns-in-Ok-clause-good c = is_text c.in_ok-tokens.ensures.same_text c.requires c.in_ok-tokens.ensures.tokens c.in-Ok.ensures.reads
+pub returns-in-Ok-clause-reads : goal.returns-in-Ok-clause-reads
+returns-in-Ok-clause-reads c = reads_good _ c.in_ok-tokens.ensures.same_text c.requires c.in_ok-tokens.ensures.tokens c.in-Ok.ensures.reads

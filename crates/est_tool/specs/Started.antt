@@ -1,0 +1,28 @@
+-- Which files a call starts.
+use Rattle.std.specs.Prelude.{◌≡◌, ℕ, List, [], ◌∷◌}
+use Rattle.est_syntax.specs.declared.specification.Spec.{Spec}
+use Rattle.est_meaning.specs.declared.event.Event.{Event}
+use Rattle.est_tool.specs.Seen.{Seen}
+use Rattle.est_tool.specs.Ends.{HoldsSpecification, HoldsTrace}
+use Rattle.est_tool.specs.Words.{Request, check, replay}
+
+-- `check` starts its file, once
+abbrev pub CheckStarts : List ℕ → List (List ℕ) → Type 0
+CheckStarts name names = names ≡ name ∷ []
+
+-- `replay` starts its files in their order, each once, and one only where those before it are good
+pub data ReplayStarts (shelf : Seen) (specification trace explanation : List ℕ)
+    : List (List ℕ) → Type 0 where
+  one : ReplayStarts shelf specification trace explanation (specification ∷ [])
+  two : (spec : Spec) → HoldsSpecification shelf specification spec
+      → ReplayStarts shelf specification trace explanation (specification ∷ trace ∷ [])
+  three : (spec : Spec) (events : List Event) → HoldsSpecification shelf specification spec
+      → HoldsTrace shelf trace spec events
+      → ReplayStarts shelf specification trace explanation
+      (specification ∷ trace ∷ explanation ∷ [])
+
+-- the files of these names are all that is started for what the words ask for
+abbrev pub Starts : Seen → Request → List (List ℕ) → Type 0
+Starts shelf (check specification) names = CheckStarts specification names
+Starts shelf (replay specification trace explanation silent statements) names =
+    ReplayStarts shelf specification trace explanation names

@@ -1,0 +1,60 @@
+-- What a function answers that does what the words ask for, or what is left of it.
+use Rattle.std.specs.Prelude.{◌≡◌, ℕ, List, [], ◌++◌, length, Result, Ok, Err, String, string_bytes}
+use Rattle.std.specs.Global.{Global}
+use Rattle.est_edge.specs.Pieces.{SameTold}
+use Rattle.est_tool.specs.declared.report.Report.{Report}
+use Rattle.est_tool.specs.declared.stop.Stop.{Stop}
+use Rattle.est_tool.specs.declared.stop.Stop.TheVariants.{OutOfMemory}
+use Rattle.est_tool.specs.declared.status.Status.{Status}
+use Rattle.est_tool.specs.declared.status.Status.TheVariants.{Fine}
+use Rattle.est_syntax.specs.declared.specification.Spec.{Spec}
+use Rattle.est_check.specs.Checked.{counts_of}
+use Rattle.est_meaning.specs.declared.event.Event.{Event}
+use Rattle.est_replay.specs.Replay.{IsReplay}
+use Rattle.est_replay.specs.declared.explanation.Explanation.{Explanation}
+use Rattle.est_replay.specs.declared.verdict.Replayed.{Replayed}
+use Rattle.est_tool.specs.Reports.{ok_line, replay_line}
+use Rattle.est_tool.specs.Statuses.{replay_status}
+use Rattle.est_tool.specs.Seen.{Seen}
+use Rattle.est_tool.specs.Ends.{End, reported, Ends}
+use Rattle.est_tool.specs.Started.{Starts}
+use Rattle.est_tool.specs.Words.{Request, Asks, bytes_of}
+use Rattle.est_tool.specs.inside.Steps.{IsStop, IsQuiet}
+
+-- a command ends with a report, or stops before
+abbrev pub IsMade : (End → Type 0) → Result Report Stop → Type 0
+IsMade P (Ok report) = P (reported report.status (string_bytes report.text))
+IsMade P (Err stop) = IsStop P stop
+
+-- this holds of the report that is made, unless memory ran out
+abbrev pub Gives : (Status → List ℕ → Type 0) → Result Report Stop → Type 0
+Gives P (Ok report) = P report.status (string_bytes report.text)
+Gives P (Err stop) = stop ≡ OutOfMemory
+
+-- the report of a good specification
+abbrev pub IsCounted : Spec → Status → List ℕ → Type 0
+IsCounted spec status report = (status ≡ Fine) × (report ≡ ok_line (counts_of spec))
+
+-- the report of a replay within limits, by the one answer
+abbrev pub IsAnswered : ℕ → ℕ → Spec → List Event → Explanation → Status → List ℕ → Type 0
+IsAnswered silent statements spec events read status report =
+    (answer : Replayed) × IsReplay statements silent spec events read.moves read.claim answer
+    × (status ≡ replay_status answer) × (report ≡ replay_line (length events) answer)
+
+-- the work of a request is done, of which these files were started before
+pub record IsWork
+    (done : List (List ℕ)) (request : Request) (shelf : Seen) (result : Result Report Stop)
+    : Type 0 where
+  pub told : SameTold shelf.before.told shelf.after.told
+  pub quiet : IsQuiet shelf result
+  pub names : List (List ℕ)
+  pub started : shelf.after.started ≡ shelf.before.started ++ names
+  pub starts : Starts shelf request (done ++ names)
+  pub ends : IsMade (Ends shelf request) result
+
+-- the words ask for something, and that is done
+pub record IsObeyed
+    (words : List (String Global)) (shelf : Seen) (result : Result Report Stop) : Type 0 where
+  pub request : Request
+  pub asked : Asks (bytes_of words) request
+  pub work : IsWork [] request shelf result
