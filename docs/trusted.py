@@ -58,6 +58,8 @@ while todo:
 total = {}
 for path, lines in reached.values():
     total[path] = total.get(path, 0) + lines
+whole = 0
 for path in sorted(total):
     print(f"{total[path]:5} {path}")
-print(f"{sum(total.values()):5} lines in {len(reached)} definitions of {len(total)} files")
+    whole += sum(len(block) for block in {id(b): b for b in files[path][0].values()}.values())
+print(f"{sum(total.values()):5} lines in {len(reached)} definitions of {len(total)} files, which have {whole} in all")
