@@ -1,7 +1,9 @@
 #!/usr/bin/env python3
-"""Counts the lines that a reader must read to trust `run`: those of each definition that its contract
-`IsResult` reaches, without comments, blank lines and imports. Types of `src` are not counted. A name of a
-variable that is also one of a definition counts as that, so the true number is a little smaller.
+"""Counts the lines that a reader must read to trust `run`.
+
+They are those of each definition that its contract `IsResult` reaches, without comments, blank lines
+and imports. Types of `src` are not counted. A variable with the name of a definition counts as that
+definition, so the true number is a little smaller.
 """
 
 import pathlib
@@ -62,4 +64,5 @@ whole = 0
 for path in sorted(total):
     print(f"{total[path]:5} {path}")
     whole += sum(len(block) for block in {id(b): b for b in files[path][0].values()}.values())
-print(f"{sum(total.values()):5} lines in {len(reached)} definitions of {len(total)} files, which have {whole} in all")
+print(f"{sum(total.values()):5} lines in {len(reached)} definitions")
+print(f"{whole:5} lines in all of their {len(total)} files")
