@@ -1,8 +1,8 @@
 #!/usr/bin/env python3
-"""Counts the lines that a reader must read to trust `run`.
+"""Counts the lines that a reader must read to trust `run` and the status of the program.
 
-They are those of each definition that its contract `IsResult` reaches, without comments, blank lines
-and imports. Types of `src` are not counted. A variable with the name of a definition counts as that
+They are those of each definition that the contracts of `run` and of `Status::code` reach, without comments,
+blank lines and imports. Types of `src` are not counted. A variable with the name of a definition counts as that
 definition, so the true number is a little smaller.
 """
 
@@ -10,7 +10,13 @@ import pathlib
 import re
 
 CRATES = pathlib.Path(__file__).resolve().parent.parent / "crates"
-START = ("est_tool/specs/Result.antt", "IsResult")
+STARTS = [
+    ("est_tool/specs/Result.antt", "IsResult"),
+    ("est_tool/specs/Seen.antt", "seen"),
+    ("est_tool/specs/Seen.antt", "shelved"),
+    ("est_tool/specs/Seen.antt", "sent"),
+    ("est_tool/specs/Statuses.antt", "code_of"),
+]
 USE = re.compile(r"use Rattle\.(est_\w+)\.specs\.([\w.]+?)(?:\.\{(.*)\}| as (\w+))?$")
 HEAD = re.compile(r"\s*(?:(?:abbrev|unfoldable) pub|pub record|pub data)\s+([\w'-]+)|module\s+(_)")
 PART = re.compile(r"\s+(?:pub )?((?:[\w'-]+ )+):")
@@ -40,7 +46,7 @@ def loaded(path):
     return blocks, imports
 
 
-files, todo, reached = {}, [START], {}
+files, todo, reached = {}, list(STARTS), {}
 while todo:
     path, name = todo.pop()
     if not (CRATES / path).exists():
