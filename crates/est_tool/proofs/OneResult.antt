@@ -155,15 +155,15 @@ specifications_alike : (text : List ℕ) (tokens : List Token) (s s' : Status) (
 specifications_alike text tokens s s' place place' why why' (bad x e f) (bad y g h) =
     let at : place ≡ place' = at_most_one_bad_place _ _ _ _ place place' x y in
     (e ∙ ap (λ n. status_at tokens n) at ∙ sym g, at, f ∙ ap (λ n. why_at tokens n) at ∙ sym h)
-specifications_alike text tokens s s' place place' why why' (bad x e f) (broken spec r one least g h) = absurd (x.no_tree one.shape one.tree)
-specifications_alike text tokens s s' place place' why why' (broken spec r one least g h) (bad x e f) = absurd (x.no_tree one.shape one.tree)
+specifications_alike text tokens s s' place place' why why' (bad x e f) (broken spec r one least g h) = absurd (x.no_tree _ one.tree)
+specifications_alike text tokens s s' place place' why why' (broken spec r one least g h) (bad x e f) = absurd (x.no_tree _ one.tree)
 specifications_alike text tokens s s' place place' why why' (broken spec r one least e f) (broken spec' r' one' least' g h) =
     let same : spec' ≡ spec = same_specification text tokens spec' spec one' one in
     let fault = same_fault spec place place' r r' least (subst (λ z. IsLeastFault z place' r') same least') in
     (e ∙ sym g, fault.0, f ∙ ap rule_text fault.1 ∙ sym h)
 
 good_not_refused : (text : List ℕ) (tokens : List Token) (spec : Spec) (s : Status) (place : ℕ) (why : List ℕ) → IsSpecification text tokens spec → IsRefusedSpecification text tokens s place why → ⊥
-good_not_refused text tokens spec s place why is (bad x e f) = x.no_tree is.tree.shape is.tree.tree
+good_not_refused text tokens spec s place why is (bad x e f) = x.no_tree _ is.tree.tree
 good_not_refused text tokens spec s place why is (broken spec' r one least e f) =
     let same : spec' ≡ spec = same_specification text tokens spec' spec one is.tree in
     is.good place r (subst (λ z. IsLeastFault z place r) same least).0
@@ -192,8 +192,8 @@ module _ (spec : Spec) (text : List ℕ) (tokens : List Token) where
   traces_alike a (trace.Memory error) s s' place place' why why' x e y f = absurd f
 
   trace_not_refused : (events : List Event) (error : TraceError) (s : Status) (place : ℕ) (why : List ℕ) → IsOnlyTraceText (ports_of spec) text tokens events → IsTraceRefusal (ports_of spec) text tokens error → SaysOfTrace error s place why → ⊥
-  trace_not_refused events (trace.BadToken at) s place why is x e = x.0.no_tree is.0.0 is.0.1
-  trace_not_refused events (trace.TooMany at) s place why is x e = x.0.no_tree is.0.0 is.0.1
+  trace_not_refused events (trace.BadToken at) s place why is x e = x.0.no_tree _ is.0.1
+  trace_not_refused events (trace.TooMany at) s place why is x e = x.0.no_tree _ is.0.1
   trace_not_refused events (trace.Memory error) s place why is x e = e
 
 traces_decided : (spec : Spec) → IsDecided (RefusesTrace spec) (OfTrace spec)
@@ -214,7 +214,7 @@ module _ (text : List ℕ) (tokens : List Token) where
   explanations_alike a (explanation.Memory error) s s' place place' why why' x e y f = absurd f
 
   explanation_not_refused : (read : Explanation) (error : ExplanationError) (s : Status) (place : ℕ) (why : List ℕ) → IsOnlyExplanationText text tokens read → IsExplanationRefusal text tokens error → SaysOfExplanation error s place why → ⊥
-  explanation_not_refused read (explanation.BadToken at) s place why is x e = x.no_tree is.0.0 is.0.1
+  explanation_not_refused read (explanation.BadToken at) s place why is x e = x.no_tree _ is.0.1
   explanation_not_refused read (explanation.Memory error) s place why is x e = e
 
 explanations_decided : IsDecided RefusesExplanation OfExplanation
