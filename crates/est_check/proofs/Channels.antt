@@ -30,7 +30,7 @@ use Rattle.est_check.specs.Signals.{RolesFor}
 use Rattle.est_check.proofs.Entering.{first, whole, whole-enter_all, noted-enter_all, first_of-none, Agree}
 use Rattle.est_check.proofs.Stands.{Both, Alike, alike-append, names_alike, first_alike, or_declared, declared_in-append, both_append}
 
--- names that are declared again, in two regions one behind the other
+-- names that are declared again, in two regions one after the other
 pub twice-append : (before : List (List ℕ)) (xs : Region) (us : List Used) → twice_faults before (names_of xs ++ us) ≡ twice_faults before (names_of xs) ++ twice_faults (before ++ spellings_of xs) us
 twice-append before [] us = ap (λ l. twice_faults l us) (sym (append-nil before))
 twice-append before (x ∷ xs) us =

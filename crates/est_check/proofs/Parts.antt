@@ -44,7 +44,7 @@ abbrev pub AreFlat : List Part → Type 0
 AreFlat [] = Unit {0}
 AreFlat (p ∷ ps) = IsFlat p × AreFlat ps
 
--- the faults of each part, one part behind the other
+-- the faults of each part, one part after the other
 abbrev pub each : (Part → List Fault) → List Part → List Fault
 each f [] = []
 each f (p ∷ ps) = f p ++ each f ps

@@ -212,7 +212,7 @@ rules_text P env b sees h k =
     rules-append (first_faults env (out-Body b).name.place (has_states (out-Body b).parts) (out-Body b).first) (groups_faults env (out-Body b).groups)
     (rules_first P env (out-Body b).name.place (has_states (out-Body b).parts) (out-Body b).first sees h) (rules_groups P env (out-Body b).groups sees k)
 
--- what a body does not see is declared behind it
+-- what a body does not see is declared after it
 abbrev pub IsLate : ℕ → Declaration → Type 0
 IsLate limit d = (is_shared d.sort ≡ true) ⊎ (limit ≤ d.last)
 

@@ -11,7 +11,7 @@ body_count [] = 0
 body_count (part.Body b ∷ ps) = 1 + body_count ps
 body_count (_ ∷ ps) = body_count ps
 
--- the number of transitions behind each `trans` of a body
+-- the number of transitions after each `trans` of a body
 abbrev pub group_count : List Group → ℕ
 group_count [] = 0
 group_count (g ∷ gs) = length (out-Group g).transitions + group_count gs

@@ -18,7 +18,7 @@ abbrev pub together_entries : List Used → Entry → List (Used × Entry)
 together_entries [] e = []
 together_entries (u ∷ us) e = (u, e) ∷ together_entries us e
 
--- the roles of a channel behind the first one
+-- the roles of a channel after the first one
 abbrev pub other_role_entries : List Used → List (Used × Entry)
 other_role_entries [] = []
 other_role_entries (u ∷ us) = (u, entry u.place (entities.Role true)) ∷ other_role_entries us

@@ -20,7 +20,7 @@ Entries = List (List ℕ × Entry)
 abbrev pub entry_of : Entries → List ℕ → Option Entry
 entry_of es name = lookup (is_name name) es
 
--- the entry of a name that stands for this, and is in force behind this place
+-- the entry of a name that stands for this, and is in force after this place
 abbrev pub entry : ℕ → Entity → Entry
 entry last e = record { last = last; entity = e }
 

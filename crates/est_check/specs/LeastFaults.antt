@@ -43,7 +43,7 @@ abbrev pub names_of_channel_part : Option Fault → Part → Members × Option F
 names_of_channel_part least (part.Channel c) = names_of_channel least c
 names_of_channel_part least _ = (record { roles = []; interactions = [] }, least)
 
--- the names of the channels, part for part, behind those of earlier parts, with the least fault of
+-- the names of the channels, part for part, after those of earlier parts, with the least fault of
 -- all of them
 abbrev pub names_of_channels : List Members × Option Fault → List Part → List Members × Option Fault
 names_of_channels s [] = s
@@ -83,7 +83,7 @@ abbrev pub names_of_header_part : Table → BodyNames → Option Fault → Part 
 names_of_header_part t b least (part.Header h) = names_of_header t b least h
 names_of_header_part t b least _ = ([], least)
 
--- the names of the headers, part for part, behind those of earlier parts, with the least fault of
+-- the names of the headers, part for part, after those of earlier parts, with the least fault of
 -- all of them
 abbrev pub names_of_headers : Table → BodyNames → List Entries × Option Fault → List Part
     → List Entries × Option Fault

@@ -111,7 +111,7 @@ pub record IsPlainFirst (f : FirstPart) : Type 0 where
   pub to : f.to ≡ Some state
   pub block : IsPlainBlock f.block
 
--- a body with at most a `state` section, and with one transition behind each `trans`
+-- a body with at most a `state` section, and with one transition after each `trans`
 pub record IsPlainBody (b : Body) : Type 0 where
   pub states : AreStates (out-Body b).parts
   pub one_section : length (out-Body b).parts ≤ 1

@@ -98,7 +98,7 @@ fn counted(spec: &Spec, ports: &Ports) -> Counts
     }
 }
 
-// A good skeleton with its ports. For want of memory both are dropped.
+// A good skeleton with its ports. Where memory runs out both are dropped.
 fn kept(alloc: Global, tree: SyntaxTree, ports: Ports) -> Result<Checked, AllocError>
     requires skeleton { IsSkeleton tree }
     requires good { IsGood tree }
@@ -178,7 +178,7 @@ pub fn check(alloc: Global, tree: SyntaxTree) -> Result<Checked, CheckError>
     // A specification that breaks no rule is kept as it is.
     ensures good { IfOk result (λ c. (c ≡ tree) × IsGood tree) }
 
-    // Else the least fault is reported; want of memory may come at any time.
+    // Else the least fault is reported; memory may run out at any time.
     ensures fault { IfErr result (IsRefused tree) }
 {
     match good_ports(alloc, tree.spec()) {

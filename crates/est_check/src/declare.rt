@@ -111,7 +111,7 @@ fn points_last(points: &[Point], mut last: u32) -> u32
     last
 }
 
-/// The greatest place of a name of a header: it is in force behind it.
+/// The greatest place of a name of a header: it is in force after it.
 fn header_last(header: &Header) -> u32
     ensures { result ≡ header_last header.now }
 {
@@ -122,7 +122,7 @@ fn header_last(header: &Header) -> u32
     )
 }
 
-/// Enters the roles of a channel behind the first one.
+/// Enters the roles of a channel after the first one.
 fn enter_other_roles(names: &mut Names, roles: &[Used], least: &mut Least) -> Result<(), AllocError>
     ensures { OnOk result ((names.new, least.new.at)
         ≡ enter_all [] (names.old, least.old.at) (other_role_entries roles.now)) }
@@ -208,7 +208,7 @@ pub fn senders(roles: &Names, list: &[Used]) -> Senders
     senders
 }
 
-/// Enters the interactions of a `by` part behind the roles of the channel.
+/// Enters the interactions of a `by` part after the roles of the channel.
 fn enter_interactions(
     roles: &Names,
     names: &mut Names,
@@ -231,7 +231,7 @@ fn enter_interactions(
     Ok(())
 }
 
-/// Enters the interactions of a channel behind its roles.
+/// Enters the interactions of a channel after its roles.
 pub fn enter_by_parts(
     roles: &Names,
     names: &mut Names,
@@ -312,7 +312,7 @@ pub fn enter_parts(names: &mut Names, parts: &[Part], least: &mut Least) -> Resu
     Ok(())
 }
 
-/// Enters the states of a `state` section behind the names of the body's header.
+/// Enters the states of a `state` section after the names of the body's header.
 fn enter_states(
     front: &Names,
     names: &mut Names,
@@ -350,7 +350,7 @@ fn enter_state_part(
     }
 }
 
-/// Enters the states of a body behind the names of its header.
+/// Enters the states of a body after the names of its header.
 pub fn enter_state_parts(
     front: &Names,
     names: &mut Names,

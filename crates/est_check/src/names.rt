@@ -46,7 +46,7 @@ pub struct Entry {
 }
 
 impl Entry {
-    /// The entry of a name that is in force behind a place.
+    /// The entry of a name that is in force after a place.
     pub fn new(last: u32, entity: Entity) -> Entry
         ensures { result ≡ entry last entity }
     {

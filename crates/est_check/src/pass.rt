@@ -34,7 +34,7 @@ fn header_number(table: &Table, outer: &BodyNames, used: &Used) -> Option<usize>
     }
 }
 
-/// The states of a body behind the names of its header. Notes those that are declared twice.
+/// The states of a body after the names of its header. Notes those that are declared twice.
 fn state_names(
     alloc: Global,
     front: &Names,

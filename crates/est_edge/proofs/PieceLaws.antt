@@ -17,7 +17,7 @@ pub appended-twice : (old : Option (List ℕ)) (xs ys : List ℕ) → appended (
 appended-twice None xs ys = refl
 appended-twice (Some bytes) xs ys = ap (λ (bs : List ℕ). Some bs) (append_assoc bytes xs ys)
 
--- the next part of a list is appended behind its first part
+-- the next part of a list is appended after its first part
 pub appended-next : (before old new : Option (List ℕ)) (bytes : List ℕ) (done n : ℕ)
     → old ≡ appended before (take done bytes)
     → new ≡ appended old (take n (take (length bytes - done) (drop done bytes)))

@@ -76,7 +76,7 @@ count_at_default [] i m n h = absurd (omega arith)
 count_at_default (f ∷ fs) zero m n h = refl
 count_at_default (f ∷ fs) (suc i) m n h = count_at_default fs i m n (omega arith)
 
--- elements of a list with one more behind
+-- elements of a list with one more after
 slice_get-append_before : {X : Type 0} (xs ys : List X) (i : ℕ) → i < length xs → slice_get (xs ++ ys) i ≡ slice_get xs i
 slice_get-append_before [] ys i h = absurd (omega arith)
 slice_get-append_before (x ∷ xs) ys zero h = refl
@@ -93,7 +93,7 @@ slice_get-append_past xs y = slice_get_past (xs ++ y ∷ []) (length xs + 1) (le
 no_file : (files : List MemFile) (name : List ℕ) → place_of files name ≡ length files → file_of files name ≡ None
 no_file files name e = slice_get_past files (place_of files name) (omega arith)
 
--- a file was put behind the others
+-- a file was put after the others
 place_of-push : (files : List MemFile) (file : MemFile) (name : List ℕ) (n : ℕ) (b : Bool)
     → n ≡ place_of files name → n ≤ length files → b ≡ bytes_eq (string_bytes file.name) name
     → (n < length files → place_of (files ++ file ∷ []) name ≡ n)

@@ -3,7 +3,7 @@ use Rattle.std.specs.Prelude.{ℕ, ◌+◌, min, List, Bool, nat_eq}
 use Rattle.std.specs.List.{list_any}
 use Rattle.est_edge.specs.Counts.{last_count}
 
--- the number behind this one, which stays at its last value once it is there
+-- the number after this one, which stays at its last value once it is there
 abbrev pub next_number : ℕ → ℕ
 next_number made = min (made + 1) last_count
 

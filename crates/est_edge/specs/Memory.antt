@@ -21,7 +21,8 @@ told_under shelf name = Some (bytes_under shelf name)
 
 -- the count of a name: that of its file, or the one count of all names that no file has
 abbrev pub count_under : MemShelf → List ℕ → ℕ
-count_under shelf name = unwrap_or (count_at shelf.files.items (place_of shelf.files.items name)) shelf.missing.value
+count_under shelf name =
+    unwrap_or (count_at shelf.files.items (place_of shelf.files.items name)) shelf.missing.value
 
 -- the name that is read
 abbrev pub started_name : MemShelf → Option (List ℕ)
@@ -33,11 +34,13 @@ Reads shelf name = started_name shelf ≡ Some name
 
 -- the bytes that are left of the file that is read, and none where no file is read
 abbrev pub rest_of : MemShelf → List ℕ
-rest_of shelf = drop shelf.taken (unwrap_or (option_and_then (bytes_at shelf.files.items) shelf.started) [])
+rest_of shelf =
+    drop shelf.taken (unwrap_or (option_and_then (bytes_at shelf.files.items) shelf.started) [])
 
 -- the count of a name is a number of 64 bits
 pub count_under_within : (shelf : MemShelf) (name : List ℕ) → count_under shelf name ≤ last_count
-count_under_within shelf name = count_within (slice_get shelf.files.items (place_of shelf.files.items name)) shelf.missing
+count_under_within shelf name =
+    count_within (slice_get shelf.files.items (place_of shelf.files.items name)) shelf.missing
 
 -- how many bytes were taken from the file that was started last
 abbrev pub taken_from : MemShelf → ℕ
@@ -107,4 +110,5 @@ ShareCount shelf a b = (a ≡ b) ⊎ ((holds shelf a ≡ false) × (holds shelf 
 
 -- the count of each name is as it was, but for those that have one count with this one
 abbrev pub SameOtherCounts : MemShelf → MemShelf → List ℕ → Type 0
-SameOtherCounts old new name = (other : List ℕ) → (ShareCount old other name → ⊥) → count_under new other ≡ count_under old other
+SameOtherCounts old new name = (other : List ℕ) → (ShareCount old other name → ⊥)
+    → count_under new other ≡ count_under old other

@@ -11,7 +11,7 @@ TakesOff None piece after = Unit {0}
 TakesOff (Some rest) piece None = ⊥
 TakesOff (Some rest) piece (Some after) = rest ≡ piece ++ after
 
--- what is written, with a piece behind it; it stays untold where it was
+-- what is written, with a piece after it; it stays untold where it was
 abbrev pub appended : Option (List ℕ) → List ℕ → Option (List ℕ)
 appended None piece = None
 appended (Some bytes) piece = Some (bytes ++ piece)

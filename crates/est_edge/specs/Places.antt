@@ -39,7 +39,8 @@ pub record RaisesAt (old : List MemFile) (place : ℕ) (new : List MemFile) : Ty
   pub rose : (n : ℕ) → Rose (unwrap_or (count_at old place) n) (unwrap_or (count_at new place) n)
 
 -- the file at one place has these bytes, and all else is as it was
-pub record ReplacesAt (old : List MemFile) (place : ℕ) (bytes : List ℕ) (new : List MemFile) : Type 0 where
+pub record ReplacesAt (old : List MemFile) (place : ℕ) (bytes : List ℕ)
+    (new : List MemFile) : Type 0 where
   pub length_is : length new ≡ length old
   pub places : (name : List ℕ) → place_of new name ≡ place_of old name
   pub names : (i : ℕ) → name_at new i ≡ name_at old i
@@ -47,15 +48,18 @@ pub record ReplacesAt (old : List MemFile) (place : ℕ) (bytes : List ℕ) (new
   pub others : (i : ℕ) → i ≢ place → bytes_at new i ≡ bytes_at old i
   pub replaced : bytes_at new place ≡ Some bytes
 
--- a file was put behind the others
+-- a file was put after the others
 pub record AddsFile (old : List MemFile) (file : MemFile) (new : List MemFile) : Type 0 where
   pub added : file_of new (string_bytes file.name) ≡ Some file
-  pub others : (other : List ℕ) → other ≢ string_bytes file.name → file_of new other ≡ file_of old other
+  pub others : (other : List ℕ) → other ≢ string_bytes file.name
+      → file_of new other ≡ file_of old other
   pub files : (i : ℕ) → i < length old → slice_get new i ≡ slice_get old i
-  pub places : (name : List ℕ) → place_of old name < length old → place_of new name ≡ place_of old name
+  pub places : (name : List ℕ) → place_of old name < length old
+      → place_of new name ≡ place_of old name
   pub length_is : length old ≤ length new
 
 -- a count is a number of 64 bits
-pub count_within : (file : Option MemFile) (missing : Count) → unwrap_or (option_map (λ f. f.faults.value) file) missing.value ≤ last_count
+pub count_within : (file : Option MemFile) (missing : Count)
+    → unwrap_or (option_map (λ f. f.faults.value) file) missing.value ≤ last_count
 count_within None missing = missing.within
 count_within (Some f) missing = f.faults.within

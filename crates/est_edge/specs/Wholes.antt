@@ -14,12 +14,14 @@ IsWhole limit bytes (Err (Memory _)) = Unit {0}
 
 -- the answer for a file that is untold, by the number of bytes taken and whether the end was seen
 abbrev pub IsTakenWhole : ℕ → ℕ → Bool → Result (Vec ℕ) ReadError → Type 0
-IsTakenWhole limit taken ended (Ok read) = (length read.items ≡ taken) × (taken ≤ limit) × (ended ≡ true)
+IsTakenWhole limit taken ended (Ok read) =
+    (length read.items ≡ taken) × (taken ≤ limit) × (ended ≡ true)
 IsTakenWhole limit taken ended (Err TooLong) = taken ≡ limit + 1
 IsTakenWhole limit taken ended (Err Failed) = Unit {0}
 IsTakenWhole limit taken ended (Err (Memory _)) = Unit {0}
 
--- A fault is answered: the count of its name rose where the file could not be read, and each count is as it was where the answer is another.
+-- A fault is answered: the count of its name rose where the file could not be read, and each count
+-- is as it was where the answer is another.
 abbrev pub AnswersFaults : List ℕ → (List ℕ → ℕ) → (List ℕ → ℕ) → Result (Vec ℕ) ReadError → Type 0
 AnswersFaults name before after (Ok read) = AllStay before after
 AnswersFaults name before after (Err TooLong) = AllStay before after

@@ -48,7 +48,8 @@ impl MemShelf {
         ensures made { IfOk result (λ shelf. made_by shelf ≡ 0) }
         ensures failing { IfOk result (λ shelf. failing_of shelf ≡ failing.now) }
         ensures chunk { IfOk result (λ shelf. chunk_of shelf ≡ chunk) }
-        ensures called { IfOk result (λ shelf. (names_started shelf ≡ []) × (times_asked shelf ≡ 0)) }
+        ensures called { IfOk result
+            (λ shelf. (names_started shelf ≡ []) × (times_asked shelf ≡ 0)) }
     {
         Ok(MemShelf {
             alloc,
@@ -69,13 +70,15 @@ impl MemShelf {
         ensures plan { SamePlan self.old self.new }
         ensures counts { AllStay (count_under self.old) (count_under self.new) }
         ensures called { SameCalls self.old self.new }
-        ensures begun { (taken_from self.new ≡ taken_from self.old) × (end_seen self.new ≡ end_seen self.old) }
+        ensures begun { (taken_from self.new ≡ taken_from self.old)
+            × (end_seen self.new ≡ end_seen self.old) }
 
         ensures held { OnOk result (IsTrue (holds self.new name.now)) }
         ensures bytes { OnOk result (bytes_under self.new name.now ≡ bytes.now) }
         ensures others { OnOk result (SameOtherFiles self.old self.new name.now) }
         ensures replaced { OnOk result (Reads self.old name.now → started_name self.new ≡ None) }
-        ensures reading { OnOk result ((Reads self.old name.now → ⊥) → SameReading self.old self.new) }
+        ensures reading { OnOk result
+            ((Reads self.old name.now → ⊥) → SameReading self.old self.new) }
 
         ensures err { OnErr result (SameFiles self.old self.new × SameReading self.old self.new) }
     {
@@ -101,8 +104,11 @@ impl MemShelf {
 
     /// Where the file of this name stands.
     fn place_of(&self, name: &str) -> Option<usize>
-        ensures none { IfNone result (place_of self.now.files.items name.now ≡ length self.now.files.items) }
-        ensures some { IfSome result (λ place. (place ≡ place_of self.now.files.items name.now) × (place < length self.now.files.items)) }
+        ensures none { IfNone result
+            (place_of self.now.files.items name.now ≡ length self.now.files.items) }
+        ensures some { IfSome result
+            (λ place. (place ≡ place_of self.now.files.items name.now)
+            × (place < length self.now.files.items)) }
     {
         first_named(&self.files, name)
     }
@@ -140,14 +146,22 @@ impl Shelf for MemShelf {
         ensures asked { times_asked self.new ≡ 0 }
         ensures quiet { OnOk result (AllStay (count_under self.old) (count_under self.new)) }
         ensures reads { OnOk result (Reads self.new name.now) }
-        ensures left { OnOk result (IfSome (told_under self.old name.now) (λ bytes. Some (rest_of self.new) ≡ Some bytes)) }
+        ensures left { OnOk result
+            (IfSome (told_under self.old name.now)
+            (λ bytes. Some (rest_of self.new) ≡ Some bytes)) }
         ensures begun { OnOk result ((taken_from self.new ≡ 0) × (end_seen self.new ≡ false)) }
-        ensures err { OnErr result ((taken_from self.new ≡ taken_from self.old) × (end_seen self.new ≡ end_seen self.old)) }
-        ensures failed { OnErr result (Rose (count_under self.old name.now) (count_under self.new name.now)) }
+        ensures err { OnErr result
+            ((taken_from self.new ≡ taken_from self.old)
+            × (end_seen self.new ≡ end_seen self.old)) }
+        ensures failed { OnErr result
+            (Rose (count_under self.old name.now) (count_under self.new name.now)) }
 
-        // It fails exactly where the call is listed or no file has this name, and then nothing but the count changes.
+        // It fails exactly where the call is listed or no file has this name, and then nothing but
+        // the count changes.
         ensures call { NumbersCall self.old self.new }
-        ensures answer { is_ok result ≡ (holds self.old name.now && not (is_listed (failing_of self.old) (made_by self.new))) }
+        ensures answer { is_ok result
+            ≡ (holds self.old name.now && not
+            (is_listed (failing_of self.old) (made_by self.new))) }
         ensures files { SameFiles self.old self.new }
         ensures one_count { OnErr result (SameOtherCounts self.old self.new name.now) }
         ensures reading { OnErr result (SameReading self.old self.new) }
@@ -178,21 +192,34 @@ impl Shelf for MemShelf {
         ensures quiet { OnOk result (AllStay (count_under self.old) (count_under self.new)) }
         ensures reads { (name : List ℕ) → Reads self.old name → Reads self.new name }
         ensures fits { IfOk result (λ n. n ≤ length into.new) }
-        ensures piece { IfOk result (λ n. TakesOff (Some (rest_of self.old)) (take n into.new) (Some (rest_of self.new))) }
-        ensures end { IfOk result (λ n. IfSome (Some (rest_of self.old)) (λ rest. (n ≡ 0) ↔ (rest ≡ []))) }
-        ensures taken { IfOk result (λ n. taken_from self.new ≡ min (taken_from self.old + n) last_count) }
+        ensures piece { IfOk result
+            (λ n. TakesOff (Some (rest_of self.old)) (take n into.new) (Some (rest_of self.new))) }
+        ensures end { IfOk result
+            (λ n. IfSome (Some (rest_of self.old)) (λ rest. (n ≡ 0) ↔ (rest ≡ []))) }
+        ensures taken { IfOk result
+            (λ n. taken_from self.new ≡ min (taken_from self.old + n) last_count) }
         ensures ended { IfOk result (λ n. end_seen self.new ≡ (end_seen self.old || (n == 0))) }
-        ensures err { OnErr result ((Some (rest_of self.new) ≡ Some (rest_of self.old)) × (taken_from self.new ≡ taken_from self.old) × (end_seen self.new ≡ end_seen self.old)) }
-        ensures failed { OnErr result ((name : List ℕ) → Reads self.old name → Rose (count_under self.old name) (count_under self.new name)) }
+        ensures err { OnErr result
+            ((Some (rest_of self.new) ≡ Some (rest_of self.old))
+            × (taken_from self.new ≡ taken_from self.old)
+            × (end_seen self.new ≡ end_seen self.old)) }
+        ensures failed { OnErr result
+            ((name : List ℕ) → Reads self.old name
+            → Rose (count_under self.old name) (count_under self.new name)) }
         ensures idle { ((name : List ℕ) → Reads self.old name → ⊥) → result ≡ Ok 0 }
 
-        // It fails exactly where the call is listed and a name is read, and then nothing but the count changes.
+        // It fails exactly where the call is listed and a name is read, and then nothing but the
+        // count changes.
         ensures call { NumbersCall self.old self.new }
-        ensures answer { is_err result ≡ (is_some (started_name self.old) && is_listed (failing_of self.old) (made_by self.new)) }
-        ensures amount { IfOk result (λ n. n ≡ min (min (chunk_of self.old) (length into.new)) (length (rest_of self.old))) }
+        ensures answer { is_err result
+            ≡ (is_some (started_name self.old) && is_listed (failing_of self.old)
+            (made_by self.new)) }
+        ensures amount { IfOk result
+            (λ n. n ≡ min (min (chunk_of self.old) (length into.new)) (length (rest_of self.old))) }
         ensures files { SameFiles self.old self.new }
         ensures reading { started_name self.new ≡ started_name self.old }
-        ensures one_count { OnErr result (IfSome (started_name self.old) (SameOtherCounts self.old self.new)) }
+        ensures one_count { OnErr result
+            (IfSome (started_name self.old) (SameOtherCounts self.old self.new)) }
     {
         self.trail = self.trail.ask();
         let fails = self.calls.next_fails();

@@ -76,14 +76,17 @@ impl Sink for MemSink {
         ensures count { GoesOn (count_in self.old) (count_in self.new) }
         ensures some { IfOk result (λ n. 0 < n) }
         ensures within { IfOk result (λ n. n ≤ length part.now) }
-        ensures piece { IfOk result (λ n. told_in self.new ≡ appended (told_in self.old) (take n part.now)) }
+        ensures piece { IfOk result
+            (λ n. told_in self.new ≡ appended (told_in self.old) (take n part.now)) }
         ensures err { OnErr result (told_in self.new ≡ told_in self.old) }
         ensures failed { OnErr result (Rose (count_in self.old) (count_in self.new)) }
 
         // It fails exactly where the call is listed or no room is left.
         ensures call { NumbersPut self.old self.new }
-        ensures answer { is_err result ≡ (is_listed (failing_in self.old) (made_in self.new) || (room_left self.old == 0)) }
-        ensures amount { IfOk result (λ n. n ≡ min (min (chunk_in self.old) (room_left self.old)) (length part.now)) }
+        ensures answer { is_err result
+            ≡ (is_listed (failing_in self.old) (made_in self.new) || (room_left self.old == 0)) }
+        ensures amount { IfOk result
+            (λ n. n ≡ min (min (chunk_in self.old) (room_left self.old)) (length part.now)) }
         ensures room { IfOk result (λ n. room_left self.new ≡ room_left self.old - n) }
         ensures same_room { OnErr result (room_left self.new ≡ room_left self.old) }
         ensures quiet { OnOk result (count_in self.new ≡ count_in self.old) }

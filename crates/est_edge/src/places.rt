@@ -11,7 +11,8 @@ use std::alloc::AllocError;
 
 /// Where the first file of this name stands.
 pub fn first_named(files: &Vec<MemFile>, name: &str) -> Option<usize>
-    ensures { result ≡ position (λ file. bytes_eq (string_bytes file.name) name.now) files.now.items }
+    ensures { result ≡ position
+        (λ file. bytes_eq (string_bytes file.name) name.now) files.now.items }
 {
     files.iter().position(|file| file.name.as_str() == name)
 }
@@ -51,7 +52,7 @@ pub fn replace_at(files: &mut Vec<MemFile>, place: usize, bytes: Vec<u8>)
     files[place].bytes = bytes;
 }
 
-/// Puts a file behind the others, where none has its name.
+/// Puts a file after the others, where none has its name.
 pub fn add_last(files: &mut Vec<MemFile>, file: MemFile) -> Result<(), AllocError>
     requires { place_of files.old.items (string_bytes file.name) ≡ length files.old.items }
     ensures ok { OnOk result (AddsFile files.old.items file files.new.items) }

@@ -44,11 +44,14 @@ pub trait Shelf {
 
         ensures quiet { OnOk result (AllStay (faults self.old) (faults self.new)) }
         ensures reads { OnOk result (reads self.new name.now) }
-        ensures left { OnOk result (IfSome (told self.old name.now) (λ bytes. left self.new ≡ Some bytes)) }
+        ensures left { OnOk result
+            (IfSome (told self.old name.now) (λ bytes. left self.new ≡ Some bytes)) }
         ensures begun { OnOk result ((taken self.new ≡ 0) × (ended self.new ≡ false)) }
 
-        ensures err { OnErr result ((taken self.new ≡ taken self.old) × (ended self.new ≡ ended self.old)) }
-        ensures failed { OnErr result (Rose (faults self.old name.now) (faults self.new name.now)) };
+        ensures err { OnErr result
+            ((taken self.new ≡ taken self.old) × (ended self.new ≡ ended self.old)) }
+        ensures failed { OnErr result
+            (Rose (faults self.old name.now) (faults self.new name.now)) };
 
     /// Takes the next bytes, as many as the answer says, into the front of the buffer. An answer of
     /// 0 is the end.
@@ -62,13 +65,18 @@ pub trait Shelf {
 
         ensures quiet { OnOk result (AllStay (faults self.old) (faults self.new)) }
         ensures fits { IfOk result (λ n. n ≤ length into.new) }
-        ensures piece { IfOk result (λ n. TakesOff (left self.old) (take n into.new) (left self.new)) }
+        ensures piece { IfOk result
+            (λ n. TakesOff (left self.old) (take n into.new) (left self.new)) }
         ensures end { IfOk result (λ n. IfSome (left self.old) (λ rest. (n ≡ 0) ↔ (rest ≡ []))) }
         ensures taken { IfOk result (λ n. taken self.new ≡ min (taken self.old + n) last_count) }
         ensures ended { IfOk result (λ n. ended self.new ≡ (ended self.old || (n == 0))) }
 
-        ensures err { OnErr result ((left self.new ≡ left self.old) × (taken self.new ≡ taken self.old) × (ended self.new ≡ ended self.old)) }
-        ensures failed { OnErr result ((name : List ℕ) → reads self.old name → Rose (faults self.old name) (faults self.new name)) }
+        ensures err { OnErr result
+            ((left self.new ≡ left self.old) × (taken self.new ≡ taken self.old)
+            × (ended self.new ≡ ended self.old)) }
+        ensures failed { OnErr result
+            ((name : List ℕ) → reads self.old name
+            → Rose (faults self.old name) (faults self.new name)) }
         ensures idle { ((name : List ℕ) → reads self.old name → ⊥) → result ≡ Ok 0 };
 
     /// Each count is a number of 64 bits.

@@ -33,7 +33,8 @@ pub struct FileShelf<'r, R: Files + Input> {
 impl<'r, R: Files + Input> FileShelf<'r, R> {
     /// Nothing is started yet.
     pub fn new(rt: &'r R) -> FileShelf<'r, R>
-        ensures begun { (⟦<FileShelf<'r, R> as Shelf>⟧.taken result ≡ 0) × (⟦<FileShelf<'r, R> as Shelf>⟧.ended result ≡ false) }
+        ensures begun { (⟦<FileShelf<'r, R> as Shelf>⟧.taken result ≡ 0)
+            × (⟦<FileShelf<'r, R> as Shelf>⟧.ended result ≡ false) }
         ensures faults { (name : List ℕ) → ⟦<FileShelf<'r, R> as Shelf>⟧.faults result name ≡ 0 }
         ensures started { ⟦<FileShelf<'r, R> as Shelf>⟧.started result ≡ [] }
         ensures asked { ⟦<FileShelf<'r, R> as Shelf>⟧.asked result ≡ 0 }

@@ -70,7 +70,9 @@ pub fn write_whole<K: Sink>(sink: &mut K, bytes: &[u8]) -> Result<(), crate::Fai
     ensures count { GoesOn (K.faults sink.old) (K.faults sink.new) }
     ensures quiet { OnOk result (K.faults sink.new ≡ K.faults sink.old) }
     ensures ok { OnOk result (K.written sink.new ≡ appended (K.written sink.old) bytes.now) }
-    ensures err { OnErr result ((part : List ℕ) × IsPrefix part bytes.now × (K.written sink.new ≡ appended (K.written sink.old) part)) }
+    ensures err { OnErr result
+        ((part : List ℕ) × IsPrefix part bytes.now
+        × (K.written sink.new ≡ appended (K.written sink.old) part)) }
     ensures failed { OnErr result (Rose (K.faults sink.old) (K.faults sink.new)) }
 {
     let mut done = 0;

@@ -22,7 +22,8 @@ pub trait Sink {
         ensures quiet { OnOk result (faults self.new ≡ faults self.old) }
         ensures some { IfOk result (λ n. 0 < n) }
         ensures within { IfOk result (λ n. n ≤ length part.now) }
-        ensures piece { IfOk result (λ n. written self.new ≡ appended (written self.old) (take n part.now)) }
+        ensures piece { IfOk result
+            (λ n. written self.new ≡ appended (written self.old) (take n part.now)) }
 
         ensures err { OnErr result (written self.new ≡ written self.old) }
         ensures failed { OnErr result (Rose (faults self.old) (faults self.new)) };

@@ -1,29 +1,12 @@
--- From what a call answers to what its caller answers.
-use Rattle.std.proofs.Common.{◌≡◌, ℕ, suc, ◌+◌, ◌<◌, ◌≤◌, Bool, true, false, List, [], ◌∷◌, length, refl, sym, subst, ◌⊎◌, arith, add-one, Result, inl, inr, Option}
-use Rattle.std.specs.Result.{IsErr, IsErrAnd}
-use Rattle.std.proofs.lemmas.Result.{err_from_is_err_and}
+-- From what a reader of the whole grammar comes to, to the answer.
+use Rattle.std.proofs.Common.{◌≡◌, ℕ, suc, ◌+◌, ◌<◌, ◌≤◌, Bool, true, false, List, [], ◌∷◌, length, refl, sym, subst, ◌⊎◌, arith, add-one, inl, inr, Option}
 use Rattle.est_language.specs.Grammar.{Language, Grammar, Shape, meets, Tree, p_whole}
 use Rattle.est_language.specs.Marks.{Marks, Fits, MeetsOne}
 use Rattle.est_language.specs.Reading.{Found, Refused, same, before}
 use Rattle.est_language.specs.Places.{HasTree, HasPartial}
-use Rattle.est_language.specs.Answers.{Cause, unsaid, wrong_at, too_deep_at, Refuses, Reads, SaysWhy}
+use Rattle.est_language.specs.Answers.{Cause, unsaid, wrong_at, too_deep_at, Refuses, SaysWhy}
 use Rattle.est_language.proofs.Parts
 use Rattle.est_language.proofs.Trees
-
--- a refusal of h inside of g is a refusal of g
-pub passed_on : {Token V T P : Type 0} {L : Language Token V T P} {S : Marks T P} {g h : Grammar T P} {s : List Token} {d a d' a' : ℕ} (c : Cause)
-    → ((i : ℕ) (z : Bool) → Refused L S s h d' a' i z → Refused L S s g d a i z)
-    → Refuses L S h s d' a' c → Refuses L S g s d a c
-passed_on unsaid f h = tt
-passed_on (too_deep_at i) f h = f i true h
-passed_on (wrong_at i) f h = f i false h
-
--- a call of h inside of g that answers an error is an error of g
-pub exit : {B E Token V T P : Type 0} {L : Language Token V T P} {S : Marks T P} {g h : Grammar T P} {s : List Token} {d a d' a' : ℕ} (cause : E → Cause) (w : B → Shape V) (r : Result (B × ℕ) E) (e : E)
-    → IsErr r × IsErrAnd r (λ x. x ≡ e)
-    → ((i : ℕ) (z : Bool) → Refused L S s h d' a' i z → Refused L S s g d a i z)
-    → Refuses L S h s d' a' (cause e) → Reads {A = B} {E = E} L S cause g s d a w r
-exit cause w r e is f h = let p = err_from_is_err_and r is.1 in rw (p.1, p.2) (passed_on (cause e) f h)
 
 -- a test that is not met
 pub not_met : {b : Bool} → b ≡ false → b ≡ true → ⊥
@@ -55,7 +38,7 @@ module _ {Token V T P : Type 0} {L : Language Token V T P} {S : Marks T P} (fits
         | before l w ↦ absurd (omega (arith, e, l))
       ]
 
-  -- tokens stand behind the end
+  -- tokens stand after the end
   pub tokens_behind : (b : ℕ) (t : Shape V) → (b ≡ length s → ⊥) → Found L S s g d 0 b t → SaysWhy L g d s (wrong_at b)
   tokens_behind b t n h = (record { no_tree = no_tree; inside = inside; front = front; no_more = λ l. no_more l d }, no_more)
     where

@@ -5,11 +5,11 @@ use Rattle.est_language.specs.Places.{IsFirstBadPlace}
 use Rattle.est_language.specs.Laws.{AtMostOneBadPlace, FrontsOfTree, FrontsOfPartial}
 use Rattle.est_language.proofs.Trees.{tree_of_fewer}
 
--- up to the end of a part, or behind it
+-- up to the end of a part, or after it
 up_to : (m b : ℕ) → (m ≤ b) ⊎ (b ≤ m)
 up_to m b = grind arith
 
--- at the beginning of a token, or behind it
+-- at the beginning of a token, or after it
 at_token : (m a : ℕ) → a ≤ m → (a ≡ m) ⊎ (suc a ≤ m)
 at_token m a h = grind arith
 

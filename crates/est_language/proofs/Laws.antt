@@ -156,7 +156,7 @@ pub when_begins : {Token T P : Type 0} (h : T → Token → Bool) (S : Marks T P
 when_begins h S true g o m = (refl, m)
 when_begins h S false g o m = elim m [ ]
 
--- no token goes on behind it
+-- no token goes on after it
 abbrev pub IsClosed : {Token V T P : Type 0} → Language Token V T P → Marks T P → Grammar T P → Type 0
 IsClosed {Token} L S g = (o : Option Token) → MeetsOne L.holds o (can_go_on S g) → ⊥
 
@@ -242,7 +242,7 @@ module _ {Token V T P : Type 0} {L : Language Token V T P} {S : Marks T P} (fits
   pub turns_more : {whole h : Grammar T P} {d a b c : ℕ} {ts : List (Shape V)} {t : Shape V} → Apart L (can_go_on S h) (can_begin S h) → can_be_empty S h ≡ false → Turns L S fits s whole (rep h) d a b ts → Found L S s h d b c t → Turns L S fits s whole (rep h) d a c (ts ++ t ∷ [])
   turns_more j f x y = Parts.turns_more L S fits s j f x y
 
-  -- one more part of a sequence, behind its placed
+  -- one more part of a sequence, after its placed
   pub turns_part : {whole g rest : Grammar T P} {k : T} {d a b c : ℕ} {ts : List (Shape V)} {t : Shape V} → Apart L (can_go_on S g) (can_begin S rest) → At L s b k → Turns L S fits s whole (word k (seq g rest)) d a b ts → Found L S s g d (b + 1) c t → Turns L S fits s whole rest d a c (ts ++ t ∷ [])
   turns_part {whole} {g} {rest} {k} {d} {a} {b} {c} {ts} {t} j e x y = record {
     inside = (forward fits y).1;

@@ -9,7 +9,7 @@ use Rattle.est_language.proofs.Parts.{kept_once}
 use Rattle.est_language.proofs.Trees
 use Rattle.est_language.proofs.Trees.{cases, step}
 
--- Two trees from one place are the same, or one ends first and the token behind it can go on.
+-- Two trees from one place are the same, or one ends first and the token after it can go on.
 pub data Agree {Token V T P : Type 0} (L : Language Token V T P) (S : Marks T P) (s : List Token) (g : Grammar T P) (b : ℕ) (t : Shape V) (c : ℕ) (u : Shape V) : Type 0 where
   same : b ≡ c → t ≡ u → Agree L S s g b t c u
   first : b < c → MeetsOne L.holds (slice_get s b) (can_go_on S g) → Agree L S s g b t c u
@@ -27,7 +27,7 @@ module _ {Token V T P : Type 0} (L : Language Token V T P) (S : Marks T P) (fits
   wrapped f i (first l w) = first l (i _ w)
   wrapped f i (second l w) = second l (i _ w)
 
-  -- where a token goes on behind g, a tree of what is apart takes no token
+  -- where a token goes on after g, a tree of what is apart takes no token
   stops : (g h : Grammar T P) {e m c : ℕ} {u : Shape V} → Apart L (can_go_on S g) (can_begin S h) → MeetsOne L.holds (slice_get s m) (can_go_on S g) → Tree L s n h e m c u → c ≡ m
   stops g h {e} {m} {c} {u} j w x = elim (step m c (Trees.tree_forward L s n x)) [
     | inl r ↦ absurd (j.none_meets (slice_get s m) w (Trees.tree_starts L s S fits n x r))
@@ -74,7 +74,7 @@ module _ {Token V T P : Type 0} (L : Language Token V T P) (S : Marks T P) (fits
   both_same : {t t' u u' : Shape V} → t ≡ t' → u ≡ u' → both t u ≡ both t' u'
   both_same {t} {t'} {u} {u'} p q = ap (λ o. both o u) p ∙ ap (both t') q
 
-  -- the parts behind agree, and the first are the same
+  -- the parts after agree, and the first are the same
   behind : {g h : Grammar T P} {c c' : ℕ} {t t' u u' : Shape V} → Within L (can_go_on S g) (can_go_on S h) → t ≡ t' → Agree L S s g c u c' u' → Agree L S s h c (both t u) c' (both t' u')
   behind i e (same p q) = same p (both_same e q)
   behind i e (first l w) = first l (i _ w)

@@ -205,7 +205,7 @@ module _ {Token V T P : Type 0} (L : Language Token V T P) (S : Marks T P) (fits
       most e n z l m (p_whole x q) = omega (arith, (only e n _ _ z l m x).0)
       most _ n z l m (p_deeper x) = absurd (omega arith)
 
-  -- behind a part that may end early, the next part takes no token
+  -- after a part that may end early, the next part takes no token
   apart : (g h : Grammar T P) (e n m c : ℕ) (u : Shape V) → Apart L (can_go_on S g) (can_begin S h) → m ≤ n → (m < n → MeetsOne L.holds (slice_get s m) (can_go_on S g)) → Tree L s n h e m c u → (c ≡ m) × (m < n → MeetsOne L.holds (slice_get s m) (can_go_on S h ++ cond (can_be_empty S h) (can_go_on S g) []))
   apart g h e n m c u d l w x = elim (step m c (Trees.tree_forward L s n x)) [
     | inl r ↦ absurd (d.none_meets (slice_get s m) (w (omega (arith, r, Trees.tree_inside L s n x l))) (Trees.tree_starts L s S fits n x r))
@@ -269,7 +269,7 @@ module _ {Token V T P : Type 0} (L : Language Token V T P) (S : Marks T P) (fits
           let o = x.only e n b' t' z l m x' in
           omega (arith, o.0, apart_partial g h e n b' j (Trees.tree_inside L s n x' l) o.1 y')
 
-  -- the first part is found, and what stands behind it is refused
+  -- the first part is found, and what stands after it is refused
   pub seq_refused : {g h : Grammar T P} {d a b i : ℕ} {t : Shape V} {w : Bool} → Apart L (can_go_on S g) (can_begin S h) → Found L S s g d a b t → Refused L S s h d b i w → Refused L S s (seq g h) d a i w
   seq_refused {g} {h} {d} {a} {b} {i} {t} {w} j x y = record {
     partial = p_second (Trees.tree_of_fewer L s (length s) i x.tree (refused_forward y) y.inside) y.partial;
@@ -441,7 +441,7 @@ module _ {Token V T P : Type 0} (L : Language Token V T P) (S : Marks T P) (fits
       most e n l m (p_rep_first x') = elim (step a n l) [ inl r ↦ absurd (k (Trees.partial_starts L s S fits n x' r)) | inr r ↦ omega (arith, r) ]
       most e n l m (p_rep_more x' y') = absurd (k (Trees.tree_starts L s S fits n x' (Trees.tree_moves L s S fits n x' f)))
 
-  -- behind a turn that may end early comes no further turn
+  -- after a turn that may end early comes no further turn
   apart_rep : (g : Grammar T P) (e n m c : ℕ) (u : Shape V) → Apart L (can_go_on S g) (can_begin S g) → m ≤ n → (m < n → MeetsOne L.holds (slice_get s m) (can_go_on S g)) → Tree L s n (rep g) e m c u → c ≡ m
   apart_rep g e n m c u d l w x = elim (step m c (Trees.tree_forward L s n x)) [
     | inl r ↦ absurd (d.none_meets (slice_get s m) (w (omega (arith, r, Trees.tree_inside L s n x l))) (Trees.tree_starts L s S fits n x r))

@@ -24,7 +24,7 @@ pub data Grammar (T P : Type 0) : Type 0 where
   -- { g }
   rep : Grammar T P → Grammar T P
   -- [ k g ], which belongs to the nearest that can take it: it is left out only where no k stands
-  -- behind
+  -- after
   nearest : T → Grammar T P → Grammar T P
   -- { k g } [ k ]
   ended : T → Grammar T P → Grammar T P

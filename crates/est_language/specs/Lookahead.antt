@@ -4,7 +4,7 @@ use Rattle.est_language.specs.Grammar.{Grammar, done, none, word, token, here, s
 use Rattle.est_language.specs.Marks.{Apart, Marks, can_be_empty, can_begin, can_go_on}
 
 -- The next token alone tells which alternative stands at a place, and whether a part goes on there
--- or what stands behind it begins. Of the productions that g names only the table is read.
+-- or what stands after it begins. Of the productions that g names only the table is read.
 abbrev pub OneTokenDecides : {Token V T P : Type 0} → Language Token V T P → Marks T P → Grammar T P
     → Type 0
 OneTokenDecides L S done = Unit {0}

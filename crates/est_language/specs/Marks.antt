@@ -1,4 +1,4 @@
--- What tokens can begin a tree or a partial tree of a grammar, and what tokens can go on behind a
+-- What tokens can begin a tree or a partial tree of a grammar, and what tokens can go on after a
 -- tree, as computed lists of tests.
 use Rattle.std.specs.Prelude.{◌≡◌, Bool, true, false, cond, not, ◌&&◌, ◌||◌, ◌⊎◌, List, [], ◌∷◌, ◌++◌, Option}
 use Rattle.est_language.specs.Grammar.{Grammar, done, none, word, token, here, skip, seq, alt, opt, rep, nearest, ended, deeper, rule, Language, meets}
@@ -16,7 +16,7 @@ pub record Apart {Token V T P : Type 0} (L : Language Token V T P) (xs ys : List
 abbrev pub Within : {Token V T P : Type 0} → Language Token V T P → List T → List T → Type 0
 Within {Token} L xs ys = (o : Option Token) → MeetsOne L.holds o xs → MeetsOne L.holds o ys
 
--- A table of the productions: the tests of a first token, those of a token that goes on behind a
+-- A table of the productions: the tests of a first token, those of a token that goes on after a
 -- tree, and whether a tree can be empty.
 pub record Marks (T P : Type 0) : Type 0 where
   pub starts : P → List T
@@ -57,7 +57,7 @@ can_begin S (ended k g) = k ∷ []
 can_begin S (deeper g) = can_begin S g
 can_begin S (rule p) = S.starts p
 
--- the tests of the tokens that can go on behind a tree by g, where a longer tree begins with it, by
+-- the tests of the tokens that can go on after a tree by g, where a longer tree begins with it, by
 -- the table
 abbrev pub can_go_on : {T P : Type 0} → Marks T P → Grammar T P → List T
 can_go_on S done = []

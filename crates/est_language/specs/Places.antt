@@ -19,7 +19,7 @@ HasPartial L g d s n = Partial L s n g d 0
 
 -- Place i is the first bad one of a list without a tree: what stands before it is a partial tree,
 -- and with the token at it there is none. Where the whole list is a partial tree, it is the place
--- behind the last token.
+-- after the last token.
 pub record IsFirstBadPlace {Token V T P : Type 0} (L : Language Token V T P) (g : Grammar T P)
     (d : ℕ) (s : List Token) (i : ℕ) : Type 0 where
   pub no_tree : (t : Shape V) → HasTree L g d s t → ⊥

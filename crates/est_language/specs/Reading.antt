@@ -4,7 +4,7 @@ use Rattle.est_language.specs.Grammar.{Grammar, Language, Shape, Tree, Partial}
 use Rattle.est_language.specs.Marks.{MeetsOne, Marks, can_go_on}
 
 -- A tree up to place c among the first n tokens is the one up to b, or it ends before b and the
--- token behind it can go on.
+-- token after it can go on.
 pub data EndsNoLater {Token V T P : Type 0} (L : Language Token V T P) (S : Marks T P)
     (s : List Token) (g : Grammar T P) (n b : ℕ) (t : Shape V) (c : ℕ) (u : Shape V) : Type 0 where
   same : c ≡ b → u ≡ t → EndsNoLater L S s g n b t c u

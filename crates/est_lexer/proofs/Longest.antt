@@ -61,11 +61,11 @@ number_longest first rest digit few = record {
   none_longer = no_longer_number first rest digit;
 }
 
--- What stands behind a quote in a character constant of three bytes.
+-- What stands after a quote in a character constant of three bytes.
 abbrev pub is_plain_rest : List ℕ → Bool
 is_plain_rest rest = is_plain_character (get_or rest 0 0) && eqb (get_or rest 1 0) 39
 
--- What stands behind a quote in the character constant of a quote.
+-- What stands after a quote in the character constant of a quote.
 abbrev pub is_quotes_rest : List ℕ → Bool
 is_quotes_rest rest = eqb (get_or rest 0 0) 39 && eqb (get_or rest 1 0) 39 && eqb (get_or rest 2 0) 39
 

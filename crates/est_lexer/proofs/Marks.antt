@@ -24,7 +24,7 @@ pub closing_small : (text : List ℕ) (mark : ℕ) → closing text mark ≤ 2
 unfolding closing
 closing_small text mark = grind arith
 
--- Behind the text no mark stands.
+-- After the text no mark stands.
 pub closing_past : (text : List ℕ) (mark : ℕ) → length text ≤ mark → closing text mark ≡ 0
 closing_past text mark h = grind (arith, closing_inside text mark)
 
@@ -40,7 +40,7 @@ between_onward (nothing place) = omega arith
 between_onward (blank from to b more) = omega (arith, between_onward more)
 between_onward (comment from middle to c more) = omega (arith, between_onward more, c.ended.behind, c.ended.whole)
 
--- Where a first end was found behind a mark, one comment stands.
+-- Where a first end was found after a mark, one comment stands.
 pub comment_between : (text : List ℕ) (place size : ℕ) (found : Option ℕ) → size ≡ opening text place → (size ≡ 0 → ⊥) → MatchOption found (IsUnended text (place + size)) (IsFirstEnd text (place + size)) → IfSome found (λ end. IsBetween text place end)
 comment_between text place size None e some h = tt
 comment_between text place size (Some end) e some h =

@@ -46,7 +46,7 @@ many_there text place size token size_is many is =
     let span : IsBadSpan text place size = subst (λ (n : ℕ). IsBadSpan text place n) (sym size_is) (many_digits (omega arith)) in
     subst (λ (t : Token). IsBadAt text place t) (sym is) (record { starts = refl; kind = refl; span = span })
 
--- The bytes behind a place.
+-- The bytes after a place.
 behind : (text : List ℕ) (place k : ℕ) → get_or (drop (place + 1) text) k 0 ≡ get_or text (place + 1 + k) 0
 behind text place k = get_or-drop (place + 1) text k 0
 

@@ -72,7 +72,7 @@ list_bad text from start tokens all token onward gap at is =
     let gap_to_token = subst (λ (n : ℕ). IsBetween text from n) (sym at.starts) gap in
     subst (λ (ts : List Token). AreTokensFrom text 0 ts) (sym is) (onward (token ∷ []) (bad from token gap_to_token at.kind at.span))
 
--- The tokens so far and one more go on behind it.
+-- The tokens so far and one more go on after it.
 pub list_next : (text : List ℕ) (from start : ℕ) (tokens all : List Token) (token : Token) → GoesOn text from tokens → IsBetween text from start → IsTokenAt text start token → all ≡ tokens ++ token ∷ [] → GoesOn text (token.start + token.length) all
 list_next text from start tokens all token onward gap at is = λ more rest.
     let gap_to_token = subst (λ (n : ℕ). IsBetween text from n) (sym at.starts) gap in

@@ -30,12 +30,12 @@ pub record IsUnended (text : List ℕ) (from : ℕ) : Type 0 where
   pub none : (mark : ℕ) → from ≤ mark → closing text mark ≡ 0
 
 -- From one place up to another stands one comment: a mark that begins it, and all up to the first
--- mark behind that which ends one, whichever began it.
+-- mark after that which ends one, whichever began it.
 pub record IsComment (text : List ℕ) (from to : ℕ) : Type 0 where
   pub begins : 0 < opening text from
   pub ended : IsFirstEnd text (from + opening text from) to
 
--- A comment begins at a place, and nothing behind its mark ends it.
+-- A comment begins at a place, and nothing after its mark ends it.
 pub record IsOpenComment (text : List ℕ) (place : ℕ) : Type 0 where
   pub begins : 0 < opening text place
   pub unended : IsUnended text (place + opening text place)

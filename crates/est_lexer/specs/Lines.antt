@@ -9,6 +9,6 @@ is_line_feed b = b == 10
 abbrev pub line_at : List ℕ → ℕ → ℕ
 line_at text offset = 1 + count_by is_line_feed (take offset text)
 
--- The column of an offset: one more than the bytes behind the last line feed before it.
+-- The column of an offset: one more than the bytes after the last line feed before it.
 abbrev pub column_at : List ℕ → ℕ → ℕ
 column_at text offset = 1 + suffix_len (λ b. not (is_line_feed b)) (take offset text)

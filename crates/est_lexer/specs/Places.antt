@@ -16,7 +16,7 @@ tokens_of tokens = tokens.list.items
 abbrev pub last_end : List Token → ℕ
 last_end tokens = option_map_or end_of (slice_get tokens (length tokens - 1)) 0
 
--- Where the token of a place starts; the place behind all tokens lies where the last one ends.
+-- Where the token of a place starts; the place after all tokens lies where the last one ends.
 abbrev pub offset_at : List Token → ℕ → ℕ
 offset_at tokens place =
     option_map_or (λ token. token.start) (slice_get tokens place) (last_end tokens)

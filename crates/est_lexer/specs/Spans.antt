@@ -1,7 +1,7 @@
 use Rattle.std.specs.Prelude.{ℕ, List, ◌+◌, slice_range}
 use Rattle.est_lexer.specs.declared.kind.Token.{Token}
 
--- The place of the byte behind a token.
+-- The place of the byte after a token.
 abbrev pub end_of : Token → ℕ
 end_of token = token.start + token.length
 

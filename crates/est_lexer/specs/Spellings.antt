@@ -19,11 +19,11 @@ name_kind bytes = unwrap_or (word_kind bytes) Identifier
 unfoldable pub symbol_kind : List ℕ → Option TokenKind
 symbol_kind bytes = option_map (λ w. w.1) (find (λ w. bytes_eq w.0 bytes) symbols)
 
--- A byte that may stand in an identifier behind its first letter.
+-- A byte that may stand in an identifier after its first letter.
 abbrev pub is_identifier_part : ℕ → Bool
 is_identifier_part b = is_ascii_alphanumeric b || (b == byte "_")
 
--- An identifier begins with a letter, and all that stands behind it in the identifier are letters,
+-- An identifier begins with a letter, and all that stands after it in the identifier are letters,
 -- digits and `_` (ISO 7185, identifiers).
 abbrev pub is_identifier : List ℕ → Bool
 is_identifier [] = false

@@ -4,7 +4,7 @@ ghost use Rattle.std.specs.Prelude.{◌≡◌, ◌≤◌, ◌<◌, ◌+◌, ℕ,
 ghost use Rattle.est_lexer.specs.Scanning.{IsBegin};
 ghost use Rattle.est_lexer.specs.Between.{is_blank, opening, closing, IsBetween, IsFirstEnd, IsUnended};
 
-// The byte at a place, and 0 behind the text.
+// The byte at a place, and 0 after the text.
 pub(crate) fn byte_at(text: &[u8], place: usize) -> u8
     ensures { result ≡ slice_index text.now place }
 {

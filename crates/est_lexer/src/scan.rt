@@ -145,14 +145,14 @@ fn character(text: &[u8], place: usize) -> Result<Token, Token>
     }
 }
 
-// Whether these bytes behind a quote make a character constant of a byte other than the quote.
+// Whether these bytes after a quote make a character constant of a byte other than the quote.
 fn is_plain_constant(second: u8, third: u8) -> bool
     ensures { result ≡ is_plain_character second && (third == QUOTE) }
 {
     second >= 32 && second <= 126 && second != QUOTE && third == QUOTE
 }
 
-// Whether these bytes behind a quote make the character constant of the quote.
+// Whether these bytes after a quote make the character constant of the quote.
 fn is_quote_constant(second: u8, third: u8, fourth: u8) -> bool
     ensures { result ≡ (second == QUOTE) && (third == QUOTE) && (fourth == QUOTE) }
 {

@@ -55,7 +55,7 @@ impl Tokens<'_> {
         &self.text[start..start + token.length as usize]
     }
 
-    /// The line and the column of a place, counted in bytes from 1. The place behind all tokens
+    /// The line and the column of a place, counted in bytes from 1. The place after all tokens
     /// lies where the last one ends.
     pub fn line_column(&self, place: u32) -> (u32, u32)
         requires { place ≤ length (tokens_of self.now) }
@@ -84,7 +84,7 @@ impl Tokens<'_> {
     }
 }
 
-// The line of the byte behind these.
+// The line of the byte after these.
 fn line_behind(before: &[u8]) -> u32
     requires { length before.now ≤ MOST_BYTES }
     ensures { result ≡ 1 + count_by is_line_feed before.now }
@@ -92,7 +92,7 @@ fn line_behind(before: &[u8]) -> u32
     1 + before.iter().filter(|byte| **byte == LINE_FEED).count() as u32
 }
 
-// The column of the byte behind these.
+// The column of the byte after these.
 fn column_behind(before: &[u8]) -> u32
     requires { length before.now ≤ MOST_BYTES }
     ensures { result ≡ 1 + suffix_len (λ byte. not (is_line_feed byte)) before.now }

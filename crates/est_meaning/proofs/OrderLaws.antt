@@ -181,7 +181,7 @@ lex_from_before x y (longer m s) = subst (λ w. Lex (reverse x) w) (sym (forward
 lex_from_before x y (differs common m n lt s t) =
     subst (λ w. Lex w (reverse y)) (sym (forward x m common s)) (subst (λ w. Lex (reverse common ++ m ∷ reverse s.0) w) (sym (forward y n common t)) (lex_differs (reverse common) m n (reverse s.0) (reverse t.0) lt))
 
--- what is compared behind the same marks
+-- what is compared after the same marks
 before_from_lex : (common xs ys : List Mark) → Lex xs ys → Before (reverse xs ++ common) (reverse ys ++ common)
 unfolding Lex
 before_from_lex common xs [] a = absurd a

@@ -31,19 +31,19 @@ abbrev pub BoundedRunsBeginBounded : Type 0
 BoundedRunsBeginBounded = (c : Setup) (later earlier : List Move) (p : Place)
     → IsBoundedRun c (later ++ earlier) p → (q : Place) × IsBoundedRun c earlier q
 
--- behind a run a firing is a step without an outside event
+-- after a run a firing is a step without an outside event
 pub record IsSilentFiring (c : Setup) (earlier : List Move) (f : Firing) : Type 0 where
   pub place : Place
   pub is_run : IsRun c earlier place
   pub next : Situation
   pub step : IsStep c.limit c.spec place.situation f next []
 
--- behind a run a move is a silent firing: to take an event is none
+-- after a run a move is a silent firing: to take an event is none
 abbrev pub IsSilent : Setup → List Move → Move → Type 0
 IsSilent c earlier Take = ⊥
 IsSilent c earlier (Fire f) = IsSilentFiring c earlier f
 
--- behind a run all these moves, one after the other, are silent firings
+-- after a run all these moves, one after the other, are silent firings
 abbrev pub AreSilent : Setup → List Move → List Move → Type 0
 AreSilent c earlier [] = Unit {0}
 AreSilent c earlier (m ∷ moves) = IsSilent c (moves ++ earlier) m × AreSilent c earlier moves

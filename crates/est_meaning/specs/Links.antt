@@ -114,11 +114,11 @@ declaration_of spec s p = option_and_then
 abbrev pub queue_of : Spec → Situation → InteractionPoint → QueueName
 queue_of spec s p = queue_in spec p (declaration_of spec s p)
 
--- an item goes behind those of its queue
+-- an item goes after those of its queue
 abbrev pub put : Spec → Situation → Item → Situation
 put spec s item = let q = queue_of spec s item.at in with_queue s q (s.queues q ++ item ∷ [])
 
--- the items behind the head
+-- the items after the head
 abbrev pub rest_of : List Item → List Item
 rest_of [] = []
 rest_of (item ∷ items) = items

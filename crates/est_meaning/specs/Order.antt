@@ -21,7 +21,7 @@ abbrev pub IsBeforeAll : Firing → List Firing → Type 0
 IsBeforeAll f [] = Unit {0}
 IsBeforeAll f (g ∷ gs) = FiringBefore f g × IsBeforeAll f gs
 
--- each firing comes before those behind it
+-- each firing comes before those after it
 abbrev pub IsAscending : List Firing → Type 0
 IsAscending [] = Unit {0}
 IsAscending (f ∷ fs) = IsBeforeAll f fs × IsAscending fs

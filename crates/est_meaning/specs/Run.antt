@@ -52,12 +52,12 @@ IsFromOutside (event.Arrives i) = Unit {0}
 IsFromOutside (event.Leaves i) = ⊥
 IsFromOutside (event.Passes units) = Unit {0}
 
--- where a run stands behind a taken event
+-- where a run stands after a taken event
 abbrev pub after_taking : Setup → Place → Event → Place
 after_taking c p e = record
     { situation = after_event c.spec p.situation e; events = p.events ++ e ∷ []; silent_in_row = 0 }
 
--- the trace goes on behind the events so far with an arrival or a passing of time, and this event
+-- the trace goes on after the events so far with an arrival or a passing of time, and this event
 -- happens
 pub record Takes (c : Setup) (p q : Place) : Type 0 where
   pub event : Event
@@ -66,13 +66,13 @@ pub record Takes (c : Setup) (p q : Place) : Type 0 where
   pub next : c.trace ≡ p.events ++ event ∷ rest
   pub leads : q ≡ after_taking c p event
 
--- how many silent firings stand last behind one more firing: a silent one adds one, and one with an
+-- how many silent firings stand last after one more firing: a silent one adds one, and one with an
 -- outside event leaves none
 abbrev pub silent_after : ℕ → List Event → ℕ
 silent_after many [] = many + 1
 silent_after many (e ∷ es) = 0
 
--- where a run stands behind a step
+-- where a run stands after a step
 abbrev pub after_firing : Place → Situation → List Event → Place
 after_firing p s outs = record
     { situation = s; events = p.events ++ outs; silent_in_row = silent_after p.silent_in_row outs }

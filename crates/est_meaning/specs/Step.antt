@@ -33,7 +33,7 @@ abbrev pub with_state : Situation → ℕ → Option Used → Situation
 with_state s number None = s
 with_state s number (Some state) = with_row s number (in_state state.name)
 
--- behind a block that is done, the state is set and the stamps are brought up to date
+-- after a block that is done, the state is set and the stamps are brought up to date
 abbrev pub completed : ℕ → Spec → Option Firing → ℕ → Option Used → Outcome → Outcome
 completed limit spec fired number state (Done s outs) =
     Done (restamped limit spec fired (with_state s number state)) outs
@@ -107,7 +107,7 @@ arrived_at spec s i None = s
 arrived_at spec s i (Some port) =
     arrived_as spec s (port_point port) i.values (slice_get port.signals i.signal)
 
--- an interaction that arrives goes behind the queue of the innermost interaction point of its port
+-- an interaction that arrives goes after the queue of the innermost interaction point of its port
 abbrev pub arrived : Spec → Situation → Interaction → Situation
 arrived spec s i = arrived_at spec s i (slice_get (ports_of spec) i.port)
 

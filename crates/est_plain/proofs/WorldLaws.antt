@@ -170,7 +170,7 @@ module _ (limit : ℕ) (own spec : Spec) (body : Body) (points : List PointQueue
 
 -- THE OUTSIDE
 
--- what a plain world is behind an arrival
+-- what a plain world is after an arrival
 pub arrival_pushed : (own spec : Spec) (body : Body) (points : List PointQueue) (ports : List Port) (old new : Trail) (i : Interaction) (w : Waiting) → own ≡ spec → points ≡ queues_for own body → ports ≡ ports_of own
     → w ∷ [] ≡ arrival_in ports i → new ≡ onto (joined w old.now) old
     → stack_of points body new ≡ pushed (after_event spec (situation_of points body old.now) (event.Arrives i)) (stack_of points body old)

@@ -177,13 +177,13 @@ abbrev pub departures : Option (ℕ × ℕ) → List Event
 departures None = []
 departures (Some n) = event.Leaves (record { port = n.0; signal = n.1; values = [] }) ∷ []
 
--- the outside events behind an output
+-- the outside events after an output
 abbrev pub sent_in : List Port → List Sending → List Event → List Event
 sent_in ports [] outs = outs
 sent_in ports (x ∷ xs) outs =
     sent_in ports xs (outs ++ departures (leaving ports x.at.name.name x.signal.name))
 
--- the outside events behind a statement
+-- the outside events after a statement
 abbrev pub entered_in : List Port → Statement → List Event → List Event
 entered_in ports st outs = sent_in ports (sendings_of st) outs
 
@@ -202,18 +202,18 @@ EndsAs None false outs = Unit {0}
 
 -- STEPS
 
--- what waits behind a transition that took the interaction that it awaits
+-- what waits after a transition that took the interaction that it awaits
 abbrev pub taken_in : List PointQueue → List Waiting → Option Awaited → List Waiting
 taken_in points waiting None = waiting
 taken_in points waiting (Some w) =
     without_first (waits_in points (queue_named points w.at.name.name)) waiting
 
--- the state behind a transition that names this one or none
+-- the state after a transition that names this one or none
 abbrev pub next_in : Option Name → Option Used → Option Name
 next_in state None = state
 next_in state (Some u) = Some u.name
 
--- the situation behind a transition whose block is done
+-- the situation after a transition whose block is done
 abbrev pub stepped : List PointQueue → Transition → Held → Held
 stepped points t h = record {
   state = next_in h.state (to_of t);

@@ -190,7 +190,7 @@ pub fn take_awaited(
     }
 }
 
-/// The state behind a transition: the one that it names, or the same.
+/// The state after a transition: the one that it names, or the same.
 pub fn state_after(
     alloc: Global,
     transition: &Transition,
@@ -239,7 +239,7 @@ pub fn arrival(
     }
 }
 
-/// The first state behind an initialize part. Answers none where it passes the limit.
+/// The first state after an initialize part. Answers none where it passes the limit.
 pub fn run_first(
     alloc: Global,
     ports: &[Port],

@@ -40,7 +40,7 @@ impl History {
         }
     }
 
-    /// Puts an item behind all that waits.
+    /// Puts an item after all that waits.
     pub fn arrive(&mut self, item: Waiting) -> Result<(), AllocError>
         ensures ok { OnOk result (trail self.new
             ≡ onto (joined item (trail self.old).now) (trail self.old)) }

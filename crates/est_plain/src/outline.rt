@@ -73,7 +73,7 @@ pub fn queues_of(alloc: Global, spec: &Spec, header: &Header) -> Result<Vec<Poin
     Ok(queues)
 }
 
-/// Appends the transitions behind one `trans`.
+/// Appends the transitions after one `trans`.
 fn push_transitions<'c>(group: &'c Group, into: &mut Vec<&'c Transition>) -> Result<(), AllocError>
     ensures { OnOk result (referred into.new.items ≡ referred into.old.items
         ++ (out-Group group.now).transitions) }

@@ -39,7 +39,7 @@ module _ (P : ℕ → Type 0) (Q : ℕ → Bool → Type 0) (a b : ℕ) where
   got_deep TooDeep x e = x
   got_deep NoMemory x e = absurd cc
 
--- what opens no level is not refused for want of levels
+-- what opens no level is not refused for lack of levels
 pub flat_not_deep : {Token V T P : Type 0} {L : Language Token V T P} {S : Marks T P} {s : List Token} {g : Grammar T P} {d a i : ℕ}
     → flat g ≡ true
     → Refused L S s g d a i true → ⊥

@@ -53,7 +53,7 @@ Finds X tokens g d a v b = (t : Shape)
     × Found (language X.production (text_of tokens)) X.marks (tokens_of tokens) g d a b t
     × Shows X.layer v t
 
--- g is refused at i, and where z says so for want of levels
+-- g is refused at i, and where z says so for lack of levels
 abbrev pub Fails : {P N : Type 0} → Syntax P N → Tokens → Rule P → ℕ → ℕ → ℕ → Bool → Type 0
 Fails X tokens g d a i z =
     Refused (language X.production (text_of tokens)) X.marks (tokens_of tokens) g d a i z

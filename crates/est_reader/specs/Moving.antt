@@ -18,7 +18,7 @@ bit TooDeep = 0
 bit NoMemory = 0
 
 -- From a place and an outcome to others. Where all was well, P holds of the place that is reached,
--- or Q of the place that is refused (true: for want of levels), or memory ran out, which says
+-- or Q of the place that is refused (true: for lack of levels), or memory ran out, which says
 -- nothing. Where it was not, nothing changes.
 abbrev pub Does : (ℕ → Type 0) → (ℕ → Bool → Type 0) → ℕ → Outcome → ℕ → Outcome → Type 0
 Does P Q a Well b Well = P b

@@ -16,7 +16,7 @@ use Rattle.est_replay.specs.declared.verdict.Why.{Why}
 use Rattle.est_replay.specs.declared.verdict.Why.TheVariants as why
 use Rattle.est_replay.specs.declared.verdict.Replayed.{Replayed}
 use Rattle.est_replay.specs.declared.verdict.Replayed.TheVariants.{Confirmed, Rejected}
-use Rattle.est_replay.specs.Replay.{Agrees, FiringFails, MoveFails, IsPassed, IsAnswer, AnswersFrom, OneAnswer}
+use Rattle.est_replay.specs.Replay.{AgreesSoFar, FiringFails, MoveFails, IsPassed, IsAnswer, AnswersFrom, OneAnswer}
 
 -- AGREEING
 
@@ -25,7 +25,7 @@ pub prefix_before : (trace more less : List Event) → IsPrefix (less ++ more) t
 prefix_before trace more less p = (more ++ p.0, p.1 ∙ append_assoc less more p.0)
 
 -- a place that follows the trace agrees with it, whatever moves are left
-pub follows_agrees : (c : Setup) (claim : ℕ) (left : List Move) (p : Place) → Follows c p → Agrees c claim left p
+pub follows_agrees : (c : Setup) (claim : ℕ) (left : List Move) (p : Place) → Follows c p → AgreesSoFar c claim left p
 follows_agrees c claim [] p f =
     let e : c.trace ≡ (take claim p.events ++ drop claim p.events) ++ f.0 = f.1 ∙ ap (λ w. w ++ f.0) (sym (take-append-drop claim p.events)) in
     prefix_before c.trace (drop claim p.events) (take claim p.events) (f.0, e)
@@ -71,7 +71,7 @@ passes_not_fails c agrees p (Fire f) q w t fails = firing_passes c agrees p f q 
 
 -- ONE CHECK FAILS FIRST
 
--- what fails behind a block's outcome
+-- what fails after a block's outcome
 abbrev pub FailsBehind : (Place → Type 0) → Place → Why → Outcome → Type 0
 FailsBehind agrees p w (Done s outs) = ((w ≡ why.WrongOutput) × (agrees (after_firing p s outs) → ⊥)) ⊎ ((w ≡ why.TooSilent) × agrees (after_firing p s outs))
 FailsBehind agrees p w (Fault g) = w ≡ why.Fault g
@@ -143,7 +143,7 @@ follows_before c (m ∷ earlier) p r f = (r.0, r.1, follows_grows c r.0 p (move_
 pub record PassedBefore (c : Setup) (claim : ℕ) (m : Move) (earlier left : List Move) (p : Place) : Type 0 where
   pub place : Place
   pub passed : IsPassed c claim earlier (m ∷ left) place
-  pub last : Passes c (Agrees c claim left) place m p
+  pub last : Passes c (AgreesSoFar c claim left) place m p
 
 pub one_back : (c : Setup) (claim : ℕ) (m : Move) (earlier left : List Move) (p : Place) → IsPassed c claim (m ∷ earlier) left p → PassedBefore c claim m earlier left p
 one_back c claim m earlier left p a =
@@ -156,7 +156,7 @@ one_back c claim m earlier left p a =
       last = record { moves = r.2; bounded = r.3; agreed = a.agrees };
     }
 
-pub one_on : (c : Setup) (claim : ℕ) (m : Move) (earlier left : List Move) (p q : Place) → IsPassed c claim earlier (m ∷ left) p → Passes c (Agrees c claim left) p m q → IsPassed c claim (m ∷ earlier) left q
+pub one_on : (c : Setup) (claim : ℕ) (m : Move) (earlier left : List Move) (p q : Place) → IsPassed c claim earlier (m ∷ left) p → Passes c (AgreesSoFar c claim left) p m q → IsPassed c claim (m ∷ earlier) left q
 one_on c claim m earlier left p q a t = record { is_run = (p, a.is_run, t.moves, t.bounded); before = (p, a.is_run, a.agrees); agrees = t.agreed }
 
 -- the moves of a run that yields the claim pass every check
@@ -187,8 +187,8 @@ yields_passed c run claim y =
 abbrev pub Walks : Setup → ℕ → Type 0 → Place → List Move → ℕ → Replayed → Type 0
 Walks c claim Y p [] made answer = ((answer ≡ Confirmed claim) × Y) ⊎ ((answer ≡ Rejected (made + 1) why.NotAll) × (Y → ⊥))
 Walks c claim Y p (m ∷ left) made answer =
-    ((w : Why) × (answer ≡ Rejected (made + 1) w) × MoveFails c (Agrees c claim left) p m w)
-    ⊎ ((q : Place) × Passes c (Agrees c claim left) p m q × Walks c claim Y q left (made + 1) answer)
+    ((w : Why) × (answer ≡ Rejected (made + 1) w) × MoveFails c (AgreesSoFar c claim left) p m w)
+    ⊎ ((q : Place) × Passes c (AgreesSoFar c claim left) p m q × Walks c claim Y q left (made + 1) answer)
 
 -- it has one answer
 pub walks_one : (c : Setup) (claim : ℕ) (Y : Type 0) (p : Place) (moves : List Move) (made : ℕ) (a b : Replayed) → Walks c claim Y p moves made a → Walks c claim Y p moves made b → a ≡ b
@@ -200,39 +200,39 @@ walks_one c claim Y p [] made a b x y =
 walks_one c claim Y p (m ∷ left) made a b x y =
     elim x [
       | inl s ↦ elim y [
-        | inl t ↦ s.1 ∙ ap (Rejected (made + 1)) (fails_one c (Agrees c claim left) p m s.0 t.0 s.2 t.2) ∙ sym t.1
-        | inr t ↦ absurd (passes_not_fails c (Agrees c claim left) p m t.0 s.0 t.1 s.2)
+        | inl t ↦ s.1 ∙ ap (Rejected (made + 1)) (fails_one c (AgreesSoFar c claim left) p m s.0 t.0 s.2 t.2) ∙ sym t.1
+        | inr t ↦ absurd (passes_not_fails c (AgreesSoFar c claim left) p m t.0 s.0 t.1 s.2)
       ]
       | inr s ↦ elim y [
-        | inl t ↦ absurd (passes_not_fails c (Agrees c claim left) p m s.0 t.0 s.1 t.2)
+        | inl t ↦ absurd (passes_not_fails c (AgreesSoFar c claim left) p m s.0 t.0 s.1 t.2)
         | inr t ↦ (let e : t.0 ≡ s.0 = moves_one c p m t.0 s.0 t.1.moves s.1.moves in
             walks_one c claim Y s.0 left (made + 1) a b s.2 (subst (λ q. Walks c claim Y q left (made + 1) b) e t.2))
       ]
     ]
 
--- a walk that goes on behind a run that passes is one from the start
+-- a walk that goes on after a run that passes is one from the start
 pub walk_back : (c : Setup) (claim : ℕ) (Y : Type 0) (run left : List Move) (p : Place) (made : ℕ) (a : Replayed) → made ≡ length run → IsPassed c claim run left p → Walks c claim Y p left made a
-    → Agrees c claim (reverse run ++ left) (first_place c) × Walks c claim Y (first_place c) (reverse run ++ left) 0 a
+    → AgreesSoFar c claim (reverse run ++ left) (first_place c) × Walks c claim Y (first_place c) (reverse run ++ left) 0 a
 walk_back c claim Y [] left p made a e passed w =
-    (subst (Agrees c claim left) passed.is_run passed.agrees, subst (λ n. Walks c claim Y (first_place c) left n a) e (subst (λ q. Walks c claim Y q left made a) passed.is_run w))
+    (subst (AgreesSoFar c claim left) passed.is_run passed.agrees, subst (λ n. Walks c claim Y (first_place c) left n a) e (subst (λ q. Walks c claim Y q left made a) passed.is_run w))
 walk_back c claim Y (m ∷ earlier) left p made a e passed w =
     let b = one_back c claim m earlier left p passed in
     let n : length earlier + 1 ≡ made = omega arith in
     let back = walk_back c claim Y earlier (m ∷ left) b.place (length earlier) a refl b.passed (inr (p, b.last, subst (λ k. Walks c claim Y p left k a) (sym n) w)) in
     let same : reverse earlier ++ m ∷ left ≡ reverse (m ∷ earlier) ++ left = sym (append_assoc (reverse earlier) (m ∷ []) left) ∙ ap (λ w. w ++ left) (sym (reverse-append (m ∷ []) earlier)) in
-    subst (λ moves. Agrees c claim moves (first_place c) × Walks c claim Y (first_place c) moves 0 a) same back
+    subst (λ moves. AgreesSoFar c claim moves (first_place c) × Walks c claim Y (first_place c) moves 0 a) same back
 
 -- an answer, and the walk of which it is the answer
 abbrev pub IsWalked : Setup → List Move → ℕ → Replayed → Type 0
 IsWalked c moves claim a =
-    ((a ≡ Rejected 0 why.WrongOutput) × (Agrees c claim moves (first_place c) → ⊥))
-    ⊎ (Agrees c claim moves (first_place c) × Walks c claim (Yields c (reverse moves) claim) (first_place c) moves 0 a)
+    ((a ≡ Rejected 0 why.WrongOutput) × (AgreesSoFar c claim moves (first_place c) → ⊥))
+    ⊎ (AgreesSoFar c claim moves (first_place c) × Walks c claim (Yields c (reverse moves) claim) (first_place c) moves 0 a)
 
 walked : (c : Setup) (moves run left : List Move) (claim : ℕ) (p : Place) (made : ℕ) (a : Replayed) → moves ≡ reverse run ++ left → made ≡ length run → IsPassed c claim run left p → Walks c claim (Yields c (reverse moves) claim) p left made a → IsWalked c moves claim a
 walked c moves run left claim p made a e n passed w =
     let Y = Yields c (reverse moves) claim in
     let back = walk_back c claim Y run left p made a n passed w in
-    inr (subst (λ ms. Agrees c claim ms (first_place c) × Walks c claim Y (first_place c) ms 0 a) (sym e) back)
+    inr (subst (λ ms. AgreesSoFar c claim ms (first_place c) × Walks c claim Y (first_place c) ms 0 a) (sym e) back)
 
 walked_whole : (moves : List Move) → moves ≡ reverse (reverse moves) ++ []
 walked_whole moves = sym (reverse-reverse moves) ∙ sym (append-nil (reverse (reverse moves)))

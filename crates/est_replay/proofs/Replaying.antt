@@ -17,7 +17,7 @@ use Rattle.est_replay.specs.declared.verdict.Replayed.TheVariants.{Confirmed, Re
 use Rattle.est_replay.specs.declared.replay.Standing.{Standing}
 use Rattle.est_replay.specs.declared.replay.Moved.{Moved}
 use Rattle.est_replay.specs.declared.replay.Moved.TheVariants.{Passed, Failed}
-use Rattle.est_replay.specs.Replay.{Agrees, FiringFails, MoveFails, IsPassed, IsRejected, IsAnswer, ClaimsBeyondAskAll}
+use Rattle.est_replay.specs.Replay.{AgreesSoFar, FiringFails, MoveFails, IsPassed, IsRejected, IsAnswer, ClaimsBeyondAskAll}
 use Rattle.est_replay.specs.Standing.{Suits, IsSetup, IsReady, AgreesUpTo, HasMoved, IsStanding, IsMet, IsEnding, asked_of, place_of}
 use Rattle.est_replay.proofs.Checks.{Passes, follows_agrees, one_on}
 
@@ -38,11 +38,11 @@ whole_prefix trace events p = (let lt : length trace < length trace + 1 = omega 
 pub beyond_asks_all : ClaimsBeyondAskAll
 beyond_asks_all c claim p lt a = prefix_of_all c.trace p.events claim lt a
 
-pub agrees_left : (c : Setup) (claim : ℕ) (left : List Move) (p : Place) → AgreesUpTo c (asked_of (length c.trace) claim left) p → Agrees c claim left p
+pub agrees_left : (c : Setup) (claim : ℕ) (left : List Move) (p : Place) → AgreesUpTo c (asked_of (length c.trace) claim left) p → AgreesSoFar c claim left p
 agrees_left c claim [] p a = a
 agrees_left c claim (m ∷ left) p a = whole_prefix c.trace p.events a
 
-pub agrees_asked : (c : Setup) (claim : ℕ) (left : List Move) (p : Place) → Agrees c claim left p → AgreesUpTo c (asked_of (length c.trace) claim left) p
+pub agrees_asked : (c : Setup) (claim : ℕ) (left : List Move) (p : Place) → AgreesSoFar c claim left p → AgreesUpTo c (asked_of (length c.trace) claim left) p
 agrees_asked c claim [] p a = a
 agrees_asked c claim (m ∷ left) p a = follows_agrees c (length c.trace + 1) [] p a
 
@@ -93,7 +93,7 @@ module _ (c : Setup) (claim : ℕ) (moves : List Move) (made : ℕ) (s : Situati
   left_is = drop_more moves made m lt ∙ ap (λ x. x ∷ drop (made + 1) moves) is
 
   follows_there : Follows c standing.0
-  follows_there = (let a : Agrees c claim (m ∷ drop (made + 1) moves) standing.0 = subst (λ l. Agrees c claim l standing.0) left_is standing.1.agrees in a)
+  follows_there = (let a : AgreesSoFar c claim (m ∷ drop (made + 1) moves) standing.0 = subst (λ l. AgreesSoFar c claim l standing.0) left_is standing.1.agrees in a)
 
   events_are : standing.0.events ≡ take at.events c.trace
   events_are =
@@ -133,7 +133,7 @@ module _ (c : Setup) (claim : ℕ) (moves : List Move) (made : ℕ) (s : Situati
       → HasMoved c asked (place_of stack c.trace at) m t (Passed next) → IsStanding c claim moves (made + 1) t next
   stands_on stack asked t next e a h =
       let left = drop (made + 1) moves in
-      let pass : Passes c (Agrees c claim left) (place_of stack c.trace at) m h.0 =
+      let pass : Passes c (AgreesSoFar c claim left) (place_of stack c.trace at) m h.0 =
       record { moves = h.1; bounded = h.2; agreed = agrees_left c claim left h.0 (subst (λ n. AgreesUpTo c n h.0) a h.3) } in
       (h.0, subst (λ r. IsPassed c claim r left h.0) (sym run_is) (one_on c claim m (reverse (take made moves)) left (place_of stack c.trace at) h.0 (passed_there stack e) pass), h.4)
 
@@ -150,7 +150,7 @@ module _ (c : Setup) (claim : ℕ) (moves : List Move) (made : ℕ) (s : Situati
         at_is = ap (λ n. n + 1) (sym many);
         place = place_of stack c.trace at;
         passed = passed_there stack e;
-        fails = fails_alike c (AgreesUpTo c asked) (Agrees c claim left)
+        fails = fails_alike c (AgreesUpTo c asked) (AgreesSoFar c claim left)
             (λ q x. agrees_left c claim left q (subst (λ n. AgreesUpTo c n q) a x))
             (λ q x. subst (λ n. AgreesUpTo c n q) (sym a) (agrees_asked c claim left q x))
             (place_of stack c.trace at) m w h;

@@ -15,7 +15,7 @@ use Rattle.est_meaning.specs.Choices.{IsSettled, IsPossible}
 use Rattle.est_meaning.specs.Blocks.{Outcome, Done, Fault, Limit}
 use Rattle.est_meaning.specs.Step.{outcome, start_of}
 use Rattle.est_meaning.specs.Stack.{Stack}
-use Rattle.est_meaning.specs.Run.{IsPrefix, Setup, Place, first_place, Takes, Fires, IsBoundedRun, Follows, FollowsBefore, Yields}
+use Rattle.est_meaning.specs.Run.{AgreeFirst, Setup, Place, first_place, Takes, Fires, IsBoundedRun, Follows, FollowsBefore, Yields}
 use Rattle.est_replay.specs.declared.verdict.Why.{Why}
 use Rattle.est_replay.specs.declared.verdict.Why.TheVariants as why
 use Rattle.est_replay.specs.declared.verdict.Replayed.{Replayed}
@@ -23,12 +23,12 @@ use Rattle.est_replay.specs.declared.verdict.Replayed.TheVariants.{Confirmed, Re
 
 -- CHECKS
 
--- the events agree with the trace where these moves are left: all of them, and behind the last move
+-- the events agree with the trace where these moves are left: all of them, and after the last move
 -- those up to the claim (which asks again for all where the claim is above the number of the
 -- trace's events)
-abbrev pub Agrees : Setup → ℕ → List Move → Place → Type 0
-Agrees c claim [] p = IsPrefix (take claim p.events) c.trace
-Agrees c claim (m ∷ left) p = Follows c p
+abbrev pub AgreesSoFar : Setup → ℕ → List Move → Place → Type 0
+AgreesSoFar c claim [] p = AgreeFirst c.trace (take claim p.events)
+AgreesSoFar c claim (m ∷ left) p = Follows c p
 
 -- no next event is there to be taken: the next one is a departure, or there is none
 abbrev pub HasNoEvent : Setup → Place → Type 0
@@ -59,7 +59,7 @@ MoveFails c agrees p (Fire f) w = FiringFails c agrees p f w
 pub record IsPassed (c : Setup) (claim : ℕ) (run left : List Move) (place : Place) : Type 0 where
   pub is_run : IsBoundedRun c run place
   pub before : FollowsBefore c run
-  pub agrees : Agrees c claim left place
+  pub agrees : AgreesSoFar c claim left place
 
 -- REJECTIONS
 
@@ -67,7 +67,7 @@ pub record IsPassed (c : Setup) (claim : ℕ) (run left : List Move) (place : Pl
 pub record FailsAtStart (c : Setup) (moves : List Move) (claim at : ℕ) (w : Why) : Type 0 where
   pub at_is : at ≡ 0
   pub why_is : w ≡ why.WrongOutput
-  pub differs : Agrees c claim moves (first_place c) → ⊥
+  pub differs : AgreesSoFar c claim moves (first_place c) → ⊥
 
 -- the moves before this one pass every check, and it does not
 pub record FailsAtMove (c : Setup) (moves : List Move) (claim at : ℕ) (w : Why) : Type 0 where
@@ -78,7 +78,7 @@ pub record FailsAtMove (c : Setup) (moves : List Move) (claim at : ℕ) (w : Why
   pub at_is : at ≡ length earlier + 1
   pub place : Place
   pub passed : IsPassed c claim (reverse earlier) (move ∷ left) place
-  pub fails : MoveFails c (Agrees c claim left) place move w
+  pub fails : MoveFails c (AgreesSoFar c claim left) place move w
 
 -- all moves pass every check, and do not yield the claim
 pub record FailsAtEnd (c : Setup) (moves : List Move) (claim at : ℕ) (w : Why) : Type 0 where
@@ -126,10 +126,11 @@ OneAnswer = (limit silent : ℕ) (spec : Spec) (trace : List Event) (moves : Lis
     → IsReplay limit silent spec trace moves claim a
     → IsReplay limit silent spec trace moves claim b → a ≡ b
 
--- behind the last move a claim above the number of the trace's events asks for all events
+-- after the last move a claim above the number of the trace's events asks for all events
 abbrev pub ClaimsBeyondAskAll : Type 0
 ClaimsBeyondAskAll =
-    (c : Setup) (claim : ℕ) (p : Place) → length c.trace < claim → Agrees c claim [] p → Follows c p
+    (c : Setup) (claim : ℕ) (p : Place) → length c.trace < claim → AgreesSoFar c claim [] p
+    → Follows c p
 
 -- no answer for a skeleton that breaks no rule speaks of a fault, of the start or of a block
 abbrev pub SkeletonsDoNotFault : Type 0

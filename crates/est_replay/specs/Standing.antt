@@ -6,7 +6,7 @@ use Rattle.est_meaning.specs.declared.run.Move.{Move}
 use Rattle.est_meaning.specs.Situation.{Situation}
 use Rattle.est_meaning.specs.Stack.{Stack}
 use Rattle.est_meaning.specs.Allowed.{IsAllowedTrace}
-use Rattle.est_meaning.specs.Run.{IsPrefix, Setup, Place, IsBegun, Moves, IsBoundedRun, silent_after}
+use Rattle.est_meaning.specs.Run.{IsPrefix, AgreeFirst, Setup, Place, IsBegun, Moves, IsBoundedRun, silent_after}
 use Rattle.est_replay.specs.declared.verdict.Why.TheVariants as why
 use Rattle.est_replay.specs.declared.verdict.Replayed.{Replayed}
 use Rattle.est_replay.specs.declared.verdict.Replayed.TheVariants.{Confirmed, Rejected}
@@ -55,9 +55,9 @@ abbrev pub asked_of : ℕ → ℕ → List Move → ℕ
 asked_of many claim [] = claim
 asked_of many claim (m ∷ left) = many + 1
 
--- the events up to so many are a prefix of the trace
+-- the events up to so many agree with the first of the trace
 abbrev pub AgreesUpTo : Setup → ℕ → Place → Type 0
-AgreesUpTo c asked p = IsPrefix (take asked p.events) c.trace
+AgreesUpTo c asked p = AgreeFirst c.trace (take asked p.events)
 
 -- what came of a move: a place at which the replay then stands, or the first check that fails
 abbrev pub HasMoved : Setup → ℕ → Place → Move → Situation → Moved → Type 0
@@ -82,7 +82,7 @@ HasLanded trace silent asked at outs (Failed why.NotOffered) = ⊥
 HasLanded trace silent asked at outs (Failed (why.Fault fault)) = ⊥
 HasLanded trace silent asked at outs (Failed why.NotAll) = ⊥
 
--- behind so many of the moves the replay stands at the place of a run that passes every check
+-- after so many of the moves the replay stands at the place of a run that passes every check
 abbrev pub IsStanding : Setup → ℕ → List Move → ℕ → Situation → Standing → Type 0
 IsStanding c claim moves made s at =
     (p : Place) × IsPassed c claim (reverse (take made moves)) (drop made moves) p × StandsAt s at p
@@ -93,7 +93,7 @@ abbrev pub IsMet : ℕ → ℕ → ℕ → Type 0
 IsMet claim many events =
     ((claim ≤ many) × (claim ≤ events)) ⊎ ((claim ≡ many + 1) × (events ≡ many))
 
--- what is answered behind so many moves with so many events: the claim where it is met, else that
+-- what is answered after so many moves with so many events: the claim where it is met, else that
 -- the moves do not yield it
 abbrev pub IsEnding : ℕ → ℕ → ℕ → ℕ → Replayed → Type 0
 IsEnding claim many moves events (Confirmed k) = (k ≡ claim) × IsMet claim many events

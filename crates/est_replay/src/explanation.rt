@@ -18,7 +18,7 @@ use est_reader::{Outcome, Reader};
 use std::alloc::{AllocError, Global};
 
 /// How a trace is said to come about: the moves, and how many of its events they are said to
-/// yield, plus one for all with nothing behind them.
+/// yield, plus one for all with nothing after them.
 #[derive(Drop)]
 pub struct Explanation {
     pub moves: Run,

@@ -6,7 +6,7 @@ pub fn one_answer()
     ensures { OneAnswer }
 {}
 
-/// A claim above the number of the trace's events asks for all events behind the last move.
+/// A claim above the number of the trace's events asks for all events after the last move.
 pub fn claims_beyond_ask_all()
     ensures { ClaimsBeyondAskAll }
 {}

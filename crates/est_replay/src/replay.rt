@@ -131,7 +131,7 @@ fn take_next<W: World>(
     }))
 }
 
-/// Goes on behind a firing with these events.
+/// Goes on after a firing with these events.
 fn land(expected: &Expected<'_>, at: Standing, outs: &[Event]) -> Moved
     requires { at.events ≤ length expected.now.trace.now }
     ensures { HasLanded expected.now.trace.now expected.now.silent expected.now.asked at outs.now result }
@@ -237,7 +237,7 @@ fn is_met(claim: u32, trace_len: usize, events: usize) -> bool
     }
 }
 
-/// What is answered behind the last move, with so many events.
+/// What is answered after the last move, with so many events.
 fn end(replaying: &Replaying<'_>, events: usize) -> Replayed
     requires short { length replaying.now.trace.now ≤ 200000 }
     requires few { length replaying.now.moves.now < 2 ^ 32 - 1 }

@@ -226,7 +226,7 @@ module _ (text : List ℕ) (tokens : List Token) where
       in
       omega (arith, parts.from, parts.within)
 
-  -- what stands behind the channels
+  -- what stands after the channels
   few_in_last : (h : Header) (x : Body) (t : Shape) (d a b : ℕ) → Has Last d a b (both (header_shape h) (both (body_shape x) t)) → (sum_by names_in h.points ≤ b) × (sum_by transitions_in (out-Body x).groups ≤ b)
   few_in_last h x t d a b (t_seq {b = m} headed (t_seq {b = q} bodied rest)) =
       let ports : a + sum_by names_in h.points ≤ m = header_long h d a m headed in

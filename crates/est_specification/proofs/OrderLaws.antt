@@ -170,7 +170,7 @@ module _ (text : List ℕ) (tokens : List Token) where
   modvar_from [] x d a b h = variable_from x.names x.place x.header d a b h
   modvar_from (t ∷ ts) x d a b h = elim h [ ]
 
-  -- what stands behind the channels
+  -- what stands after the channels
   last_order : (h : Header) (x : Body) (m : ModvarDef) (t : Shape) (d a b : ℕ) → Has Last d a b (both (header_shape h) (both (body_shape x) (both (modvar_shape m) t)))
       → InFirst (Before m.header.place) (out-Body x).first × EachGroup (Before m.header.place) (out-Body x).groups
   last_order h x m t d a b (t_seq {b = p} headed (t_seq {b = q} bodied (t_word k i e (t_seq {b = r} variable rest)))) =

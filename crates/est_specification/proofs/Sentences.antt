@@ -27,7 +27,7 @@ use Rattle.est_check.specs.Skeleton.{channel_parts}
 abbrev pub HasAt : List ℕ → List Token → Rule → ℕ → ℕ → ℕ → Shape → Type 0
 HasAt text tokens g d a b t = Tree (language production text) tokens (length tokens) g d a b t
 
--- what stands behind the channels
+-- what stands after the channels
 abbrev pub Last : Rule
 Last = seq (rule header) (seq (rule body) (said Modvar (seq module_variable (sign Semicolon initialization))))
 
@@ -113,7 +113,7 @@ module _ (text : List ℕ) (tokens : List Token) where
       let to_v : r ≤ v = forward first in
       record { at_states = suc q; at_first = r; at_groups = v; behind = w; stated = stated; first = first; groups = groups; from = omega arith; within = forward rest }
 
-  -- the tree behind the channels of a sentence
+  -- the tree after the channels of a sentence
   pub sentence_last : (spec : Spec) (d a b : ℕ) → Has (rule specification) d a b (spec_shape spec) → (m : ℕ) × Has Last d m b (last_parts (behind_channels spec.parts) (initialization_shape spec.first))
   sentence_last spec d a b tree = no_queue spec.queue tree
     where

@@ -65,7 +65,7 @@ abbrev pub one_name : List Used → Shape → Shape
 one_name (x ∷ []) t = both (used_shape x) t
 one_name names t = nothing
 
--- interactions, one behind the other
+-- interactions, one after the other
 abbrev pub interactions_shape : List InteractionDef → Shape
 interactions_shape items = chain (map interaction_shape items) nothing
 
@@ -73,7 +73,7 @@ interactions_shape items = chain (map interaction_shape items) nothing
 abbrev pub by_shape : ByPart → Shape
 by_shape b = one_name b.roles (interactions_shape b.interactions)
 
--- the parts of a channel, one behind the other
+-- the parts of a channel, one after the other
 abbrev pub by_parts_shape : List ByPart → Shape
 by_parts_shape items = chain (map by_shape items) nothing
 
@@ -90,7 +90,7 @@ channel_shape c = both (used_shape c.name) (two_names c.roles (by_parts_shape c.
 abbrev pub point_shape : points.Point → Shape
 point_shape p = without p.dims (without_some p.queue (placed p.place (both (names_shape p.names) (both (used_shape p.channel) (both (used_shape p.role) nothing)))))
 
--- declarations of interaction points, one behind the other
+-- declarations of interaction points, one after the other
 abbrev pub points_shape : List points.Point → Shape
 points_shape items = chain (map point_shape items) nothing
 
@@ -126,7 +126,7 @@ one_statement ss = left nothing
 abbrev pub block_shape : blocks.Block → Shape
 block_shape b = without b.parts (placed b.place (both (one_statement b.statements) nothing))
 
--- what stands behind `to`: a state, or `same`
+-- what stands after `to`: a state, or `same`
 abbrev pub next_shape : Option Used → Shape
 next_shape None = right nothing
 next_shape (Some state) = left (used_shape state)
@@ -160,7 +160,7 @@ one_transition ts = nothing
 abbrev pub group_shape : groups.Group → Shape
 group_shape g = one_transition (groups.out-Group g).transitions
 
--- transitions, one behind the other
+-- transitions, one after the other
 abbrev pub groups_shape : List groups.Group → Shape
 groups_shape items = chain (map group_shape items) nothing
 
@@ -204,7 +204,7 @@ abbrev pub channels_shape : List parts.Part → Shape
 channels_shape (Channel c ∷ ps) = both (channel_shape c) (channels_shape ps)
 channels_shape ps = nothing
 
--- the parts behind the channels that stand first
+-- the parts after the channels that stand first
 abbrev pub behind_channels : List parts.Part → List parts.Part
 behind_channels (Channel c ∷ ps) = behind_channels ps
 behind_channels ps = ps

@@ -30,7 +30,7 @@ use Rattle.est_syntax.specs.Least.{IsIn}
 use Rattle.est_specification.proofs.SkeletonLaws.{IsPlainBy, IsPlainPoint, IsPlainGroup, IsSentence, channels_are, plain_channels, of_last, sentence}
 use Rattle.est_check.specs.Skeleton.{channel_parts, AreStates, IsOne, IsPlainChannel, IsPlainHeader, IsPlainVariable, IsPlainSending, IsPlain, IsInit, IsPlainBlock, IsWhen, IsToWhen, AreClauses, IsPlainTransition, IsPlainFirst, IsPlainBody}
 
--- where a part is not there, the shapes behind it are equal
+-- where a part is not there, the shapes after it are equal
 same_without : {A : Type 0} (xs ys : List A) (t u : Shape) → xs ≡ [] → ys ≡ [] → without xs t ≡ without ys u → (xs ≡ ys) × (t ≡ u)
 same_without [] [] t u p q e = (refl, e)
 same_without [] (y ∷ ys) t u p q e = cc

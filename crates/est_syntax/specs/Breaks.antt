@@ -79,7 +79,7 @@ pub data Breaks (s : Spec) : ℕ → Rule → Type 0 where
       → Breaks s m.header.place WrongAttribute
   -- An `init` with a body for another header than that of the module variable, or with one that
   -- lies around it. The headers are looked up in the scope of the `init`, each name at its own
-  -- place: what the parts of a body declare stands behind the bodies around it that an `init` may
+  -- place: what the parts of a body declare stands after the bodies around it that an `init` may
   -- name, and is not in force there. For the names that it has of its header see `side_of`.
   other_header : (scope : Scope) (at : Access) (named : Used) (arguments : List Expr) (place : ℕ)
       (m : ModvarDef) (b : Body) (h k : Header)

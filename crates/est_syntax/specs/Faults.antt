@@ -69,7 +69,7 @@ abbrev pub is_among : List ℕ → List (List ℕ) → Bool
 is_among name [] = false
 is_among name (other ∷ names) = is_name name other || is_among name names
 
--- names that are declared again, behind the names of these
+-- names that are declared again, after the names of these
 abbrev pub twice_faults : List (List ℕ) → List Used → List Fault
 twice_faults before [] = []
 twice_faults before (u ∷ us) = broken_if (is_among (spelled u) before) u.place rule.DeclaredTwice
@@ -160,7 +160,7 @@ abbrev pub statements_faults : Environment → List Statement → List Fault
 statements_faults env [] = []
 statements_faults env (st ∷ sts) = statement_faults env st ++ statements_faults env sts
 
--- the state behind `to`, where one stands there and not `same`
+-- the state after `to`, where one stands there and not `same`
 abbrev pub state_faults : Environment → Option Used → List Fault
 state_faults env None = []
 state_faults env (Some u) = use_faults env sort.State u
@@ -181,7 +181,7 @@ clauses_faults env (c ∷ cs) = clause_faults env c ++ clauses_faults env cs
 abbrev pub transition_faults : Environment → Transition → List Fault
 transition_faults env t = clauses_faults env t.clauses ++ statements_faults env t.block.statements
 
--- the transitions behind one `trans`
+-- the transitions after one `trans`
 abbrev pub transitions_faults : Environment → List Transition → List Fault
 transitions_faults env [] = []
 transitions_faults env (t ∷ ts) = transition_faults env t ++ transitions_faults env ts
@@ -217,7 +217,7 @@ text_faults env b =
     first_faults env (out-Body b).name.place (has_states (out-Body b).parts) (out-Body b).first
     ++ groups_faults env (out-Body b).groups
 
--- a body: its header, its names behind those of its header, its initialize part and its transitions
+-- a body: its header, its names after those of its header, its initialize part and its transitions
 abbrev pub body_faults : Scope → Body → List Fault
 body_faults scope b =
     use_faults (environment scope) sort.Header (out-Body b).header

@@ -123,7 +123,7 @@ abbrev pub declared_together : List Used → ℕ → Sort → Region
 declared_together [] last sort = []
 declared_together (u ∷ us) last sort = declaration u last sort ∷ declared_together us last sort
 
--- the roles behind the first one of a channel, each declared as its second role
+-- the roles after the first one of a channel, each declared as its second role
 abbrev pub other_roles : List Used → Region
 other_roles [] = []
 other_roles (u ∷ us) = declaration u u.place (role true) ∷ other_roles us
@@ -133,7 +133,7 @@ abbrev pub roles_region : List Used → Region
 roles_region [] = []
 roles_region (u ∷ us) = declaration u u.place (role false) ∷ other_roles us
 
--- the interactions that stand behind one `by` of a channel
+-- the interactions that stand after one `by` of a channel
 abbrev pub interactions_region : ByPart → List InteractionDef → Region
 interactions_region b [] = []
 interactions_region b (i ∷ is) =
@@ -246,7 +246,7 @@ side_by (Some c) u = side_with c (role_named c u)
 
 -- The side of an interaction point, where its channel and its role are such. The scope may be that
 -- around a body for its header, further in than the header: a name is looked up at its own place,
--- and what the parts of a body in between declare stands behind that place, so it is not in force
+-- and what the parts of a body in between declare stands after that place, so it is not in force
 -- there. What such a body has of its own header may stand before it; no sentence has a body within
 -- a body.
 abbrev pub side_of : Scope → Point → Option Side

@@ -257,7 +257,7 @@ stopped shelf file name Refuses _ (longer s r x) = inl x
 stopped shelf file name Refuses _ (refused s r x) = inr x
 stopped shelf file name Refuses _ (failed x) = tt
 
--- a call stops at a file, or goes on behind it with the value that it holds
+-- a call stops at a file, or goes on after it with the value that it holds
 data Stage {A : Type 0} (shelf : Seen) (file : File) (name : List ℕ) (Refuses : Refusals) (Good : Goods A) (Next : A → Status → List ℕ → Type 0) (s : Status) (r : List ℕ) : Type 0 where
   stops : IsStopped shelf file name Refuses s r → Stage shelf file name Refuses Good Next s r
   goes_on : (x : A) → Holds file (shelf.before.told name) (Good x) → Next x s r → Stage shelf file name Refuses Good Next s r
@@ -280,7 +280,7 @@ module _ {A : Type 0} (file : File) (name bytes : List ℕ) (Refuses : Refusals)
     one_stop s s' r r' (inr x) (inl y) = absurd (holds_none shelf' shelf file name bytes (IsReported file Refuses s r) s' r' told' told y x)
     one_stop s s' r r' (inr x) (inr y) = at_once file (IsReported file Refuses s r) (IsReported file Refuses s' r') told told' x y (λ tokens n m. one_report s s' r r' tokens n m)
 
-    -- a stage has one result where what comes behind it has one
+    -- a stage has one result where what comes after it has one
     one_stage : (Next Next' : A → Status → List ℕ → Type 0) → ((x : A) (s s' : Status) (r r' : List ℕ) → Next x s r → Next' x s' r' → AreSame s s' r r')
         → (s s' : Status) (r r' : List ℕ) → Stage shelf file name Refuses Good Next s r → Stage shelf' file name Refuses Good Next' s' r' → AreSame s s' r r'
     one_stage Next Next' next s s' r r' (stops x) (stops y) = one_stop s s' r r' x y
@@ -292,7 +292,7 @@ module _ {A : Type 0} (file : File) (name bytes : List ℕ) (Refuses : Refusals)
 
 -- COMMANDS
 
--- the stages of a call, with what is reported behind the last one
+-- the stages of a call, with what is reported after the last one
 abbrev AtSpecification : Seen → List ℕ → (Spec → Status → List ℕ → Type 0) → Status → List ℕ → Type 0
 AtSpecification shelf name Next = Stage shelf Specification name RefusesSpecification OfSpecification Next
 

@@ -23,7 +23,7 @@ two_words (x ∷ []) a b long short at_a at_b = absurd (omega arith)
 two_words (x ∷ y ∷ []) a b long short at_a at_b = cc
 two_words (x ∷ y ∷ z ∷ words) a b long short at_a at_b = absurd (omega arith)
 
--- four words or more are those at their places, and what is behind them
+-- four words or more are those at their places, and what is after them
 pub four_words : {A : Type 0} (words : List A) (a b c d : A) → 4 ≤ length words → a ≡ get_or words 0 a → b ≡ get_or words 1 b → c ≡ get_or words 2 c → d ≡ get_or words 3 d
     → words ≡ a ∷ b ∷ c ∷ d ∷ take (length words - 4) (drop 4 words)
 four_words [] a b c d long at_a at_b at_c at_d = absurd (omega arith)
@@ -46,7 +46,7 @@ is_replay words command specification trace explanation rest limits are asked sp
     (to_replay _ _ _ (bytes_of rest) limits.silent limits.statements (ap (λ c. c ∷ string_bytes specification ∷ string_bytes trace ∷ string_bytes explanation ∷ bytes_of rest) asked)
     specification_named trace_named explanation_named are_limits)
 
--- four words or more ask for a replay: its files have names, and what is behind them are its limits
+-- four words or more ask for a replay: its files have names, and what is after them are its limits
 pub record IsReplayOf (specification trace explanation : List ℕ) (rest : List (List ℕ)) : Type 0 where
   pub specification_named : specification ≢ []
   pub trace_named : trace ≢ []

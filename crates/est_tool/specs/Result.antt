@@ -37,8 +37,9 @@ Writes Gives WriteFault before after =
 Writes Gives status before after =
     (report : List ℕ) × Gives status report × (after ≡ appended before report)
 
--- The files that a call starts are the first ones of those that its words ask for, in their order;
--- a file is started only where those before it are good, and none is started twice.
+-- The files that a call starts are the first ones of those that its words ask for, in their order,
+-- and a file is started only where those before it are good. Each is started once; a name that
+-- stands for two files is started for each of them.
 abbrev pub StartsItsFiles : List (String Global) → Seen → Type 0
 StartsItsFiles words shelf =
     (request : Request) × Asks (bytes_of words) request
@@ -66,5 +67,5 @@ pub record IsResult
   pub told : SameTold shelf.before.told shelf.after.told
   -- nothing is started where the words are none that the program takes
   pub idle : status ≡ Usage → shelf.after.started ≡ shelf.before.started
-  -- else the files that they name, in their order, each once, where those before it are good
+  -- else files that they name, in their order, each once, where those before it are good
   pub started : status ≢ Usage → StartsItsFiles words shelf

@@ -10,9 +10,9 @@ const BUDGET: u32 = 1_000_000;
 /// What the words ask for.
 #[derive(Clone, Copy)]
 pub enum Command {
-    /// To check the specification in the file that the word behind `check` names.
+    /// To check the specification in the file that the word after `check` names.
     Check,
-    /// To replay an explanation of a trace. The words behind `replay` name the files of the
+    /// To replay an explanation of a trace. The words after `replay` name the files of the
     /// specification, the trace and the explanation.
     Replay { limits: Limits },
 }
@@ -21,7 +21,7 @@ pub enum Command {
 #[derive(Clone, Copy, PartialEq, Eq)]
 pub struct BadUsage;
 
-/// Reads the words behind the name of the program.
+/// Reads the words after the name of the program.
 pub fn read_words(words: &[String]) -> Result<Command, BadUsage>
     ensures asked { IfOk result (IsCommand words.now) }
     ensures refused { OnErr result (AsksNothing words.now) }

@@ -29,7 +29,7 @@ use Rattle.est_trace.specs.Skeletons.{HaveDifferentNames, ArePlain}
 use Rattle.est_trace.specs.Directories.{signal_name, port_name}
 use Rattle.est_trace.proofs.Lists.{some_same, image_at}
 
--- each of the names is new behind those before it
+-- each of the names is new after those before it
 abbrev AreNew : List (List ℕ) → List (List ℕ) → Type 0
 AreNew before [] = Unit {0}
 AreNew before (n ∷ ns) = (is_among n before ≡ false) × AreNew (before ++ n ∷ []) ns
@@ -85,7 +85,7 @@ one_place before (m ∷ ns) (suc i) (suc j) n h e f = ap suc (one_place (before 
 different_by : {A : Type 0} (name : A → List ℕ) (xs : List A) (before : List (List ℕ)) → AreNew before (map name xs) → HaveDifferentNames name xs
 different_by name xs before h i j x y e f q = one_place before (map name xs) i j (name x) h (image_at name xs i x e) (image_at name xs j y f ∙ ap Some (sym q))
 
--- the later ones of new names are new behind some
+-- the later ones of new names are new after some
 new_behind : (before xs ys : List (List ℕ)) → AreNew before (xs ++ ys) → (b : List (List ℕ)) × AreNew b ys
 new_behind before [] ys h = (before, h)
 new_behind before (x ∷ xs) ys h = new_behind (before ++ x ∷ []) xs ys h.1

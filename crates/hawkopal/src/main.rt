@@ -8,7 +8,7 @@ use std::process::ExitCode;
 use std::rt::{Env, Files};
 use std::{env, io};
 
-// The words behind the name of the program.
+// The words after the name of the program.
 fn words<R: Env + AllocGlobal>(rt: &R) -> io::Result<Vec<String>> {
     Ok(env::args(rt)?.skip(1).collect(rt.alloc())?)
 }
