@@ -119,7 +119,6 @@ fn kept(alloc: Global, tree: SyntaxTree, ports: Ports) -> Result<Checked, AllocE
 }
 
 // The ports of a skeleton whose least fault is this, if any: that fault is an error.
-
 fn ports_unless(
     alloc: Global,
     table: &Table,

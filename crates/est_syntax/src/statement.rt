@@ -44,7 +44,7 @@ pub enum Statement {
     Assign {
         target: Used,
         path: Selectors,
-        value: Expr,
+        value: Boxed<Expr>,
         place: u32,
     },
     /// A procedure with its arguments.
@@ -55,39 +55,39 @@ pub enum Statement {
     },
     /// What is done where the condition holds, and what else, if anything.
     If {
-        condition: Expr,
+        condition: Boxed<Expr>,
         first: Boxed<Statement>,
         second: Option<Boxed<Statement>>,
         place: u32,
     },
     Case {
-        value: Expr,
+        value: Boxed<Expr>,
         arms: Arms,
         place: u32,
     },
     While {
-        condition: Expr,
+        condition: Boxed<Expr>,
         turn: Boxed<Statement>,
         place: u32,
     },
     Repeat {
         turn: Statements,
-        until: Expr,
+        until: Boxed<Expr>,
         place: u32,
     },
     /// A loop from `first` up to `last`, or down to it.
     For {
         name: Used,
-        first: Expr,
+        first: Boxed<Expr>,
         down: bool,
-        last: Expr,
+        last: Boxed<Expr>,
         turn: Boxed<Statement>,
         place: u32,
     },
     /// A turn for each value of an ordinal type, or for each module of a header.
     All {
         name: Used,
-        over: TypeText,
+        over: Boxed<TypeText>,
         turn: Boxed<Statement>,
         place: u32,
     },

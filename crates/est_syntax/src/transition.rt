@@ -5,17 +5,18 @@ use crate::constant::Constant;
 use crate::expression::{Access, Expr};
 use crate::name::{Used, UsedNames};
 use crate::type_text::VarDefs;
-use est_items::Items;
+use est_items::{Boxed, Items};
 
 /// The later bound of a delay: that of the first one, another, or none (`*`).
 #[derive(Drop)]
 pub enum Most {
     Same,
-    Value(Expr),
+    Value(Boxed<Expr>),
     Never,
 }
 
-/// A clause of a transition (ISO 9074, clause). The place is that of its first token.
+/// A clause of a transition (ISO 9074, clause). The place is that of its first token. Expressions stand
+/// in boxes, since most clauses have none and all are of one size.
 #[derive(Drop)]
 pub enum Clause {
     From {
@@ -33,7 +34,7 @@ pub enum Clause {
         place: u32,
     },
     Provided {
-        condition: Expr,
+        condition: Boxed<Expr>,
         place: u32,
     },
     /// `provided otherwise`.
@@ -49,7 +50,7 @@ pub enum Clause {
         place: u32,
     },
     Delay {
-        least: Expr,
+        least: Boxed<Expr>,
         most: Most,
         place: u32,
     },
