@@ -1,7 +1,7 @@
 -- Where two views of one sort show one shape, they are the same.
 use Rattle.std.proofs.Common.{◌≡◌, ℕ, List, [], ◌∷◌, ◌++◌, refl, sym, ◌∙◌, ap, subst}
 use Rattle.est_language.specs.Grammar.{Shape}
-use Rattle.est_language.specs.Shown.{View, Shows, empty, kept, at, pair, first, second, given, node, alone, perhaps, nodes, runs, s_empty, s_kept, s_at, s_pair, s_first, s_second, s_given, s_node, s_alone, s_without, s_with, s_none, s_more, s_no_run, s_run}
+use Rattle.est_language.specs.Shown.{View, Shows, empty, kept, at, pair, first, second, given, node, alone, perhaps, nodes, runs, sections, s_empty, s_kept, s_at, s_pair, s_first, s_second, s_given, s_node, s_alone, s_without, s_with, s_none, s_more, s_no_run, s_run, s_no_section, s_first_section, s_second_section}
 
 -- What a view at one position of a grammar looks like, over tags G of parts.
 pub data Sort (V N G : Type 0) : Type 0 where
@@ -10,6 +10,7 @@ pub data Sort (V N G : Type 0) : Type 0 where
   of_pair of_choice : Sort V N G → Sort V N G → Sort V N G
   of_part of_alone of_perhaps of_parts : G → Sort V N G
   of_runs : (List N → View V N) → Sort V N G → G → Sort V N G
+  of_sections : (f g : List N → View V N) → (s r : Sort V N G) → (h k : G) → Sort V N G
 
 -- each part has this tag
 abbrev pub All : {N G : Type 0} → (N → G) → G → List N → Type 0
@@ -36,6 +37,10 @@ module _ {V N G : Type 0} (tag : N → G) where
     f_perhaps : {g : G} (ns : List N) → All tag g ns → IsOf (of_perhaps g) (perhaps ns)
     f_parts : {g : G} (ns : List N) → All tag g ns → IsOf (of_parts g) (nodes ns)
     f_runs : {f : List N → View V N} {s : Sort V N G} {g : G} (ns : List N) → ((ms : List N) → All tag g ms → IsOf s (f ms)) → ((ms ls : List N) → f ms ≡ f ls → ms ≡ ls) → All tag g ns → IsOf (of_runs f s g) (runs f ns)
+    f_sections : {f f' : List N → View V N} {s r : Sort V N G} {h k : G} (ns ms : List N)
+        → ((ls : List N) → All tag h ls → IsOf s (f ls)) → ((ks ls : List N) → f ks ≡ f ls → ks ≡ ls)
+        → ((ls : List N) → All tag k ls → IsOf r (f' ls)) → ((ks ls : List N) → f' ks ≡ f' ls → ks ≡ ls)
+        → All tag h ns → All tag k ms → IsOf (of_sections f f' s r h k) (sections f f' ns ms)
 
 module _ {V N G : Type 0} (tag : N → G) (layer : N → View V N) (sort_of : G → Sort V N G)
     (layer_is : (n : N) → IsOf tag (sort_of (tag n)) (layer n)) (layer_one : (n m : N) → tag n ≡ tag m → layer n ≡ layer m → n ≡ m) where
@@ -51,6 +56,15 @@ module _ {V N G : Type 0} (tag : N → G) (layer : N → View V N) (sort_of : G 
   abbrev join : List N → View V N → View V N
   join ms (runs f ns) = runs f (ms ++ ns)
   join ms v = v
+
+  -- one more section first
+  abbrev join_first : List N → View V N → View V N
+  join_first ls (sections f g ns ms) = sections f g (ls ++ ns) ms
+  join_first ls v = v
+
+  abbrev join_second : List N → View V N → View V N
+  join_second ls (sections f g ns ms) = sections f g ns (ls ++ ms)
+  join_second ls v = v
 
   pub same_view : {w : View V N} {t : Shape V} → Shows layer w t → {s : Sort V N G} {x : View V N} → IsOf tag s w → IsOf tag s x → Shows layer x t → w ≡ x
   same_view d f_empty f_empty e = refl
@@ -84,6 +98,13 @@ module _ {V N G : Type 0} (tag : N → G) (layer : N → View V N) (sort_of : G 
   same_view (s_run ks {ns = bs} d d') (f_runs {f} {s} {g} ns h i p) (f_runs ms k j q) (s_run cs {ns = ds} e e') =
       let a = all_tagged {N = N} tag g ks bs p in let b = all_tagged {N = N} tag g cs ds q in
       ap (λ v. runs f (v ++ bs)) (i ks cs (same_view d (h ks a.0) (h cs b.0) e)) ∙ ap (join cs) (same_view d' (f_runs {s = s} bs h i a.1) (f_runs ds k j b.1) e')
+  same_view s_no_section (f_sections ns ms h i h' i' p p') (f_sections os qs k j k' j' q q') s_no_section = refl
+  same_view (s_first_section ks {ns = bs} d d') (f_sections {f} {f'} {s} {r} {h = g} {k = g'} ns ms h i h' i' p p') (f_sections os qs k j k' j' q q') (s_first_section cs {ns = ds} e e') =
+      let a = all_tagged {N = N} tag g ks bs p in let b = all_tagged {N = N} tag g cs ds q in
+      ap (λ v. sections f f' (v ++ bs) ms) (i ks cs (same_view d (h ks a.0) (h cs b.0) e)) ∙ ap (join_first cs) (same_view d' (f_sections {s = s} {r = r} bs ms h i h' i' a.1 p') (f_sections ds qs k j k' j' b.1 q') e')
+  same_view (s_second_section ks {ms = bs} d d') (f_sections {f} {f'} {s} {r} {h = g} {k = g'} ns ms h i h' i' p p') (f_sections os qs k j k' j' q q') (s_second_section cs {ms = ds} e e') =
+      let a = all_tagged {N = N} tag g' ks bs p' in let b = all_tagged {N = N} tag g' cs ds q' in
+      ap (λ v. sections f f' ns (v ++ bs)) (i' ks cs (same_view d (h' ks a.0) (h' cs b.0) e)) ∙ ap (join_second cs) (same_view d' (f_sections {s = s} {r = r} ns bs h i h' i' p a.1) (f_sections os ds k j k' j' q b.1) e')
 
   pub same_node : (n m : N) (g : G) {t : Shape V} → tag n ≡ g → tag m ≡ g → Shows layer (node n) t → Shows layer (node m) t → n ≡ m
   same_node n m g p q (s_node d) (s_node e) = layer_one n m (p ∙ sym q) (same_view d (layer_of n g p) (layer_of m g q) e)

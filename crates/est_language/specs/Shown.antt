@@ -26,6 +26,8 @@ pub data View (V N : Type 0) : Type 0 where
   nodes : List N → View V N
   -- parts, one after the other, in any runs, of which each is shown so
   runs : (List N → View V N) → List N → View V N
+  -- parts of two sorts, in any runs of either sort, of which each is shown so
+  sections : (List N → View V N) → (List N → View V N) → List N → List N → View V N
 
 module _ {V N : Type 0} (layer : N → View V N) where
   -- a view shows a shape
@@ -47,3 +49,10 @@ module _ {V N : Type 0} (layer : N → View V N) where
     s_no_run : {f : List N → View V N} → Shows (runs f []) nothing
     s_run : {f : List N → View V N} (ms : List N) {ns : List N} {t u : Shape V} → Shows (f ms) t
         → Shows (runs f ns) u → Shows (runs f (ms ++ ns)) (both t u)
+    s_no_section : {f g : List N → View V N} → Shows (sections f g [] []) nothing
+    s_first_section : {f g : List N → View V N} (ks : List N) {ns ms : List N} {t u : Shape V}
+        → Shows (f ks) t → Shows (sections f g ns ms) u
+        → Shows (sections f g (ks ++ ns) ms) (both (left t) u)
+    s_second_section : {f g : List N → View V N} (ks : List N) {ns ms : List N} {t u : Shape V}
+        → Shows (g ks) t → Shows (sections f g ns ms) u
+        → Shows (sections f g ns (ks ++ ms)) (both (right t) u)
