@@ -8,4 +8,3 @@ pub mod There
 pub mod TokenLaws
 pub mod Unique
 pub mod SameKinds
-pub mod Spelled

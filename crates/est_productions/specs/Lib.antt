@@ -1,0 +1,4 @@
+pub mod Grammar
+pub mod FirstTokens
+pub mod Nodes
+pub mod Syntax

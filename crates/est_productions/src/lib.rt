@@ -1,0 +1,2 @@
+//! The grammar of specifications, and the readers of declarations and expressions.
+#![tactic(auto)]
