@@ -1,32 +1,31 @@
 -- How the tokens of each kind are spelled.
-use Rattle.std.proofs.Common.{◌≡◌, ◌<◌, ℕ, suc, zero, List, [], ◌∷◌, length, arith, Bool, true, false, not, refl, sym, ◌∙◌, ap, Option, Some, None, option_map, slice_get}
-use Rattle.std.specs.Prelude.{if◌then◌else◌, unwrap_or}
+use Rattle.std.proofs.Common.{◌≡◌, ◌<◌, ℕ, List, [], ◌∷◌, length, arith, Bool, true, false, refl, sym, ◌∙◌, ap, Option, Some, None, option_map, slice_get}
+use Rattle.std.specs.Prelude.{if◌then◌else◌, unwrap_or, bytes_eq}
 use Rattle.std.specs.List.{find, list_all}
+use Rattle.std.specs.Str.{str_eq_ignore_ascii_case}
 use Rattle.std.proofs.lemmas.Bool.{and_parts}
 use Rattle.est_lexer.specs.declared.kind.Token.{Token}
 use Rattle.est_lexer.specs.declared.kind.TokenKind.{TokenKind}
-use Rattle.est_lexer.specs.declared.kind.TokenKind.TheVariants.{Identifier, Number, Character, Bad}
+use Rattle.est_lexer.specs.declared.kind.TokenKind.TheVariants.{Identifier, Number, Character}
 use Rattle.est_lexer.specs.declared.tokens.Tokens.{Tokens}
-use Rattle.est_lexer.specs.Kinds.{is_same}
 use Rattle.est_lexer.specs.Places.{text_of, tokens_of}
-use Rattle.est_lexer.specs.Spans.{end_of, spelling}
+use Rattle.est_lexer.specs.Spans.{spelling}
 use Rattle.est_lexer.specs.Spellings.{word_kind, name_kind, symbol_kind, is_number, is_character, kind_of}
-use Rattle.est_lexer.specs.TokenList.{AreTokensFrom, none_left, bad, next}
 use Rattle.est_lexer.specs.Words.{Word, words, symbols}
 
 -- what is found has what each row has
 found_has : (p : TokenKind → Bool) (f : Word → Bool) (table : List Word) (k : TokenKind) → list_all (λ w. p w.1) table ≡ true → option_map (λ (w : Word). w.1) (find f table) ≡ Some k → p k ≡ true
 found_has p f [] k all here = absurd cc
-found_has p f (w ∷ ws) k all here = by (f w) refl
+found_has p f (w ∷ ws) k all here = by (f w) refl (found_has p f ws k (and_parts _ _ all).1)
   where
-    by : (b : Bool) → f w ≡ b → p k ≡ true
-    by true e =
+    by : (b : Bool) → f w ≡ b → (option_map (λ (v : Word). v.1) (find f ws) ≡ Some k → p k ≡ true) → p k ≡ true
+    by true e more =
         let same : option_map (λ (w : Word). w.1) (find f (w ∷ ws)) ≡ Some w.1 = rw e refl in
         let one : w.1 ≡ k = cc in
         sym (ap p one) ∙ (and_parts _ _ all).0
-    by false e =
+    by false e more =
         let same : option_map (λ (w : Word). w.1) (find f (w ∷ ws)) ≡ option_map (λ (w : Word). w.1) (find f ws) = rw e refl in
-        found_has p f ws k (and_parts _ _ all).1 (sym same ∙ here)
+        more (sym same ∙ here)
 
 -- neither a number nor a character
 abbrev is_other : TokenKind → Bool
@@ -35,12 +34,12 @@ is_other Character = false
 is_other _ = true
 
 no_word : (bytes : List ℕ) (k : TokenKind) → word_kind bytes ≡ Some k → is_other k ≡ true
-unfolding (word_kind, words)
-no_word bytes k here = found_has is_other _ words k refl here
+unfolding word_kind words
+no_word bytes k here = found_has is_other (λ w. str_eq_ignore_ascii_case w.0 bytes) words k refl here
 
 no_symbol : (bytes : List ℕ) (k : TokenKind) → symbol_kind bytes ≡ Some k → is_other k ≡ true
-unfolding (symbol_kind, symbols)
-no_symbol bytes k here = found_has is_other _ symbols k refl here
+unfolding symbol_kind symbols
+no_symbol bytes k here = found_has is_other (λ w. bytes_eq w.0 bytes) symbols k refl here
 
 no_name : (bytes : List ℕ) → is_other (name_kind bytes) ≡ true
 no_name bytes = by (word_kind bytes) refl
@@ -71,25 +70,13 @@ kind_is_character : (bytes : List ℕ) → kind_of bytes ≡ Some Character → 
 unfolding kind_of
 kind_is_character bytes h = character_among _ _ _ _ _ (no_name bytes) (no_symbol bytes) h
 
--- a token of a list that is not bad has the kind of its bytes
-token_kind : (text : List ℕ) (from : ℕ) (tokens : List Token) → AreTokensFrom text from tokens → (place : ℕ) (token : Token) → slice_get tokens place ≡ Some token → (token.kind ≡ Bad → ⊥) → kind_of (spelling text token) ≡ Some token.kind
-token_kind text from [] (none_left _ gap) place token at good = absurd cc
-token_kind text from (t ∷ []) (bad _ _ gap kind span) zero token at good =
-    let same : t ≡ token = cc in
-    absurd (good (sym (ap (λ (u : Token). u.kind) same) ∙ kind))
-token_kind text from (t ∷ []) (bad _ _ gap kind span) (suc place) token at good = absurd cc
-token_kind text from (t ∷ ts) (next _ _ _ gap long more) zero token at good =
-    let same : t ≡ token = cc in
-    subst (λ (u : Token). kind_of (spelling text u) ≡ Some u.kind) same long.kind
-token_kind text from (t ∷ ts) (next _ _ _ gap long more) (suc place) token at good = token_kind text (end_of t) ts more place token at good
-
 -- a token that is a number is spelled as one
 pub number_spelled : (tokens : Tokens) (place : ℕ) (token : Token) → slice_get (tokens_of tokens) place ≡ Some token → token.kind ≡ Number → is_number (spelling (text_of tokens) token) ≡ true
-number_spelled tokens place token at e = kind_is_number _ (token_kind (text_of tokens) 0 (tokens_of tokens) tokens.listed place token at (λ b. let q = sym e ∙ b in cc) ∙ ap Some e)
+number_spelled tokens place token at e = kind_is_number _ (tokens.kinds place token at (λ b. let q = sym e ∙ b in cc) ∙ ap Some e)
 
 -- and a character
 pub character_spelled : (tokens : Tokens) (place : ℕ) (token : Token) → slice_get (tokens_of tokens) place ≡ Some token → token.kind ≡ Character → is_character (spelling (text_of tokens) token) ≡ true
-character_spelled tokens place token at e = kind_is_character _ (token_kind (text_of tokens) 0 (tokens_of tokens) tokens.listed place token at (λ b. let q = sym e ∙ b in cc) ∙ ap Some e)
+character_spelled tokens place token at e = kind_is_character _ (tokens.kinds place token at (λ b. let q = sym e ∙ b in cc) ∙ ap Some e)
 
 -- which has a byte after its first quote
 pub character_long : (bytes : List ℕ) → is_character bytes ≡ true → 1 < length bytes

@@ -3,7 +3,9 @@
 ghost use Rattle.std.specs.Prelude.{◌≡◌, ◌≤◌, ◌<◌, ◌+◌, ℕ, length, slice_get, Some, IfSome, count_by, not};
 ghost use Rattle.std.specs.List.{suffix_len};
 ghost use Rattle.est_lexer.specs.Lines.{is_line_feed};
-ghost use Rattle.est_lexer.specs.TokenList.{IsTokenList};
+ghost use Rattle.est_lexer.specs.Spans.{spelling};
+ghost use Rattle.est_lexer.specs.Spellings.{kind_of};
+ghost use Rattle.est_lexer.specs.declared.kind.TokenKind.TheVariants.{Bad};
 ghost use Rattle.est_lexer.specs.declared.kind.Token.{Token};
 ghost use Rattle.est_lexer.specs.declared.tokens.TheConstants.{MOST_BYTES};
 
@@ -21,16 +23,15 @@ const _: () = prove!(size_of::<Token>() <= 24);
 pub struct Tokens<'t> {
     pub(crate) text: &'t [u8],
     pub(crate) list: Vec<Token>,
-    ghost listed: { IsTokenList text.now list.items },
     ghost short: { length text.now ≤ MOST_BYTES },
     ghost few: { length list.items ≤ length text.now },
     ghost inside: { (place : ℕ) (token : Token) → slice_get list.items place ≡ Some token → token.start + token.length ≤ length text.now },
+    ghost kinds: { (place : ℕ) (token : Token) → slice_get list.items place ≡ Some token → (token.kind ≡ Bad → ⊥) → kind_of (spelling text.now token) ≡ Some token.kind },
 }
 
 impl Tokens<'_> {
     ghost use Rattle.est_lexer.specs.Lines.{line_at, column_at};
     ghost use Rattle.est_lexer.specs.Places.{text_of, tokens_of, offset_at};
-    ghost use Rattle.est_lexer.specs.Spans.{spelling};
 
     /// How many tokens the text has.
     pub fn count(&self) -> u32
