@@ -1,6 +1,7 @@
 pub mod Values
 pub mod Apart
 pub mod Steps
+pub mod Bytes
 pub mod Going
 pub mod Turns
 pub mod Single
