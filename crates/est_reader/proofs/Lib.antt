@@ -3,6 +3,7 @@ pub mod Apart
 pub mod Steps
 pub mod Bytes
 pub mod Going
+pub mod Seen
 pub mod Turns
 pub mod Single
 pub mod Whole
