@@ -541,7 +541,7 @@ production term = seq (rule factor) (rep product_step)
 --     | "[" [ member { "," member } ] "]" | ident ( "(" exprs ")" | { selector } ) .
 production factor = here (alt number (alt character (alt group (alt negation
     (alt set variable_or_call)))))
--- selector = "[" exprs "]" | "." ident .
-production selector = alt (here subscripts) (sign symbols.Period identifier)
+-- selector = "." ident | "[" exprs "]" .
+production selector = alt (sign symbols.Period identifier) (here subscripts)
 -- member = expr [ ".." expr ] .
 production member = seq (rule expr) later_end

@@ -419,8 +419,9 @@ SelectorForm =
 
 -- subscripts, or a field
 abbrev pub selector : SelectorForm → View
-selector (factors.Index exprs place) = first (at place (pair (nodes (map an_expr exprs)) empty))
-selector (factors.Field name) = second (used name)
+selector (factors.Field name) = first (used name)
+selector (factors.Index exprs place) =
+    second (at place (pair (nodes (map an_expr exprs)) empty))
 
 -- the later end of a part of a set, where there is one
 abbrev pub expr_given : Option Expr → View

@@ -395,7 +395,7 @@ pub fn selectors(reader: &mut Reader) -> Selectors
     items
 }
 
-// selector = "[" exprs "]" | "." ident .
+// selector = "." ident | "[" exprs "]" .
 #[cycle(expr)]
 fn selector(reader: &mut Reader) -> Selector
     ensures { Goes estelle (rule grammar.selector) reader.old

@@ -1,5 +1,5 @@
 -- Steps that one of several tokens decides, and what is refused where none of them comes next.
-use Rattle.std.proofs.Common.{◌≡◌, ℕ, ◌<◌, Bool, true, false, ◌&&◌, List, [], ◌∷◌, ◌++◌, Option, Some, None, ◌⊎◌, inl, inr, refl, sym, subst}
+use Rattle.std.proofs.Common.{◌≡◌, ℕ, ◌<◌, Bool, true, false, ◌&&◌, List, [], ◌∷◌, ◌++◌, Option, Some, None, ◌⊎◌, inl, inr, refl, sym, ◌∙◌, subst}
 use Rattle.est_language.specs.Grammar.{seq, opt, rep, Shape}
 use Rattle.est_language.specs.Marks.{can_begin, can_go_on, can_be_empty, disjoint, covered, implies_one}
 use Rattle.est_language.specs.Shown.{Shows, node, nodes, given}
@@ -11,7 +11,7 @@ use Rattle.est_reader.specs.declared.outcome.Outcome.TheVariants.{Well}
 use Rattle.est_reader.specs.Tests.{Test, Kept, stands, apart, implies}
 use Rattle.est_reader.specs.Moving.{Sees, NoneSeen, OneSeen, Taken, NotThere, Takes, Still}
 use Rattle.est_reader.specs.Going.{Rule, View, Syntax, Finds, Fails, Goes}
-use Rattle.est_reader.proofs.Steps.{onto, sees_not, left_of}
+use Rattle.est_reader.proofs.Steps.{onto, sees_not, left_of, taken_well, taken_at}
 use Rattle.est_reader.proofs.Going.{Known, goes_onto, begins_not, opt_in, alternative, as_alternative, tells, chosen}
 use Rattle.est_reader.proofs.Turns.{Turning, Each, more_parts, lessens}
 
@@ -61,3 +61,21 @@ module _ {P N : Type 0} (K : Known P N) where
         x.takes;
     same = x.same;
   }
+
+-- the view of what is read, by another name
+pub goes_is : {P N : Type 0} {X : Syntax P N} {g : Rule P} {A B : Reader} {v w : View N} → v ≡ w → Goes X g A v B → Goes X g A w B
+goes_is {X = X} {g} {A} {B} e x = subst (λ u. Goes X g A u B) e x
+
+-- what does not come next is not taken
+pub not_taken : {k : Test} {A B : Reader} → Sees A k false → Takes k A B → B.outcome ≡ Well → ⊥
+not_taken {k} {A} {B} s x w =
+    let p : stands A.tokens.now A.at k ≡ false = sees_not (taken_well x w) s in
+    let q : stands A.tokens.now A.at k ≡ true = taken_at A.tokens.now k A.at B.at A.outcome B.outcome x.takes w in
+    cc
+
+-- a box that is there holds the value, and there is one where all is well
+pub box_holds : {T W : Type 0} {r : Option T} {b v : T} → r ≡ Some b → (W → r ≡ Some v) → W → b ≡ v
+box_holds {r = r} {b} {v} e f w = let g : Some b ≡ Some v = sym e ∙ f w in cc
+
+pub no_box : {T W : Type 0} {r : Option T} {v : T} → r ≡ None → (W → r ≡ Some v) → W → ⊥
+no_box {r = r} {v} e f w = let g : None ≡ Some v = sym e ∙ f w in cc
