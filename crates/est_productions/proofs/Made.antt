@@ -1,5 +1,6 @@
 -- The layers of the parts that the readers make.
-use Rattle.std.proofs.Common.{◌≡◌, ℕ, Bool, true, false, List, [], ◌∷◌, Option, Some, None, map, ap, refl}
+use Rattle.std.proofs.Common.{◌≡◌, ℕ, Bool, true, false, List, [], ◌∷◌, Option, Some, None, ◌++◌, map, ap, refl, sym, length}
+use Rattle.std.specs.Prelude.{option_to_list}
 use Rattle.est_syntax.specs.declared.name.Used.{Used}
 use Rattle.est_syntax.specs.declared.constant.Constant.{Constant}
 use Rattle.est_syntax.specs.declared.constant.Constant.TheVariants as constants
@@ -19,18 +20,24 @@ use Rattle.est_syntax.specs.declared.expression.SumStep.{SumStep, roll-SumStep, 
 use Rattle.est_syntax.specs.declared.expression.Simple.{Simple, roll-Simple, out-roll-Simple}
 use Rattle.est_syntax.specs.declared.expression.Relation.{Relation, roll-Relation, out-roll-Relation}
 use Rattle.est_syntax.specs.declared.expression.Expr.{Expr, roll-Expr, out-roll-Expr}
-use Rattle.est_language.specs.Grammar.{Shape, left}
-use Rattle.est_language.specs.Shown.{Shows, empty, kept, at, pair, first, second, given, node, nodes, s_first, s_pair}
+use Rattle.est_lexer.specs.Places.{text_of, tokens_of}
+use Rattle.est_language.specs.Grammar.{Shape, both, done, word, seq, deeper, rule, placed, Tree, t_here, t_deeper, t_word, t_seq, t_rule}
+use Rattle.est_language.specs.Shown.{Shows, empty, kept, at, pair, first, second, given, node, nodes, s_first, s_pair, s_node, s_at, s_more}
 use Rattle.est_reader.specs.declared.reader.Reader.{Reader}
 use Rattle.est_reader.specs.Tests as kinds
-use Rattle.est_reader.specs.Tests.{Kept}
+use Rattle.est_reader.specs.Tests.{Kept, Test, language}
+use Rattle.est_reader.specs.declared.outcome.Outcome.TheVariants.{Well}
+use Rattle.est_reader.proofs.Seen.{finds}
 use Rattle.est_reader.specs.Moving.{TakesName}
 use Rattle.est_reader.specs.Going.{used, identifier, Goes}
 use Rattle.est_reader.proofs.Going.{part}
 use Rattle.est_reader.proofs.Single.{name_goes}
 use Rattle.est_productions.specs.Syntax.{estelle}
 use Rattle.est_productions.specs.Nodes as node_of
-use Rattle.est_productions.specs.Nodes.{View, layer, a_use, a_constant, a_type, a_short_type, a_field, a_variable, a_parameter, an_export, an_expr, a_simple, a_sum_step, a_term, a_product_step, a_factor, a_selector, a_member, TypeTextForm, names, unnamed, constant, range, short_type, type_text, structured, choice, last_choice}
+use Rattle.est_productions.specs.Grammar as grammar
+use Rattle.est_productions.specs.Grammar.{production}
+use Rattle.est_productions.specs.Nodes.{Node, View, layer, a_use, a_constant, a_type, a_short_type, a_field, a_variable, a_parameter, an_export, an_expr, a_simple, a_sum_step, a_term, a_product_step, a_factor, a_selector, a_member, TypeTextForm, names, unnamed, constant, range, short_type, type_text, structured, choice, last_choice, first_place, beginning, dimensions}
+use Rattle.est_productions.specs.Structures.{declared_place}
 use Rattle.est_productions.proofs.Fits.{K}
 
 -- a name, as a part
@@ -147,3 +154,55 @@ short_type_text (forms.Set of_ p) t (s_first s) = elim s [ ]
 -- the name of a type, where it stands
 pub named_at : {A B : Reader} {u : Used} → TakesName A u B → second (at A.at (pair (used u) empty)) ≡ short_type (out-TypeText (Named u))
 named_at {u = u} x = rw (named_made u, x.place) refl
+
+-- A list of which a tree has the first item is not empty.
+pub some_item : {I : Type 0} (part_of : I → Node) (is : List I) (t u : Shape Kept) → Shows layer (nodes (map part_of is)) (both t u) → (i : I) × (rest : List I) × (is ≡ i ∷ rest)
+some_item part_of [] t u s = elim s [ ]
+some_item part_of (i ∷ rest) t u s = (i, rest, refl)
+
+-- of expressions in brackets
+pub some_exprs : {A B : Reader} (es : List Expr) (k l : Test) → Goes estelle (deeper (word k (seq grammar.exprs (word l done)))) A (pair (nodes (map an_expr es)) empty) B → B.outcome ≡ Well → (e : Expr) × (rest : List Expr) × (es ≡ e ∷ rest)
+some_exprs {A} {B} es k l x w = let f = finds x w in of_tree f.1.tree f.2
+  where
+    of_tree : {d a b : ℕ} {t : Shape Kept} → Tree (language production (text_of A.tokens.now)) (tokens_of A.tokens.now) (length (tokens_of A.tokens.now)) (deeper (word k (seq grammar.exprs (word l done)))) d a b t → Shows layer (pair (nodes (map an_expr es)) empty) t → (e : Expr) × (rest : List Expr) × (es ≡ e ∷ rest)
+    of_tree (t_deeper (t_word m i e (t_seq (t_seq p q) r))) (s_pair y z) = some_item an_expr es _ _ y
+
+-- of dimensions
+pub some_dims : {A B : Reader} (ds : List TypeText) → Goes estelle (rule grammar.dims) A (pair (nodes (map a_short_type ds)) empty) B → B.outcome ≡ Well → (d : TypeText) × (rest : List TypeText) × (ds ≡ d ∷ rest)
+some_dims {A} {B} ds x w = let f = finds x w in of_tree f.1.tree f.2
+  where
+    of_tree : {d a b : ℕ} {t : Shape Kept} → Tree (language production (text_of A.tokens.now)) (tokens_of A.tokens.now) (length (tokens_of A.tokens.now)) (rule grammar.dims) d a b t → Shows layer (pair (nodes (map a_short_type ds)) empty) t → (d : TypeText) × (rest : List TypeText) × (ds ≡ d ∷ rest)
+    of_tree (t_rule (t_word m i e (t_word m' i' e' (t_seq (t_seq p q) r)))) (s_pair y z) = some_item a_short_type ds _ _ y
+
+-- one role or two
+pub roles_made : (one : Used) (other : Option Used) (v : View) → node_of.roles ((one ∷ []) ++ option_to_list other) v ≡ pair (used one) (pair (node_of.name_given other) v)
+roles_made one None v = refl
+roles_made one (Some other) v = refl
+
+-- a short type, as a part
+pub short_node : {g : grammar.Rule} {A B : Reader} {t : TypeText} → Goes estelle g A (short_type (out-TypeText t)) B → Goes estelle g A (node (a_short_type t)) B
+short_node x = part refl x
+
+-- names begin where the reader of them did
+pub first_at : {A B : Reader} (us : List Used) → Goes estelle grammar.idents A (names us) B → B.outcome ≡ Well → first_place us ≡ A.at
+first_at {A} {B} us x w = let f = finds x w in of_tree us f.1.tree f.2
+  where
+    same_place : (p q : ℕ) (t u : Shape Kept) → placed p t ≡ placed q u → p ≡ q
+    same_place p q t u e = cc
+
+    of_first : (u : Used) (q : ℕ) (t r : Shape Kept) → placed q t ≡ r → Shows layer (node (a_use u)) r → u.place ≡ q
+    of_first u q t r e (s_node (s_at p s)) = sym (same_place q u.place t _ e)
+
+    of_tree : (vs : List Used) {d a b : ℕ} {t : Shape Kept} → Tree (language production (text_of A.tokens.now)) (tokens_of A.tokens.now) (length (tokens_of A.tokens.now)) grammar.idents d a b t → Shows layer (names vs) t → first_place vs ≡ a
+    of_tree [] (t_seq p q) s = elim s [ ]
+    of_tree (v ∷ vs) (t_seq (t_here {t = t} p) q) (s_more s r) = of_first v _ t _ refl s
+
+-- where a declaration begins
+pub beginning_is : (ds : List TypeText) (us : List Used) (first there : ℕ) → first_place us ≡ first → beginning (declared_place ds first there) ds us ≡ first
+beginning_is [] us start there e = refl
+beginning_is (d ∷ ds) us start there e = e
+
+-- and its dimensions
+pub dimensions_are : (ds : List TypeText) (first there : ℕ) → dimensions (declared_place ds first there) ds ≡ dimensions there ds
+dimensions_are [] start there = refl
+dimensions_are (d ∷ ds) start there = refl

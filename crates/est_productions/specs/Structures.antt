@@ -1,5 +1,5 @@
--- What the readers of an array, a record or a set answer.
-use Rattle.std.specs.Prelude.{◌≡◌, ℕ}
+-- What the readers of an array, a record or a set answer, and where a declaration stands.
+use Rattle.std.specs.Prelude.{◌≡◌, ℕ, List, [], ◌∷◌}
 use Rattle.est_syntax.specs.declared.type_text.TypeText.{TypeText, out-TypeText}
 use Rattle.est_reader.specs.declared.reader.Reader.{Reader}
 use Rattle.est_reader.specs.declared.outcome.Outcome.TheVariants.{Well}
@@ -13,3 +13,8 @@ pub record Structured (place : ℕ) (old : Reader) (result : TypeText) (new : Re
   pub view : View
   pub goes : Goes estelle structure old view new
   pub same : new.outcome ≡ Well → type_text (out-TypeText result) ≡ structured place view
+
+-- the place of a declaration: that of its dimensions, or of its first name where it has none
+abbrev pub declared_place : List TypeText → ℕ → ℕ → ℕ
+declared_place [] first there = first
+declared_place (d ∷ ds) first there = there

@@ -1,15 +1,12 @@
 //! Module headers, interaction points and module variables (ISO 9074, module-header-definition).
 
-ghost use Rattle.std.specs.Prelude.{true, map};
+ghost use Rattle.std.specs.Prelude.{◌≡◌, map};
 ghost use Rattle.est_language.specs.Grammar.{rule, rep, alt, opt};
 ghost use Rattle.est_language.specs.Shown.{node as shown, nodes, pair, empty, sections};
-ghost use Rattle.est_lexer.specs.declared.kind.ReservedWord.TheVariants as words;
-ghost use Rattle.est_lexer.specs.declared.kind.TokenKind.TheVariants.{Reserved};
 ghost use Rattle.est_reader.specs.Going.{Goes, Adds};
-ghost use Rattle.est_reader.specs.Moving.{Sees};
-ghost use Rattle.est_reader.specs.Tests.{kind};
 ghost use Rattle.est_productions.specs.Grammar as grammar;
 ghost use Rattle.est_productions.specs.Nodes as node;
+ghost use Rattle.est_productions.specs.Structures.{declared_place};
 ghost use Rattle.est_productions.specs.Syntax.{estelle};
 
 use crate::declaration::parameters;
@@ -156,7 +153,7 @@ fn point(reader: &mut Reader) -> Point
     reader.symbol(Symbol::RightParenthesis);
     let queue = queue_given(reader);
     reader.symbol(Symbol::Semicolon);
-    let place = if dims.len() == 0 { first } else { at };
+    let place = declared_at(&dims, first, at);
     Point {
         names,
         dims,
@@ -165,6 +162,13 @@ fn point(reader: &mut Reader) -> Point
         queue,
         place,
     }
+}
+
+// The place of a declaration: that of its dimensions, or of its first name where it has none.
+fn declared_at(dims: &TypeTexts, first: u32, at: u32) -> u32
+    ensures { result ≡ declared_place dims.now first at }
+{
+    if dims.len() == 0 { first } else { at }
 }
 
 // [ dims ]
@@ -271,7 +275,7 @@ fn modvar(reader: &mut Reader) -> ModvarDef
     let dims = dimensions(reader);
     let header = reader.name();
     reader.symbol(Symbol::Semicolon);
-    let place = if dims.len() == 0 { first } else { at };
+    let place = declared_at(&dims, first, at);
     ModvarDef {
         names,
         dims,

@@ -7,9 +7,10 @@ use Rattle.est_language.proofs.Laws as laws
 use Rattle.est_language.proofs.Members.{and_left, and_right}
 use Rattle.est_lexer.specs.Places.{text_of, tokens_of}
 use Rattle.est_reader.specs.declared.reader.Reader.{Reader}
-use Rattle.est_reader.specs.declared.outcome.Outcome.TheVariants.{Well}
+use Rattle.est_reader.specs.declared.outcome.Outcome.{Outcome}
+use Rattle.est_reader.specs.declared.outcome.Outcome.TheVariants.{Well, Wrong, TooDeep, NoMemory}
 use Rattle.est_reader.specs.Tests.{Test, Kept, stands, apart, implies}
-use Rattle.est_reader.specs.Moving.{Sees, NoneSeen, OneSeen, Taken, NotThere, Takes, Still}
+use Rattle.est_reader.specs.Moving.{Does, Sees, NoneSeen, OneSeen, Taken, NotThere, Takes, Still}
 use Rattle.est_reader.specs.Going.{Rule, View, Syntax, Finds, Fails, Goes}
 use Rattle.est_reader.proofs.Steps.{onto, sees_not, left_of, taken_well, taken_at}
 use Rattle.est_reader.proofs.Going.{Known, goes_onto, begins_not, opt_in, alternative, as_alternative, tells, chosen}
@@ -79,3 +80,16 @@ box_holds {r = r} {b} {v} e f w = let g : Some b ≡ Some v = sym e ∙ f w in c
 
 pub no_box : {T W : Type 0} {r : Option T} {v : T} → r ≡ None → (W → r ≡ Some v) → W → ⊥
 no_box {r = r} {v} e f w = let g : None ≡ Some v = sym e ∙ f w in cc
+
+-- what is found where all is well
+pub finds : {P N : Type 0} {X : Syntax P N} {g : Rule P} {A B : Reader} {v : View N} → Goes X g A v B → B.outcome ≡ Well → Finds X A.tokens.now g A.levels A.at v B.at
+finds {X = X} {g} {A} {B} {v} x w = found A.outcome B.outcome w x.moves
+  where
+    found : (o o' : Outcome) → o' ≡ Well → Does (Finds X A.tokens.now g A.levels A.at v) (Fails X A.tokens.now g A.levels A.at) A.at o B.at o' → Finds X A.tokens.now g A.levels A.at v B.at
+    found Well Well e m = m
+    found Well Wrong e m = absurd cc
+    found Well TooDeep e m = absurd cc
+    found Well NoMemory e m = absurd cc
+    found Wrong o' e m = absurd (let f : o' ≡ Wrong = m.0 in cc)
+    found TooDeep o' e m = absurd (let f : o' ≡ TooDeep = m.0 in cc)
+    found NoMemory o' e m = absurd (let f : o' ≡ NoMemory = m.0 in cc)
