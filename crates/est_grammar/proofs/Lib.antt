@@ -1,4 +1,1 @@
-pub mod SkeletonFits
 pub mod Made
-pub mod Top
-pub mod WordTable

@@ -1,7 +1,3 @@
-pub mod Skeleton
-pub mod Nodes
-pub mod Syntax
 pub mod Answer
 pub mod Laws
-pub mod Clauses
-pub mod Parts
+pub mod Steps

@@ -1,35 +1,152 @@
-//! Module bodies (ISO 9074, module-body-definition).
+//! Module bodies and the parts that declare (ISO 9074, module-body-definition).
 
-ghost use Rattle.std.specs.Prelude.{map};
+ghost use Rattle.std.specs.Prelude.{true, map};
 ghost use Rattle.est_language.specs.Grammar.{rule, rep};
 ghost use Rattle.est_language.specs.Shown.{node as shown, nodes};
+ghost use Rattle.est_lexer.specs.declared.kind.ReservedWord.TheVariants as words;
+ghost use Rattle.est_lexer.specs.declared.kind.TokenKind.TheVariants.{Reserved};
+ghost use Rattle.est_syntax.specs.declared.body.Part.{out-Part};
 ghost use Rattle.est_reader.specs.Going.{Goes};
-ghost use Rattle.est_grammar.specs.Nodes as node;
-ghost use Rattle.est_grammar.specs.Skeleton as grammar;
-ghost use Rattle.est_grammar.specs.Syntax.{skeleton};
+ghost use Rattle.est_reader.specs.Moving.{Sees, SeesOne};
+ghost use Rattle.est_reader.specs.Tests.{kind};
+ghost use Rattle.est_productions.specs.Grammar as grammar;
+ghost use Rattle.est_productions.specs.Nodes as node;
+ghost use Rattle.est_productions.specs.Syntax.{estelle};
+ghost use Rattle.est_productions.specs.Tokens.{body_part_tokens, common_tokens, own_tokens, routine_tokens};
 
-use crate::names::names;
-use crate::transition::group;
+use crate::block::block;
+use crate::routine::routine;
+use crate::transition::transpart;
 use est_lexer::kind::{ReservedWord, Symbol, TokenKind};
+use est_productions::channel::channel;
+use est_productions::declaration::{consts, types, vars};
+use est_productions::header::{header, modvars, points};
+use est_productions::names::idents;
+use est_productions::stateset::statesets;
 use est_reader::Reader;
-use est_syntax::body::{Block, Body, FirstPart, Part, Parts};
-use est_syntax::statement::{Statement, Statements};
+use est_syntax::body::{Body, FirstPart, Part, Parts};
+use est_syntax::name::Used;
 use est_syntax::transition::Groups;
 
-// "body" ident "for" ident ";" [ "state" .. ] [ "initialize" .. ] { transition } "end" ";"
-pub fn body(reader: &mut Reader) -> Body
-    ensures { Goes skeleton (rule grammar.body) reader.old (shown (node.a_body result)) reader.new }
+/// common = consts | types | channel | header | body | routine | "modvar" modvar { modvar } .
+#[cycle(body)]
+pub fn common(reader: &mut Reader) -> Part
+    ensures { Goes estelle (rule grammar.common) reader.old
+        (node.common_part (out-Part result)) reader.new }
 {
-    reader.word(ReservedWord::Body);
+    if reader.sees(TokenKind::Reserved(ReservedWord::Type)) {
+        return Part::Types(types(reader));
+    }
+    if reader.sees(TokenKind::Reserved(ReservedWord::Channel)) {
+        return Part::Channel(channel(reader));
+    }
+    if reader.sees(TokenKind::Reserved(ReservedWord::Module)) {
+        return Part::Header(header(reader));
+    }
+    if reader.sees(TokenKind::Reserved(ReservedWord::Body)) {
+        return Part::Body(body(reader));
+    }
+    if reader.sees(TokenKind::Reserved(ReservedWord::Modvar)) {
+        return Part::Modvars(modvars(reader));
+    }
+    if begins_routine(reader) {
+        return Part::Routine(routine(reader));
+    }
+    Part::Consts(consts(reader))
+}
+
+// Whether a routine comes next.
+fn begins_routine(reader: &Reader) -> bool
+    ensures { SeesOne reader.now routine_tokens result }
+{
+    if reader.sees(TokenKind::Reserved(ReservedWord::Procedure)) {
+        return true;
+    }
+    if reader.sees(TokenKind::Reserved(ReservedWord::Pure)) {
+        return true;
+    }
+    reader.sees(TokenKind::Reserved(ReservedWord::Function))
+}
+
+/// Whether a part of a specification comes next.
+pub fn begins_common(reader: &Reader) -> bool
+    ensures { SeesOne reader.now common_tokens result }
+{
+    if reader.sees(TokenKind::Reserved(ReservedWord::Const)) {
+        return true;
+    }
+    if reader.sees(TokenKind::Reserved(ReservedWord::Type)) {
+        return true;
+    }
+    if reader.sees(TokenKind::Reserved(ReservedWord::Channel)) {
+        return true;
+    }
+    if reader.sees(TokenKind::Reserved(ReservedWord::Module)) {
+        return true;
+    }
+    if reader.sees(TokenKind::Reserved(ReservedWord::Body)) {
+        return true;
+    }
+    if reader.sees(TokenKind::Reserved(ReservedWord::Modvar)) {
+        return true;
+    }
+    begins_routine(reader)
+}
+
+// own = "ip" point { point } | vars | "state" idents ";" | "stateset" stateset { stateset } .
+fn own(reader: &mut Reader) -> Part
+    ensures { Goes estelle (rule grammar.own) reader.old
+        (node.own_part (out-Part result)) reader.new }
+{
+    if reader.sees(TokenKind::Reserved(ReservedWord::Var)) {
+        return Part::Vars(vars(reader));
+    }
+    if reader.sees(TokenKind::Reserved(ReservedWord::State)) {
+        reader.word(ReservedWord::State);
+        let names = idents(reader);
+        reader.symbol(Symbol::Semicolon);
+        return Part::States(names);
+    }
+    if reader.sees(TokenKind::Reserved(ReservedWord::Stateset)) {
+        return Part::StateSets(statesets(reader));
+    }
+    Part::Points(points(reader))
+}
+
+// Whether a part that bodies alone have comes next.
+fn begins_own(reader: &Reader) -> bool
+    ensures { SeesOne reader.now own_tokens result }
+{
+    if reader.sees(TokenKind::Reserved(ReservedWord::Ip)) {
+        return true;
+    }
+    if reader.sees(TokenKind::Reserved(ReservedWord::Var)) {
+        return true;
+    }
+    if reader.sees(TokenKind::Reserved(ReservedWord::State)) {
+        return true;
+    }
+    reader.sees(TokenKind::Reserved(ReservedWord::Stateset))
+}
+
+// body = "body" ident "for" ident ";" { common | own }
+//     [ "initialize" [ "to" ident ] block ";" ] { transpart } "end" ";" .
+#[cycle(body)]
+fn body(reader: &mut Reader) -> Body
+    requires { Sees reader.old (kind (Reserved words.Body)) true }
+    ensures { Goes estelle (rule grammar.body) reader.old (shown (node.a_body result)) reader.new }
+{
+    let levels = reader.open(TokenKind::Reserved(ReservedWord::Body));
     let name = reader.name();
     reader.word(ReservedWord::For);
     let header = reader.name();
     reader.symbol(Symbol::Semicolon);
-    let parts = states(reader);
+    let parts = body_parts(reader);
     let first = first_part(reader);
-    let groups = groups(reader);
+    let groups = transparts(reader);
     reader.word(ReservedWord::End);
     reader.symbol(Symbol::Semicolon);
+    reader.close(levels);
     Body {
         name,
         header,
@@ -39,65 +156,75 @@ pub fn body(reader: &mut Reader) -> Body
     }
 }
 
-// [ "state" ident { "," ident } ";" ]
-fn states(reader: &mut Reader) -> Parts
-    ensures { Goes skeleton grammar.states reader.old (node.states result) reader.new }
+// { common | own }
+#[cycle(body)]
+fn body_parts(reader: &mut Reader) -> Parts
+    ensures { Goes estelle (rep grammar.body_part) reader.old
+        (nodes (map node.a_body_part result)) reader.new }
 {
-    let mut parts = Parts::new(reader.alloc);
-    if !reader.sees(TokenKind::Reserved(ReservedWord::State)) {
-        return parts;
+    let mut items = Parts::new(reader.alloc);
+    while begins_body_part(reader) {
+        let next = body_part(reader);
+        reader.keep(&mut items, next);
     }
-    reader.word(ReservedWord::State);
-    let names = names(reader);
-    reader.symbol(Symbol::Semicolon);
-    reader.keep(&mut parts, Part::States(names));
-    parts
+    items
 }
 
-// [ "initialize" "to" ident "begin" "end" ";" ]
+// Whether a part of a body comes next.
+fn begins_body_part(reader: &Reader) -> bool
+    ensures { SeesOne reader.now body_part_tokens result }
+{
+    if begins_own(reader) {
+        return true;
+    }
+    begins_common(reader)
+}
+
+// common | own
+#[cycle(body)]
+fn body_part(reader: &mut Reader) -> Part
+    ensures { Goes estelle grammar.body_part reader.old
+        (shown (node.a_body_part result)) reader.new }
+{
+    if begins_own(reader) {
+        return own(reader);
+    }
+    common(reader)
+}
+
+// [ "initialize" [ "to" ident ] block ";" ]
 fn first_part(reader: &mut Reader) -> Option<FirstPart>
-    ensures { Goes skeleton grammar.first_part reader.old (node.first_part result) reader.new }
+    ensures { Goes estelle grammar.first_part reader.old (node.first_part result) reader.new }
 {
     if !reader.sees(TokenKind::Reserved(ReservedWord::Initialize)) {
         return None;
     }
     reader.word(ReservedWord::Initialize);
-    reader.word(ReservedWord::To);
-    let state = reader.name();
-    let block = empty_block(reader);
+    let to = first_state(reader);
+    let block = block(reader);
     reader.symbol(Symbol::Semicolon);
-    Some(FirstPart {
-        to: Some(state),
-        block,
-    })
+    Some(FirstPart { to, block })
 }
 
-// "begin" "end"
-fn empty_block(reader: &mut Reader) -> Block
-    ensures { Goes skeleton grammar.empty_block reader.old (node.block result) reader.new }
+// [ "to" ident ]
+fn first_state(reader: &mut Reader) -> Option<Used>
+    ensures { Goes estelle grammar.first_state reader.old (node.name_given result) reader.new }
 {
-    let place = reader.at;
-    reader.word(ReservedWord::Begin);
-    let empty = Statement::Empty { place: reader.at };
-    reader.word(ReservedWord::End);
-    let mut statements = Statements::new(reader.alloc);
-    reader.keep(&mut statements, empty);
-    let parts = Parts::new(reader.alloc);
-    Block {
-        parts,
-        statements,
-        place,
+    if !reader.sees(TokenKind::Reserved(ReservedWord::To)) {
+        return None;
     }
+    reader.word(ReservedWord::To);
+    Some(reader.name())
 }
 
-// { transition }
-fn groups(reader: &mut Reader) -> Groups
-    ensures { Goes skeleton (rep (rule grammar.transition)) reader.old
+// { transpart }
+fn transparts(reader: &mut Reader) -> Groups
+    ensures { Goes estelle (rep (rule grammar.transpart)) reader.old
         (nodes (map node.a_group result)) reader.new }
 {
     let mut items = Groups::new(reader.alloc);
     while reader.sees(TokenKind::Reserved(ReservedWord::Trans)) {
-        let next = group(reader);
+        let next = transpart(reader);
         reader.keep(&mut items, next);
     }
     items

@@ -1,14 +1,15 @@
 //! The parser of specifications.
 #![tactic(auto)]
 
+mod block;
 mod body;
-mod channel;
 mod error;
-mod header;
+mod estelle_statement;
 pub mod laws;
-mod names;
 mod parser;
+mod routine;
 mod specification;
+mod statement;
 mod transition;
 
 pub use error::ParseError;

@@ -2,57 +2,27 @@
 
 ghost use Rattle.std.specs.Prelude.{◌≡◌, IfOk, IfErr, Err, MatchResult};
 ghost use Rattle.est_lexer.specs.Places.{text_of, tokens_of};
-ghost use Rattle.est_grammar.specs.Answer.{HasOneTree, IsRefusal, IsReason, IsMemory, is_not_yet as kind_is_not_yet};
+ghost use Rattle.est_language.specs.Answers.{wrong_at};
+ghost use Rattle.est_grammar.specs.Answer.{HasOneTree, IsRefusal, IsMemory, Says};
 
 use crate::error::ParseError;
 use crate::specification::specification;
-use est_lexer::kind::{ReservedWord, Symbol, TokenKind};
+use est_lexer::kind::TokenKind;
 use est_lexer::tokens::Tokens;
 use est_reader::{Outcome, Reader};
 use est_syntax::specification::Spec;
 use est_syntax::tree::SyntaxTree;
 use std::alloc::{AllocError, Global};
 
-/// The words of skeleton specifications.
-const SKELETON_WORDS: [ReservedWord; 21] = [
-    ReservedWord::Begin,
-    ReservedWord::Body,
-    ReservedWord::By,
-    ReservedWord::Channel,
-    ReservedWord::End,
-    ReservedWord::For,
-    ReservedWord::From,
-    ReservedWord::Init,
-    ReservedWord::Initialize,
-    ReservedWord::Ip,
-    ReservedWord::Module,
-    ReservedWord::Modvar,
-    ReservedWord::Output,
-    ReservedWord::Same,
-    ReservedWord::Specification,
-    ReservedWord::State,
-    ReservedWord::Systemactivity,
-    ReservedWord::To,
-    ReservedWord::Trans,
-    ReservedWord::When,
-    ReservedWord::With,
-];
-
-/// The symbols of skeleton specifications but `(`.
-const SKELETON_SYMBOLS: [Symbol; 5] = [
-    Symbol::RightParenthesis,
-    Symbol::Comma,
-    Symbol::Semicolon,
-    Symbol::Colon,
-    Symbol::Period,
-];
+// So many levels may be open.
+const LEVELS: u32 = 32;
 
 /// The specification that the tokens are, or why they are none.
 pub fn parse(alloc: Global, tokens: &Tokens) -> Result<SyntaxTree, ParseError>
     ensures tree { IfOk result (HasOneTree (text_of tokens.now) (tokens_of tokens.now)) }
     ensures refused { IfErr result (IsRefusal (text_of tokens.now) (tokens_of tokens.now)) }
 {
-    let mut reader = Reader::new(alloc, tokens, 0);
+    let mut reader = Reader::new(alloc, tokens, LEVELS);
     let spec = specification(&mut reader);
     let place = reader.at;
     match reader.outcome {
@@ -64,7 +34,7 @@ pub fn parse(alloc: Global, tokens: &Tokens) -> Result<SyntaxTree, ParseError>
             }
         }
         Outcome::Wrong => instead(spec, refusal(tokens, place)),
-        Outcome::TooDeep => instead(spec, refusal(tokens, place)),
+        Outcome::TooDeep => instead(spec, ParseError::TooDeep { place }),
         Outcome::NoMemory => instead(spec, ParseError::Memory(AllocError)),
     }
 }
@@ -87,32 +57,16 @@ fn instead(spec: Spec, error: ParseError) -> Result<SyntaxTree, ParseError>
     Err(error)
 }
 
-// Why the token of a place, or the end of the list, is refused there.
+// Why the token of a place, or the end of the list, is refused where the list goes wrong there.
 fn refusal(tokens: &Tokens, place: u32) -> ParseError
-    ensures { IsReason (tokens_of tokens.now) place result }
+    ensures { Says (text_of tokens.now) (tokens_of tokens.now) (wrong_at place)
+        → IsRefusal (text_of tokens.now) (tokens_of tokens.now) result }
 {
     match tokens.token_at(place) {
         None => ParseError::BadToken { place },
         Some(token) => match token.kind {
             TokenKind::LeftOut(_) => ParseError::LeftOut { place },
-            kind => {
-                if is_not_yet(kind) {
-                    ParseError::NotYet { place }
-                } else {
-                    ParseError::BadToken { place }
-                }
-            }
+            _ => ParseError::BadToken { place },
         },
-    }
-}
-
-// Whether a kind of token is `(`, or a reserved word or symbol of the profile that skeletons lack.
-fn is_not_yet(kind: TokenKind) -> bool
-    ensures { result ≡ kind_is_not_yet kind }
-{
-    match kind {
-        TokenKind::Reserved(word) => !SKELETON_WORDS.contains(&word),
-        TokenKind::Symbol(symbol) => !SKELETON_SYMBOLS.contains(&symbol),
-        _ => false,
     }
 }

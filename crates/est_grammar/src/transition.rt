@@ -1,95 +1,190 @@
 //! Transitions (ISO 9074, transition-declaration).
 
-ghost use Rattle.std.specs.Prelude.{map};
-ghost use Rattle.est_language.specs.Grammar.{rule};
-ghost use Rattle.est_language.specs.Shown.{alone, node as shown, nodes};
+ghost use Rattle.std.specs.Prelude.{true, map};
+ghost use Rattle.est_language.specs.Grammar.{rule, rep};
+ghost use Rattle.est_language.specs.Shown.{node as shown, nodes};
+ghost use Rattle.est_lexer.specs.declared.kind.ReservedWord.TheVariants as words;
+ghost use Rattle.est_lexer.specs.declared.kind.TokenKind.TheVariants.{Reserved};
 ghost use Rattle.est_reader.specs.Going.{Goes};
-ghost use Rattle.est_grammar.specs.Nodes as node;
-ghost use Rattle.est_grammar.specs.Clauses.{from_layer, to_layer, when_layer, IsFrom, IsTo, IsWhen};
-ghost use Rattle.est_grammar.specs.Skeleton as grammar;
-ghost use Rattle.est_grammar.specs.Syntax.{skeleton};
+ghost use Rattle.est_reader.specs.Moving.{Sees, SeesOne};
+ghost use Rattle.est_reader.specs.Tests.{kind};
+ghost use Rattle.est_productions.specs.Grammar as grammar;
+ghost use Rattle.est_productions.specs.Nodes as node;
+ghost use Rattle.est_productions.specs.Syntax.{estelle};
+ghost use Rattle.est_productions.specs.Tokens.{clause_tokens, transition_tokens};
 
-use crate::names::names;
+use crate::block::block;
 use est_lexer::kind::{ReservedWord, Symbol, TokenKind};
+use est_productions::access::access;
+use est_productions::constant::constant;
+use est_productions::declaration::params;
+use est_productions::expression::expr;
+use est_productions::names::idents;
 use est_reader::Reader;
-use est_syntax::body::{Block, Parts};
-use est_syntax::expression::{Access, Exprs};
 use est_syntax::name::Used;
-use est_syntax::statement::{Sending, Sendings, Statement, Statements};
-use est_syntax::transition::{Clause, Clauses, Group, Transition, Transitions};
+use est_syntax::transition::{Clause, Clauses, Group, Most, Transition, Transitions};
 
-// "trans" and one transition
-pub fn group(reader: &mut Reader) -> Group
-    ensures { Goes skeleton (rule grammar.transition) reader.old
+/// transpart = "trans" transition { transition } .
+pub fn transpart(reader: &mut Reader) -> Group
+    ensures { Goes estelle (rule grammar.transpart) reader.old
         (shown (node.a_group result)) reader.new }
 {
-    let first = transition(reader);
-    let mut transitions = Transitions::new(reader.alloc);
-    reader.keep(&mut transitions, first);
+    reader.word(ReservedWord::Trans);
+    let transitions = transitions(reader);
     Group { transitions }
 }
 
-// "trans" [ "from" .. ] [ "to" .. ] [ "when" .. ] "begin" [ output ] "end" ";"
+// transition { transition }
+fn transitions(reader: &mut Reader) -> Transitions
+    ensures { Goes estelle (grammar.several (rule grammar.transition)) reader.old
+        (nodes (map node.a_transition result)) reader.new }
+{
+    let first = transition(reader);
+    let mut items = Transitions::new(reader.alloc);
+    reader.keep(&mut items, first);
+    while begins_transition(reader) {
+        let next = transition(reader);
+        reader.keep(&mut items, next);
+    }
+    items
+}
+
+// Whether a transition comes next.
+fn begins_transition(reader: &Reader) -> bool
+    ensures { SeesOne reader.now transition_tokens result }
+{
+    if reader.sees(TokenKind::Reserved(ReservedWord::Name)) {
+        return true;
+    }
+    if reader.sees(TokenKind::Reserved(ReservedWord::Begin)) {
+        return true;
+    }
+    if reader.sees(TokenKind::Reserved(ReservedWord::Const)) {
+        return true;
+    }
+    if reader.sees(TokenKind::Reserved(ReservedWord::Type)) {
+        return true;
+    }
+    if reader.sees(TokenKind::Reserved(ReservedWord::Var)) {
+        return true;
+    }
+    begins_clause(reader)
+}
+
+// Whether a clause comes next.
+fn begins_clause(reader: &Reader) -> bool
+    ensures { SeesOne reader.now clause_tokens result }
+{
+    if reader.sees(TokenKind::Reserved(ReservedWord::From)) {
+        return true;
+    }
+    if reader.sees(TokenKind::Reserved(ReservedWord::To)) {
+        return true;
+    }
+    if reader.sees(TokenKind::Reserved(ReservedWord::When)) {
+        return true;
+    }
+    if reader.sees(TokenKind::Reserved(ReservedWord::Provided)) {
+        return true;
+    }
+    if reader.sees(TokenKind::Reserved(ReservedWord::Any)) {
+        return true;
+    }
+    if reader.sees(TokenKind::Reserved(ReservedWord::Priority)) {
+        return true;
+    }
+    reader.sees(TokenKind::Reserved(ReservedWord::Delay))
+}
+
+// transition = { clause } [ "name" ident ":" ] block ";" .
 fn transition(reader: &mut Reader) -> Transition
-    ensures { Goes skeleton (rule grammar.transition) reader.old
+    ensures { Goes estelle (rule grammar.transition) reader.old
         (shown (node.a_transition result)) reader.new }
 {
-    reader.word(ReservedWord::Trans);
     let clauses = clauses(reader);
+    let name = transition_name(reader);
     let block = block(reader);
     reader.symbol(Symbol::Semicolon);
     Transition {
         clauses,
-        name: None,
+        name,
         block,
     }
 }
 
-// [ "from" .. ] [ "to" .. ] [ "when" .. ]
-fn clauses(reader: &mut Reader) -> Clauses
-    ensures { Goes skeleton grammar.clauses reader.old (node.clauses result) reader.new }
+// [ "name" ident ":" ]
+fn transition_name(reader: &mut Reader) -> Option<Used>
+    ensures { Goes estelle grammar.transition_name reader.old
+        (node.transition_name result) reader.new }
 {
-    let from = from_clause(reader);
-    let to = to_clause(reader);
-    let when = when_clause(reader);
+    if !reader.sees(TokenKind::Reserved(ReservedWord::Name)) {
+        return None;
+    }
+    reader.word(ReservedWord::Name);
+    let name = reader.name();
+    reader.symbol(Symbol::Colon);
+    Some(name)
+}
+
+// { clause }
+fn clauses(reader: &mut Reader) -> Clauses
+    ensures { Goes estelle (rep (rule grammar.clause)) reader.old
+        (nodes (map node.a_clause result)) reader.new }
+{
     let mut items = Clauses::new(reader.alloc);
-    reader.keep_some(&mut items, from);
-    reader.keep_some(&mut items, to);
-    reader.keep_some(&mut items, when);
+    while begins_clause(reader) {
+        let next = clause(reader);
+        reader.keep(&mut items, next);
+    }
     items
 }
 
-// [ "from" ident { "," ident } ]
-fn from_clause(reader: &mut Reader) -> Option<Clause>
-    ensures goes { Goes skeleton grammar.from_clause reader.old (from_layer result) reader.new }
-    ensures sort { IsFrom result }
+// clause = "from" idents | "to" ( ident | "same" ) | "when" access "." ident
+//     | "provided" ( "otherwise" | expr ) | "any" params "do" | "priority" constant
+//     | "delay" "(" expr [ "," ( expr | "*" ) ] ")" .
+fn clause(reader: &mut Reader) -> Clause
+    ensures { Goes estelle (rule grammar.clause) reader.old
+        (shown (node.a_clause result)) reader.new }
 {
-    if !reader.sees(TokenKind::Reserved(ReservedWord::From)) {
-        return None;
+    if reader.sees(TokenKind::Reserved(ReservedWord::To)) {
+        return to_clause(reader);
+    }
+    if reader.sees(TokenKind::Reserved(ReservedWord::When)) {
+        return when_clause(reader);
+    }
+    if reader.sees(TokenKind::Reserved(ReservedWord::Provided)) {
+        return provided_clause(reader);
+    }
+    if reader.sees(TokenKind::Reserved(ReservedWord::Any)) {
+        return any_clause(reader);
+    }
+    if reader.sees(TokenKind::Reserved(ReservedWord::Priority)) {
+        return priority_clause(reader);
+    }
+    if reader.sees(TokenKind::Reserved(ReservedWord::Delay)) {
+        return delay_clause(reader);
     }
     let place = reader.at;
     reader.word(ReservedWord::From);
-    let states = names(reader);
-    Some(Clause::From { states, place })
+    let states = idents(reader);
+    Clause::From { states, place }
 }
 
-// [ "to" ( ident | "same" ) ]
-fn to_clause(reader: &mut Reader) -> Option<Clause>
-    ensures goes { Goes skeleton grammar.to_clause reader.old (to_layer result) reader.new }
-    ensures sort { IsTo result }
+// "to" ( ident | "same" )
+fn to_clause(reader: &mut Reader) -> Clause
+    requires { Sees reader.old (kind (Reserved words.To)) true }
+    ensures { Goes estelle (rule grammar.clause) reader.old
+        (shown (node.a_clause result)) reader.new }
 {
-    if !reader.sees(TokenKind::Reserved(ReservedWord::To)) {
-        return None;
-    }
     let place = reader.at;
     reader.word(ReservedWord::To);
     let state = next_state(reader);
-    Some(Clause::To { state, place })
+    Clause::To { state, place }
 }
 
 // ident | "same"
 fn next_state(reader: &mut Reader) -> Option<Used>
-    ensures { Goes skeleton grammar.next_state reader.old (node.next_state result) reader.new }
+    ensures { Goes estelle grammar.next_state reader.old (node.next_state result) reader.new }
 {
     if reader.sees(TokenKind::Reserved(ReservedWord::Same)) {
         reader.word(ReservedWord::Same);
@@ -98,96 +193,100 @@ fn next_state(reader: &mut Reader) -> Option<Used>
     Some(reader.name())
 }
 
-// [ "when" ident "." ident ]
-fn when_clause(reader: &mut Reader) -> Option<Clause>
-    ensures goes { Goes skeleton grammar.when_clause reader.old (when_layer result) reader.new }
-    ensures sort { IsWhen result }
+// "when" access "." ident
+fn when_clause(reader: &mut Reader) -> Clause
+    requires { Sees reader.old (kind (Reserved words.When)) true }
+    ensures { Goes estelle (rule grammar.clause) reader.old
+        (shown (node.a_clause result)) reader.new }
 {
-    if !reader.sees(TokenKind::Reserved(ReservedWord::When)) {
-        return None;
-    }
     let place = reader.at;
     reader.word(ReservedWord::When);
-    let name = reader.name();
+    let at = access(reader);
     reader.symbol(Symbol::Period);
     let signal = reader.name();
-    let index = Exprs::new(reader.alloc);
-    Some(Clause::When {
-        at: Access { name, index },
-        signal,
-        place,
-    })
+    Clause::When { at, signal, place }
 }
 
-// "begin" [ output ] "end"
-fn block(reader: &mut Reader) -> Block
-    ensures { Goes skeleton grammar.block reader.old (node.block result) reader.new }
+// "provided" ( "otherwise" | expr )
+fn provided_clause(reader: &mut Reader) -> Clause
+    requires { Sees reader.old (kind (Reserved words.Provided)) true }
+    ensures { Goes estelle (rule grammar.clause) reader.old
+        (shown (node.a_clause result)) reader.new }
 {
     let place = reader.at;
-    reader.word(ReservedWord::Begin);
-    let statements = statements(reader);
-    reader.word(ReservedWord::End);
-    let parts = Parts::new(reader.alloc);
-    Block {
-        parts,
-        statements,
-        place,
+    reader.word(ReservedWord::Provided);
+    if reader.sees(TokenKind::Reserved(ReservedWord::Otherwise)) {
+        reader.word(ReservedWord::Otherwise);
+        return Clause::Otherwise { place };
+    }
+    let condition = expr(reader);
+    match reader.boxed(condition) {
+        Some(condition) => Clause::Provided { condition, place },
+        None => Clause::Otherwise { place },
     }
 }
 
-// [ output ], alone in a list
-fn statements(reader: &mut Reader) -> Statements
-    ensures { Goes skeleton grammar.statement reader.old
-        (alone (map node.a_statement result)) reader.new }
-{
-    let statement = statement(reader);
-    let mut items = Statements::new(reader.alloc);
-    reader.keep(&mut items, statement);
-    items
-}
-
-// [ "output" ident "." ident { "," ident "." ident } ]
-fn statement(reader: &mut Reader) -> Statement
-    ensures { Goes skeleton grammar.statement reader.old
-        (shown (node.a_statement result)) reader.new }
+// "any" params "do"
+fn any_clause(reader: &mut Reader) -> Clause
+    requires { Sees reader.old (kind (Reserved words.Any)) true }
+    ensures { Goes estelle (rule grammar.clause) reader.old
+        (shown (node.a_clause result)) reader.new }
 {
     let place = reader.at;
-    if !reader.sees(TokenKind::Reserved(ReservedWord::Output)) {
-        return Statement::Empty { place };
-    }
-    reader.word(ReservedWord::Output);
-    let sendings = sendings(reader);
-    Statement::Output { sendings, place }
+    reader.word(ReservedWord::Any);
+    let names = params(reader);
+    reader.word(ReservedWord::Do);
+    Clause::Any { names, place }
 }
 
-// ident "." ident { "," ident "." ident }
-fn sendings(reader: &mut Reader) -> Sendings
-    ensures { Goes skeleton (grammar.listed grammar.dotted) reader.old
-        (nodes (map node.a_sending result)) reader.new }
+// "priority" constant
+fn priority_clause(reader: &mut Reader) -> Clause
+    requires { Sees reader.old (kind (Reserved words.Priority)) true }
+    ensures { Goes estelle (rule grammar.clause) reader.old
+        (shown (node.a_clause result)) reader.new }
 {
-    let first = sending(reader);
-    let mut items = Sendings::new(reader.alloc);
-    reader.keep(&mut items, first);
-    while reader.sees(TokenKind::Symbol(Symbol::Comma)) {
-        reader.symbol(Symbol::Comma);
-        let next = sending(reader);
-        reader.keep(&mut items, next);
-    }
-    items
+    let place = reader.at;
+    reader.word(ReservedWord::Priority);
+    let value = constant(reader);
+    Clause::Priority { value, place }
 }
 
-// ident "." ident
-fn sending(reader: &mut Reader) -> Sending
-    ensures { Goes skeleton grammar.dotted reader.old (shown (node.a_sending result)) reader.new }
+// "delay" "(" expr [ "," ( expr | "*" ) ] ")"
+fn delay_clause(reader: &mut Reader) -> Clause
+    requires { Sees reader.old (kind (Reserved words.Delay)) true }
+    ensures { Goes estelle (rule grammar.clause) reader.old
+        (shown (node.a_clause result)) reader.new }
 {
-    let name = reader.name();
-    reader.symbol(Symbol::Period);
-    let signal = reader.name();
-    let index = Exprs::new(reader.alloc);
-    let arguments = Exprs::new(reader.alloc);
-    Sending {
-        at: Access { name, index },
-        signal,
-        arguments,
+    let place = reader.at;
+    reader.word(ReservedWord::Delay);
+    reader.symbol(Symbol::LeftParenthesis);
+    let least = expr(reader);
+    let most = later_bound(reader);
+    reader.symbol(Symbol::RightParenthesis);
+    match reader.boxed(least) {
+        Some(least) => Clause::Delay { least, most, place },
+        None => {
+            drop(most);
+            Clause::Otherwise { place }
+        }
+    }
+}
+
+// [ "," ( expr | "*" ) ]
+fn later_bound(reader: &mut Reader) -> Most
+    ensures { Goes estelle grammar.later_bound reader.old (node.most result) reader.new }
+{
+    if !reader.sees(TokenKind::Symbol(Symbol::Comma)) {
+        return Most::Same;
+    }
+    reader.symbol(Symbol::Comma);
+    if reader.sees(TokenKind::Symbol(Symbol::Star)) {
+        reader.symbol(Symbol::Star);
+        return Most::Never;
+    }
+    let bound = expr(reader);
+    match reader.boxed(bound) {
+        Some(bound) => Most::Value(bound),
+        None => Most::Never,
     }
 }

@@ -209,9 +209,13 @@ begin_end = said words.Begin (seq statements (only words.End))
 abbrev pub from_clause : Rule
 from_clause = said words.From idents
 
+-- ident | "same"
+abbrev pub next_state : Rule
+next_state = alt identifier (only words.Same)
+
 -- "to" ( ident | "same" )
 abbrev pub to_clause : Rule
-to_clause = said words.To (alt identifier (only words.Same))
+to_clause = said words.To next_state
 
 -- "when" access "." ident
 abbrev pub when_clause : Rule
@@ -411,9 +415,13 @@ initialization = said words.Initialize (said words.Begin (seq (here (rule init))
 abbrev pub body_part : Rule
 body_part = alt (rule common) (rule own)
 
+-- [ "to" ident ]
+abbrev pub first_state : Rule
+first_state = opt (said words.To identifier)
+
 -- [ "initialize" [ "to" ident ] block ";" ]
 abbrev pub first_part : Rule
-first_part = opt (said words.Initialize (seq (opt (said words.To identifier))
+first_part = opt (said words.Initialize (seq first_state
     (seq (rule block) (mark symbols.Semicolon))))
 
 -- the right side of each production

@@ -10,4 +10,5 @@ pub mod expression;
 pub mod header;
 pub mod names;
 pub mod operator;
+pub mod stateset;
 pub mod type_text;

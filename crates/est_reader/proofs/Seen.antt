@@ -1,6 +1,6 @@
 -- Steps that one of several tokens decides, and what is refused where none of them comes next.
 use Rattle.std.proofs.Common.{◌≡◌, ℕ, ◌<◌, Bool, true, false, ◌&&◌, List, [], ◌∷◌, ◌++◌, Option, Some, None, ◌⊎◌, inl, inr, refl, sym, ◌∙◌, subst}
-use Rattle.est_language.specs.Grammar.{seq, opt, rep, Shape}
+use Rattle.est_language.specs.Grammar.{seq, opt, rep, ended, Shape}
 use Rattle.est_language.specs.Marks.{can_begin, can_go_on, can_be_empty, disjoint, covered, implies_one}
 use Rattle.est_language.specs.Shown.{Shows, node, nodes, given}
 use Rattle.est_language.proofs.Laws as laws
@@ -14,7 +14,7 @@ use Rattle.est_reader.specs.Moving.{Does, Sees, NoneSeen, OneSeen, Taken, NotThe
 use Rattle.est_reader.specs.Going.{Rule, View, Syntax, Finds, Fails, Goes}
 use Rattle.est_reader.proofs.Steps.{onto, sees_not, left_of, taken_well, taken_at}
 use Rattle.est_reader.proofs.Going.{Known, goes_onto, begins_not, opt_in, alternative, as_alternative, tells, chosen}
-use Rattle.est_reader.proofs.Turns.{Turning, Each, more_parts, lessens}
+use Rattle.est_reader.proofs.Turns.{Turning, Each, more_parts, more_ended, lessens}
 
 -- f holds of each of these tests
 abbrev pub every : (Test → Bool) → List Test → Bool
@@ -26,6 +26,20 @@ pub seen_one : {A : Reader} (f : Test → Bool) (ks : List Test) → every f ks 
 seen_one f [] e o = absurd o
 seen_one f (k ∷ ks) e (inl s) = (k, s, and_left (f k) _ e)
 seen_one f (k ∷ ks) e (inr o) = seen_one f ks (and_right (f k) _ e) o
+
+-- tests of two lists
+pub seen_first : (A : Reader) (ks ls : List Test) → OneSeen A ks → OneSeen A (ks ++ ls)
+seen_first A [] ls o = absurd o
+seen_first A (k ∷ ks) ls (inl s) = inl s
+seen_first A (k ∷ ks) ls (inr o) = inr (seen_first A ks ls o)
+
+pub seen_second : (A : Reader) (ks ls : List Test) → OneSeen A ls → OneSeen A (ks ++ ls)
+seen_second A [] ls o = o
+seen_second A (k ∷ ks) ls o = inr (seen_second A ks ls o)
+
+pub none_seen : (A : Reader) (ks ls : List Test) → NoneSeen A ks → NoneSeen A ls → NoneSeen A (ks ++ ls)
+none_seen A [] ls n m = m
+none_seen A (k ∷ ks) ls n m = (n.0, none_seen A ks ls n.1 m)
 
 -- what is read shows what another view shows too
 pub goes_as : {P N : Type 0} {X : Syntax P N} {g : Rule P} {A B : Reader} {v w : View N} → ((t : Shape Kept) → Shows X.layer v t → Shows X.layer w t) → Goes X g A v B → Goes X g A w B
@@ -44,6 +58,11 @@ module _ {P N : Type 0} (K : Known P N) where
   pub more_parts_by : {whole h : Rule P} {A B C D : Reader} {n : N} (ns : List N) {ms : List N} (ks : List Test) → every (λ k. implies_one implies k (can_begin K.syntax.marks h)) ks ≡ true → disjoint apart (can_go_on K.syntax.marks h) (can_begin K.syntax.marks h) ≡ true → can_be_empty K.syntax.marks h ≡ false
       → OneSeen B ks → Turning K whole (rep h) A (Each K ns) B → Goes K.syntax h B (node n) C → Still C D → (D.outcome ≡ Well → ns ++ n ∷ [] ≡ ms) → Turning K whole (rep h) A (Each K ms) D
   more_parts_by {h = h} ns ks e j f o x y z q = let s = seen_one (λ k. implies_one implies k (can_begin K.syntax.marks h)) ks e o in more_parts K ns s.0 s.2 j f s.1 x y z q
+
+  -- one more turn after a token that may also stand last
+  pub more_ended_by : {whole h : Rule P} {A B C D E : Reader} {n : N} (ns : List N) {ms : List N} (k : Test) (ls : List Test) → every (λ l. implies_one implies l (can_begin K.syntax.marks h)) ls ≡ true → disjoint apart (k ∷ []) (can_go_on K.syntax.marks h) ≡ true → can_be_empty K.syntax.marks h ≡ false
+      → Sees B k true → Turning K whole (ended k h) A (Each K ns) B → Takes k B C → OneSeen C ls → Goes K.syntax h C (node n) D → Still D E → (E.outcome ≡ Well → ns ++ n ∷ [] ≡ ms) → Turning K whole (ended k h) A (Each K ms) E
+  more_ended_by {h = h} ns k ls i j f s x t o y z q = let r = seen_one (λ l. implies_one implies l (can_begin K.syntax.marks h)) ls i o in more_ended K ns k r.0 r.2 j f s x t r.1 y z q
 
   pub lessens_by : {h : Rule P} {B C D : Reader} {v : View N} (ks : List Test) → can_be_empty K.syntax.marks h ≡ false → OneSeen B ks → Goes K.syntax h B v C → Still C D → left_of D < left_of B
   lessens_by ks f o x s = let q = seen_one (λ k. true) ks (all_true ks) o in lessens K f q.1 x s

@@ -1,0 +1,32 @@
+use Rattle.std.proofs.Common.{◌≡◌, ◌+◌, ◌*◌, map, List}
+use Rattle.est_lexer.specs.declared.kind.ReservedWord.TheVariants as words
+use Rattle.est_lexer.specs.declared.kind.Symbol.TheVariants as symbols
+use Rattle.est_lexer.specs.declared.kind.TokenKind.TheVariants.{Identifier, Number, Character, Reserved, Symbol as Special}
+use Rattle.est_language.specs.Grammar.{rule, seq, rep, alt, opt, ended}
+use Rattle.est_reader.specs.Tests.{kind}
+use Rattle.est_language.specs.Shown.{nodes}
+use Rattle.est_reader.specs.Moving.{weight}
+use Rattle.est_reader.proofs.Steps.{left_of}
+use Rattle.est_reader.proofs.Turns.{Turning, Each, Sections, Adding}
+use Rattle.est_productions.specs.Grammar as grammar
+use Rattle.est_productions.specs.Nodes as node
+use Rattle.est_productions.proofs.Fits.{K}
+use Rattle.est_grammar.proofs.body.+body.Given as goal
+
+abbrev pub invariant-body_parts-loop-reader : goal.invariant-body_parts-loop-reader
+invariant-body_parts-loop-reader l = Turning K (rep grammar.body_part) (rep grammar.body_part) l.fn.reader (Each K (map node.a_body_part l.items)) l.reader
+
+abbrev pub decreases-body_parts-loop-reader : goal.decreases-body_parts-loop-reader
+decreases-body_parts-loop-reader l = left_of l.reader
+
+abbrev pub decreases-body : goal.decreases-body
+decreases-body l = weight l.reader.now * 5 + 0
+
+abbrev pub decreases-common : goal.decreases-common
+decreases-common l = weight l.reader.now * 5 + 1
+
+abbrev pub decreases-body_part : goal.decreases-body_part
+decreases-body_part l = weight l.reader.now * 5 + 2
+
+abbrev pub decreases-body_parts : goal.decreases-body_parts
+decreases-body_parts l = weight l.reader.now * 5 + 3

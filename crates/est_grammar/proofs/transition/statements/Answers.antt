@@ -1,6 +1,0 @@
-use Rattle.std.proofs.Common.{refl}
-use Rattle.est_reader.proofs.Going.{alone_goes}
-use Rattle.est_grammar.proofs.transition.statements.Goals as goal
-
-pub returns : goal.returns
-returns c = alone_goes c.statement-statement.ensures c.keep.ensures.still (λ w. rw (c.keep.ensures.added w, c.new-items.ensures) refl)

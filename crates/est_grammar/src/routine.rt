@@ -1,0 +1,133 @@
+//! Procedures and functions (ISO 7185, 6.6).
+
+ghost use Rattle.std.specs.Prelude.{map};
+ghost use Rattle.est_language.specs.Grammar.{rule, skip, opt};
+ghost use Rattle.est_language.specs.Shown.{node as shown, nodes, empty};
+ghost use Rattle.est_lexer.specs.declared.kind.ReservedWord.TheVariants as words;
+ghost use Rattle.est_reader.specs.Going.{Goes};
+ghost use Rattle.est_reader.specs.Moving.{OneSeen};
+ghost use Rattle.est_productions.specs.Grammar as grammar;
+ghost use Rattle.est_productions.specs.Nodes as node;
+ghost use Rattle.est_productions.specs.Syntax.{estelle};
+ghost use Rattle.est_productions.specs.Tokens.{function_tokens};
+
+use crate::block::block;
+use est_lexer::kind::{ReservedWord, Symbol, TokenKind};
+use est_productions::names::idents;
+use est_reader::Reader;
+use est_syntax::routine::{Formal, Formals, Routine};
+
+/// routine = "procedure" ident [ "(" formals ")" ] ";" block ";"
+///     | [ "pure" ] "function" ident [ "(" formals ")" ] ":" ident ";" block ";" .
+pub fn routine(reader: &mut Reader) -> Routine
+    ensures { Goes estelle (rule grammar.routine) reader.old
+        (shown (node.a_routine result)) reader.new }
+{
+    if reader.sees(TokenKind::Reserved(ReservedWord::Pure)) {
+        return function(reader);
+    }
+    if reader.sees(TokenKind::Reserved(ReservedWord::Function)) {
+        return function(reader);
+    }
+    reader.word(ReservedWord::Procedure);
+    let name = reader.name();
+    let formals = formal_part(reader);
+    reader.symbol(Symbol::Semicolon);
+    let block = block(reader);
+    reader.symbol(Symbol::Semicolon);
+    Routine {
+        name,
+        formals,
+        result: None,
+        block,
+    }
+}
+
+// [ "pure" ] "function" ident [ "(" formals ")" ] ":" ident ";" block ";"
+fn function(reader: &mut Reader) -> Routine
+    requires { OneSeen reader.old function_tokens }
+    ensures { Goes estelle (rule grammar.routine) reader.old
+        (shown (node.a_routine result)) reader.new }
+{
+    pure_word(reader);
+    reader.word(ReservedWord::Function);
+    let name = reader.name();
+    let formals = formal_part(reader);
+    reader.symbol(Symbol::Colon);
+    let result_type = reader.name();
+    reader.symbol(Symbol::Semicolon);
+    let block = block(reader);
+    reader.symbol(Symbol::Semicolon);
+    Routine {
+        name,
+        formals,
+        result: Some(result_type),
+        block,
+    }
+}
+
+// [ "pure" ]
+fn pure_word(reader: &mut Reader)
+    ensures { Goes estelle (skip (opt (grammar.only words.Pure))) reader.old empty reader.new }
+{
+    if reader.sees(TokenKind::Reserved(ReservedWord::Pure)) {
+        reader.word(ReservedWord::Pure);
+    }
+}
+
+// [ "(" formals ")" ]
+fn formal_part(reader: &mut Reader) -> Formals
+    ensures { Goes estelle grammar.formal_part reader.old (node.formals result) reader.new }
+{
+    if !reader.sees(TokenKind::Symbol(Symbol::LeftParenthesis)) {
+        return Formals::new(reader.alloc);
+    }
+    reader.symbol(Symbol::LeftParenthesis);
+    let formals = formals(reader);
+    reader.symbol(Symbol::RightParenthesis);
+    formals
+}
+
+// formals = formal { ";" formal } .
+fn formals(reader: &mut Reader) -> Formals
+    ensures { Goes estelle grammar.formals reader.old
+        (nodes (map node.a_formal result)) reader.new }
+{
+    let first = formal(reader);
+    let mut items = Formals::new(reader.alloc);
+    reader.keep(&mut items, first);
+    while reader.sees(TokenKind::Symbol(Symbol::Semicolon)) {
+        reader.symbol(Symbol::Semicolon);
+        let next = formal(reader);
+        reader.keep(&mut items, next);
+    }
+    items
+}
+
+// formal = [ "var" ] idents ":" ident .
+fn formal(reader: &mut Reader) -> Formal
+    ensures { Goes estelle (rule grammar.formal) reader.old
+        (shown (node.a_formal result)) reader.new }
+{
+    let by_place = by_place(reader);
+    let names = idents(reader);
+    reader.symbol(Symbol::Colon);
+    let kind = reader.name();
+    Formal {
+        by_place,
+        names,
+        kind,
+    }
+}
+
+// [ "var" ], and whether there is one
+fn by_place(reader: &mut Reader) -> bool
+    ensures { Goes estelle (opt (grammar.only words.Var)) reader.old
+        (node.by_place result) reader.new }
+{
+    if !reader.sees(TokenKind::Reserved(ReservedWord::Var)) {
+        return false;
+    }
+    reader.word(ReservedWord::Var);
+    true
+}
