@@ -6,3 +6,4 @@ pub mod Places
 pub mod Answers
 pub mod Laws
 pub mod Shown
+pub mod Extents
