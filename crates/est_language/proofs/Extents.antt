@@ -2,7 +2,7 @@
 use Rattle.std.proofs.Common.{◌≡◌, ℕ, suc, ◌+◌, ◌<◌, ◌≤◌, false, List, [], ◌∷◌, length, arith}
 use Rattle.est_language.specs.Grammar.{Language, Grammar, rep, Shape, nothing, leaf, placed, both, left, right, some, chain, Tree, t_done, t_word, t_token, t_here, t_skip, t_seq, t_left, t_right, t_opt_out, t_opt_in, t_rep_out, t_rep_in, t_nearest_out, t_nearest_in, t_ended_out, t_ended_last, t_ended_in, t_deeper, t_rule}
 use Rattle.est_language.specs.Marks.{Marks, can_be_empty, Fits}
-use Rattle.est_language.specs.Shown.{View, Shows, nodes, s_none, s_more}
+use Rattle.est_language.specs.Shown.{View, Shows, nodes, s_more}
 use Rattle.est_language.specs.Extents.{IsPlacedWithin, leaves}
 use Rattle.est_language.specs.Laws.{PlacesLieWithin, LeavesAreTokens, TreesTakeTokens, TurnsTakeTokens}
 use Rattle.est_language.proofs.Trees.{tree_forward, tree_moves}

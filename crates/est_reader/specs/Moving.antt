@@ -166,6 +166,19 @@ pub record Opens (old : Reader) (levels : ℕ) (new : Reader) : Type 0 where
   pub onward : old.at ≤ new.at
   pub lighter : weight new < weight old
 
+-- a level is taken; or none is left
+abbrev pub EntersAt : ℕ → ℕ → Outcome → Type 0
+EntersAt d e Well = d ≡ e + 1
+EntersAt d e Wrong = ⊥
+EntersAt d e TooDeep = d ≡ 0
+EntersAt d e NoMemory = ⊥
+
+-- a level is taken, where there is one, and nothing is read
+pub record Enters (old new : Reader) : Type 0 where
+  pub enters : EntersAt old.levels new.levels new.outcome
+  pub tokens : new.tokens.now ≡ old.tokens.now
+  pub place : new.at ≡ old.at
+
 -- the levels are what they were
 pub record Closes (levels : ℕ) (old new : Reader) : Type 0 where
   pub tokens : new.tokens.now ≡ old.tokens.now
