@@ -16,6 +16,7 @@ use Rattle.est_reader.specs.declared.outcome.Outcome.{Outcome}
 use Rattle.est_reader.specs.declared.outcome.Outcome.TheVariants.{Well, Wrong, TooDeep, NoMemory}
 use Rattle.est_reader.specs.Tests.{language}
 use Rattle.est_reader.specs.Moving.{Does}
+use Rattle.est_reader.specs.Whole.{IsReadAs}
 use Rattle.est_reader.specs.Going.{Rule, Shape, View, Finds, Fails, Goes}
 use Rattle.est_reader.proofs.Going.{Known}
 
@@ -100,3 +101,18 @@ module _ {P N : Type 0} (K : Known P N) {tokens : Tokens} {g : Rule P} {d : ℕ}
 
   pub whole_deep : B.outcome ≡ TooDeep → Why (too_deep_at B.at)
   whole_deep w = exits.explained (K.fits (text_of tokens)) g d (tokens_of tokens) (too_deep_at B.at) (fails_deep w)
+
+-- the whole list is read as this value, where no two values show one shape
+pub read_as : {I P N : Type 0} (K : Known P N) {tokens : Tokens} {g : Rule P} {d : ℕ} {A B : Reader} (view : I → View N) (i : I)
+    → ((j : I) (t : Shape) → Shows K.syntax.layer (view j) t → Shows K.syntax.layer (view i) t → j ≡ i)
+    → Goes K.syntax g A (view i) B → Starts tokens d A → B.outcome ≡ Well → B.at ≡ length (tokens_of tokens)
+    → IsReadAs K.syntax (text_of tokens) (tokens_of tokens) g d view i
+read_as K view i one x s w e =
+    let r = whole_read K x s w e in
+    record {
+      shape = r.0;
+      tree = r.1;
+      shows = r.2;
+      only_tree = r.3;
+      only_value = λ j q. one j r.0 (subst (λ t. Shows K.syntax.layer (view j) t) (r.3 q.0 q.1) q.2) r.2;
+    }
