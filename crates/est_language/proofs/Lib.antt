@@ -1,5 +1,6 @@
 pub mod Members
 pub mod Trees
+pub mod Opening
 pub mod Parts
 pub mod Laws
 pub mod Flat

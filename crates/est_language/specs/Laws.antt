@@ -3,6 +3,7 @@ use Rattle.std.specs.Prelude.{◌≡◌, ℕ, ◌+◌, ◌<◌, ◌≤◌, false
 use Rattle.est_language.specs.Grammar.{Grammar, rep, Language, Shape, nothing, chain, Tree}
 use Rattle.est_language.specs.Marks.{Marks, Fits, can_be_empty}
 use Rattle.est_language.specs.Extents.{IsPlacedWithin, leaves}
+use Rattle.est_language.specs.Opening.{OpensOneMore}
 use Rattle.est_language.specs.Lookahead.{OneTokenDecides}
 use Rattle.est_language.specs.Places.{HasTree, HasPartial, IsFirstBadPlace}
 
@@ -49,3 +50,10 @@ abbrev pub TurnsTakeTokens : Type 0 → Type 0 → Type 0 → Type 0 → Type 0
 TurnsTakeTokens Token V T P = (L : Language Token V T P) (S : Marks T P) (g : Grammar T P) (d : ℕ)
     (s : List Token) (n a b : ℕ) (ts : List (Shape V)) → Fits L S → can_be_empty S g ≡ false
     → Tree L s n (rep g) d a b (chain ts nothing) → a + length ts ≤ b
+
+-- where a token opens one level more than there are, what stands before it is a partial tree with
+-- these levels, and with it there is one with one level more
+abbrev pub OpenersAreTold : Type 0 → Type 0 → Type 0 → Type 0 → Type 0
+OpenersAreTold Token V T P = (L : Language Token V T P) (g : Grammar T P) (d : ℕ) (s : List Token)
+    (i : ℕ) → OpensOneMore L s i g d 0
+    → HasPartial L g d s i × HasPartial L g (d + 1) s (i + 1)

@@ -1,5 +1,6 @@
 pub mod Grammar
 pub mod Marks
+pub mod Opening
 pub mod Lookahead
 pub mod Reading
 pub mod Places

@@ -1,7 +1,7 @@
 // Grammars in general: trees, partial trees, first bad places, and their laws.
 #![tactic(auto)]
 
-ghost use Rattle.est_language.specs.Laws.{AtMostOneBadPlace, AtMostOneTree, FrontsOfTree, FrontsOfPartial, PlacesLieWithin, LeavesAreTokens, TreesTakeTokens, TurnsTakeTokens};
+ghost use Rattle.est_language.specs.Laws.{AtMostOneBadPlace, AtMostOneTree, FrontsOfTree, FrontsOfPartial, PlacesLieWithin, LeavesAreTokens, OpenersAreTold, TreesTakeTokens, TurnsTakeTokens};
 
 /// A list of tokens has at most one first bad place.
 pub fn one_bad_place<Token, Value, Test, Production>()
@@ -33,4 +33,10 @@ pub fn leaves_are_tokens<Token, Value, Test, Production>()
 pub fn trees_take_tokens<Token, Value, Test, Production>()
     ensures trees { TreesTakeTokens Token Value Test Production }
     ensures turns { TurnsTakeTokens Token Value Test Production }
+{}
+
+/// A token that opens one level more than there are stands after a partial tree with these levels,
+/// and ends one with one level more.
+pub fn openers_are_told<Token, Value, Test, Production>()
+    ensures { OpenersAreTold Token Value Test Production }
 {}
