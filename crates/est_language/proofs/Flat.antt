@@ -4,7 +4,7 @@ use Rattle.est_language.specs.Grammar.{Language, Grammar, done, none, word, toke
 use Rattle.est_language.specs.Marks.{MeetsOne, Marks, can_go_on}
 use Rattle.est_language.proofs.Members.{and_left, and_right}
 use Rattle.est_language.specs.Opening.{OpensOneMore, o_now, o_word, o_here, o_skip, o_first, o_second, o_left, o_right, o_opt, o_rep_first, o_rep_more, o_nearest, o_ended_first, o_ended_more, o_deeper, o_rule}
-use Rattle.est_language.specs.Reading.{Found, Refused, SpeaksOf}
+use Rattle.est_language.specs.Reading.{Refused}
 
 abbrev pub flat : {T P : Type 0} → Grammar T P → Bool
 flat done = true
@@ -81,23 +81,6 @@ module _ {Token V T P : Type 0} (L : Language Token V T P) (s : List Token) wher
   flat_opens_none i f (o_ended_more k l e x y) = flat_opens_none i f y
   flat_opens_none i f (o_deeper x) = cc
   flat_opens_none i f (o_rule x) = cc
-
-module _ {Token V T P : Type 0} {L : Language Token V T P} {S : Marks T P} {s : List Token} {g : Grammar T P} (f : flat g ≡ true) where
-  pub found_any : {d a b : ℕ} {t : Shape V} (e : ℕ) → Found L S s g d a b t → Found L S s g e a b t
-  found_any e h = record { tree = tree_any L s (length s) e f h.tree; inside = h.inside; only = h.only; most = h.most }
-
-  pub refused_any : {d a i : ℕ} {z : Bool} (e : ℕ) → Refused L S s g d a i z → Refused L S s g e a i z
-  refused_any {d} {a} {i} {z} e h = record {
-    partial = partial_any L s i e f h.partial;
-    inside = h.inside;
-    only = λ e' n c u w l m x. h.only d n c u (self z d) l m (tree_any L s n d f x);
-    most = λ e' n w l m x. h.most d n (self z d) l m (partial_any L s n d f x);
-    more = λ q. absurd (flat_opens_none L s i f (h.more q).1);
-  }
-    where
-      self : (z : Bool) (d : ℕ) → SpeaksOf z d d
-      self false d = tt
-      self true d = omega arith
 
 -- no level is left for what this token would begin
 pub too_deep_any : {Token V T P : Type 0} {L : Language Token V T P} {S : Marks T P} {s : List Token} {g : Grammar T P} {a : ℕ} → a < length s → Partial L s (suc a) g 0 a → Refused L S s (deeper g) 0 a a true

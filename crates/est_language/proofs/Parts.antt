@@ -762,9 +762,3 @@ module _ {Token V T P : Type 0} (L : Language Token V T P) (S : Marks T P) (fits
     on = λ c' u z. subst (λ o. Found L S s whole d a c' o) (sym (chain_more ts t u)) (x.on c' (both t u) (ended_in_found k j f l e y z));
     off = λ i w z. x.off i w (ended_refused k j f l e y z);
   }
-
-  pub seq_shape : {g h : Grammar T P} {d a b : ℕ} {v : Shape V} → Tree L s (length s) (seq g h) d a b v → (t : Shape V) × (u : Shape V) × (v ≡ both t u)
-  seq_shape (t_seq {t = t} {u = u} x y) = (t, u, refl)
-
-  pub rule_tree : {p : P} {d a b : ℕ} {v : Shape V} → Tree L s (length s) (rule p) d a b v → Tree L s (length s) (L.production p) d a b v
-  rule_tree (t_rule x) = x
