@@ -1,30 +1,17 @@
 -- From what a reader of the whole grammar comes to, to the answer.
-use Rattle.std.proofs.Common.{◌≡◌, ℕ, suc, ◌+◌, ◌<◌, ◌≤◌, Bool, true, false, List, [], ◌∷◌, length, refl, sym, subst, ◌⊎◌, arith, add-one, inl, inr, Option}
-use Rattle.est_language.specs.Grammar.{Language, Grammar, Shape, meets, Tree, p_whole}
-use Rattle.est_language.specs.Marks.{Marks, Fits, MeetsOne}
+use Rattle.std.proofs.Common.{◌≡◌, ℕ, ◌+◌, ◌<◌, ◌≤◌, Bool, true, false, List, length, refl, sym, subst, arith}
+use Rattle.est_language.specs.Grammar.{Language, Grammar, Shape, Tree, p_whole}
+use Rattle.est_language.specs.Marks.{Marks, Fits}
 use Rattle.est_language.specs.Reading.{Found, same, before}
 use Rattle.est_language.specs.Places.{HasTree, HasPartial}
 use Rattle.est_language.specs.Answers.{Cause, unsaid, wrong_at, too_deep_at, Refuses, SaysWhy}
+use Rattle.est_language.proofs.Opening.{openers_are_told}
 use Rattle.est_language.proofs.Parts
 use Rattle.est_language.proofs.Trees
 
 -- a test that is not met
 pub not_met : {b : Bool} → b ≡ false → b ≡ true → ⊥
 not_met e q = cc
-
--- neither of two
-pub neither : {A B : Type 0} → (A → ⊥) → (B → ⊥) → A ⊎ B → ⊥
-neither n m (inl e) = n e
-neither n m (inr e) = m e
-
--- none of no facts
-pub nothing_left : ⊥ → ⊥
-nothing_left z = z
-
--- a token that does not meet the one test meets none
-pub not_one : {T Token : Type 0} (h : T → Token → Bool) (k : T) (o : Option Token) → meets h k o ≡ false → MeetsOne h o (k ∷ []) → ⊥
-not_one h k o e (inl q) = cc
-not_one h k o e (inr q) = q
 
 -- From what is found of the whole grammar at place 0 to the answer.
 module _ {Token V T P : Type 0} {L : Language Token V T P} {S : Marks T P} (fits : Fits L S) (g : Grammar T P) (d : ℕ) (s : List Token) where
@@ -67,7 +54,7 @@ module _ {Token V T P : Type 0} {L : Language Token V T P} {S : Marks T P} (fits
 
       no_more : i < length s → (levels : ℕ) → HasPartial L g levels s (i + 1) → ⊥
       no_more l e y = omega (arith, h.most e (i + 1) tt (omega arith) (omega arith) y)
-  explained (too_deep_at i) h = (record { no_tree = no_tree; inside = h.inside; front = h.partial; no_more = no_more }, (h.more refl).0, subst (λ v. HasPartial L g v s (i + 1)) (sym (add-one d)) (subst (λ v. HasPartial L g (suc d) s v) (sym (add-one i)) (h.more refl).1))
+  explained (too_deep_at i) h = (record { no_tree = no_tree; inside = h.inside; front = h.partial; no_more = no_more }, (h.more refl).0, (openers_are_told L g d s i (h.more refl).1).1, (h.more refl).1)
     where
       no_tree : (u : Shape V) → HasTree L g d s u → ⊥
       no_tree u y = omega (arith, (h.only d (length s) (length s) u (omega arith) (omega arith) (omega arith) y).2)

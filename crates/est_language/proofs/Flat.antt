@@ -3,7 +3,8 @@ use Rattle.std.proofs.Common.{slice_get, ◌≡◌, ℕ, suc, ◌<◌, ◌≤◌
 use Rattle.est_language.specs.Grammar.{Language, Grammar, done, none, word, token, here, skip, seq, alt, opt, rep, nearest, ended, deeper, rule, Shape, Tree, t_done, t_word, t_token, t_here, t_skip, t_seq, t_left, t_right, t_opt_out, t_opt_in, t_rep_out, t_rep_in, t_nearest_out, t_nearest_in, t_ended_out, t_ended_last, t_ended_in, t_deeper, t_rule, Partial, p_none, p_whole, p_word, p_here, p_skip, p_first, p_second, p_left, p_right, p_opt, p_rep_first, p_rep_more, p_nearest, p_ended_first, p_ended_more, p_deeper, p_rule}
 use Rattle.est_language.specs.Marks.{MeetsOne, Marks, can_go_on}
 use Rattle.est_language.proofs.Members.{and_left, and_right}
-use Rattle.est_language.specs.Reading.{Found, Refused, SpeaksOf}
+use Rattle.est_language.specs.Opening.{OpensOneMore, o_now, o_word, o_here, o_skip, o_first, o_second, o_left, o_right, o_opt, o_rep_first, o_rep_more, o_nearest, o_ended_first, o_ended_more, o_deeper, o_rule}
+use Rattle.est_language.specs.Reading.{Refused}
 
 abbrev pub flat : {T P : Type 0} → Grammar T P → Bool
 flat done = true
@@ -62,26 +63,28 @@ module _ {Token V T P : Type 0} (L : Language Token V T P) (s : List Token) wher
   partial_any n e f (p_deeper x) = absurd cc
   partial_any n e f (p_rule x) = absurd cc
 
-module _ {Token V T P : Type 0} {L : Language Token V T P} {S : Marks T P} {s : List Token} {g : Grammar T P} (f : flat g ≡ true) where
-  pub found_any : {d a b : ℕ} {t : Shape V} (e : ℕ) → Found L S s g d a b t → Found L S s g e a b t
-  found_any e h = record { tree = tree_any L s (length s) e f h.tree; inside = h.inside; only = h.only; most = h.most }
-
-  pub refused_any : {d a i : ℕ} {z : Bool} (e : ℕ) → Refused L S s g d a i z → Refused L S s g e a i z
-  refused_any {d} {a} {i} {z} e h = record {
-    partial = partial_any L s i e f h.partial;
-    inside = h.inside;
-    only = λ e' n c u w l m x. h.only d n c u (self z d) l m (tree_any L s n d f x);
-    most = λ e' n w l m x. h.most d n (self z d) l m (partial_any L s n d f x);
-    more = λ q. ((h.more q).0, partial_any L s (suc i) (suc e) f (h.more q).1);
-  }
-    where
-      self : (z : Bool) (d : ℕ) → SpeaksOf z d d
-      self false d = tt
-      self true d = omega arith
+  -- no token opens a level too many
+  pub flat_opens_none : (i : ℕ) {g : Grammar T P} {d a : ℕ} → flat g ≡ true → OpensOneMore L s i g d a → ⊥
+  flat_opens_none i f (o_now e x) = cc
+  flat_opens_none i f (o_word k l e x) = flat_opens_none i f x
+  flat_opens_none i f (o_here x) = flat_opens_none i f x
+  flat_opens_none i f (o_skip x) = flat_opens_none i f x
+  flat_opens_none i f (o_first x) = flat_opens_none i (and_left _ _ f) x
+  flat_opens_none i f (o_second x y) = flat_opens_none i (and_right _ _ f) y
+  flat_opens_none i f (o_left x) = flat_opens_none i (and_left _ _ f) x
+  flat_opens_none i f (o_right x) = flat_opens_none i (and_right _ _ f) x
+  flat_opens_none i f (o_opt x) = flat_opens_none i f x
+  flat_opens_none i f (o_rep_first x) = flat_opens_none i f x
+  flat_opens_none i f (o_rep_more x y) = flat_opens_none i f y
+  flat_opens_none i f (o_nearest k l e x) = flat_opens_none i f x
+  flat_opens_none i f (o_ended_first k l e x) = flat_opens_none i f x
+  flat_opens_none i f (o_ended_more k l e x y) = flat_opens_none i f y
+  flat_opens_none i f (o_deeper x) = cc
+  flat_opens_none i f (o_rule x) = cc
 
 -- no level is left for what this token would begin
 pub too_deep_any : {Token V T P : Type 0} {L : Language Token V T P} {S : Marks T P} {s : List Token} {g : Grammar T P} {a : ℕ} → a < length s → Partial L s (suc a) g 0 a → Refused L S s (deeper g) 0 a a true
-too_deep_any {L = L} {S = S} {s = s} {g = g} {a = a} l x = record { partial = p_none refl; inside = omega arith; only = only; most = most; more = λ z. (l, p_deeper x) }
+too_deep_any {L = L} {S = S} {s = s} {g = g} {a = a} l x = record { partial = p_none refl; inside = omega arith; only = only; most = most; more = λ z. (l, o_now refl x) }
   where
     only : (e n c : ℕ) (u : Shape _) → e ≤ 0 → a ≤ n → n ≤ length s → Tree L s n (deeper g) e a c u → (c ≤ a) × (c < n → MeetsOne L.holds (slice_get s c) (can_go_on S (deeper g))) × (c < length s)
     only _ n c u z l m (t_deeper x) = absurd (omega arith)

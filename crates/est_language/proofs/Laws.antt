@@ -1,5 +1,5 @@
 -- The laws of grammars, in the form in which the functions of a parser need them.
-use Rattle.std.proofs.Common.{◌≡◌, ℕ, zero, suc, ◌+◌, ◌-◌, ◌<◌, ◌≤◌, Bool, true, false, cond, List, [], ◌∷◌, ◌++◌, length, refl, sym, subst, arith, add-one, inl, inr, ◌⊎◌, Option, Some, None, slice_get}
+use Rattle.std.proofs.Common.{◌≡◌, ℕ, zero, suc, ◌+◌, ◌-◌, ◌<◌, ◌≤◌, Bool, true, false, List, [], ◌∷◌, ◌++◌, length, refl, sym, subst, arith, add-one, inl, inr, ◌⊎◌, Option, Some, None, slice_get}
 use Rattle.est_language.specs.Grammar.{Language, At, Keeps, meets, Grammar, done, word, token, here, skip, seq, alt, opt, rep, nearest, ended, deeper, rule, one_of, when, Shape, pick, nothing, leaf, placed, both, left, right, some}
 use Rattle.est_language.specs.Marks.{MeetsOne, Apart, Marks, can_be_empty, can_begin, can_go_on, Fits}
 use Rattle.est_language.specs.Reading.{Found, Refused}
@@ -167,13 +167,6 @@ module _ {Token V T P : Type 0} (L : Language Token V T P) (S : Marks T P) where
   pub closed_alt : (g h : Grammar T P) → IsClosed L S g → IsClosed L S h → IsClosed L S (alt g h)
   closed_alt g h c e o m = elim (Members.In-split L.holds o (can_go_on S g) (can_go_on S h) m) [ inl q ↦ c o q | inr q ↦ e o q ]
 
-  pub closed_seq : (g h : Grammar T P) → IsClosed L S g → IsClosed L S h → IsClosed L S (seq g h)
-  closed_seq g h c e o m = elim (Members.In-split L.holds o (can_go_on S h) _ m) [ inl q ↦ e o q | inr q ↦ c o (cut (can_be_empty S h) (can_go_on S g) q) ]
-    where
-      cut : (w : Bool) (ks : List T) → MeetsOne L.holds o (cond w ks []) → MeetsOne L.holds o ks
-      cut true ks q = q
-      cut false ks q = elim q [ ]
-
   pub closed_when : (w : Bool) (g : Grammar T P) → IsClosed L S g → IsClosed L S (when w g)
   closed_when true g c = c
   closed_when false g c = λ o m. m
@@ -241,15 +234,6 @@ module _ {Token V T P : Type 0} {L : Language Token V T P} {S : Marks T P} (fits
 
   pub turns_more : {whole h : Grammar T P} {d a b c : ℕ} {ts : List (Shape V)} {t : Shape V} → Apart L (can_go_on S h) (can_begin S h) → can_be_empty S h ≡ false → Turns L S fits s whole (rep h) d a b ts → Found L S s h d b c t → Turns L S fits s whole (rep h) d a c (ts ++ t ∷ [])
   turns_more j f x y = Parts.turns_more L S fits s j f x y
-
-  -- one more part of a sequence, after its placed
-  pub turns_part : {whole g rest : Grammar T P} {k : T} {d a b c : ℕ} {ts : List (Shape V)} {t : Shape V} → Apart L (can_go_on S g) (can_begin S rest) → At L s b k → Turns L S fits s whole (word k (seq g rest)) d a b ts → Found L S s g d (b + 1) c t → Turns L S fits s whole rest d a c (ts ++ t ∷ [])
-  turns_part {whole} {g} {rest} {k} {d} {a} {b} {c} {ts} {t} j e x y = record {
-    inside = (forward fits y).1;
-    forward = omega (arith, x.forward, (forward fits y).0);
-    on = λ c' u z. subst (λ o. Found L S s whole d a c' o) (sym (Parts.chain_more ts t u)) (x.on c' (both t u) (word_found fits e (seq_found fits j y z)));
-    off = λ i w z. x.off i w (word_refused fits e (seq_refused fits j y z));
-  }
 
   -- one more turn of { k h } [ k ]
   pub turns_ended : {whole h : Grammar T P} {k : T} {d a b c : ℕ} {ts : List (Shape V)} {t : Shape V} → Apart L (k ∷ []) (can_go_on S h) → can_be_empty S h ≡ false → At L s b k → Turns L S fits s whole (ended k h) d a b ts → Found L S s h d (b + 1) c t → Turns L S fits s whole (ended k h) d a c (ts ++ t ∷ [])

@@ -1,5 +1,6 @@
 pub mod Members
 pub mod Trees
+pub mod Opening
 pub mod Parts
 pub mod Laws
 pub mod Flat
@@ -7,3 +8,4 @@ pub mod Exits
 pub mod Fronts
 pub mod OneTree
 pub mod Alike
+pub mod Extents

@@ -2,6 +2,7 @@
 use Rattle.std.proofs.Common.{slice_get, Option, Some, None, ◌≡◌, ℕ, suc, ◌<◌, ◌≤◌, Bool, true, false, cond, inl, inr, List, [], ◌∷◌, ◌++◌, length, refl, sym, ◌∙◌, ap, subst, arith}
 use Rattle.est_language.specs.Grammar.{Language, At, Keeps, KeptOf, meets, Grammar, done, word, token, here, skip, seq, alt, opt, rep, nearest, ended, deeper, rule, Shape, chain, nothing, leaf, placed, both, left, right, some, Tree, t_done, t_word, t_token, t_here, t_skip, t_seq, t_left, t_right, t_opt_out, t_opt_in, t_rep_out, t_rep_in, t_nearest_out, t_nearest_in, t_ended_out, t_ended_last, t_ended_in, t_deeper, t_rule, Partial, p_none, p_whole, p_word, p_here, p_skip, p_first, p_second, p_left, p_right, p_opt, p_rep_first, p_rep_more, p_nearest, p_ended_first, p_ended_more, p_deeper, p_rule}
 use Rattle.est_language.specs.Marks.{MeetsOne, Apart, Marks, can_be_empty, can_begin, can_go_on, Fits}
+use Rattle.est_language.specs.Opening.{o_now, o_word, o_here, o_skip, o_first, o_second, o_left, o_right, o_opt, o_rep_first, o_rep_more, o_nearest, o_ended_first, o_ended_more, o_deeper, o_rule}
 use Rattle.est_language.specs.Reading.{EndsNoLater, same, before, Found, Refused, SpeaksOf}
 use Rattle.est_language.proofs.Members.{In-left, In-right}
 use Rattle.est_language.proofs.Trees
@@ -79,7 +80,7 @@ module _ {Token V T P : Type 0} (L : Language Token V T P) (S : Marks T P) (fits
     inside = h.inside;
     only = only;
     most = most;
-    more = λ z. ((h.more z).0, p_word k (omega (arith, refused_forward h)) e (h.more z).1);
+    more = λ z. ((h.more z).0, o_word k (omega (arith, refused_forward h)) e (h.more z).1);
   }
     where
       only : (e n c : ℕ) (u : Shape V) → SpeaksOf w d e → a ≤ n → n ≤ length s → Tree L s n (word k g) e a c u → (c ≤ i) × (c < n → MeetsOne L.holds (slice_get s c) (can_go_on S (word k g))) × (c < length s)
@@ -114,7 +115,7 @@ module _ {Token V T P : Type 0} (L : Language Token V T P) (S : Marks T P) (fits
       most e n l m (p_here x) = h.most e n l m x
 
   pub here_refused : {g : Grammar T P} {d a i : ℕ} {w : Bool} → Refused L S s g d a i w → Refused L S s (here g) d a i w
-  here_refused {g} {d} {a} {i} {w} h = record { partial = p_here h.partial; inside = h.inside; only = only; most = most; more = λ z. ((h.more z).0, p_here (h.more z).1) }
+  here_refused {g} {d} {a} {i} {w} h = record { partial = p_here h.partial; inside = h.inside; only = only; most = most; more = λ z. ((h.more z).0, o_here (h.more z).1) }
     where
       only : (e n c : ℕ) (u : Shape V) → SpeaksOf w d e → a ≤ n → n ≤ length s → Tree L s n (here g) e a c u → (c ≤ i) × (c < n → MeetsOne L.holds (slice_get s c) (can_go_on S (here g))) × (c < length s)
       only e n c u z l m (t_here x) = h.only e n c _ z l m x
@@ -137,7 +138,7 @@ module _ {Token V T P : Type 0} (L : Language Token V T P) (S : Marks T P) (fits
       most e n l m (p_skip x) = h.most e n l m x
 
   pub skip_refused : {g : Grammar T P} {d a i : ℕ} {w : Bool} → Refused L S s g d a i w → Refused L S s (skip g) d a i w
-  skip_refused {g} {d} {a} {i} {w} h = record { partial = p_skip h.partial; inside = h.inside; only = only; most = most; more = λ z. ((h.more z).0, p_skip (h.more z).1) }
+  skip_refused {g} {d} {a} {i} {w} h = record { partial = p_skip h.partial; inside = h.inside; only = only; most = most; more = λ z. ((h.more z).0, o_skip (h.more z).1) }
     where
       only : (e n c : ℕ) (u : Shape V) → SpeaksOf w d e → a ≤ n → n ≤ length s → Tree L s n (skip g) e a c u → (c ≤ i) × (c < n → MeetsOne L.holds (slice_get s c) (can_go_on S (skip g))) × (c < length s)
       only e n c u z l m (t_skip x) = h.only e n c _ z l m x
@@ -160,7 +161,7 @@ module _ {Token V T P : Type 0} (L : Language Token V T P) (S : Marks T P) (fits
       most e n l m (p_rule x) = h.most e n l m x
 
   pub rule_refused : {p : P} {d a i : ℕ} {w : Bool} → Refused L S s (L.production p) d a i w → Refused L S s (rule p) d a i w
-  rule_refused {p} {d} {a} {i} {w} h = record { partial = p_rule h.partial; inside = h.inside; only = only; most = most; more = λ z. ((h.more z).0, p_rule (h.more z).1) }
+  rule_refused {p} {d} {a} {i} {w} h = record { partial = p_rule h.partial; inside = h.inside; only = only; most = most; more = λ z. ((h.more z).0, o_rule (h.more z).1) }
     where
       only : (e n c : ℕ) (u : Shape V) → SpeaksOf w d e → a ≤ n → n ≤ length s → Tree L s n (rule p) e a c u → (c ≤ i) × (c < n → MeetsOne L.holds (slice_get s c) (can_go_on S (rule p))) × (c < length s)
       only e n c u z l m (t_rule x) = let o = h.only e n c _ z l m x in (o.0, (λ z. fits.goes_on p _ (o.1 z)), o.2)
@@ -183,7 +184,7 @@ module _ {Token V T P : Type 0} (L : Language Token V T P) (S : Marks T P) (fits
       most _ n l m (p_deeper {d = e} x) = h.most e n l m x
 
   pub deeper_refused : {g : Grammar T P} {d a i : ℕ} {w : Bool} → Refused L S s g d a i w → Refused L S s (deeper g) (suc d) a i w
-  deeper_refused {g} {d} {a} {i} {w} h = record { partial = p_deeper h.partial; inside = h.inside; only = only; most = most; more = λ z. ((h.more z).0, p_deeper (h.more z).1) }
+  deeper_refused {g} {d} {a} {i} {w} h = record { partial = p_deeper h.partial; inside = h.inside; only = only; most = most; more = λ z. ((h.more z).0, o_deeper (h.more z).1) }
     where
       only : (e n c : ℕ) (u : Shape V) → SpeaksOf w (suc d) e → a ≤ n → n ≤ length s → Tree L s n (deeper g) e a c u → (c ≤ i) × (c < n → MeetsOne L.holds (slice_get s c) (can_go_on S (deeper g))) × (c < length s)
       only _ n c u z l m (t_deeper {d = e} x) = h.only e n c _ (levels_suc w d e z) l m x
@@ -195,7 +196,7 @@ module _ {Token V T P : Type 0} (L : Language Token V T P) (S : Marks T P) (fits
 
   -- no level is left for this token
   pub too_deep : (g : Grammar T P) {a : ℕ} (k : T) → a < length s → At L s a k → Refused L S s (deeper (word k g)) 0 a a true
-  too_deep g {a} k l e = record { partial = p_none refl; inside = omega arith; only = only; most = most; more = λ z. (l, p_deeper (p_word k (omega arith) e (p_none refl))) }
+  too_deep g {a} k l e = record { partial = p_none refl; inside = omega arith; only = only; most = most; more = λ z. (l, o_now refl (p_word k (omega arith) e (p_none refl))) }
     where
       only : (e n c : ℕ) (u : Shape V) → e ≤ 0 → a ≤ n → n ≤ length s → Tree L s n (deeper (word k g)) e a c u → (c ≤ a) × (c < n → MeetsOne L.holds (slice_get s c) (can_go_on S (deeper (word k g)))) × (c < length s)
       only _ n c u z l m (t_deeper x) = absurd (omega arith)
@@ -253,7 +254,7 @@ module _ {Token V T P : Type 0} (L : Language Token V T P) (S : Marks T P) (fits
 
   -- the first part is refused
   pub seq_refused_first : {g : Grammar T P} (h : Grammar T P) {d a i : ℕ} {w : Bool} → Apart L (can_go_on S g) (can_begin S h) → Refused L S s g d a i w → Refused L S s (seq g h) d a i w
-  seq_refused_first {g} h {d} {a} {i} {w} j x = record { partial = p_first x.partial; inside = x.inside; only = only; most = most; more = λ z. ((x.more z).0, p_first (x.more z).1) }
+  seq_refused_first {g} h {d} {a} {i} {w} j x = record { partial = p_first x.partial; inside = x.inside; only = only; most = most; more = λ z. ((x.more z).0, o_first (x.more z).1) }
     where
       only : (e n r : ℕ) (v : Shape V) → SpeaksOf w d e → a ≤ n → n ≤ length s → Tree L s n (seq g h) e a r v → (r ≤ i) × (r < n → MeetsOne L.holds (slice_get s r) (can_go_on S (seq g h))) × (r < length s)
       only e n r v z l m (t_seq {b = b'} {t = t'} {u = u'} x' y') =
@@ -276,7 +277,7 @@ module _ {Token V T P : Type 0} (L : Language Token V T P) (S : Marks T P) (fits
     inside = y.inside;
     only = only;
     most = most;
-    more = λ z. let k = y.more z in (k.0, p_second (Trees.tree_deeper L s (suc i) (Trees.tree_of_fewer L s (length s) (suc i) x.tree (omega (arith, refused_forward y)) (omega (arith, k.0)))) k.1);
+    more = λ z. let k = y.more z in (k.0, o_second (Trees.tree_of_fewer L s (length s) (suc i) x.tree (omega (arith, refused_forward y)) (omega (arith, k.0))) k.1);
   }
     where
       only : (e n r : ℕ) (v : Shape V) → SpeaksOf w d e → a ≤ n → n ≤ length s → Tree L s n (seq g h) e a r v → (r ≤ i) × (r < n → MeetsOne L.holds (slice_get s r) (can_go_on S (seq g h))) × (r < length s)
@@ -351,7 +352,7 @@ module _ {Token V T P : Type 0} (L : Language Token V T P) (S : Marks T P) (fits
       most e n l m (p_left x') = omega (arith, no_partial_left g (can_begin S h) e n a j (begins h f' x) l x', found_forward x)
 
   pub left_refused : {g : Grammar T P} (h : Grammar T P) {d a i : ℕ} {w : Bool} → Apart L (can_begin S g) (can_begin S h) → MeetsOne L.holds (slice_get s a) (can_begin S g) → can_be_empty S h ≡ false → Refused L S s g d a i w → Refused L S s (alt g h) d a i w
-  left_refused {g} h {d} {a} {i} {w} j k f x = record { partial = p_left x.partial; inside = x.inside; only = only; most = most; more = λ z. ((x.more z).0, p_left (x.more z).1) }
+  left_refused {g} h {d} {a} {i} {w} j k f x = record { partial = p_left x.partial; inside = x.inside; only = only; most = most; more = λ z. ((x.more z).0, o_left (x.more z).1) }
     where
       only : (e n r : ℕ) (v : Shape V) → SpeaksOf w d e → a ≤ n → n ≤ length s → Tree L s n (alt g h) e a r v → (r ≤ i) × (r < n → MeetsOne L.holds (slice_get s r) (can_go_on S (alt g h))) × (r < length s)
       only e n r v z l m (t_left x') = let o = x.only e n r _ z l m x' in (o.0, (λ y. In-left L.holds (slice_get s r) (can_go_on S g) _ (o.1 y)), o.2)
@@ -364,7 +365,7 @@ module _ {Token V T P : Type 0} (L : Language Token V T P) (S : Marks T P) (fits
       most e n z l m (p_right x') = omega (arith, no_partial h (can_begin S g) e n a j k l x', refused_forward x)
 
   pub right_refused : (g : Grammar T P) {h : Grammar T P} {d a i : ℕ} {w : Bool} → Apart L (can_begin S g) (can_begin S h) → MeetsOne L.holds (slice_get s a) (can_begin S h) → can_be_empty S g ≡ false → Refused L S s h d a i w → Refused L S s (alt g h) d a i w
-  right_refused g {h} {d} {a} {i} {w} j k f x = record { partial = p_right x.partial; inside = x.inside; only = only; most = most; more = λ z. ((x.more z).0, p_right (x.more z).1) }
+  right_refused g {h} {d} {a} {i} {w} j k f x = record { partial = p_right x.partial; inside = x.inside; only = only; most = most; more = λ z. ((x.more z).0, o_right (x.more z).1) }
     where
       only : (e n r : ℕ) (v : Shape V) → SpeaksOf w d e → a ≤ n → n ≤ length s → Tree L s n (alt g h) e a r v → (r ≤ i) × (r < n → MeetsOne L.holds (slice_get s r) (can_go_on S (alt g h))) × (r < length s)
       only e n r v z l m (t_right x') = let o = x.only e n r _ z l m x' in (o.0, (λ y. In-right L.holds (slice_get s r) (can_go_on S g) _ (o.1 y)), o.2)
@@ -378,7 +379,7 @@ module _ {Token V T P : Type 0} (L : Language Token V T P) (S : Marks T P) (fits
 
   -- the token cannot begin the other alternative
   pub left_refused_else : {g : Grammar T P} (h : Grammar T P) {d a i : ℕ} {w : Bool} → (MeetsOne L.holds (slice_get s a) (can_begin S h) → ⊥) → can_be_empty S h ≡ false → Refused L S s g d a i w → Refused L S s (alt g h) d a i w
-  left_refused_else {g} h {d} {a} {i} {w} k f x = record { partial = p_left x.partial; inside = x.inside; only = only; most = most; more = λ z. ((x.more z).0, p_left (x.more z).1) }
+  left_refused_else {g} h {d} {a} {i} {w} k f x = record { partial = p_left x.partial; inside = x.inside; only = only; most = most; more = λ z. ((x.more z).0, o_left (x.more z).1) }
     where
       only : (e n r : ℕ) (v : Shape V) → SpeaksOf w d e → a ≤ n → n ≤ length s → Tree L s n (alt g h) e a r v → (r ≤ i) × (r < n → MeetsOne L.holds (slice_get s r) (can_go_on S (alt g h))) × (r < length s)
       only e n r v z l m (t_left x') = let o = x.only e n r _ z l m x' in (o.0, (λ y. In-left L.holds (slice_get s r) (can_go_on S g) _ (o.1 y)), o.2)
@@ -416,7 +417,7 @@ module _ {Token V T P : Type 0} (L : Language Token V T P) (S : Marks T P) (fits
       most e n l m (p_opt x') = elim (step a n l) [ inl r ↦ absurd (k (Trees.partial_starts L s S fits n x' r)) | inr r ↦ omega (arith, r) ]
 
   pub opt_refused : {g : Grammar T P} {d a i : ℕ} {w : Bool} → a < length s → MeetsOne L.holds (slice_get s a) (can_begin S g) → Refused L S s g d a i w → Refused L S s (opt g) d a i w
-  opt_refused {g} {d} {a} {i} {w} l0 k x = record { partial = p_opt x.partial; inside = x.inside; only = only; most = most; more = λ z. ((x.more z).0, p_opt (x.more z).1) }
+  opt_refused {g} {d} {a} {i} {w} l0 k x = record { partial = p_opt x.partial; inside = x.inside; only = only; most = most; more = λ z. ((x.more z).0, o_opt (x.more z).1) }
     where
       only : (e n r : ℕ) (v : Shape V) → SpeaksOf w d e → a ≤ n → n ≤ length s → Tree L s n (opt g) e a r v → (r ≤ i) × (r < n → MeetsOne L.holds (slice_get s r) (can_go_on S (opt g))) × (r < length s)
       only e n r v z l m t_opt_out = (refused_forward x, (λ y. In-left L.holds (slice_get s a) (can_begin S g) _ k), l0)
@@ -476,7 +477,7 @@ module _ {Token V T P : Type 0} (L : Language Token V T P) (S : Marks T P) (fits
           ]
 
   pub rep_refused_first : {g : Grammar T P} {d a i : ℕ} {w : Bool} → Apart L (can_go_on S g) (can_begin S g) → a < length s → MeetsOne L.holds (slice_get s a) (can_begin S g) → Refused L S s g d a i w → Refused L S s (rep g) d a i w
-  rep_refused_first {g} {d} {a} {i} {w} j l0 k x = record { partial = p_rep_first x.partial; inside = x.inside; only = only; most = most; more = λ z. ((x.more z).0, p_rep_first (x.more z).1) }
+  rep_refused_first {g} {d} {a} {i} {w} j l0 k x = record { partial = p_rep_first x.partial; inside = x.inside; only = only; most = most; more = λ z. ((x.more z).0, o_rep_first (x.more z).1) }
     where
       only : (e n r : ℕ) (v : Shape V) → SpeaksOf w d e → a ≤ n → n ≤ length s → Tree L s n (rep g) e a r v → (r ≤ i) × (r < n → MeetsOne L.holds (slice_get s r) (can_go_on S (rep g))) × (r < length s)
       only e n r v z l m t_rep_out = (refused_forward x, (λ y. In-left L.holds (slice_get s a) (can_begin S g) _ k), l0)
@@ -499,7 +500,7 @@ module _ {Token V T P : Type 0} (L : Language Token V T P) (S : Marks T P) (fits
     inside = y.inside;
     only = only;
     most = most;
-    more = λ z. let k = y.more z in (k.0, p_rep_more (Trees.tree_deeper L s (suc i) (Trees.tree_of_fewer L s (length s) (suc i) x.tree (omega (arith, refused_forward y)) (omega (arith, k.0)))) k.1);
+    more = λ z. let k = y.more z in (k.0, o_rep_more (Trees.tree_of_fewer L s (length s) (suc i) x.tree (omega (arith, refused_forward y)) (omega (arith, k.0))) k.1);
   }
     where
       only : (e n r : ℕ) (v : Shape V) → SpeaksOf w d e → a ≤ n → n ≤ length s → Tree L s n (rep g) e a r v → (r ≤ i) × (r < n → MeetsOne L.holds (slice_get s r) (can_go_on S (rep g))) × (r < length s)
@@ -554,7 +555,7 @@ module _ {Token V T P : Type 0} (L : Language Token V T P) (S : Marks T P) (fits
     inside = h.inside;
     only = only;
     most = most;
-    more = λ z. ((h.more z).0, p_nearest k (omega (arith, refused_forward h)) e (h.more z).1);
+    more = λ z. ((h.more z).0, o_nearest k (omega (arith, refused_forward h)) e (h.more z).1);
   }
     where
       only : (e n c : ℕ) (u : Shape V) → SpeaksOf w d e → a ≤ n → n ≤ length s → Tree L s n (nearest k g) e a c u → (c ≤ i) × (c < n → MeetsOne L.holds (slice_get s c) (can_go_on S (nearest k g))) × (c < length s)
@@ -653,7 +654,7 @@ module _ {Token V T P : Type 0} (L : Language Token V T P) (S : Marks T P) (fits
     inside = x.inside;
     only = only;
     most = most;
-    more = λ z. ((x.more z).0, p_ended_first k (omega (arith, refused_forward x)) e (x.more z).1);
+    more = λ z. ((x.more z).0, o_ended_first k (omega (arith, refused_forward x)) e (x.more z).1);
   }
     where
       rest : (e n b' r : ℕ) (u' : Shape V) → b' ≤ n → (b' < n → MeetsOne L.holds (slice_get s b') (can_go_on S g)) → Tree L s n (ended k g) e b' r u' → r ≡ b'
@@ -689,7 +690,7 @@ module _ {Token V T P : Type 0} (L : Language Token V T P) (S : Marks T P) (fits
     inside = y.inside;
     only = only;
     most = most;
-    more = λ z. let k' = y.more z in (k'.0, p_ended_more k (omega (arith, found_forward x, refused_forward y)) e (Trees.tree_deeper L s (suc i) (Trees.tree_of_fewer L s (length s) (suc i) x.tree (omega (arith, refused_forward y)) (omega (arith, k'.0)))) k'.1);
+    more = λ z. let k' = y.more z in (k'.0, o_ended_more k (omega (arith, found_forward x, refused_forward y)) e (Trees.tree_of_fewer L s (length s) (suc i) x.tree (omega (arith, refused_forward y)) (omega (arith, k'.0))) k'.1);
   }
     where
       rest : (e n b' r : ℕ) (u' : Shape V) → b' ≤ n → (b' < n → MeetsOne L.holds (slice_get s b') (can_go_on S g)) → Tree L s n (ended k g) e b' r u' → r ≡ b'
@@ -761,9 +762,3 @@ module _ {Token V T P : Type 0} (L : Language Token V T P) (S : Marks T P) (fits
     on = λ c' u z. subst (λ o. Found L S s whole d a c' o) (sym (chain_more ts t u)) (x.on c' (both t u) (ended_in_found k j f l e y z));
     off = λ i w z. x.off i w (ended_refused k j f l e y z);
   }
-
-  pub seq_shape : {g h : Grammar T P} {d a b : ℕ} {v : Shape V} → Tree L s (length s) (seq g h) d a b v → (t : Shape V) × (u : Shape V) × (v ≡ both t u)
-  seq_shape (t_seq {t = t} {u = u} x y) = (t, u, refl)
-
-  pub rule_tree : {p : P} {d a b : ℕ} {v : Shape V} → Tree L s (length s) (rule p) d a b v → Tree L s (length s) (L.production p) d a b v
-  rule_tree (t_rule x) = x

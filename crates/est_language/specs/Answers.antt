@@ -2,6 +2,7 @@
 use Rattle.std.specs.Prelude.{ℕ, ◌+◌, ◌<◌, true, false, List, length}
 use Rattle.est_language.specs.Grammar.{Grammar, Language}
 use Rattle.est_language.specs.Marks.{Marks}
+use Rattle.est_language.specs.Opening.{OpensOneMore}
 use Rattle.est_language.specs.Reading.{Refused}
 use Rattle.est_language.specs.Places.{HasPartial, IsFirstBadPlace}
 
@@ -26,6 +27,7 @@ SaysWhy L g d s unsaid = Unit {0}
 -- whatever the number of levels
 SaysWhy L g d s (wrong_at i) =
     IsFirstBadPlace L g d s i × (i < length s → (levels : ℕ) → HasPartial L g levels s (i + 1) → ⊥)
--- for lack of one level: with one more, the token opens it
+-- for lack of one level, which the token opens
 SaysWhy L g d s (too_deep_at i) =
     IsFirstBadPlace L g d s i × (i < length s) × HasPartial L g (d + 1) s (i + 1)
+    × OpensOneMore L s i g d 0

@@ -1,7 +1,9 @@
 -- Laws of trees, partial trees and first bad places, as they stand on functions of this crate.
-use Rattle.std.specs.Prelude.{◌≡◌, ℕ, ◌≤◌, List, length}
-use Rattle.est_language.specs.Grammar.{Grammar, Language, Shape}
-use Rattle.est_language.specs.Marks.{Marks, Fits}
+use Rattle.std.specs.Prelude.{◌≡◌, ℕ, ◌+◌, ◌<◌, ◌≤◌, false, List, length}
+use Rattle.est_language.specs.Grammar.{Grammar, rep, Language, Shape, nothing, chain, Tree}
+use Rattle.est_language.specs.Marks.{Marks, Fits, can_be_empty}
+use Rattle.est_language.specs.Extents.{IsPlacedWithin, leaves}
+use Rattle.est_language.specs.Opening.{OpensOneMore}
 use Rattle.est_language.specs.Lookahead.{OneTokenDecides}
 use Rattle.est_language.specs.Places.{HasTree, HasPartial, IsFirstBadPlace}
 
@@ -26,3 +28,32 @@ abbrev pub AtMostOneTree : Type 0 → Type 0 → Type 0 → Type 0 → Type 0
 AtMostOneTree Token V T P = (L : Language Token V T P) (S : Marks T P) (g : Grammar T P) (d e : ℕ)
     (s : List Token) (t u : Shape V) → Fits L S → ((p : P) → OneTokenDecides L S (L.production p))
     → OneTokenDecides L S g → HasTree L g d s t → HasTree L g e s u → t ≡ u
+
+-- the places that a tree keeps lie within it
+abbrev pub PlacesLieWithin : Type 0 → Type 0 → Type 0 → Type 0 → Type 0
+PlacesLieWithin Token V T P = (L : Language Token V T P) (g : Grammar T P) (d : ℕ) (s : List Token)
+    (n a b : ℕ) (t : Shape V) → Tree L s n g d a b t → IsPlacedWithin a b t
+
+-- each token that a tree keeps is one of those that it takes
+abbrev pub LeavesAreTokens : Type 0 → Type 0 → Type 0 → Type 0 → Type 0
+LeavesAreTokens Token V T P = (L : Language Token V T P) (g : Grammar T P) (d : ℕ) (s : List Token)
+    (n a b : ℕ) (t : Shape V) → Tree L s n g d a b t → a + leaves t ≤ b
+
+-- a tree by a grammar that cannot be empty, by a table that says enough, takes a token
+abbrev pub TreesTakeTokens : Type 0 → Type 0 → Type 0 → Type 0 → Type 0
+TreesTakeTokens Token V T P = (L : Language Token V T P) (S : Marks T P) (g : Grammar T P) (d : ℕ)
+    (s : List Token) (n a b : ℕ) (t : Shape V) → Fits L S → can_be_empty S g ≡ false
+    → Tree L s n g d a b t → a < b
+
+-- and so does each turn of its repetition
+abbrev pub TurnsTakeTokens : Type 0 → Type 0 → Type 0 → Type 0 → Type 0
+TurnsTakeTokens Token V T P = (L : Language Token V T P) (S : Marks T P) (g : Grammar T P) (d : ℕ)
+    (s : List Token) (n a b : ℕ) (ts : List (Shape V)) → Fits L S → can_be_empty S g ≡ false
+    → Tree L s n (rep g) d a b (chain ts nothing) → a + length ts ≤ b
+
+-- where a token opens one level more than there are, what stands before it is a partial tree with
+-- these levels, and with it there is one with one level more
+abbrev pub OpenersAreTold : Type 0 → Type 0 → Type 0 → Type 0 → Type 0
+OpenersAreTold Token V T P = (L : Language Token V T P) (g : Grammar T P) (d : ℕ) (s : List Token)
+    (i : ℕ) → OpensOneMore L s i g d 0
+    → HasPartial L g d s i × HasPartial L g (d + 1) s (i + 1)

@@ -1,8 +1,10 @@
 pub mod Grammar
 pub mod Marks
+pub mod Opening
 pub mod Lookahead
 pub mod Reading
 pub mod Places
 pub mod Answers
 pub mod Laws
 pub mod Shown
+pub mod Extents

@@ -1,6 +1,7 @@
 -- What a reader finds of a grammar from a place on: one tree, or the place where it is refused.
-use Rattle.std.specs.Prelude.{◌≡◌, ℕ, suc, ◌<◌, ◌≤◌, Bool, true, false, List, length, slice_get}
+use Rattle.std.specs.Prelude.{◌≡◌, ℕ, ◌<◌, ◌≤◌, Bool, true, false, List, length, slice_get}
 use Rattle.est_language.specs.Grammar.{Grammar, Language, Shape, Tree, Partial}
+use Rattle.est_language.specs.Opening.{OpensOneMore}
 use Rattle.est_language.specs.Marks.{MeetsOne, Marks, can_go_on}
 
 -- A tree up to place c among the first n tokens is the one up to b, or it ends before b and the
@@ -28,7 +29,7 @@ SpeaksOf false d e = Unit {0}
 SpeaksOf true d e = e ≤ d
 
 -- The tokens from place a up to i have a partial tree with d levels, and no partial tree goes
--- further; where levels are wanting (deep), one goes further with one more level.
+-- further; where levels are wanting (deep), the token at i opens one more.
 pub record Refused {Token V T P : Type 0} (L : Language Token V T P) (S : Marks T P)
     (s : List Token) (g : Grammar T P) (d a i : ℕ) (deep : Bool) : Type 0 where
   pub partial : Partial L s i g d a
@@ -37,4 +38,4 @@ pub record Refused {Token V T P : Type 0} (L : Language Token V T P) (S : Marks 
       → Tree L s n g e a c u → (c ≤ i) × (c < n → MeetsOne L.holds (slice_get s c) (can_go_on S g))
       × (c < length s)
   pub most : (e n : ℕ) → SpeaksOf deep d e → a ≤ n → n ≤ length s → Partial L s n g e a → n ≤ i
-  pub more : deep ≡ true → (i < length s) × Partial L s (suc i) g (suc d) a
+  pub more : deep ≡ true → (i < length s) × OpensOneMore L s i g d a

@@ -1,4 +1,4 @@
-use Rattle.std.specs.Prelude.{◌≡◌, ℕ, false, List, [], ◌∷◌, ◌-◌, ◌<◌, ◌≤◌, length, drop, slice_index, slice_range, Some, None}
+use Rattle.std.specs.Prelude.{◌≡◌, ℕ, false, List, [], ◌∷◌, ◌+◌, ◌-◌, ◌<◌, ◌≤◌, length, drop, slice_get, slice_index, slice_range, Some, None}
 use Rattle.std.specs.List.{prefix_len}
 use Rattle.std.specs.Char.{is_ascii_digit}
 use Rattle.est_lexer.specs.declared.kind.Token.{Token}
@@ -53,3 +53,13 @@ pub data AreTokensFrom (text : List ℕ) : ℕ → List Token → Type 0 where
 -- The token list of a text.
 abbrev pub IsTokenList : List ℕ → List Token → Type 0
 IsTokenList text tokens = AreTokensFrom text 0 tokens
+
+-- Each of the tokens lies within the text.
+abbrev pub AreWithin : List ℕ → List Token → Type 0
+AreWithin text tokens = (place : ℕ) (token : Token) → slice_get tokens place ≡ Some token
+    → token.start + token.length ≤ length text
+
+-- Each of them that is not bad is of the kind that its bytes are.
+abbrev pub AreSpelled : List ℕ → List Token → Type 0
+AreSpelled text tokens = (place : ℕ) (token : Token) → slice_get tokens place ≡ Some token
+    → (token.kind ≡ Bad → ⊥) → kind_of (spelling text token) ≡ Some token.kind

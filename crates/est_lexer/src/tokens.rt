@@ -1,12 +1,9 @@
 //! The token list of a text, and where its tokens stand.
 
-ghost use Rattle.std.specs.Prelude.{◌≡◌, ◌≤◌, ◌<◌, ◌+◌, ℕ, length, slice_get, Some, IfSome, count_by, not};
+ghost use Rattle.std.specs.Prelude.{◌≡◌, ◌≤◌, ◌<◌, ◌+◌, length, slice_get, IfSome, count_by, not};
 ghost use Rattle.std.specs.List.{suffix_len};
 ghost use Rattle.est_lexer.specs.Lines.{is_line_feed};
-ghost use Rattle.est_lexer.specs.Spans.{spelling};
-ghost use Rattle.est_lexer.specs.Spellings.{kind_of};
-ghost use Rattle.est_lexer.specs.declared.kind.TokenKind.TheVariants.{Bad};
-ghost use Rattle.est_lexer.specs.declared.kind.Token.{Token};
+ghost use Rattle.est_lexer.specs.TokenList.{AreWithin, AreSpelled};
 ghost use Rattle.est_lexer.specs.declared.tokens.TheConstants.{MOST_BYTES};
 
 use crate::kind::Token;
@@ -25,13 +22,14 @@ pub struct Tokens<'t> {
     pub(crate) list: Vec<Token>,
     ghost short: { length text.now ≤ MOST_BYTES },
     ghost few: { length list.items ≤ length text.now },
-    ghost inside: { (place : ℕ) (token : Token) → slice_get list.items place ≡ Some token → token.start + token.length ≤ length text.now },
-    ghost kinds: { (place : ℕ) (token : Token) → slice_get list.items place ≡ Some token → (token.kind ≡ Bad → ⊥) → kind_of (spelling text.now token) ≡ Some token.kind },
+    ghost inside: { AreWithin text.now list.items },
+    ghost kinds: { AreSpelled text.now list.items },
 }
 
 impl Tokens<'_> {
     ghost use Rattle.est_lexer.specs.Lines.{line_at, column_at};
     ghost use Rattle.est_lexer.specs.Places.{text_of, tokens_of, offset_at};
+    ghost use Rattle.est_lexer.specs.Spans.{spelling};
 
     /// How many tokens the text has.
     pub fn count(&self) -> u32

@@ -1,5 +1,6 @@
 -- Single names, numbers and characters.
 use Rattle.std.proofs.Common.{◌≡◌, ℕ, true, List, refl, sym, ◌∙◌, ap, subst, Option, Some, None, slice_get}
+use Rattle.std.specs.Option.{IsSomeAnd}
 use Rattle.std.specs.Str.{str_to_ascii_lowercase}
 use Rattle.est_lexer.specs.declared.kind.Token.{Token}
 use Rattle.est_lexer.specs.declared.kind.TokenKind.{TokenKind}
@@ -15,7 +16,7 @@ use Rattle.est_language.proofs.Members.{and_left}
 use Rattle.est_syntax.specs.declared.name.Used.{Used}
 use Rattle.est_reader.specs.declared.reader.Reader.{Reader}
 use Rattle.est_reader.specs.Tests.{Test, kind, number, Kept, name, value, code, kept_as, value_of, value_in, code_of, code_in, lowered, holds, language}
-use Rattle.est_reader.specs.Moving.{Does, Taken, NotThere, Takes, TakesName, TakesNumber, TakesValue, TakesCharacter, Token_is}
+use Rattle.est_reader.specs.Moving.{Does, Taken, NotThere, Takes, TakesName, TakesNumber, TakesValue, TakesCharacter}
 use Rattle.est_reader.specs.Going.{Rule, Finds, Fails, Goes, identifier, used}
 use Rattle.est_reader.proofs.Steps.{onto}
 use Rattle.est_reader.proofs.Going.{Known, not_there, here_goes}
@@ -49,19 +50,19 @@ kept_character (Symbol symbol) bytes e = cc
 kept_character Bad bytes e = cc
 
 module _ {P : Type 0} (production : P → Rule P) (text : List ℕ) where
-  name_kept : (o : Option Token) (bytes : List ℕ) → meets (holds text) (kind Identifier) o ≡ true → Token_is o (λ t. bytes ≡ lowered text t) → KeptOf (language production text) o (name bytes)
+  name_kept : (o : Option Token) (bytes : List ℕ) → meets (holds text) (kind Identifier) o ≡ true → IsSomeAnd o (λ t. bytes ≡ lowered text t) → KeptOf (language production text) o (name bytes)
   name_kept None bytes m h = absurd h
   name_kept (Some t) bytes m h = kept_name t.kind (spelling text t) m ∙ ap name (sym h)
 
-  number_kept : (low high v : ℕ) (o : Option Token) → meets (holds text) (number low high) o ≡ true → Token_is o (λ t. value_in text t ≡ v) → KeptOf (language production text) o (value v)
+  number_kept : (low high v : ℕ) (o : Option Token) → meets (holds text) (number low high) o ≡ true → IsSomeAnd o (λ t. value_in text t ≡ v) → KeptOf (language production text) o (value v)
   number_kept low high v None m h = absurd h
   number_kept low high v (Some t) m h = kept_number t.kind (spelling text t) (and_left (is_same t.kind Number) _ m) ∙ ap value h
 
-  value_kept : (v : ℕ) (o : Option Token) → meets (holds text) (kind Number) o ≡ true → Token_is o (λ t. value_in text t ≡ v) → KeptOf (language production text) o (value v)
+  value_kept : (v : ℕ) (o : Option Token) → meets (holds text) (kind Number) o ≡ true → IsSomeAnd o (λ t. value_in text t ≡ v) → KeptOf (language production text) o (value v)
   value_kept v None m h = absurd h
   value_kept v (Some t) m h = kept_number t.kind (spelling text t) m ∙ ap value h
 
-  code_kept : (c : ℕ) (o : Option Token) → meets (holds text) (kind Character) o ≡ true → Token_is o (λ t. code_in text t ≡ c) → KeptOf (language production text) o (code c)
+  code_kept : (c : ℕ) (o : Option Token) → meets (holds text) (kind Character) o ≡ true → IsSomeAnd o (λ t. code_in text t ≡ c) → KeptOf (language production text) o (code c)
   code_kept c None m h = absurd h
   code_kept c (Some t) m h = kept_character t.kind (spelling text t) m ∙ ap code h
 
@@ -83,7 +84,7 @@ module _ {P N : Type 0} (K : Known P N) where
   name_goes {A} {B} {u} x =
       subst (λ p. Goes K.syntax identifier A (used (record u { place = p })) B) (sym x.place)
       (here_goes K record {
-        moves = kept_goes A B (λ o. Token_is o (λ t. u.name.bytes ≡ lowered (text_of A.tokens.now) t)) (kind Identifier) (name u.name.bytes)
+        moves = kept_goes A B (λ o. IsSomeAnd o (λ t. u.name.bytes ≡ lowered (text_of A.tokens.now) t)) (kind Identifier) (name u.name.bytes)
             (name_kept K.syntax.production (text_of A.tokens.now) (slice_get (tokens_of A.tokens.now) A.at) u.name.bytes) x.takes;
         same = x.same;
       })
@@ -91,14 +92,14 @@ module _ {P N : Type 0} (K : Known P N) where
   -- a number that is kept
   pub number_goes : {A B : Reader} {low high v : ℕ} → TakesNumber low high A v B → Goes K.syntax (token (number low high)) A (kept (value v)) B
   number_goes {A} {B} {low} {high} {v} x = record {
-    moves = kept_goes A B (λ o. Token_is o (λ t. value_in (text_of A.tokens.now) t ≡ v)) (number low high) (value v)
+    moves = kept_goes A B (λ o. IsSomeAnd o (λ t. value_in (text_of A.tokens.now) t ≡ v)) (number low high) (value v)
         (number_kept K.syntax.production (text_of A.tokens.now) low high v (slice_get (tokens_of A.tokens.now) A.at)) x.takes;
     same = x.same;
   }
 
   pub value_goes : {A B : Reader} {v : ℕ} → TakesValue A v B → Goes K.syntax (token (kind Number)) A (kept (value v)) B
   value_goes {A} {B} {v} x = record {
-    moves = kept_goes A B (λ o. Token_is o (λ t. value_in (text_of A.tokens.now) t ≡ v)) (kind Number) (value v)
+    moves = kept_goes A B (λ o. IsSomeAnd o (λ t. value_in (text_of A.tokens.now) t ≡ v)) (kind Number) (value v)
         (value_kept K.syntax.production (text_of A.tokens.now) v (slice_get (tokens_of A.tokens.now) A.at)) x.takes;
     same = x.same;
   }
@@ -106,7 +107,7 @@ module _ {P N : Type 0} (K : Known P N) where
   -- a character that is kept
   pub character_goes : {A B : Reader} {c : ℕ} → TakesCharacter A c B → Goes K.syntax (token (kind Character)) A (kept (code c)) B
   character_goes {A} {B} {c} x = record {
-    moves = kept_goes A B (λ o. Token_is o (λ t. code_in (text_of A.tokens.now) t ≡ c)) (kind Character) (code c)
+    moves = kept_goes A B (λ o. IsSomeAnd o (λ t. code_in (text_of A.tokens.now) t ≡ c)) (kind Character) (code c)
         (code_kept K.syntax.production (text_of A.tokens.now) c (slice_get (tokens_of A.tokens.now) A.at)) x.takes;
     same = x.same;
   }
@@ -114,7 +115,7 @@ module _ {P N : Type 0} (K : Known P N) where
 -- a number that is taken and not kept
 pub number_takes : {A B : Reader} {low high v : ℕ} → TakesNumber low high A v B → Takes (number low high) A B
 number_takes {A} {B} {low} {high} {v} x = record {
-  takes = onto (λ b. Taken A.tokens.now (number low high) A.at b × Token_is (slice_get (tokens_of A.tokens.now) A.at) (λ t. value_in (text_of A.tokens.now) t ≡ v)) (Taken A.tokens.now (number low high) A.at)
+  takes = onto (λ b. Taken A.tokens.now (number low high) A.at b × IsSomeAnd (slice_get (tokens_of A.tokens.now) A.at) (λ t. value_in (text_of A.tokens.now) t ≡ v)) (Taken A.tokens.now (number low high) A.at)
       (NotThere A.tokens.now (number low high) A.at) (NotThere A.tokens.now (number low high) A.at) A.at B.at A.outcome B.outcome (λ w p. p.0) (λ w z q. q) x.takes;
   same = x.same;
 }

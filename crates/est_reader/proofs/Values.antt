@@ -6,7 +6,7 @@ use Rattle.std.specs.List.{list_all}
 use Rattle.std.proofs.Math.Nat.{mul-le-mul_right, mul_assoc, pow-le-pow_right, pow-succ'}
 use Rattle.std.proofs.lemmas.Bool.{and_parts}
 use Rattle.std.proofs.lemmas.Bool.Decides.{nat_tests}
-use Rattle.std.proofs.lemmas.List.{drop_more, drop_all}
+use Rattle.std.proofs.lemmas.List.{drop_more}
 use Rattle.est_lexer.specs.Spellings.{is_number}
 use Rattle.est_reader.specs.Tests.{with_digit, value_of}
 
@@ -17,9 +17,6 @@ fold-with_digit-grows (digit ∷ digits) value = omega (arith, fold-with_digit-g
 
 pub fold-drop-more : (digits : List ℕ) (i value : ℕ) → i < length digits → fold with_digit value (drop i digits) ≡ fold with_digit (with_digit value (get_or digits i 0)) (drop (i + 1) digits)
 fold-drop-more digits i value l = ap (fold with_digit value) (drop_more digits i 0 l)
-
-pub fold-drop-all : (digits : List ℕ) (i value : ℕ) → length digits ≤ i → fold with_digit value (drop i digits) ≡ value
-fold-drop-all digits i value l = ap (fold with_digit value) (drop_all i digits l)
 
 -- with one digit more the value is no more than the whole
 pub value_of-passes : (digits : List ℕ) (i value : ℕ) → i < length digits → value_of digits ≡ fold with_digit value (drop i digits) → with_digit value (get_or digits i 0) ≤ value_of digits

@@ -1,5 +1,5 @@
 -- From what a reader of a whole text does to its answer.
-use Rattle.std.proofs.Common.{◌≡◌, ℕ, suc, Bool, true, false, List, length, refl, subst, arith}
+use Rattle.std.proofs.Common.{◌≡◌, ℕ, Bool, true, false, List, length, refl, subst}
 use Rattle.est_lexer.specs.declared.tokens.Tokens.{Tokens}
 use Rattle.est_lexer.specs.Places.{text_of, tokens_of}
 use Rattle.est_language.specs.Grammar.{Language, Grammar}
@@ -9,13 +9,13 @@ use Rattle.est_language.specs.Answers.{Cause, SaysWhy, wrong_at, too_deep_at}
 use Rattle.est_language.specs.Places.{HasTree}
 use Rattle.est_language.specs.Shown.{Shows}
 use Rattle.est_language.proofs.Exits as exits
-use Rattle.est_language.proofs.Trees.{partial_forward}
-use Rattle.est_language.proofs.Flat.{flat, partial_any}
+use Rattle.est_language.proofs.Flat.{flat, flat_opens_none}
 use Rattle.est_reader.specs.declared.reader.Reader.{Reader}
 use Rattle.est_reader.specs.declared.outcome.Outcome.{Outcome}
 use Rattle.est_reader.specs.declared.outcome.Outcome.TheVariants.{Well, Wrong, TooDeep, NoMemory}
 use Rattle.est_reader.specs.Tests.{language}
 use Rattle.est_reader.specs.Moving.{Does}
+use Rattle.est_reader.specs.Whole.{IsReadAs}
 use Rattle.est_reader.specs.Going.{Rule, Shape, View, Finds, Fails, Goes}
 use Rattle.est_reader.proofs.Going.{Known}
 
@@ -43,9 +43,7 @@ module _ (P : ℕ → Type 0) (Q : ℕ → Bool → Type 0) (a b : ℕ) where
 pub flat_not_deep : {Token V T P : Type 0} {L : Language Token V T P} {S : Marks T P} {s : List Token} {g : Grammar T P} {d a i : ℕ}
     → flat g ≡ true
     → Refused L S s g d a i true → ⊥
-flat_not_deep {L = L} {s = s} {d = d} {i = i} f h =
-    let p = h.more refl in
-    omega (arith, p.0, h.most d (suc i) (omega arith) (omega (arith, partial_forward L s i h.partial)) (omega (arith, p.0)) (partial_any L s (suc i) d f p.1))
+flat_not_deep {L = L} {s = s} {i = i} f h = flat_opens_none L s i f (h.more refl).1
 
 -- a reader at the first of these tokens, with so many levels to open
 pub record Starts (tokens : Tokens) (d : ℕ) (A : Reader) : Type 0 where
@@ -100,3 +98,18 @@ module _ {P N : Type 0} (K : Known P N) {tokens : Tokens} {g : Rule P} {d : ℕ}
 
   pub whole_deep : B.outcome ≡ TooDeep → Why (too_deep_at B.at)
   whole_deep w = exits.explained (K.fits (text_of tokens)) g d (tokens_of tokens) (too_deep_at B.at) (fails_deep w)
+
+-- the whole list is read as this value, where no two values show one shape
+pub read_as : {I P N : Type 0} (K : Known P N) {tokens : Tokens} {g : Rule P} {d : ℕ} {A B : Reader} (view : I → View N) (i : I)
+    → ((j : I) (t : Shape) → Shows K.syntax.layer (view j) t → Shows K.syntax.layer (view i) t → j ≡ i)
+    → Goes K.syntax g A (view i) B → Starts tokens d A → B.outcome ≡ Well → B.at ≡ length (tokens_of tokens)
+    → IsReadAs K.syntax (text_of tokens) (tokens_of tokens) g d view i
+read_as K view i one x s w e =
+    let r = whole_read K x s w e in
+    record {
+      shape = r.0;
+      tree = r.1;
+      shows = r.2;
+      only_tree = r.3;
+      only_value = λ j q. one j r.0 (subst (λ t. Shows K.syntax.layer (view j) t) (r.3 q.0 q.1) q.2) r.2;
+    }

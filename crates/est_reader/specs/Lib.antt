@@ -1,3 +1,4 @@
 pub mod Tests
 pub mod Moving
 pub mod Going
+pub mod Whole

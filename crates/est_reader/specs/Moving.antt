@@ -1,6 +1,6 @@
 -- What the small steps of a reader do to it.
 use Rattle.std.specs.Prelude.{◌≡◌, ℕ, ◌+◌, ◌*◌, ◌<◌, ◌≤◌, ◌⊎◌, Bool, true, false, List, [], ◌∷◌, ◌++◌, Option, Some, None, option_to_list, slice_get, bytes_eq}
-use Rattle.est_lexer.specs.declared.kind.Token.{Token}
+use Rattle.std.specs.Option.{IsSomeAnd}
 use Rattle.est_lexer.specs.declared.kind.TokenKind.TheVariants.{Identifier, Number, Character}
 use Rattle.est_lexer.specs.declared.tokens.Tokens.{Tokens}
 use Rattle.est_lexer.specs.Places.{text_of, tokens_of}
@@ -89,16 +89,11 @@ pub record Takes (test : Test) (old new : Reader) : Type 0 where
       (NotThere old.tokens.now test old.at) old.at old.outcome new.at new.outcome
   pub same : Same old new
 
--- there is a token, of which P holds
-abbrev pub Token_is : Option Token → (Token → Type 0) → Type 0
-Token_is None P = ⊥
-Token_is (Some token) P = P token
-
 -- an identifier is taken, and this is its name in lower case, with its place
 pub record TakesName (old : Reader) (used : Used) (new : Reader) : Type 0 where
   pub takes : Does
       (λ b. Taken old.tokens.now (kind Identifier) old.at b
-      × Token_is (slice_get (tokens_of old.tokens.now) old.at)
+      × IsSomeAnd (slice_get (tokens_of old.tokens.now) old.at)
       (λ token. used.name.bytes ≡ lowered (text_of old.tokens.now) token))
       (NotThere old.tokens.now (kind Identifier) old.at) old.at old.outcome new.at new.outcome
   pub place : used.place ≡ old.at
@@ -108,7 +103,7 @@ pub record TakesName (old : Reader) (used : Used) (new : Reader) : Type 0 where
 pub record TakesNumber (low high : ℕ) (old : Reader) (value : ℕ) (new : Reader) : Type 0 where
   pub takes : Does
       (λ b. Taken old.tokens.now (number low high) old.at b
-      × Token_is (slice_get (tokens_of old.tokens.now) old.at)
+      × IsSomeAnd (slice_get (tokens_of old.tokens.now) old.at)
       (λ token. value_in (text_of old.tokens.now) token ≡ value))
       (NotThere old.tokens.now (number low high) old.at) old.at old.outcome new.at new.outcome
   pub bounded : value ≤ high
@@ -118,7 +113,7 @@ pub record TakesNumber (low high : ℕ) (old : Reader) (value : ℕ) (new : Read
 pub record TakesValue (old : Reader) (value : ℕ) (new : Reader) : Type 0 where
   pub takes : Does
       (λ b. Taken old.tokens.now (kind Number) old.at b
-      × Token_is (slice_get (tokens_of old.tokens.now) old.at)
+      × IsSomeAnd (slice_get (tokens_of old.tokens.now) old.at)
       (λ token. value_in (text_of old.tokens.now) token ≡ value))
       (NotThere old.tokens.now (kind Number) old.at) old.at old.outcome new.at new.outcome
   pub same : Same old new
@@ -127,7 +122,7 @@ pub record TakesValue (old : Reader) (value : ℕ) (new : Reader) : Type 0 where
 pub record TakesCharacter (old : Reader) (code : ℕ) (new : Reader) : Type 0 where
   pub takes : Does
       (λ b. Taken old.tokens.now (kind Character) old.at b
-      × Token_is (slice_get (tokens_of old.tokens.now) old.at)
+      × IsSomeAnd (slice_get (tokens_of old.tokens.now) old.at)
       (λ token. code_in (text_of old.tokens.now) token ≡ code))
       (NotThere old.tokens.now (kind Character) old.at) old.at old.outcome new.at new.outcome
   pub same : Same old new
@@ -142,7 +137,7 @@ IsNamedAt tokens at None = (name : List ℕ) → stands tokens at (named name) �
 abbrev pub FindsNumber : ℕ → ℕ → Tokens → ℕ → Option ℕ → Type 0
 FindsNumber low high tokens at (Some value) =
     (stands tokens at (number low high) ≡ true)
-    × Token_is (slice_get (tokens_of tokens) at)
+    × IsSomeAnd (slice_get (tokens_of tokens) at)
     (λ token. value_in (text_of tokens) token ≡ value) × (value ≤ high)
 FindsNumber low high tokens at None = stands tokens at (number low high) ≡ false
 
@@ -165,6 +160,19 @@ pub record Opens (old : Reader) (levels : ℕ) (new : Reader) : Type 0 where
   pub told : levels ≡ old.levels
   pub onward : old.at ≤ new.at
   pub lighter : weight new < weight old
+
+-- a level is taken; or none is left
+abbrev pub EntersAt : ℕ → ℕ → Outcome → Type 0
+EntersAt d e Well = d ≡ e + 1
+EntersAt d e Wrong = ⊥
+EntersAt d e TooDeep = d ≡ 0
+EntersAt d e NoMemory = ⊥
+
+-- a level is taken, where there is one, and nothing is read
+pub record Enters (old new : Reader) : Type 0 where
+  pub enters : EntersAt old.levels new.levels new.outcome
+  pub tokens : new.tokens.now ≡ old.tokens.now
+  pub place : new.at ≡ old.at
 
 -- the levels are what they were
 pub record Closes (levels : ℕ) (old new : Reader) : Type 0 where

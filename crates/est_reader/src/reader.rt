@@ -44,7 +44,7 @@ impl<'t> Reader<'t> {
 
 impl Reader<'_> {
     ghost use Rattle.est_reader.specs.Tests.{kind, spelled, stands as does_stand, lowered as is_lowered};
-    ghost use Rattle.est_reader.specs.Moving.{IsTest, Sees, Steps, Takes, TakesName, TakesNumber, TakesValue, TakesCharacter, IsNamedAt, FindsNumber, Opens, Closes, Still, Kept, KeptSome};
+    ghost use Rattle.est_reader.specs.Moving.{IsTest, Sees, Steps, Takes, TakesName, TakesNumber, TakesValue, TakesCharacter, IsNamedAt, FindsNumber, Opens, Enters, Closes, Still, Kept, KeptSome};
     ghost use Rattle.est_lexer.specs.declared.kind.TokenKind.TheVariants.{Reserved, Symbol as Special};
     ghost use Rattle.est_reader.specs.declared.outcome.Outcome.TheVariants.{Well};
     ghost use Rattle.std.specs.Str.{str_to_ascii_lowercase};
@@ -172,6 +172,18 @@ impl Reader<'_> {
             self.levels = levels - 1;
         }
         levels
+    }
+
+    /// Takes a level, where there is one, and reads nothing.
+    pub fn enter(&mut self)
+        requires { self.old.outcome ≡ Well }
+        ensures { Enters self.old self.new }
+    {
+        if self.levels == 0 {
+            self.outcome = Outcome::TooDeep;
+        } else {
+            self.levels = self.levels - 1;
+        }
     }
 
     /// Closes a level: there are as many as before.

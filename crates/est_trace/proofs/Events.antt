@@ -16,7 +16,7 @@ use Rattle.est_reader.specs.declared.reader.Reader.{Reader}
 use Rattle.est_reader.specs.declared.outcome.Outcome.{Outcome}
 use Rattle.est_reader.specs.declared.outcome.Outcome.TheVariants.{Well, Wrong, TooDeep, NoMemory}
 use Rattle.est_reader.specs.Tests.{Test, said, named, holds, stands}
-use Rattle.est_reader.specs.Moving.{bit, Does, Seen, Sees, NoneSeen, OneSeen, Closes, Still, Kept}
+use Rattle.est_reader.specs.Moving.{bit, Does, Seen, Sees, NoneSeen, OneSeen, Closes, Still, Kept, EntersAt, Enters}
 use Rattle.est_reader.specs.Going.{Shape, Finds, Fails, Goes}
 use Rattle.est_reader.proofs.Steps.{onto, after, stay, seen_among, sees_well, sees_it, none_meets, left_of, bit_small}
 use Rattle.est_reader.proofs.Going.{begins_it}
@@ -26,7 +26,7 @@ use Rattle.est_trace.specs.declared.direction.Direction.{Direction}
 use Rattle.est_trace.specs.declared.direction.Direction.TheVariants.{In, Out}
 use Rattle.est_trace.specs.Grammar.{Rule, passes, some_pass, signal, dot_signal, port, event, marks, event_starts}
 use Rattle.est_trace.specs.Nodes.{some_events, an_event, layer, tracing}
-use Rattle.est_trace.specs.Counting.{EntersAt, Enters, CountsEvents}
+use Rattle.est_trace.specs.Counting.{CountsEvents}
 use Rattle.est_trace.specs.Reading.{traces, nested, IsFullAfter}
 use Rattle.est_trace.proofs.Closed.{event_closed}
 use Rattle.est_trace.proofs.TraceFits.{fits, known}
@@ -196,7 +196,7 @@ begins_seen ports A s =
     let k = seen_among A (event_starts ports) (event_starts ports) refl s in
     begins_it known (event_starts ports) k.1 k.2
 
-seen_well : (ports : List Port) (A : Reader) → OneSeen A (event_starts ports) → A.outcome ≡ Well
+pub seen_well : (ports : List Port) (A : Reader) → OneSeen A (event_starts ports) → A.outcome ≡ Well
 seen_well ports A s = sees_well (seen_among A (event_starts ports) (event_starts ports) refl s).2
 
 module _ (ports : List Port) where

@@ -1,25 +1,10 @@
 -- What a reader of events does with the levels, which count the events.
-use Rattle.std.specs.Prelude.{◌≡◌, ℕ, ◌+◌, true, List}
+use Rattle.std.specs.Prelude.{◌≡◌, true, List}
 use Rattle.est_lexer.specs.Places.{text_of, tokens_of}
 use Rattle.est_syntax.specs.declared.ports.Port.{Port}
 use Rattle.est_reader.specs.declared.reader.Reader.{Reader}
-use Rattle.est_reader.specs.declared.outcome.Outcome.{Outcome}
-use Rattle.est_reader.specs.declared.outcome.Outcome.TheVariants.{Well, Wrong, TooDeep, NoMemory}
 use Rattle.est_reader.specs.Moving.{Does}
 use Rattle.est_trace.specs.Reading.{IsFullAfter, IsFull}
-
--- a level is taken; or none is left
-abbrev pub EntersAt : ℕ → ℕ → Outcome → Type 0
-EntersAt d e Well = d ≡ e + 1
-EntersAt d e Wrong = ⊥
-EntersAt d e TooDeep = d ≡ 0
-EntersAt d e NoMemory = ⊥
-
--- a level is taken, where there is one, and nothing is read
-pub record Enters (old new : Reader) : Type 0 where
-  pub enters : EntersAt old.levels new.levels new.outcome
-  pub tokens : new.tokens.now ≡ old.tokens.now
-  pub place : new.at ≡ old.at
 
 -- where a reader of events finds one too many, as many as there were levels are complete before it
 abbrev pub CountsEvents : List Port → Reader → Reader → Type 0

@@ -6,14 +6,14 @@ ghost use Rattle.est_language.specs.Grammar.{rule};
 ghost use Rattle.est_language.specs.Shown.{node};
 ghost use Rattle.est_syntax.specs.Ports.{ports_of};
 ghost use Rattle.est_meaning.specs.Allowed.{IsAllowedTrace};
-ghost use Rattle.est_reader.specs.Moving.{OneSeen, SeesOne};
+ghost use Rattle.est_reader.specs.Moving.{SeesOne};
 ghost use Rattle.est_reader.specs.Going.{Goes};
 ghost use Rattle.est_trace.specs.Grammar as grammar;
 ghost use Rattle.est_trace.specs.Nodes.{an_event, some_events, a_trace, tracing};
 ghost use Rattle.est_trace.specs.Skeletons.{ArePlain};
 ghost use Rattle.est_trace.specs.Directories.{IsDirectory};
 ghost use Rattle.est_trace.specs.AtPorts.{AreAtPorts};
-ghost use Rattle.est_trace.specs.Counting.{Enters, CountsEvents, CountsTrace};
+ghost use Rattle.est_trace.specs.Counting.{CountsEvents, CountsTrace};
 ghost use Rattle.est_trace.specs.Reading.{ReadsTrace};
 
 use crate::direction::Direction;
@@ -121,7 +121,7 @@ fn events(reader: &mut Reader, directory: &Directory, hints: &mut Hints) -> Trac
     let levels = reader.levels;
     let mut found = Trace::new(reader.alloc);
     while begins_event(reader) {
-        enter(reader);
+        reader.enter();
         let next = event(reader, directory, hints);
         reader.keep(&mut found, next);
     }
@@ -134,18 +134,6 @@ fn begins_event(reader: &Reader) -> bool
     ensures { SeesOne reader.now (grammar.event_starts []) result }
 {
     reader.sees_word(b"time") || reader.sees_word(b"in") || reader.sees_word(b"out")
-}
-
-// Takes a level for the event that begins here.
-fn enter(reader: &mut Reader)
-    requires { OneSeen reader.old (grammar.event_starts []) }
-    ensures { Enters reader.old reader.new }
-{
-    if reader.levels == 0 {
-        reader.outcome = Outcome::TooDeep;
-    } else {
-        reader.levels = reader.levels - 1;
-    }
 }
 
 // event = "time" number | "in" port "." signal | "out" port "." signal .

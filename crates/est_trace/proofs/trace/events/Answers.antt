@@ -1,4 +1,4 @@
-use Rattle.est_trace.proofs.Events.{none_read, one_read, less_left, all_read, all_counted}
+use Rattle.est_trace.proofs.Events.{none_read, seen_well, one_read, less_left, all_read, all_counted}
 use Rattle.est_trace.proofs.trace.events.Goals as goal
 
 pub loop-reader-init : goal.loop-reader-init
@@ -15,3 +15,6 @@ returns-clause-reads c = all_read c.args.directory.now.ports.now c.loop-reader.i
 
 pub returns-clause-counts : goal.returns-clause-counts
 returns-clause-counts c = all_counted c.args.directory.now.ports.now c.loop-reader.invariant c.close.ensures
+
+pub enter-requires : goal.enter-requires
+enter-requires c = seen_well c.args.directory.now.ports.now c.loop-reader.reader c.loop-reader-test.ensures
