@@ -1,1 +1,5 @@
 pub mod Fits
+pub mod Sorts
+pub mod Pieces
+pub mod Told
+pub mod OneValue
