@@ -1,5 +1,5 @@
 -- Where two views of one sort show one shape, they are the same. A layer, or a part of it, that shows no shape at all is of any sort.
-use Rattle.std.proofs.Common.{◌≡◌, ℕ, List, [], ◌∷◌, ◌++◌, Option, Some, None, refl, sym, ◌∙◌, ap, subst}
+use Rattle.std.proofs.Common.{◌≡◌, ℕ, List, [], ◌∷◌, ◌++◌, Option, Some, refl, sym, ◌∙◌, ap, subst}
 use Rattle.est_language.specs.Grammar.{Shape}
 use Rattle.est_language.specs.Shown.{View, Shows, empty, kept, at, pair, first, second, given, node, alone, perhaps, nodes, runs, sections, s_empty, s_kept, s_at, s_pair, s_first, s_second, s_given, s_node, s_alone, s_without, s_with, s_none, s_more, s_no_run, s_run, s_no_section, s_first_section, s_second_section}
 

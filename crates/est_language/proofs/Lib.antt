@@ -7,3 +7,4 @@ pub mod Exits
 pub mod Fronts
 pub mod OneTree
 pub mod Alike
+pub mod Kept
