@@ -1,3 +1,5 @@
+pub mod Sizes
+pub mod Order
 pub mod CountLaws
 pub mod OrderLaws
 pub mod PortBounds
