@@ -1,11 +1,6 @@
 pub mod Sizes
-pub mod Order
-pub mod CountLaws
-pub mod OrderLaws
 pub mod PortBounds
-pub mod Sentences
-pub mod SkeletonLaws
-pub mod UniqueLaws
-pub mod Shapes
-pub mod Shown
+pub mod Small
+pub mod Order
+pub mod Unique
 pub mod Refused

@@ -1,5 +1,5 @@
 -- In a skeleton sentence the text of the body stands before the header of the module variable.
-use Rattle.std.proofs.Common.{◌≡◌, ◌≤◌, ◌<◌, ℕ, List, [], ◌∷◌, ◌++◌, Option, Some, None, length, map, arith, refl, subst}
+use Rattle.std.proofs.Common.{◌≤◌, ◌<◌, ℕ, List, [], ◌∷◌, ◌++◌, Option, Some, None, length, map, arith, subst}
 use Rattle.est_lexer.specs.declared.kind.Token.{Token}
 use Rattle.est_syntax.specs.declared.name.Used.{Used}
 use Rattle.est_syntax.specs.declared.expression.Access.{Access}
@@ -9,7 +9,6 @@ use Rattle.est_syntax.specs.declared.header.ModvarDef.{ModvarDef}
 use Rattle.est_syntax.specs.declared.body.Body.{Body, out-Body}
 use Rattle.est_syntax.specs.declared.body.Block.{Block, out-Block}
 use Rattle.est_syntax.specs.declared.body.FirstPart.{FirstPart, out-FirstPart}
-use Rattle.est_syntax.specs.declared.body.Part.{Part}
 use Rattle.est_syntax.specs.declared.body.Part.TheVariants as part
 use Rattle.est_syntax.specs.declared.body.Part.TheOpen as form
 use Rattle.est_syntax.specs.declared.statement.Sending.{Sending}
@@ -24,7 +23,6 @@ use Rattle.est_syntax.specs.declared.specification.Spec.{Spec}
 use Rattle.est_language.specs.Grammar.{Tree, rep, rule, t_rep_in}
 use Rattle.est_language.specs.Shown.{Shows, node, nodes, s_at, s_pair, s_first, s_second, s_given, s_kept, s_none, s_more, s_node}
 use Rattle.est_language.proofs.Kept.{Lies, lies, lies_within}
-use Rattle.est_language.proofs.Trees.{tree_forward}
 use Rattle.est_reader.specs.Tests.{language}
 use Rattle.est_reader.specs.Going.{Shape, used}
 use Rattle.est_productions.specs.Grammar.{Rule, production, common}
@@ -32,7 +30,10 @@ use Rattle.est_productions.specs.Nodes as shown
 use Rattle.est_productions.specs.Nodes.{View, a_use, a_common_part, a_block, a_clause, a_transition, a_group, a_body, an_access, a_statement, a_sending, a_module_variable, layer}
 use Rattle.est_check.specs.Skeleton.{IsSkeleton, channel_parts}
 use Rattle.est_check.specs.SkeletonRules.{EachUsed, EachState, EachSending, InStatement, EachStatement, InClause, EachClause, EachTransition, EachGroup, InFirst, IsInOrder}
+use Rattle.est_check.proofs.RuleLaws.{law}
+use Rattle.est_specification.specs.SentenceRules.{SentencesBreakFew}
 use Rattle.est_specification.proofs.Sizes.{HasParts}
+use Rattle.est_specification.proofs.Small.{parts_of}
 
 abbrev Has : View → Shape → Type 0
 Has v t = Shows layer v t
@@ -142,3 +143,6 @@ module _ (text : List ℕ) (tokens : List Token) where
 
   pub sentence_order : (spec : Spec) (sk : IsSkeleton spec) → HasParts text tokens spec → IsInOrder sk
   sentence_order spec sk x = last_order sk.channels sk.header sk.body sk.variable (subst (λ ps. Has (nodes (map a_common_part ps)) x.shape) sk.parts x.shows) x.tree
+
+pub few_broken : SentencesBreakFew
+few_broken text tokens spec one sk place r b = law spec sk (sentence_order text tokens spec sk (parts_of text tokens spec one)) place r b

@@ -1,5 +1,5 @@
 -- A sentence has no more interaction points, interactions of a channel, and transitions than tokens.
-use Rattle.std.proofs.Common.{◌≡◌, ◌+◌, ◌≤◌, ℕ, suc, List, [], ◌∷◌, length, map, arith, refl, ap, subst}
+use Rattle.std.proofs.Common.{◌≡◌, ◌+◌, ◌≤◌, ℕ, List, [], ◌∷◌, length, map, arith, refl, subst}
 use Rattle.std.specs.Prelude.{sum_by}
 use Rattle.std.proofs.lemmas.List.Sums.{sum_by-cons}
 use Rattle.est_lexer.specs.declared.kind.Token.{Token}
@@ -19,7 +19,7 @@ use Rattle.est_syntax.specs.declared.specification.Spec.{Spec}
 use Rattle.est_language.specs.Grammar.{Tree, rep, rule, t_word, t_deeper, t_seq, t_left, t_right, t_rule}
 use Rattle.est_language.specs.Shown.{Shows, node, nodes, s_at, s_pair, s_first, s_second, s_kept, s_node}
 use Rattle.est_language.proofs.Kept.{leaves, leaves_fit, turns_fit, several_fit, one_fits, ones, sum_map, parts_show, sections_show}
-use Rattle.est_language.proofs.Trees.{tree_forward, tree_inside}
+use Rattle.est_language.proofs.Trees.{tree_forward}
 use Rattle.est_reader.specs.Tests.{language}
 use Rattle.est_reader.specs.Going.{Shape}
 use Rattle.est_productions.specs.Grammar.{Rule, production, specification, common, body, transpart, transition}
@@ -49,7 +49,7 @@ abbrev pub port_sum : List Part → ℕ
 port_sum ps = sum_by points_of ps
 
 -- the names that are counted in a part: interaction points and interactions
-abbrev names_counted : Part → ℕ
+abbrev pub names_counted : Part → ℕ
 names_counted (part.Header h) = sum_by names_in h.points
 names_counted (part.Channel c) = sum_by signals_in c.by
 names_counted _ = 0
@@ -179,9 +179,16 @@ module _ (text : List ℕ) (tokens : List Token) where
   body_long : (x : Body) (d a b : ℕ) (t : Shape) → Has (node (a_body x)) t → Reads (rule body) d a b t → a + group_count (out-Body x).groups ≤ b
   body_long x d a b t (s_node (s_pair h1 (s_pair h2 (s_pair h3 (s_pair h4 (s_pair h5 h6)))))) (t_rule (t_deeper (t_word k i e (t_seq one (t_word k' i' e' (t_seq two (t_word k'' i'' e'' (t_seq parts (t_seq first (t_seq groups end_)))))))))) =
       let gs = (out-Body x).groups in
-      omega (arith, tree_forward (language production text) tokens (length tokens) one, tree_forward (language production text) tokens (length tokens) two, tree_forward (language production text) tokens (length tokens) parts,
-        tree_forward (language production text) tokens (length tokens) first, tree_forward (language production text) tokens (length tokens) end_,
-        turns_fit (language production text) tokens (length tokens) layer transitions_in a_group (rule transpart) group_long gs h5 groups, group_count-sum gs)
+      omega (
+        arith,
+        tree_forward (language production text) tokens (length tokens) one,
+        tree_forward (language production text) tokens (length tokens) two,
+        tree_forward (language production text) tokens (length tokens) parts,
+        tree_forward (language production text) tokens (length tokens) first,
+        tree_forward (language production text) tokens (length tokens) end_,
+        turns_fit (language production text) tokens (length tokens) layer transitions_in a_group (rule transpart) group_long gs h5 groups,
+        group_count-sum gs,
+      )
 
   part_long : (p : Part) (d a b : ℕ) (t : Shape) → Has (node (a_common_part p)) t → Reads (rule common) d a b t → a + transitions_of p ≤ b
   part_long (part.Body x) d a b t (s_node h) tree = of_body (subst (λ v. Has (shown.common_part v) t) (part.outs-Body x) h) tree
