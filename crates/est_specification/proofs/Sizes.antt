@@ -168,9 +168,14 @@ module _ (text : List ℕ) (tokens : List Token) where
   abbrev Reads : Rule → ℕ → ℕ → ℕ → Shape → Type 0
   Reads g d a b t = Tree (language production text) tokens (length tokens) g d a b t
 
+  forward : {g : Rule} {d a b : ℕ} {t : Shape} → Reads g d a b t → a ≤ b
+  forward x = tree_forward (language production text) tokens (length tokens) x
+
+  -- a transition has a token
   transition_long : (x : Transition) (d a b : ℕ) (t : Shape) → Has (node (a_transition x)) t → Reads (rule transition) d a b t → a + 1 ≤ b
   transition_long x d a b t h tree = one_fits (language production text) marks (fits text) tokens (length tokens) (rule transition) refl d a b t tree
 
+  -- so a group has no fewer tokens than transitions, and nor has a body
   group_long : (g : Group) (d a b : ℕ) (t : Shape) → Has (node (a_group g)) t → Reads (rule transpart) d a b t → a + transitions_in g ≤ b
   group_long g d a b t (s_node h) (t_rule (t_word k i e tree)) =
       let ts = (out-Group g).transitions in
@@ -181,21 +186,22 @@ module _ (text : List ℕ) (tokens : List Token) where
       let gs = (out-Body x).groups in
       omega (
         arith,
-        tree_forward (language production text) tokens (length tokens) one,
-        tree_forward (language production text) tokens (length tokens) two,
-        tree_forward (language production text) tokens (length tokens) parts,
-        tree_forward (language production text) tokens (length tokens) first,
-        tree_forward (language production text) tokens (length tokens) end_,
+        forward one,
+        forward two,
+        forward parts,
+        forward first,
+        forward end_,
         turns_fit (language production text) tokens (length tokens) layer transitions_in a_group (rule transpart) group_long gs h5 groups,
         group_count-sum gs,
       )
 
+  -- a part of a specification
   part_long : (p : Part) (d a b : ℕ) (t : Shape) → Has (node (a_common_part p)) t → Reads (rule common) d a b t → a + transitions_of p ≤ b
   part_long (part.Body x) d a b t (s_node h) tree = of_body (subst (λ v. Has (shown.common_part v) t) (part.outs-Body x) h) tree
     where
       of_body : {u : Shape} → Has (shown.common_part (form.Body x)) u → Reads (rule common) d a b u → a + group_count (out-Body x).groups ≤ b
       of_body (s_second (s_second (s_second (s_second (s_first {t = u} k))))) (t_rule (t_right (t_right (t_right (t_right (t_left read)))))) = body_long x d a b u k read
-  part_long _ d a b t h tree = omega (arith, tree_forward (language production text) tokens (length tokens) tree)
+  part_long _ d a b t h tree = omega (arith, forward tree)
 
   -- the parts of a specification
   pub record HasParts (spec : Spec) : Type 0 where
@@ -209,7 +215,7 @@ module _ (text : List ℕ) (tokens : List Token) where
 
   pub parts_read : (spec : Spec) (d : ℕ) (t : Shape) → Has (node (a_specification spec)) t → Reads (rule specification) d 0 (length tokens) t → HasParts spec
   parts_read spec d t (s_node (s_pair h1 (s_pair h2 (s_pair h3 (s_pair h4 h5))))) (t_rule (t_word k i e (t_seq one (t_word k' i' e' (t_seq queue (t_seq scale (t_seq {d = d'} {a = a} {b = b} {t = u} parts end_))))))) =
-      record { levels = d'; from = a; to = b; shape = u; within = tree_forward (language production text) tokens (length tokens) end_; tree = parts; shows = h4 }
+      record { levels = d'; from = a; to = b; shape = u; within = forward end_; tree = parts; shows = h4 }
 
   -- no more interaction points, interactions of a channel, and transitions than tokens
   pub names_few : (spec : Spec) → HasParts spec → sum_by names_counted spec.parts ≤ length tokens
