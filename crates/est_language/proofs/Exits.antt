@@ -2,7 +2,7 @@
 use Rattle.std.proofs.Common.{◌≡◌, ℕ, suc, ◌+◌, ◌<◌, ◌≤◌, Bool, true, false, List, [], ◌∷◌, length, refl, sym, subst, ◌⊎◌, arith, add-one, inl, inr, Option}
 use Rattle.est_language.specs.Grammar.{Language, Grammar, Shape, meets, Tree, p_whole}
 use Rattle.est_language.specs.Marks.{Marks, Fits, MeetsOne}
-use Rattle.est_language.specs.Reading.{Found, Refused, same, before}
+use Rattle.est_language.specs.Reading.{Found, same, before}
 use Rattle.est_language.specs.Places.{HasTree, HasPartial}
 use Rattle.est_language.specs.Answers.{Cause, unsaid, wrong_at, too_deep_at, Refuses, SaysWhy}
 use Rattle.est_language.proofs.Parts

@@ -8,3 +8,4 @@ pub mod There
 pub mod TokenLaws
 pub mod Unique
 pub mod SameKinds
+pub mod Spelled

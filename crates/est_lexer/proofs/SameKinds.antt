@@ -1,5 +1,5 @@
 -- The comparison of kinds tells them apart.
-use Rattle.std.proofs.Common.{◌≡◌, Bool, true, false, not, sym, ◌∙◌}
+use Rattle.std.proofs.Common.{◌≡◌, Bool, true, false, not, ◌∙◌}
 use Rattle.est_lexer.specs.declared.kind.TokenKind.{TokenKind}
 use Rattle.est_lexer.specs.contracts.kind.TokenKindPartialEq.TheImpl.Laws.{laws-law}
 use Rattle.est_lexer.specs.Kinds.{is_same}

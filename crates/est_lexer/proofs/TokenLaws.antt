@@ -7,6 +7,7 @@ use Rattle.est_lexer.specs.Scanning.{IsTokenAt, IsBadAt}
 use Rattle.est_lexer.specs.TokenList.{IsLongest, IsBadSpan, illegal, open_comment, many_digits, AreTokensFrom, none_left, bad, next, digits_at, IsTokenList}
 use Rattle.std.proofs.lemmas.List.{append-nil}
 use Rattle.est_lexer.specs.declared.kind.Token.{Token}
+use Rattle.est_lexer.specs.declared.kind.TokenKind.TheVariants.{Bad}
 use Rattle.est_lexer.proofs.Longest.{kind_of_nil, front_within}
 use Rattle.est_lexer.proofs.Marks.{between_onward, opening_inside}
 
@@ -42,6 +43,18 @@ tokens_inside text from (t ∷ ts) (next _ _ _ gap long more) zero token at =
     let same : t ≡ token = cc in
     subst (λ (u : Token). u.start + u.length ≤ length text) same long.inside
 tokens_inside text from (t ∷ ts) (next _ _ _ gap long more) (suc place) token at = tokens_inside text (end_of t) ts more place token at
+
+-- Each token that is not bad has the kind of its bytes.
+pub token_kinds : (text : List ℕ) (from : ℕ) (tokens : List Token) → AreTokensFrom text from tokens → (place : ℕ) (token : Token) → slice_get tokens place ≡ Some token → (token.kind ≡ Bad → ⊥) → kind_of (spelling text token) ≡ Some token.kind
+token_kinds text from [] (none_left _ gap) place token at good = absurd cc
+token_kinds text from (t ∷ []) (bad _ _ gap kind span) zero token at good =
+    let same : t ≡ token = cc in
+    absurd (good (sym (ap (λ (u : Token). u.kind) same) ∙ kind))
+token_kinds text from (t ∷ []) (bad _ _ gap kind span) (suc place) token at good = absurd cc
+token_kinds text from (t ∷ ts) (next _ _ _ gap long more) zero token at good =
+    let same : t ≡ token = cc in
+    subst (λ (u : Token). kind_of (spelling text u) ≡ Some u.kind) same long.kind
+token_kinds text from (t ∷ ts) (next _ _ _ gap long more) (suc place) token at good = token_kinds text (end_of t) ts more place token at good
 
 -- There are at most as many tokens as bytes.
 pub tokens_few : (text : List ℕ) (from : ℕ) (tokens : List Token) → from ≤ length text → AreTokensFrom text from tokens → from + length tokens ≤ length text

@@ -3,6 +3,9 @@
 ghost use Rattle.std.specs.Prelude.{◌≡◌, ◌≤◌, ◌<◌, ◌+◌, ℕ, length, slice_get, Some, IfSome, count_by, not};
 ghost use Rattle.std.specs.List.{suffix_len};
 ghost use Rattle.est_lexer.specs.Lines.{is_line_feed};
+ghost use Rattle.est_lexer.specs.Spans.{spelling};
+ghost use Rattle.est_lexer.specs.Spellings.{kind_of};
+ghost use Rattle.est_lexer.specs.declared.kind.TokenKind.TheVariants.{Bad};
 ghost use Rattle.est_lexer.specs.declared.kind.Token.{Token};
 ghost use Rattle.est_lexer.specs.declared.tokens.TheConstants.{MOST_BYTES};
 
@@ -23,12 +26,12 @@ pub struct Tokens<'t> {
     ghost short: { length text.now ≤ MOST_BYTES },
     ghost few: { length list.items ≤ length text.now },
     ghost inside: { (place : ℕ) (token : Token) → slice_get list.items place ≡ Some token → token.start + token.length ≤ length text.now },
+    ghost kinds: { (place : ℕ) (token : Token) → slice_get list.items place ≡ Some token → (token.kind ≡ Bad → ⊥) → kind_of (spelling text.now token) ≡ Some token.kind },
 }
 
 impl Tokens<'_> {
     ghost use Rattle.est_lexer.specs.Lines.{line_at, column_at};
     ghost use Rattle.est_lexer.specs.Places.{text_of, tokens_of, offset_at};
-    ghost use Rattle.est_lexer.specs.Spans.{spelling};
 
     /// How many tokens the text has.
     pub fn count(&self) -> u32

@@ -1,4 +1,5 @@
 pub mod Fits
+pub mod Made
 pub mod Sorts
 pub mod Pieces
 pub mod Told

@@ -621,8 +621,8 @@ factor_back (factor.Variable name path place) = ap (λ f. Some f) (path_back nam
 factor_back (factor.Call name es place) = ap (λ l. Some (factor.Call name l place)) (exprs_back es)
 
 abbrev pub selector_in : View → Option SelectorForm
-selector_in (first (at place (pair (nodes ns) empty))) = Some (factor.Index (read expr_of ns) place)
-selector_in (second v) = Some (factor.Field (used_in v))
+selector_in (first v) = Some (factor.Field (used_in v))
+selector_in (second (at place (pair (nodes ns) empty))) = Some (factor.Index (read expr_of ns) place)
 selector_in v = None
 
 pub selector_back : (s : SelectorForm) → selector_in (shown.selector s) ≡ Some s

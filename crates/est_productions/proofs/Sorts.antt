@@ -373,11 +373,11 @@ factor_is (factor.Variable name path place) = f_at place (f_second (f_second (f_
 factor_is (factor.Call name es place) = f_at place (f_second (f_second (f_second (f_second (f_second (f_pair (used_is name) (f_in (f_first (f_pair (are an_expr exprs (λ x. refl) es) f_empty)))))))))
 
 abbrev of_selector : Sort
-of_selector = of_choice (of_at (of_pair (of_parts exprs) of_nothing)) of_used
+of_selector = of_choice of_used (of_at (of_pair (of_parts exprs) of_nothing))
 
 selector_is : (s : SelectorForm) → IsOf of_selector (shown.selector s)
-selector_is (factor.Index es place) = f_first (f_at place (f_pair (are an_expr exprs (λ x. refl) es) f_empty))
-selector_is (factor.Field name) = f_second (used_is name)
+selector_is (factor.Field name) = f_first (used_is name)
+selector_is (factor.Index es place) = f_second (f_at place (f_pair (are an_expr exprs (λ x. refl) es) f_empty))
 
 expr_given_is : (o : Option Expr) → IsOf (of_option (of_part exprs)) (shown.expr_given o)
 expr_given_is None = f_out
@@ -399,7 +399,11 @@ direction_is true = f_second f_empty
 
 -- what stands after the name of an assignment or of a call
 abbrev of_rest : Sort
-of_rest = of_option (of_choice (of_pair (of_parts selectors) (of_part exprs)) (of_pair (of_parts exprs) of_nothing))
+of_rest = of_option (of_choice (of_pair (of_option (of_parts selectors)) (of_part exprs)) (of_pair (of_parts exprs) of_nothing))
+
+path_is : (ss : List Selector) → IsOf (of_option (of_parts selectors)) (shown.path ss)
+path_is [] = f_out
+path_is (s ∷ ss) = f_in (are a_selector selectors (λ x. refl) (s ∷ ss))
 
 call_is : (es : List Expr) → IsOf of_rest (shown.call es)
 call_is [] = f_out
@@ -432,7 +436,7 @@ of_statement = of_at (of_option
 statement_is : (s : StatementForm) → IsOf of_statement (shown.statement s)
 statement_is (statement.Empty place) = f_at place f_out
 statement_is (statement.Compound ss place) = f_at place (f_in (f_first (f_pair (are a_statement statements (λ x. refl) ss) f_empty)))
-statement_is (statement.Assign target path value place) = f_at place (f_in (f_second (f_first (f_pair (used_is target) (f_in (f_first (f_pair (are a_selector selectors (λ x. refl) path) (f_part (an_expr value) refl))))))))
+statement_is (statement.Assign target path value place) = f_at place (f_in (f_second (f_first (f_pair (used_is target) (f_in (f_first (f_pair (path_is path) (f_part (an_expr value) refl))))))))
 statement_is (statement.Call name es place) = f_at place (f_in (f_second (f_first (f_pair (used_is name) (call_is es)))))
 statement_is (statement.If condition one other place) = f_at place (f_in (f_second (f_second (f_first (f_pair (f_part (an_expr condition) refl) (f_pair (f_part (a_statement one) refl) (else_part_is other)))))))
 statement_is (statement.Case value as_ place) = f_at place (f_in (f_second (f_second (f_second (f_first (f_pair (f_part (an_expr value) refl) (f_pair (are an_arm arms (λ x. refl) as_) f_empty)))))))

@@ -16,7 +16,7 @@ use Rattle.est_syntax.specs.declared.transition.Clause.{Clause}
 use Rattle.est_syntax.specs.declared.transition.Clause.TheVariants as clause
 use Rattle.est_syntax.specs.declared.transition.Transition.{out-Transition, roll-Transition, roll-out-Transition}
 use Rattle.est_syntax.specs.declared.transition.Group.{out-Group, roll-Group, roll-out-Group}
-use Rattle.est_syntax.specs.declared.expression.Selector.{out-Selector, roll-Selector, roll-out-Selector}
+use Rattle.est_syntax.specs.declared.expression.Selector.{Selector, out-Selector, roll-Selector, roll-out-Selector}
 use Rattle.est_syntax.specs.declared.expression.Member.{out-Member, roll-Member, roll-out-Member}
 use Rattle.est_syntax.specs.declared.expression.Factor.{out-Factor, roll-Factor, roll-out-Factor}
 use Rattle.est_syntax.specs.declared.expression.ProductStep.{out-ProductStep, roll-ProductStep, roll-out-ProductStep}
@@ -49,9 +49,17 @@ direction_back : (down : Bool) → is_second (shown.direction down) ≡ down
 direction_back false = refl
 direction_back true = refl
 
+abbrev assigned_in : View → List Selector
+assigned_in (given (nodes ns)) = read selector_of ns
+assigned_in v = []
+
+assigned_back : (ss : List Selector) → assigned_in (shown.path ss) ≡ ss
+assigned_back [] = refl
+assigned_back (s ∷ ss) = selectors_back (s ∷ ss)
+
 -- what stands after the name of an assignment or of a call
 abbrev rest_in : Used → ℕ → View → StatementForm
-rest_in name place (given (first (pair (nodes ns) (node (an_expr value))))) = statement.Assign name (read selector_of ns) value place
+rest_in name place (given (first (pair v (node (an_expr value))))) = statement.Assign name (assigned_in v) value place
 rest_in name place (given (second (pair (nodes ns) empty))) = statement.Call name (read expr_of ns) place
 rest_in name place v = statement.Call name [] place
 
@@ -129,7 +137,7 @@ statement_in v = None
 statement_back : (s : StatementForm) → statement_in (shown.statement s) ≡ Some s
 statement_back (statement.Empty place) = refl
 statement_back (statement.Compound ss place) = ap (λ l. Some (statement.Compound l place)) (statements_back ss)
-statement_back (statement.Assign target path value place) = ap (λ l. Some (statement.Assign target l value place)) (selectors_back path)
+statement_back (statement.Assign target path value place) = ap (λ l. Some (statement.Assign target l value place)) (assigned_back path)
 statement_back (statement.Call name es place) = ap (λ s. Some s) (call_back name place es)
 statement_back (statement.If condition one other place) = ap (λ o. Some (statement.If condition one o place)) (else_part_back other)
 statement_back (statement.Case value as_ place) = ap (λ l. Some (statement.Case value l place)) (arms_back as_)

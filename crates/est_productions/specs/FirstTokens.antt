@@ -95,7 +95,7 @@ begins term =
 begins factor =
     kind Number ∷ kind Character ∷ kind (Special symbols.LeftParenthesis)
     ∷ kind (Reserved words.Not) ∷ kind (Special symbols.LeftBracket) ∷ kind Identifier ∷ []
-begins selector = kind (Special symbols.LeftBracket) ∷ kind (Special symbols.Period) ∷ []
+begins selector = kind (Special symbols.Period) ∷ kind (Special symbols.LeftBracket) ∷ []
 begins member =
     kind (Special symbols.Plus) ∷ kind (Special symbols.Minus) ∷ kind Number ∷ kind Character
     ∷ kind (Special symbols.LeftParenthesis) ∷ kind (Reserved words.Not)
@@ -126,8 +126,8 @@ goes_on clause =
     ∷ kind (Special symbols.AtLeast) ∷ kind (Reserved words.In) ∷ kind (Special symbols.Plus)
     ∷ kind (Special symbols.Minus) ∷ kind (Reserved words.Or) ∷ kind (Special symbols.Star)
     ∷ kind (Reserved words.Div) ∷ kind (Reserved words.Mod) ∷ kind (Reserved words.And)
-    ∷ kind (Special symbols.LeftParenthesis) ∷ kind (Special symbols.LeftBracket)
-    ∷ kind (Special symbols.Period) ∷ []
+    ∷ kind (Special symbols.LeftParenthesis) ∷ kind (Special symbols.Period)
+    ∷ kind (Special symbols.LeftBracket) ∷ []
 goes_on access = kind (Special symbols.LeftBracket) ∷ []
 goes_on statement =
     kind (Reserved words.Begin) ∷ kind Identifier ∷ kind (Reserved words.If)
@@ -135,8 +135,8 @@ goes_on statement =
     ∷ kind (Reserved words.For) ∷ kind (Reserved words.All) ∷ kind (Reserved words.Output)
     ∷ kind (Reserved words.Init) ∷ kind (Reserved words.Release) ∷ kind (Reserved words.Connect)
     ∷ kind (Reserved words.Disconnect) ∷ kind (Reserved words.Attach)
-    ∷ kind (Reserved words.Detach) ∷ kind (Special symbols.LeftBracket)
-    ∷ kind (Special symbols.Period) ∷ kind (Special symbols.Assign)
+    ∷ kind (Reserved words.Detach) ∷ kind (Special symbols.Period)
+    ∷ kind (Special symbols.LeftBracket) ∷ kind (Special symbols.Assign)
     ∷ kind (Special symbols.LeftParenthesis) ∷ kind (Special symbols.Equal)
     ∷ kind (Special symbols.Unequal) ∷ kind (Special symbols.Below) ∷ kind (Special symbols.AtMost)
     ∷ kind (Special symbols.Above) ∷ kind (Special symbols.AtLeast) ∷ kind (Reserved words.In)
@@ -149,8 +149,8 @@ goes_on arm =
     ∷ kind (Reserved words.For) ∷ kind (Reserved words.All) ∷ kind (Reserved words.Output)
     ∷ kind (Reserved words.Init) ∷ kind (Reserved words.Release) ∷ kind (Reserved words.Connect)
     ∷ kind (Reserved words.Disconnect) ∷ kind (Reserved words.Attach)
-    ∷ kind (Reserved words.Detach) ∷ kind (Special symbols.LeftBracket)
-    ∷ kind (Special symbols.Period) ∷ kind (Special symbols.Assign)
+    ∷ kind (Reserved words.Detach) ∷ kind (Special symbols.Period)
+    ∷ kind (Special symbols.LeftBracket) ∷ kind (Special symbols.Assign)
     ∷ kind (Special symbols.LeftParenthesis) ∷ kind (Special symbols.Equal)
     ∷ kind (Special symbols.Unequal) ∷ kind (Special symbols.Below) ∷ kind (Special symbols.AtMost)
     ∷ kind (Special symbols.Above) ∷ kind (Special symbols.AtLeast) ∷ kind (Reserved words.In)
@@ -166,20 +166,20 @@ goes_on expr =
     ∷ kind (Reserved words.In) ∷ kind (Special symbols.Plus) ∷ kind (Special symbols.Minus)
     ∷ kind (Reserved words.Or) ∷ kind (Special symbols.Star) ∷ kind (Reserved words.Div)
     ∷ kind (Reserved words.Mod) ∷ kind (Reserved words.And)
-    ∷ kind (Special symbols.LeftParenthesis) ∷ kind (Special symbols.LeftBracket)
-    ∷ kind (Special symbols.Period) ∷ []
+    ∷ kind (Special symbols.LeftParenthesis) ∷ kind (Special symbols.Period)
+    ∷ kind (Special symbols.LeftBracket) ∷ []
 goes_on simple =
     kind (Special symbols.Plus) ∷ kind (Special symbols.Minus) ∷ kind (Reserved words.Or)
     ∷ kind (Special symbols.Star) ∷ kind (Reserved words.Div) ∷ kind (Reserved words.Mod)
     ∷ kind (Reserved words.And) ∷ kind (Special symbols.LeftParenthesis)
-    ∷ kind (Special symbols.LeftBracket) ∷ kind (Special symbols.Period) ∷ []
+    ∷ kind (Special symbols.Period) ∷ kind (Special symbols.LeftBracket) ∷ []
 goes_on term =
     kind (Special symbols.Star) ∷ kind (Reserved words.Div) ∷ kind (Reserved words.Mod)
     ∷ kind (Reserved words.And) ∷ kind (Special symbols.LeftParenthesis)
-    ∷ kind (Special symbols.LeftBracket) ∷ kind (Special symbols.Period) ∷ []
+    ∷ kind (Special symbols.Period) ∷ kind (Special symbols.LeftBracket) ∷ []
 goes_on factor =
-    kind (Special symbols.LeftParenthesis) ∷ kind (Special symbols.LeftBracket)
-    ∷ kind (Special symbols.Period) ∷ []
+    kind (Special symbols.LeftParenthesis) ∷ kind (Special symbols.Period)
+    ∷ kind (Special symbols.LeftBracket) ∷ []
 goes_on member =
     kind (Special symbols.DoublePeriod) ∷ kind (Special symbols.Equal)
     ∷ kind (Special symbols.Unequal) ∷ kind (Special symbols.Below) ∷ kind (Special symbols.AtMost)
@@ -187,7 +187,7 @@ goes_on member =
     ∷ kind (Special symbols.Plus) ∷ kind (Special symbols.Minus) ∷ kind (Reserved words.Or)
     ∷ kind (Special symbols.Star) ∷ kind (Reserved words.Div) ∷ kind (Reserved words.Mod)
     ∷ kind (Reserved words.And) ∷ kind (Special symbols.LeftParenthesis)
-    ∷ kind (Special symbols.LeftBracket) ∷ kind (Special symbols.Period) ∷ []
+    ∷ kind (Special symbols.Period) ∷ kind (Special symbols.LeftBracket) ∷ []
 goes_on _ = []
 
 -- whether a tree of a production can be empty

@@ -3,7 +3,6 @@
 --
 -- Where two alternatives begin with the same token, what they share stands before the choice, so
 -- that the next token alone decides. A token after `deeper` opens a level.
-use Rattle.std.specs.Prelude.{List}
 use Rattle.est_lexer.specs.declared.kind.ReservedWord.{ReservedWord}
 use Rattle.est_lexer.specs.declared.kind.ReservedWord.TheVariants as words
 use Rattle.est_lexer.specs.declared.kind.Symbol.{Symbol}
@@ -120,10 +119,17 @@ named_type = here (seq identifier (opt upper))
 abbrev pub enumeration : Rule
 enumeration = here (sign symbols.LeftParenthesis (seq idents (mark symbols.RightParenthesis)))
 
+-- [ "packed" ], which leaves no trace
+abbrev pub packed : Rule
+packed = skip (opt (only words.Packed))
+
+-- arraytype | recordtype | settype
+abbrev pub structure : Rule
+structure = alt (rule arraytype) (alt (rule recordtype) (rule settype))
+
 -- [ "packed" ] ( arraytype | recordtype | settype )
 abbrev pub structured : Rule
-structured = here (seq (skip (opt (only words.Packed)))
-    (alt (rule arraytype) (alt (rule recordtype) (rule settype))))
+structured = here (seq packed structure)
 
 -- idents ":" typetext
 abbrev pub field : Rule
@@ -139,6 +145,10 @@ fields = seq field (ended (kind (Special symbols.Semicolon)) field)
 -- [ "(" params ")" ]
 abbrev pub parameters : Rule
 parameters = bracketed params
+
+-- [ "," ident ]
+abbrev pub other_role : Rule
+other_role = opt (sign symbols.Comma identifier)
 
 -- "systemactivity" | "activity"
 abbrev pub attribute : Rule
@@ -232,6 +242,10 @@ delay_clause = said words.Delay (sign symbols.LeftParenthesis
 abbrev pub transition_name : Rule
 transition_name = opt (said words.Name (seq identifier (mark symbols.Colon)))
 
+-- [ "." access ]
+abbrev pub access_given : Rule
+access_given = opt (sign symbols.Period (rule access))
+
 -- Statements (ISO 7185, 6.8, and ISO 9074).
 
 -- "(" exprs ")", which opens a level
@@ -250,9 +264,13 @@ subscripts = deeper (sign symbols.LeftBracket (seq exprs (mark symbols.RightBrac
 abbrev pub compound : Rule
 compound = deeper begin_end
 
+-- { selector }
+abbrev pub path : Rule
+path = opt (several (rule selector))
+
 -- { selector } ":=" expr
 abbrev pub assigned : Rule
-assigned = seq (rep (rule selector)) (sign symbols.Assign (rule expr))
+assigned = seq path (sign symbols.Assign (rule expr))
 
 -- ident { selector } ":=" expr | ident [ "(" exprs ")" ]
 abbrev pub assignment_or_call : Rule
@@ -352,6 +370,10 @@ sum_step = seq adding_operator (rule term)
 abbrev pub product_step : Rule
 product_step = seq multiplying_operator (rule factor)
 
+-- [ ".." expr ]
+abbrev pub later_end : Rule
+later_end = opt (sign symbols.DoublePeriod (rule expr))
+
 -- "(" expr ")"
 abbrev pub group : Rule
 group = deeper (sign symbols.LeftParenthesis (seq (rule expr) (mark symbols.RightParenthesis)))
@@ -438,7 +460,7 @@ production channel = said words.Channel (seq identifier (sign symbols.LeftParent
     (seq identifier (sign symbols.Comma (seq identifier (sign symbols.RightParenthesis
     (sign symbols.Semicolon (several (rule by_part)))))))))
 -- by = "by" ident [ "," ident ] ":" interaction { interaction } .
-production by_part = said words.By (seq identifier (seq (opt (sign symbols.Comma identifier))
+production by_part = said words.By (seq identifier (seq other_role
     (sign symbols.Colon (several (rule interaction)))))
 -- interaction = ident [ "(" params ")" ] ";" .
 production interaction = seq identifier (seq parameters (mark symbols.Semicolon))
@@ -508,7 +530,7 @@ production sending = seq (rule access) (sign symbols.Period (seq identifier argu
 production init = said words.Init (seq (rule access) (said words.With
     (seq identifier arguments)))
 -- end = access [ "." access ] .
-production end_point = seq (rule access) (opt (sign symbols.Period (rule access)))
+production end_point = seq (rule access) access_given
 -- expr = simple [ ( "=" | "<>" | "<" | "<=" | ">" | ">=" | "in" ) simple ] .
 production expr = here (seq (rule simple) relation)
 -- simple = [ "+" | "-" ] term { ( "+" | "-" | "or" ) term } .
@@ -519,7 +541,7 @@ production term = seq (rule factor) (rep product_step)
 --     | "[" [ member { "," member } ] "]" | ident ( "(" exprs ")" | { selector } ) .
 production factor = here (alt number (alt character (alt group (alt negation
     (alt set variable_or_call)))))
--- selector = "[" exprs "]" | "." ident .
-production selector = alt (here subscripts) (sign symbols.Period identifier)
+-- selector = "." ident | "[" exprs "]" .
+production selector = alt (sign symbols.Period identifier) (here subscripts)
 -- member = expr [ ".." expr ] .
-production member = seq (rule expr) (opt (sign symbols.DoublePeriod (rule expr)))
+production member = seq (rule expr) later_end

@@ -2,3 +2,5 @@ pub mod Grammar
 pub mod FirstTokens
 pub mod Nodes
 pub mod Syntax
+pub mod Tokens
+pub mod Structures

@@ -406,8 +406,8 @@ factor (factors.Character character place) = at place (choice 1 (kept (kinds.cod
 factor (factors.Group of_ place) = at place (choice 2 (pair (node (an_expr of_)) empty))
 factor (factors.Not of_ place) = at place (choice 3 (node (a_factor of_)))
 factor (factors.Set ms place) = at place (choice 4 (pair (members ms) empty))
-factor (factors.Variable name path place) =
-    at place (last_choice 5 (pair (used name) (selectors path)))
+factor (factors.Variable name ss place) =
+    at place (last_choice 5 (pair (used name) (selectors ss)))
 factor (factors.Call name arguments place) =
     at place (last_choice 5 (pair (used name)
     (given (first (pair (nodes (map an_expr arguments)) empty)))))
@@ -419,8 +419,9 @@ SelectorForm =
 
 -- subscripts, or a field
 abbrev pub selector : SelectorForm → View
-selector (factors.Index exprs place) = first (at place (pair (nodes (map an_expr exprs)) empty))
-selector (factors.Field name) = second (used name)
+selector (factors.Field name) = first (used name)
+selector (factors.Index exprs place) =
+    second (at place (pair (nodes (map an_expr exprs)) empty))
 
 -- the later end of a part of a set, where there is one
 abbrev pub expr_given : Option Expr → View
@@ -445,6 +446,11 @@ abbrev pub end_point : EndPoint → View
 end_point e = pair (node (an_access e.first)) (access_given e.second)
 
 -- Statements.
+
+-- the selectors of what is assigned, where there are any
+abbrev pub path : List Selector → View
+path [] = empty
+path (s ∷ ss) = given (nodes (map a_selector (s ∷ ss)))
 
 -- what an "else" stands before, where there is one
 abbrev pub else_part : Option Statement → View
@@ -479,9 +485,8 @@ abbrev pub statement : StatementForm → View
 statement (statements.Empty place) = at place empty
 statement (statements.Compound turn place) =
     chosen place 0 (pair (nodes (map a_statement turn)) empty)
-statement (statements.Assign target path value place) =
-    chosen place 1 (pair (used target)
-    (given (first (pair (nodes (map a_selector path)) (node (an_expr value))))))
+statement (statements.Assign target ss value place) =
+    chosen place 1 (pair (used target) (given (first (pair (path ss) (node (an_expr value))))))
 statement (statements.Call name arguments place) =
     chosen place 1 (pair (used name) (call arguments))
 statement (statements.If condition one other place) =

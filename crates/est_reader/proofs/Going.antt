@@ -1,19 +1,20 @@
 -- From what the parts of a reader do to what the whole does.
-use Rattle.std.proofs.Common.{◌≡◌, ℕ, zero, suc, ◌-◌, ◌≤◌, Bool, true, false, List, [], ◌∷◌, length, refl, sym, ◌∙◌, inl, inr, ap, subst, arith, slice_get, not, ◌&&◌}
+use Rattle.std.proofs.Common.{◌≡◌, ℕ, zero, suc, ◌-◌, ◌≤◌, Bool, true, false, List, [], ◌∷◌, length, refl, sym, ◌∙◌, inl, inr, ap, subst, arith, slice_get, not, ◌&&◌, map}
+use Rattle.est_lexer.specs.declared.kind.Token.{Token}
 use Rattle.est_lexer.specs.declared.tokens.Tokens.{Tokens}
 use Rattle.est_lexer.specs.Places.{text_of, tokens_of}
-use Rattle.est_language.specs.Grammar.{done, none, word, token, here, skip, seq, alt, opt, rep, nearest, ended, deeper, rule, nothing, placed, both, left, right, some}
+use Rattle.est_language.specs.Grammar.{done, none, word, token, here, skip, seq, alt, opt, rep, nearest, ended, deeper, rule, nothing, placed, both, left, right, some, Language, Tree, t_seq}
 use Rattle.est_language.specs.Marks.{MeetsOne, can_begin, can_go_on, can_be_empty, disjoint, covered, implies_one}
 use Rattle.est_language.specs.Reading.{Found}
-use Rattle.est_language.specs.Shown.{Shows, empty, at, pair, first, second, given, node, alone, perhaps, s_alone, s_without, s_with, s_empty, s_at, s_pair, s_first, s_second, s_given, s_node}
+use Rattle.est_language.specs.Shown.{Shows, empty, at, pair, first, second, given, node, alone, perhaps, nodes, s_alone, s_without, s_with, s_empty, s_at, s_pair, s_first, s_second, s_given, s_node}
 use Rattle.est_language.proofs.Laws as laws
 use Rattle.est_language.proofs.Members.{among, and_left, and_right}
 use Rattle.est_reader.specs.declared.reader.Reader.{Reader}
 use Rattle.est_reader.specs.declared.outcome.Outcome.{Outcome}
 use Rattle.est_reader.specs.declared.outcome.Outcome.TheVariants.{Well, Wrong, TooDeep, NoMemory}
-use Rattle.est_reader.specs.Tests.{Test, holds, stands, apart, implies, language}
+use Rattle.est_reader.specs.Tests.{Test, Kept, holds, stands, apart, implies, language}
 use Rattle.est_reader.specs.Moving.{bit, Does, Sees, NoneSeen, Same, Taken, NotThere, Takes, OpensAt, Opens, Closes, Still}
-use Rattle.est_reader.specs.Going.{Rule, View, Syntax, IsFit, Finds, Fails, Goes}
+use Rattle.est_reader.specs.Going.{Rule, Shape, View, Syntax, IsFit, Finds, Fails, Goes}
 use Rattle.est_reader.proofs.Apart.{far, near, implies-holds}
 use Rattle.est_reader.proofs.Steps.{onto, after, stay, was_well, sees_well, sees_it, sees_not, none_meets, same_here, same_on, bit_small}
 
@@ -61,6 +62,29 @@ module _ {P N : Type 0} {X : Syntax P N} where
 
   pub went_well : {g : Rule P} {A B : Reader} {v : View N} → Goes X g A v B → B.outcome ≡ Well → A.outcome ≡ Well
   went_well {g} {A} {B} {v} x e = was_well (Finds X A.tokens.now g A.levels A.at v) (Fails X A.tokens.now g A.levels A.at) A.at B.at A.outcome B.outcome x.moves e
+
+  -- a list whose first item is read is not empty
+  pub filled : {I : Type 0} (part : I → N) (is : List I) {g h : Rule P} {A B : Reader} → Goes X (seq g h) A (nodes (map part is)) B → B.outcome ≡ Well → (i : I) × (rest : List I) × (is ≡ i ∷ rest)
+  filled {I} part is {g} {h} {A} {B} x w = of_tree (found A.outcome B.outcome w x.moves)
+    where
+      found : (o o' : Outcome) → o' ≡ Well → Does (Finds X A.tokens.now (seq g h) A.levels A.at (nodes (map part is))) (Fails X A.tokens.now (seq g h) A.levels A.at) A.at o B.at o' → Finds X A.tokens.now (seq g h) A.levels A.at (nodes (map part is)) B.at
+      found Well Well e m = m
+      found Well Wrong e m = absurd cc
+      found Well TooDeep e m = absurd cc
+      found Well NoMemory e m = absurd cc
+      found Wrong o' e m = absurd (let f : o' ≡ Wrong = m.0 in cc)
+      found TooDeep o' e m = absurd (let f : o' ≡ TooDeep = m.0 in cc)
+      found NoMemory o' e m = absurd (let f : o' ≡ NoMemory = m.0 in cc)
+
+      some_item : (js : List I) (t u : Shape) → Shows X.layer (nodes (map part js)) (both t u) → (i : I) × (rest : List I) × (js ≡ i ∷ rest)
+      some_item [] t u s = elim s [ ]
+      some_item (i ∷ rest) t u s = (i, rest, refl)
+
+      of_shape : {L : Language Token Kept Test P} {s : List Token} {n a b : ℕ} {t : Shape} → Tree L s n (seq g h) A.levels a b t → Shows X.layer (nodes (map part is)) t → (i : I) × (rest : List I) × (is ≡ i ∷ rest)
+      of_shape (t_seq {t = t} {u = u} p q) y = some_item is t u y
+
+      of_tree : Finds X A.tokens.now (seq g h) A.levels A.at (nodes (map part is)) B.at → (i : I) × (rest : List I) × (is ≡ i ∷ rest)
+      of_tree f = of_shape f.1.tree f.2
 
 -- A syntax, and that the table of its productions says enough of each.
 pub record Known (P N : Type 0) : Type 0 where

@@ -1,7 +1,9 @@
 pub mod Values
 pub mod Apart
 pub mod Steps
+pub mod Bytes
 pub mod Going
+pub mod Seen
 pub mod Turns
 pub mod Single
 pub mod Whole

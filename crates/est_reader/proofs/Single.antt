@@ -1,4 +1,4 @@
--- Single names and numbers.
+-- Single names, numbers and characters.
 use Rattle.std.proofs.Common.{◌≡◌, ℕ, true, List, refl, sym, ◌∙◌, ap, subst, Option, Some, None, slice_get}
 use Rattle.std.specs.Str.{str_to_ascii_lowercase}
 use Rattle.est_lexer.specs.declared.kind.Token.{Token}
@@ -14,13 +14,13 @@ use Rattle.est_language.proofs.Laws as laws
 use Rattle.est_language.proofs.Members.{and_left}
 use Rattle.est_syntax.specs.declared.name.Used.{Used}
 use Rattle.est_reader.specs.declared.reader.Reader.{Reader}
-use Rattle.est_reader.specs.Tests.{Test, kind, number, Kept, name, value, kept_as, value_of, value_in, lowered, holds, language}
-use Rattle.est_reader.specs.Moving.{Does, Taken, NotThere, Takes, TakesName, TakesNumber, Token_is}
+use Rattle.est_reader.specs.Tests.{Test, kind, number, Kept, name, value, code, kept_as, value_of, value_in, code_of, code_in, lowered, holds, language}
+use Rattle.est_reader.specs.Moving.{Does, Taken, NotThere, Takes, TakesName, TakesNumber, TakesValue, TakesCharacter, Token_is}
 use Rattle.est_reader.specs.Going.{Rule, Finds, Fails, Goes, identifier, used}
 use Rattle.est_reader.proofs.Steps.{onto}
 use Rattle.est_reader.proofs.Going.{Known, not_there, here_goes}
 
--- what is kept of an identifier, and of a number
+-- what is kept of an identifier, of a number, and of a character
 kept_name : (k : TokenKind) (bytes : List ℕ) → is_same k Identifier ≡ true → kept_as k bytes ≡ name (str_to_ascii_lowercase bytes)
 kept_name Identifier bytes e = refl
 kept_name (Reserved word) bytes e = cc
@@ -39,6 +39,15 @@ kept_number Character bytes e = cc
 kept_number (Symbol symbol) bytes e = cc
 kept_number Bad bytes e = cc
 
+kept_character : (k : TokenKind) (bytes : List ℕ) → is_same k Character ≡ true → kept_as k bytes ≡ code (code_of bytes)
+kept_character Identifier bytes e = cc
+kept_character (Reserved word) bytes e = cc
+kept_character (LeftOut t) bytes e = cc
+kept_character Number bytes e = cc
+kept_character Character bytes e = refl
+kept_character (Symbol symbol) bytes e = cc
+kept_character Bad bytes e = cc
+
 module _ {P : Type 0} (production : P → Rule P) (text : List ℕ) where
   name_kept : (o : Option Token) (bytes : List ℕ) → meets (holds text) (kind Identifier) o ≡ true → Token_is o (λ t. bytes ≡ lowered text t) → KeptOf (language production text) o (name bytes)
   name_kept None bytes m h = absurd h
@@ -47,6 +56,14 @@ module _ {P : Type 0} (production : P → Rule P) (text : List ℕ) where
   number_kept : (low high v : ℕ) (o : Option Token) → meets (holds text) (number low high) o ≡ true → Token_is o (λ t. value_in text t ≡ v) → KeptOf (language production text) o (value v)
   number_kept low high v None m h = absurd h
   number_kept low high v (Some t) m h = kept_number t.kind (spelling text t) (and_left (is_same t.kind Number) _ m) ∙ ap value h
+
+  value_kept : (v : ℕ) (o : Option Token) → meets (holds text) (kind Number) o ≡ true → Token_is o (λ t. value_in text t ≡ v) → KeptOf (language production text) o (value v)
+  value_kept v None m h = absurd h
+  value_kept v (Some t) m h = kept_number t.kind (spelling text t) m ∙ ap value h
+
+  code_kept : (c : ℕ) (o : Option Token) → meets (holds text) (kind Character) o ≡ true → Token_is o (λ t. code_in text t ≡ c) → KeptOf (language production text) o (code c)
+  code_kept c None m h = absurd h
+  code_kept c (Some t) m h = kept_character t.kind (spelling text t) m ∙ ap code h
 
 module _ {P N : Type 0} (K : Known P N) where
   -- a token that is taken and kept
@@ -76,6 +93,21 @@ module _ {P N : Type 0} (K : Known P N) where
   number_goes {A} {B} {low} {high} {v} x = record {
     moves = kept_goes A B (λ o. Token_is o (λ t. value_in (text_of A.tokens.now) t ≡ v)) (number low high) (value v)
         (number_kept K.syntax.production (text_of A.tokens.now) low high v (slice_get (tokens_of A.tokens.now) A.at)) x.takes;
+    same = x.same;
+  }
+
+  pub value_goes : {A B : Reader} {v : ℕ} → TakesValue A v B → Goes K.syntax (token (kind Number)) A (kept (value v)) B
+  value_goes {A} {B} {v} x = record {
+    moves = kept_goes A B (λ o. Token_is o (λ t. value_in (text_of A.tokens.now) t ≡ v)) (kind Number) (value v)
+        (value_kept K.syntax.production (text_of A.tokens.now) v (slice_get (tokens_of A.tokens.now) A.at)) x.takes;
+    same = x.same;
+  }
+
+  -- a character that is kept
+  pub character_goes : {A B : Reader} {c : ℕ} → TakesCharacter A c B → Goes K.syntax (token (kind Character)) A (kept (code c)) B
+  character_goes {A} {B} {c} x = record {
+    moves = kept_goes A B (λ o. Token_is o (λ t. code_in (text_of A.tokens.now) t ≡ c)) (kind Character) (code c)
+        (code_kept K.syntax.production (text_of A.tokens.now) c (slice_get (tokens_of A.tokens.now) A.at)) x.takes;
     same = x.same;
   }
 

@@ -1,13 +1,14 @@
 -- The turns of a loop of a reader.
-use Rattle.std.proofs.Common.{◌≡◌, ℕ, ◌+◌, ◌*◌, ◌-◌, ◌<◌, ◌≤◌, true, false, List, [], ◌∷◌, ◌++◌, length, refl, sym, ◌∙◌, ap, subst, arith, map, slice_get, append_assoc, append-nil}
+use Rattle.std.proofs.Common.{◌≡◌, ℕ, ◌+◌, ◌*◌, ◌-◌, ◌<◌, ◌≤◌, true, false, List, [], ◌∷◌, ◌++◌, length, refl, sym, ◌∙◌, ap, subst, arith, map, slice_get, Bool, not, ◌&&◌, append_assoc, append-nil}
 use Rattle.std.proofs.lemmas.List.{map-append}
 use Rattle.est_lexer.specs.declared.tokens.Tokens.{Tokens}
 use Rattle.est_lexer.specs.Places.{text_of, tokens_of}
-use Rattle.est_language.specs.Grammar.{seq, rep, ended, nothing, both, chain}
+use Rattle.est_language.specs.Grammar.{seq, alt, rep, ended, nothing, leaf, placed, both, left, right, some, chain}
 use Rattle.est_language.specs.Marks.{MeetsOne, can_begin, can_go_on, can_be_empty, disjoint, covered, implies_one}
 use Rattle.est_language.specs.Reading.{Found}
-use Rattle.est_language.specs.Shown.{Shows, node, nodes, runs, s_no_run, s_run, s_none, s_more}
+use Rattle.est_language.specs.Shown.{Shows, first, second, node, nodes, runs, sections, s_first, s_second, s_no_section, s_first_section, s_second_section, s_no_run, s_run, s_none, s_more}
 use Rattle.est_language.proofs.Laws as laws
+use Rattle.est_language.proofs.Members.{and_left, and_right}
 use Rattle.est_reader.specs.declared.reader.Reader.{Reader}
 use Rattle.est_reader.specs.declared.outcome.Outcome.{Outcome}
 use Rattle.est_reader.specs.declared.outcome.Outcome.TheVariants.{Well, Wrong, TooDeep, NoMemory}
@@ -16,7 +17,7 @@ use Rattle.est_reader.specs.Moving.{bit, Does, Sees, NoneSeen, Same, Taken, NotT
 use Rattle.est_reader.specs.Going.{Rule, Shape, View, Finds, Fails, Goes, Adds}
 use Rattle.est_reader.proofs.Apart.{far}
 use Rattle.est_reader.proofs.Steps.{onto, after, stay, sees_well, sees_it, sees_not, same_here, same_on, bit_small, left_of, taken, shift}
-use Rattle.est_reader.proofs.Going.{Known, from, begins_it, begins_not}
+use Rattle.est_reader.proofs.Going.{Known, from, begins_it, begins_not, first_in, second_in, parted, not_true}
 
 module _ {P N : Type 0} (K : Known P N) where
   -- The turns of a loop.
@@ -167,6 +168,109 @@ module _ {P N : Type 0} (K : Known P N) where
 
   pub all_runs : {whole h : Rule P} {A B : Reader} {f : List N → View N} {ns : List N} (ks : List Test) → covered implies (can_begin K.syntax.marks h) ks ≡ true → can_be_empty K.syntax.marks h ≡ false → NoneSeen B ks → Turning whole (rep h) A (Runs f ns) B → Goes K.syntax whole A (runs f ns) B
   all_runs {f = f} {ns} ks i e n x = no_more (Runs f ns) ks i e n (λ ts r. runs_chain f ns ts r) x
+
+  -- Sections of two sorts, in any order: `while .. { if .. { reads g } else { reads h } }`. The
+  -- loop's invariant is `Turning K (rep (alt g h)) (rep (alt g h)) start (Sections K e f
+  -- (map p points) (map q exports)) reader`, and `no_section` holds where it begins. A turn that
+  -- reads g, told by the token k that is seen, is `more_first points k refl`, and one that reads h
+  -- is `more_second exports k refl`, each before what was seen, the invariant and the `Adds` of
+  -- the inner reader. After the last turn `all_sections` with the tests that are not seen gives
+  -- the view `sections e f (map p points) (map q exports)`.
+  abbrev pub Sections : (List N → View N) → (List N → View N) → List N → List N → List Shape → Type 0
+  Sections f g ns ms [] = (ns ≡ []) × (ms ≡ [])
+  Sections f g ns ms (left t ∷ ts) = (ks : List N) × (ls : List N) × (ns ≡ ks ++ ls) × Shows K.syntax.layer (f ks) t × Sections f g ls ms ts
+  Sections f g ns ms (right t ∷ ts) = (ks : List N) × (ls : List N) × (ms ≡ ks ++ ls) × Shows K.syntax.layer (g ks) t × Sections f g ns ls ts
+  Sections f g ns ms (t ∷ ts) = ⊥
+
+  sections_first : (f g : List N → View N) (ns ms ks : List N) (ts : List Shape) (t : Shape) → Sections f g ns ms ts → Shows K.syntax.layer (f ks) t → Sections f g (ns ++ ks) ms (ts ++ left t ∷ [])
+  sections_first f g ns ms ks [] t e s = (ks, [], subst (λ l. l ++ ks ≡ ks ++ []) (sym e.0) (sym (append-nil ks)), s, (refl, e.1))
+  sections_first f g ns ms ks (left u ∷ ts) t e s = (e.0, e.1 ++ ks, ap (λ l. l ++ ks) e.2 ∙ append_assoc e.0 e.1 ks, e.3, sections_first f g e.1 ms ks ts t e.4 s)
+  sections_first f g ns ms ks (right u ∷ ts) t e s = (e.0, e.1, e.2, e.3, sections_first f g ns e.1 ks ts t e.4 s)
+  sections_first f g ns ms ks (nothing ∷ ts) t e s = absurd e
+  sections_first f g ns ms ks (leaf v ∷ ts) t e s = absurd e
+  sections_first f g ns ms ks (placed p u ∷ ts) t e s = absurd e
+  sections_first f g ns ms ks (both u v ∷ ts) t e s = absurd e
+  sections_first f g ns ms ks (some u ∷ ts) t e s = absurd e
+
+  sections_second : (f g : List N → View N) (ns ms ks : List N) (ts : List Shape) (t : Shape) → Sections f g ns ms ts → Shows K.syntax.layer (g ks) t → Sections f g ns (ms ++ ks) (ts ++ right t ∷ [])
+  sections_second f g ns ms ks [] t e s = (ks, [], subst (λ l. l ++ ks ≡ ks ++ []) (sym e.1) (sym (append-nil ks)), s, (e.0, refl))
+  sections_second f g ns ms ks (left u ∷ ts) t e s = (e.0, e.1, e.2, e.3, sections_second f g e.1 ms ks ts t e.4 s)
+  sections_second f g ns ms ks (right u ∷ ts) t e s = (e.0, e.1 ++ ks, ap (λ l. l ++ ks) e.2 ∙ append_assoc e.0 e.1 ks, e.3, sections_second f g ns e.1 ks ts t e.4 s)
+  sections_second f g ns ms ks (nothing ∷ ts) t e s = absurd e
+  sections_second f g ns ms ks (leaf v ∷ ts) t e s = absurd e
+  sections_second f g ns ms ks (placed p u ∷ ts) t e s = absurd e
+  sections_second f g ns ms ks (both u v ∷ ts) t e s = absurd e
+  sections_second f g ns ms ks (some u ∷ ts) t e s = absurd e
+
+  sections_chain : (f g : List N → View N) (ns ms : List N) (ts : List Shape) → Sections f g ns ms ts → Shows K.syntax.layer (sections f g ns ms) (chain ts nothing)
+  sections_chain f g ns ms [] e = subst (λ l. Shows K.syntax.layer (sections f g l ms) nothing) (sym e.0) (subst (λ l. Shows K.syntax.layer (sections f g [] l) nothing) (sym e.1) s_no_section)
+  sections_chain f g ns ms (left t ∷ ts) e = subst (λ l. Shows K.syntax.layer (sections f g l ms) (both (left t) (chain ts nothing))) (sym e.2) (s_first_section e.0 e.3 (sections_chain f g e.1 ms ts e.4))
+  sections_chain f g ns ms (right t ∷ ts) e = subst (λ l. Shows K.syntax.layer (sections f g ns l) (both (right t) (chain ts nothing))) (sym e.2) (s_second_section e.0 e.3 (sections_chain f g ns e.1 ts e.4))
+  sections_chain f g ns ms (nothing ∷ ts) e = absurd e
+  sections_chain f g ns ms (leaf v ∷ ts) e = absurd e
+  sections_chain f g ns ms (placed p u ∷ ts) e = absurd e
+  sections_chain f g ns ms (both u v ∷ ts) e = absurd e
+  sections_chain f g ns ms (some u ∷ ts) e = absurd e
+
+  pub no_section : {g : Rule P} {A : Reader} {e f : List N → View N} → Turning g g A (Sections e f [] []) A
+  no_section {e = e} {f} = no_turn (Sections e f [] []) (refl, refl)
+
+  -- the token k tells that r comes next, of g and h, and one token tells where the turns end
+  abbrev pub turns_to : Test → (g h r : Rule P) → Bool
+  turns_to k g h r = implies_one implies k (can_begin K.syntax.marks r) && (parted K g h && (implies_one implies k (can_begin K.syntax.marks (alt g h)) && disjoint apart (can_go_on K.syntax.marks (alt g h)) (can_begin K.syntax.marks (alt g h))))
+
+  -- what it says
+  record TurnsTo (k : Test) (g h r : Rule P) : Type 0 where
+    begins : implies_one implies k (can_begin K.syntax.marks r) ≡ true
+    two : disjoint apart (can_begin K.syntax.marks g) (can_begin K.syntax.marks h) ≡ true
+    some_first : can_be_empty K.syntax.marks g ≡ false
+    some_second : can_be_empty K.syntax.marks h ≡ false
+    whole : implies_one implies k (can_begin K.syntax.marks (alt g h)) ≡ true
+    ends : disjoint apart (can_go_on K.syntax.marks (alt g h)) (can_begin K.syntax.marks (alt g h)) ≡ true
+    some_whole : can_be_empty K.syntax.marks (alt g h) ≡ false
+
+  turning_to : (k : Test) (g h r : Rule P) → turns_to k g h r ≡ true → TurnsTo k g h r
+  turning_to k g h r e =
+      let p = and_right (implies_one implies k (can_begin K.syntax.marks r)) _ e in
+      let q = and_right (parted K g h) _ p in
+      let d = and_left (parted K g h) _ p in
+      let n = and_right (disjoint apart (can_begin K.syntax.marks g) (can_begin K.syntax.marks h)) _ d in
+      let a = not_true K _ (and_left (not (can_be_empty K.syntax.marks g)) _ n) in
+      let b = not_true K _ (and_right (not (can_be_empty K.syntax.marks g)) _ n) in
+      record {
+        begins = and_left (implies_one implies k (can_begin K.syntax.marks r)) _ e;
+        two = and_left (disjoint apart (can_begin K.syntax.marks g) (can_begin K.syntax.marks h)) _ d;
+        some_first = a;
+        some_second = b;
+        whole = and_left (implies_one implies k (can_begin K.syntax.marks (alt g h))) _ q;
+        ends = and_right (implies_one implies k (can_begin K.syntax.marks (alt g h))) _ q;
+        some_whole = rw (a, b) refl;
+      }
+
+  pub more_first : {I : Type 0} {part : I → N} {whole g h : Rule P} {A B C : Reader} {e f : List N → View N} {ms : List N} (items : List I) {items' : List I} (k : Test) → turns_to k g h g ≡ true
+      → Sees B k true → Turning whole (rep (alt g h)) A (Sections e f (map part items) ms) B → Adds K.syntax g e part B items items' C → Turning whole (rep (alt g h)) A (Sections e f (map part items') ms) C
+  more_first {part = part} {g = g} {h} {e = e} {f} {ms} items k d s x y =
+      let o = turning_to k g h g d in
+      turning_on (λ w ts r. subst (λ l. Sections e f l ms ts) (sym (ap (map part) (y.added w) ∙ map-append part items y.run)) r)
+      (one_more (Sections e f (map part items) ms) (Sections e f (map part items ++ map part y.run) ms) k o.whole o.ends o.some_whole s (λ ts t q m. first_of ts t q m) x
+      (first_in K k o.begins o.two o.some_first o.some_second s y.goes))
+    where
+      first_of : (ts : List Shape) (t : Shape) → Sections e f (map part items) ms ts → Shows K.syntax.layer (first (e (map part y.run))) t → Sections e f (map part items ++ map part y.run) ms (ts ++ t ∷ [])
+      first_of ts t q (s_first {t = u} m) = sections_first e f (map part items) ms (map part y.run) ts u q m
+
+  pub more_second : {I : Type 0} {part : I → N} {whole g h : Rule P} {A B C : Reader} {e f : List N → View N} {ns : List N} (items : List I) {items' : List I} (k : Test) → turns_to k g h h ≡ true
+      → Sees B k true → Turning whole (rep (alt g h)) A (Sections e f ns (map part items)) B → Adds K.syntax h f part B items items' C → Turning whole (rep (alt g h)) A (Sections e f ns (map part items')) C
+  more_second {part = part} {g = g} {h} {e = e} {f} {ns} items k d s x y =
+      let o = turning_to k g h h d in
+      turning_on (λ w ts r. subst (λ l. Sections e f ns l ts) (sym (ap (map part) (y.added w) ∙ map-append part items y.run)) r)
+      (one_more (Sections e f ns (map part items)) (Sections e f ns (map part items ++ map part y.run)) k o.whole o.ends o.some_whole s (λ ts t q m. second_of ts t q m) x
+      (second_in K k o.begins o.two o.some_first o.some_second s y.goes))
+    where
+      second_of : (ts : List Shape) (t : Shape) → Sections e f ns (map part items) ts → Shows K.syntax.layer (second (f (map part y.run))) t → Sections e f ns (map part items ++ map part y.run) (ts ++ t ∷ [])
+      second_of ts t q (s_second {t = u} m) = sections_second e f ns (map part items) (map part y.run) ts u q m
+
+  pub all_sections : {whole h : Rule P} {A B : Reader} {e f : List N → View N} {ns ms : List N} (ks : List Test) → covered implies (can_begin K.syntax.marks h) ks ≡ true → can_be_empty K.syntax.marks h ≡ false → NoneSeen B ks → Turning whole (rep h) A (Sections e f ns ms) B → Goes K.syntax whole A (sections e f ns ms) B
+  all_sections {e = e} {f} {ns} {ms} ks i d n x = no_more (Sections e f ns ms) ks i d n (λ ts r. sections_chain e f ns ms ts r) x
 
   -- items that are put last in a list
   pub record Adding {I : Type 0} (part : I → N) (whole rest : Rule P) (old : Reader) (items items' : List I) (new : Reader) : Type 0 where

@@ -1,14 +1,14 @@
 -- What the small steps of a reader do to it.
 use Rattle.std.specs.Prelude.{◌≡◌, ℕ, ◌+◌, ◌*◌, ◌<◌, ◌≤◌, ◌⊎◌, Bool, true, false, List, [], ◌∷◌, ◌++◌, Option, Some, None, option_to_list, slice_get, bytes_eq}
 use Rattle.est_lexer.specs.declared.kind.Token.{Token}
-use Rattle.est_lexer.specs.declared.kind.TokenKind.TheVariants.{Identifier}
+use Rattle.est_lexer.specs.declared.kind.TokenKind.TheVariants.{Identifier, Number, Character}
 use Rattle.est_lexer.specs.declared.tokens.Tokens.{Tokens}
 use Rattle.est_lexer.specs.Places.{text_of, tokens_of}
 use Rattle.est_syntax.specs.declared.name.Used.{Used}
 use Rattle.est_reader.specs.declared.reader.Reader.{Reader}
 use Rattle.est_reader.specs.declared.outcome.Outcome.{Outcome}
 use Rattle.est_reader.specs.declared.outcome.Outcome.TheVariants.{Well, Wrong, TooDeep, NoMemory}
-use Rattle.est_reader.specs.Tests.{Test, kind, named, number, lowered, value_in, stands}
+use Rattle.est_reader.specs.Tests.{Test, kind, named, number, lowered, value_in, code_in, stands}
 
 -- 1 where all goes well, else 0
 abbrev pub bit : Outcome → ℕ
@@ -112,6 +112,24 @@ pub record TakesNumber (low high : ℕ) (old : Reader) (value : ℕ) (new : Read
       (λ token. value_in (text_of old.tokens.now) token ≡ value))
       (NotThere old.tokens.now (number low high) old.at) old.at old.outcome new.at new.outcome
   pub bounded : value ≤ high
+  pub same : Same old new
+
+-- a number is taken, and this is its value
+pub record TakesValue (old : Reader) (value : ℕ) (new : Reader) : Type 0 where
+  pub takes : Does
+      (λ b. Taken old.tokens.now (kind Number) old.at b
+      × Token_is (slice_get (tokens_of old.tokens.now) old.at)
+      (λ token. value_in (text_of old.tokens.now) token ≡ value))
+      (NotThere old.tokens.now (kind Number) old.at) old.at old.outcome new.at new.outcome
+  pub same : Same old new
+
+-- a character constant is taken, and this is the code of its character
+pub record TakesCharacter (old : Reader) (code : ℕ) (new : Reader) : Type 0 where
+  pub takes : Does
+      (λ b. Taken old.tokens.now (kind Character) old.at b
+      × Token_is (slice_get (tokens_of old.tokens.now) old.at)
+      (λ token. code_in (text_of old.tokens.now) token ≡ code))
+      (NotThere old.tokens.now (kind Character) old.at) old.at old.outcome new.at new.outcome
   pub same : Same old new
 
 -- the identifier at the place is this in lower case, or none stands there

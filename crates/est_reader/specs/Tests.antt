@@ -49,6 +49,14 @@ value_of digits = fold with_digit 0 digits
 abbrev pub value_in : List ℕ → Token → ℕ
 value_in text token = value_of (spelling text token)
 
+-- the code of the character of a character constant, which stands after its first quote
+abbrev pub code_of : List ℕ → ℕ
+code_of bytes = slice_index bytes 1
+
+-- the code of a token of the text that is a character constant
+abbrev pub code_in : List ℕ → Token → ℕ
+code_in text token = code_of (spelling text token)
+
 -- whether a token of the text meets a test
 abbrev pub holds : List ℕ → Test → Token → Bool
 holds text (kind k) token = is_same token.kind k
@@ -91,11 +99,10 @@ pub data Kept : Type 0 where
   value : ℕ → Kept
   code : ℕ → Kept
 
--- what is kept of a token of this kind and spelling; the character of a constant stands after its
--- first quote
+-- what is kept of a token of this kind and spelling
 abbrev pub kept_as : TokenKind → List ℕ → Kept
 kept_as Number bytes = value (value_of bytes)
-kept_as Character bytes = code (slice_index bytes 1)
+kept_as Character bytes = code (code_of bytes)
 kept_as Identifier bytes = name (str_to_ascii_lowercase bytes)
 kept_as (Reserved word) bytes = name (str_to_ascii_lowercase bytes)
 kept_as (Symbol symbol) bytes = name (str_to_ascii_lowercase bytes)

@@ -1,12 +1,12 @@
 //! A reader of tokens, which keeps its place and what became of the reading.
 
-ghost use Rattle.std.specs.Prelude.{◌≡◌, ◌≤◌, ◌<◌, true, length, slice_get, IfSome, ◌++◌, ◌∷◌, []};
+ghost use Rattle.std.specs.Prelude.{◌≡◌, ◌≤◌, ◌<◌, true, length, slice_get, Some, IfSome, ◌++◌, ◌∷◌, []};
 ghost use Rattle.est_lexer.specs.Places.{text_of, tokens_of};
 
-use crate::number::value_up_to;
+use crate::number::{value, value_up_to};
 use crate::outcome::Outcome;
 use crate::spelling::is_spelled;
-use est_items::Items;
+use est_items::{Boxed, Items};
 use est_lexer::kind::{ReservedWord, Symbol, TokenKind};
 use est_lexer::tokens::Tokens;
 use est_syntax::name::{Name, Used};
@@ -44,7 +44,7 @@ impl<'t> Reader<'t> {
 
 impl Reader<'_> {
     ghost use Rattle.est_reader.specs.Tests.{kind, spelled, stands as does_stand, lowered as is_lowered};
-    ghost use Rattle.est_reader.specs.Moving.{IsTest, Sees, Steps, Takes, TakesName, TakesNumber, IsNamedAt, FindsNumber, Opens, Closes, Still, Kept, KeptSome};
+    ghost use Rattle.est_reader.specs.Moving.{IsTest, Sees, Steps, Takes, TakesName, TakesNumber, TakesValue, TakesCharacter, IsNamedAt, FindsNumber, Opens, Closes, Still, Kept, KeptSome};
     ghost use Rattle.est_lexer.specs.declared.kind.TokenKind.TheVariants.{Reserved, Symbol as Special};
     ghost use Rattle.est_reader.specs.declared.outcome.Outcome.TheVariants.{Well};
     ghost use Rattle.std.specs.Str.{str_to_ascii_lowercase};
@@ -251,6 +251,46 @@ impl Reader<'_> {
         let found = self.number_here(low, high);
         self.step(found.is_some());
         found.unwrap_or(0)
+    }
+
+    /// Takes a number, and tells its value.
+    pub fn value(&mut self) -> u64
+        ensures { TakesValue self.old result self.new }
+    {
+        let place = self.at;
+        self.take(TokenKind::Number);
+        if self.is_well() {
+            value(self.tokens.spelled(place))
+        } else {
+            0
+        }
+    }
+
+    /// Takes a character constant, and tells the code of its character.
+    pub fn character(&mut self) -> u8
+        ensures { TakesCharacter self.old result self.new }
+    {
+        let place = self.at;
+        self.take(TokenKind::Character);
+        if self.is_well() {
+            self.tokens.spelled(place)[1]
+        } else {
+            0
+        }
+    }
+
+    /// The value in a box.
+    pub fn boxed<T: Drop>(&mut self, value: T) -> Option<Boxed<T>>
+        ensures still { Still self.old self.new }
+        ensures boxed { self.new.outcome ≡ Well → result ≡ Some value }
+    {
+        match Boxed::new(self.alloc, value) {
+            Ok(boxed) => Some(boxed),
+            Err(_) => {
+                self.spend();
+                None
+            }
+        }
     }
 
     /// Puts an item last.

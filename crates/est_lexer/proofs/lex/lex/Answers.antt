@@ -1,6 +1,6 @@
 use Rattle.std.proofs.Common.{arith}
 use Rattle.est_lexer.specs.TokenList.{IsTokenList}
-use Rattle.est_lexer.proofs.TokenLaws.{tokens_inside, tokens_few}
+use Rattle.est_lexer.proofs.TokenLaws.{tokens_inside, tokens_few, token_kinds}
 use Rattle.est_lexer.proofs.lex.lex.Goals as goal
 
 pub invariant_of-result : goal.invariant_of-result
@@ -10,4 +10,5 @@ invariant_of-result c =
       short = c.requires;
       few = omega (arith, tokens_few c.args.text.now 0 c.in_ok-list.list.items (omega arith) tokens);
       inside = tokens_inside c.args.text.now 0 c.in_ok-list.list.items tokens;
+      kinds = token_kinds c.args.text.now 0 c.in_ok-list.list.items tokens;
     }

@@ -1,0 +1,66 @@
+//! Interaction points and module variables that are named (ISO 9074), and arguments.
+
+ghost use Rattle.est_language.specs.Grammar.{rule, opt};
+ghost use Rattle.est_language.specs.Shown.{node as shown};
+ghost use Rattle.est_reader.specs.Going.{Goes};
+ghost use Rattle.est_productions.specs.Grammar as grammar;
+ghost use Rattle.est_productions.specs.Nodes as node;
+ghost use Rattle.est_productions.specs.Syntax.{estelle};
+
+use crate::expression::{called, subscripts};
+use est_lexer::kind::{Symbol, TokenKind};
+use est_reader::Reader;
+use est_syntax::expression::{Access, EndPoint, Exprs};
+
+/// access = ident [ "[" exprs "]" ] .
+pub fn access(reader: &mut Reader) -> Access
+    ensures { Goes estelle (rule grammar.access) reader.old
+        (shown (node.an_access result)) reader.new }
+{
+    let name = reader.name();
+    let index = subscripts_given(reader);
+    Access { name, index }
+}
+
+// [ "[" exprs "]" ]
+fn subscripts_given(reader: &mut Reader) -> Exprs
+    ensures { Goes estelle (opt grammar.subscripts) reader.old
+        (node.bracketed result) reader.new }
+{
+    if reader.sees(TokenKind::Symbol(Symbol::LeftBracket)) {
+        return subscripts(reader);
+    }
+    Exprs::new(reader.alloc)
+}
+
+/// [ "(" exprs ")" ]
+pub fn arguments(reader: &mut Reader) -> Exprs
+    ensures { Goes estelle grammar.arguments reader.old (node.bracketed result) reader.new }
+{
+    if reader.sees(TokenKind::Symbol(Symbol::LeftParenthesis)) {
+        return called(reader);
+    }
+    Exprs::new(reader.alloc)
+}
+
+/// end = access [ "." access ] .
+pub fn end_point(reader: &mut Reader) -> EndPoint
+    ensures { Goes estelle (rule grammar.end_point) reader.old
+        (shown (node.an_end_point result)) reader.new }
+{
+    let first = access(reader);
+    let second = access_given(reader);
+    EndPoint { first, second }
+}
+
+// [ "." access ]
+fn access_given(reader: &mut Reader) -> Option<Access>
+    ensures { Goes estelle grammar.access_given reader.old
+        (node.access_given result) reader.new }
+{
+    if !reader.sees(TokenKind::Symbol(Symbol::Period)) {
+        return None;
+    }
+    reader.symbol(Symbol::Period);
+    Some(access(reader))
+}

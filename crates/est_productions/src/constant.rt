@@ -1,0 +1,97 @@
+//! Constants (ISO 7185, 6.3).
+
+ghost use Rattle.std.specs.Prelude.{[], ◌∷◌};
+ghost use Rattle.est_language.specs.Grammar.{rule, opt};
+ghost use Rattle.est_language.specs.Shown.{node as shown};
+ghost use Rattle.est_lexer.specs.declared.kind.Symbol.TheVariants as symbols;
+ghost use Rattle.est_lexer.specs.declared.kind.TokenKind.TheVariants.{Symbol as Special};
+ghost use Rattle.est_reader.specs.Going.{Goes};
+ghost use Rattle.est_reader.specs.Moving.{OneSeen};
+ghost use Rattle.est_reader.specs.Tests.{kind};
+ghost use Rattle.est_productions.specs.Grammar as grammar;
+ghost use Rattle.est_productions.specs.Nodes as node;
+ghost use Rattle.est_productions.specs.Syntax.{estelle};
+
+use est_lexer::kind::{Symbol, TokenKind};
+use est_reader::Reader;
+use est_syntax::constant::Constant;
+
+/// constant = [ "+" | "-" ] ( number | ident ) | character .
+pub fn constant(reader: &mut Reader) -> Constant
+    ensures { Goes estelle (rule grammar.constant) reader.old
+        (shown (node.a_constant result)) reader.new }
+{
+    if !reader.sees(TokenKind::Identifier) {
+        return unnamed(reader);
+    }
+    let place = reader.at;
+    let name = reader.name();
+    Constant::Named {
+        minus: false,
+        sign: false,
+        name,
+        place,
+    }
+}
+
+/// A constant that is no bare name.
+pub fn unnamed(reader: &mut Reader) -> Constant
+    ensures { Goes estelle grammar.unnamed reader.old (node.unnamed result) reader.new }
+{
+    let place = reader.at;
+    if reader.sees(TokenKind::Character) {
+        let code = reader.character();
+        return Constant::Character { code, place };
+    }
+    if reader.sees(TokenKind::Symbol(Symbol::Plus)) {
+        return signed(reader);
+    }
+    if reader.sees(TokenKind::Symbol(Symbol::Minus)) {
+        return signed(reader);
+    }
+    let number = reader.value();
+    Constant::Number {
+        minus: false,
+        sign: false,
+        number,
+        place,
+    }
+}
+
+// ( "+" | "-" ) ( number | ident )
+fn signed(reader: &mut Reader) -> Constant
+    requires { OneSeen reader.old
+        (kind (Special symbols.Plus) ∷ kind (Special symbols.Minus) ∷ []) }
+    ensures { Goes estelle grammar.unnamed reader.old (node.unnamed result) reader.new }
+{
+    let place = reader.at;
+    let minus = plus_or_minus(reader);
+    if reader.sees(TokenKind::Identifier) {
+        let name = reader.name();
+        return Constant::Named {
+            minus,
+            sign: true,
+            name,
+            place,
+        };
+    }
+    let number = reader.value();
+    Constant::Number {
+        minus,
+        sign: true,
+        number,
+        place,
+    }
+}
+
+/// "+" | "-", and whether it is "-".
+pub fn plus_or_minus(reader: &mut Reader) -> bool
+    ensures { Goes estelle grammar.plus_or_minus reader.old (node.written_sign result) reader.new }
+{
+    if reader.sees(TokenKind::Symbol(Symbol::Minus)) {
+        reader.symbol(Symbol::Minus);
+        return true;
+    }
+    reader.symbol(Symbol::Plus);
+    false
+}

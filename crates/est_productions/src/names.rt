@@ -1,0 +1,25 @@
+//! Names.
+
+ghost use Rattle.est_reader.specs.Going.{Goes};
+ghost use Rattle.est_productions.specs.Grammar as grammar;
+ghost use Rattle.est_productions.specs.Nodes as node;
+ghost use Rattle.est_productions.specs.Syntax.{estelle};
+
+use est_lexer::kind::{Symbol, TokenKind};
+use est_reader::Reader;
+use est_syntax::name::UsedNames;
+
+/// idents = ident { "," ident } .
+pub fn idents(reader: &mut Reader) -> UsedNames
+    ensures { Goes estelle grammar.idents reader.old (node.names result) reader.new }
+{
+    let first = reader.name();
+    let mut items = UsedNames::new(reader.alloc);
+    reader.keep(&mut items, first);
+    while reader.sees(TokenKind::Symbol(Symbol::Comma)) {
+        reader.symbol(Symbol::Comma);
+        let next = reader.name();
+        reader.keep(&mut items, next);
+    }
+    items
+}
