@@ -1,5 +1,5 @@
--- Where two views of one sort show one shape, they are the same.
-use Rattle.std.proofs.Common.{◌≡◌, ℕ, List, [], ◌∷◌, ◌++◌, refl, sym, ◌∙◌, ap, subst}
+-- Where two views of one sort show one shape, they are the same. A layer, or a part of it, that shows no shape at all is of any sort.
+use Rattle.std.proofs.Common.{◌≡◌, ℕ, List, [], ◌∷◌, ◌++◌, Option, Some, refl, sym, ◌∙◌, ap, subst}
 use Rattle.est_language.specs.Grammar.{Shape}
 use Rattle.est_language.specs.Shown.{View, Shows, empty, kept, at, pair, first, second, given, node, alone, perhaps, nodes, runs, sections, s_empty, s_kept, s_at, s_pair, s_first, s_second, s_given, s_node, s_alone, s_without, s_with, s_none, s_more, s_no_run, s_run, s_no_section, s_first_section, s_second_section}
 
@@ -24,6 +24,7 @@ all_tagged {N = N} tag g (m ∷ ms) ls a = let r = all_tagged {N = N} tag g ms l
 module _ {V N G : Type 0} (tag : N → G) where
   -- a view is of a sort
   pub data IsOf : Sort V N G → View V N → Type 0 where
+    f_nowhere : {s : Sort V N G} → IsOf s (alone [])
     f_empty : IsOf of_nothing empty
     f_kept : (v : V) → IsOf of_kept (kept v)
     f_at : {s : Sort V N G} {w : View V N} (p : ℕ) → IsOf s w → IsOf (of_at s) (at p w)
@@ -42,8 +43,14 @@ module _ {V N G : Type 0} (tag : N → G) where
         → ((ls : List N) → All tag k ls → IsOf r (f' ls)) → ((ks ls : List N) → f' ks ≡ f' ls → ks ≡ ls)
         → All tag h ns → All tag k ms → IsOf (of_sections f f' s r h k) (sections f f' ns ms)
 
+-- Each layer is of the sort of its part, and a layer that shows a shape tells its part.
 module _ {V N G : Type 0} (tag : N → G) (layer : N → View V N) (sort_of : G → Sort V N G)
-    (layer_is : (n : N) → IsOf tag (sort_of (tag n)) (layer n)) (layer_one : (n m : N) → tag n ≡ tag m → layer n ≡ layer m → n ≡ m) where
+    (layer_is : (n : N) → IsOf tag (sort_of (tag n)) (layer n))
+    (from : G → View V N → Option N) (told : (n : N) (t : Shape V) → Shows layer (layer n) t → from (tag n) (layer n) ≡ Some n) where
+  -- parts of one tag that have one layer are the same
+  layer_one : (n m : N) {t : Shape V} → Shows layer (layer n) t → Shows layer (layer m) t → tag n ≡ tag m → layer n ≡ layer m → n ≡ m
+  layer_one n m {t} d e p q = let r : Some n ≡ Some m = sym (told n t d) ∙ ap (from (tag n)) q ∙ ap (λ g. from g (layer m)) p ∙ told m t e in cc
+
   layer_of : (n : N) (g : G) → tag n ≡ g → IsOf tag (sort_of g) (layer n)
   layer_of n g e = subst (λ h. IsOf tag (sort_of h) (layer n)) e (layer_is n)
 
@@ -67,6 +74,8 @@ module _ {V N G : Type 0} (tag : N → G) (layer : N → View V N) (sort_of : G 
   join_second ls v = v
 
   pub same_view : {w : View V N} {t : Shape V} → Shows layer w t → {s : Sort V N G} {x : View V N} → IsOf tag s w → IsOf tag s x → Shows layer x t → w ≡ x
+  same_view d f_nowhere k e = elim d [ ]
+  same_view d h f_nowhere e = elim e [ ]
   same_view d f_empty f_empty e = refl
   same_view (s_kept y) (f_kept v) (f_kept u) (s_kept z) = refl
   same_view (s_at y d) (f_at p h) (f_at q k) (s_at z e) = ap (at y) (same_view d h k e)
@@ -79,21 +88,21 @@ module _ {V N G : Type 0} (tag : N → G) (layer : N → View V N) (sort_of : G 
   same_view s_empty f_out (f_in k) e = elim e [ ]
   same_view (s_given d) (f_in h) f_out e = elim e [ ]
   same_view (s_given d) (f_in h) (f_in k) (s_given e) = ap given (same_view d h k e)
-  same_view (s_node d) (f_part {g} n p) (f_part m q) (s_node e) = ap node (layer_one n m (p ∙ sym q) (same_view d (layer_of n g p) (layer_of m g q) e))
-  same_view (s_alone (s_node d)) (f_alone {g} (n ∷ []) p) (f_alone (m ∷ []) q) (s_alone (s_node e)) = ap (λ v. alone (v ∷ [])) (layer_one n m (p.0 ∙ sym q.0) (same_view d (layer_of n g p.0) (layer_of m g q.0) e))
+  same_view (s_node d) (f_part {g} n p) (f_part m q) (s_node e) = ap node (layer_one n m d e (p ∙ sym q) (same_view d (layer_of n g p) (layer_of m g q) e))
+  same_view (s_alone (s_node d)) (f_alone {g} (n ∷ []) p) (f_alone (m ∷ []) q) (s_alone (s_node e)) = ap (λ v. alone (v ∷ [])) (layer_one n m d e (p.0 ∙ sym q.0) (same_view d (layer_of n g p.0) (layer_of m g q.0) e))
   same_view (s_alone d) (f_alone (n ∷ []) p) (f_alone [] q) e = elim e [ ]
   same_view (s_alone d) (f_alone (n ∷ []) p) (f_alone (m ∷ l ∷ ls) q) e = elim e [ ]
   same_view d (f_perhaps {g} [] p) (f_perhaps [] q) e = refl
   same_view s_without (f_perhaps {g} [] p) (f_perhaps (m ∷ []) q) e = elim e [ ]
   same_view (s_with d) (f_perhaps {g} (n ∷ []) p) (f_perhaps [] q) e = elim e [ ]
-  same_view (s_with (s_node d)) (f_perhaps {g} (n ∷ []) p) (f_perhaps (m ∷ []) q) (s_with (s_node e)) = ap (λ v. perhaps (v ∷ [])) (layer_one n m (p.0 ∙ sym q.0) (same_view d (layer_of n g p.0) (layer_of m g q.0) e))
+  same_view (s_with (s_node d)) (f_perhaps {g} (n ∷ []) p) (f_perhaps (m ∷ []) q) (s_with (s_node e)) = ap (λ v. perhaps (v ∷ [])) (layer_one n m d e (p.0 ∙ sym q.0) (same_view d (layer_of n g p.0) (layer_of m g q.0) e))
   same_view s_without (f_perhaps [] p) (f_perhaps (m ∷ l ∷ ls) q) e = elim e [ ]
   same_view (s_with d) (f_perhaps (n ∷ []) p) (f_perhaps (m ∷ l ∷ ls) q) e = elim e [ ]
   same_view d (f_parts [] p) (f_parts [] q) e = refl
   same_view s_none (f_parts [] p) (f_parts (m ∷ ms) q) e = elim e [ ]
   same_view (s_more d d') (f_parts (n ∷ ns) p) (f_parts [] q) e = elim e [ ]
   same_view (s_more (s_node d) d') (f_parts {g} (n ∷ ns) p) (f_parts (m ∷ ms) q) (s_more (s_node e) e') =
-      ap (λ v. nodes (v ∷ ns)) (layer_one n m (p.0 ∙ sym q.0) (same_view d (layer_of n g p.0) (layer_of m g q.0) e)) ∙ ap (push m) (same_view d' (f_parts {g = g} ns p.1) (f_parts ms q.1) e')
+      ap (λ v. nodes (v ∷ ns)) (layer_one n m d e (p.0 ∙ sym q.0) (same_view d (layer_of n g p.0) (layer_of m g q.0) e)) ∙ ap (push m) (same_view d' (f_parts {g = g} ns p.1) (f_parts ms q.1) e')
   same_view s_no_run (f_runs ns h i p) (f_runs ms k j q) s_no_run = refl
   same_view (s_run ks {ns = bs} d d') (f_runs {f} {s} {g} ns h i p) (f_runs ms k j q) (s_run cs {ns = ds} e e') =
       let a = all_tagged {N = N} tag g ks bs p in let b = all_tagged {N = N} tag g cs ds q in
@@ -107,4 +116,4 @@ module _ {V N G : Type 0} (tag : N → G) (layer : N → View V N) (sort_of : G 
       ap (λ v. sections f f' ns (v ++ bs)) (i' ks cs (same_view d (h' ks a.0) (h' cs b.0) e)) ∙ ap (join_second cs) (same_view d' (f_sections {s = s} {r = r} ns bs h i h' i' p a.1) (f_sections os ds k j k' j' q b.1) e')
 
   pub same_node : (n m : N) (g : G) {t : Shape V} → tag n ≡ g → tag m ≡ g → Shows layer (node n) t → Shows layer (node m) t → n ≡ m
-  same_node n m g p q (s_node d) (s_node e) = layer_one n m (p ∙ sym q) (same_view d (layer_of n g p) (layer_of m g q) e)
+  same_node n m g p q (s_node d) (s_node e) = layer_one n m d e (p ∙ sym q) (same_view d (layer_of n g p) (layer_of m g q) e)

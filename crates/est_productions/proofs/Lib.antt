@@ -1,2 +1,6 @@
 pub mod Fits
 pub mod Made
+pub mod Sorts
+pub mod Pieces
+pub mod Told
+pub mod OneValue

@@ -1,9 +1,6 @@
-pub mod CountLaws
-pub mod OrderLaws
+pub mod Sizes
 pub mod PortBounds
-pub mod Sentences
-pub mod SkeletonLaws
-pub mod UniqueLaws
-pub mod Shapes
-pub mod Shown
+pub mod Small
+pub mod Order
+pub mod Unique
 pub mod Refused

@@ -21,10 +21,10 @@ use Rattle.est_syntax.specs.Ports.{header_of_variable, header_started, interacti
 use Rattle.est_syntax.specs.Breaks.{modvar_by}
 use Rattle.est_syntax.proofs.Members.{into_either}
 use Rattle.est_syntax.proofs.Declared.{header_meant, side_meant}
-use Rattle.est_specification.proofs.CountLaws.{names_in, points_of, port_sum, signals_in}
+use Rattle.est_specification.proofs.Sizes.{names_in, points_of, port_sum, signals_in}
 
 -- what one item counts is part of the sum
-sum_member : {X : Type 0} (f : X → ℕ) (x : X) (xs : List X) → IsIn x xs → f x ≤ sum_by f xs
+pub sum_member : {X : Type 0} (f : X → ℕ) (x : X) (xs : List X) → IsIn x xs → f x ≤ sum_by f xs
 sum_member f x [] i = absurd i
 sum_member f x (y ∷ ys) (inl e) = omega (arith, ap f e, sum_by-cons f y ys)
 sum_member f x (y ∷ ys) (inr i) = let more : f x ≤ sum_by f ys = sum_member f x ys i in omega (arith, sum_by-cons f y ys)
@@ -102,5 +102,5 @@ header_few n s few None = λ p i. absurd i
 header_few n s few (Some h) = points_few n (spec_scope s) (λ p side e. few side.channel (side_meant s p side e)) h.points
 
 -- where each channel has at most so many interactions, each port has at most so many signals
-pub ports_few : (n : ℕ) (s : Spec) → ((c : Channel) → IsIn (part.Channel c) s.parts → sum_by signals_in c.by ≤ n) → HaveFew n (ports_of s)
-ports_few n s few = header_few n s few (header_started (spec_scope s) s.first)
+pub signals_few : (n : ℕ) (s : Spec) → ((c : Channel) → IsIn (part.Channel c) s.parts → sum_by signals_in c.by ≤ n) → HaveFew n (ports_of s)
+signals_few n s few = header_few n s few (header_started (spec_scope s) s.first)

@@ -10,5 +10,6 @@ use Rattle.est_specification.specs.Errors.{of_fault}
 use Rattle.est_specification.specs.Reading.{IsNoSpecification}
 
 pub refused : (text : List ℕ) (tokens : List Token) (spec : Spec) (e : CheckError) → HasOneTree text tokens spec → IsRefused spec e → IsNoSpecification text tokens (of_fault e)
-refused text tokens spec (faults.Fault place r) tree f = (spec, tree, f)
+refused text tokens spec faults.NotBuilt tree f = (spec, tree, f)
+refused text tokens spec (faults.Fault place r) tree f = (spec, tree, f.0, f.1)
 refused text tokens spec (faults.Memory e) tree f = tt

@@ -10,10 +10,11 @@ use Rattle.est_specification.specs.declared.error.SpecificationError.TheVariants
 abbrev pub of_refusal : ParseError → SpecificationError
 of_refusal (refusals.BadToken place) = errors.BadToken place
 of_refusal (refusals.LeftOut place) = errors.LeftOut place
-of_refusal (refusals.NotYet place) = errors.NotYet place
+of_refusal (refusals.TooDeep place) = errors.TooDeep place
 of_refusal (refusals.Memory error) = errors.Memory error
 
--- a fault, with its place and its rule
+-- a fault, with its place and its rule; what is no skeleton is not built
 abbrev pub of_fault : CheckError → SpecificationError
+of_fault faults.NotBuilt = errors.NotBuilt
 of_fault (faults.Fault place rule) = errors.BrokenRule place rule
 of_fault (faults.Memory error) = errors.Memory error

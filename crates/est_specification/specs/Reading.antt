@@ -3,26 +3,32 @@ use Rattle.std.specs.Prelude.{ℕ, List, Result, Ok, Err}
 use Rattle.est_lexer.specs.declared.kind.Token.{Token}
 use Rattle.est_syntax.specs.declared.specification.Spec.{Spec}
 use Rattle.est_syntax.specs.Breaks.{IsGood, IsLeastFault}
+use Rattle.est_check.specs.Skeleton.{IsSkeleton}
 use Rattle.est_grammar.specs.Answer.{HasOneTree, IsRefusal}
 use Rattle.est_grammar.specs.declared.error.ParseError.TheVariants as refusals
 use Rattle.est_specification.specs.declared.error.SpecificationError.{SpecificationError}
 use Rattle.est_specification.specs.declared.error.SpecificationError.TheVariants as errors
 
--- The tokens have the tree of this specification and no other, and it breaks no rule.
+-- The tokens have the tree of this specification and no other, and it is a skeleton that breaks no
+-- rule.
 pub record IsSpecification (text : List ℕ) (tokens : List Token) (spec : Spec) : Type 0 where
   pub tree : HasOneTree text tokens spec
+  pub skeleton : IsSkeleton spec
   pub good : IsGood spec
 
--- The tokens are refused by the grammar at this place, or have one tree with this least fault; want
--- of memory says nothing of them.
+-- The tokens are refused by the grammar at this place, or have one tree, which is no skeleton's or
+-- a skeleton's with this least fault; want of memory says nothing of them.
 abbrev pub IsNoSpecification : List ℕ → List Token → SpecificationError → Type 0
 IsNoSpecification text tokens (errors.BadToken place) =
     IsRefusal text tokens (refusals.BadToken place)
 IsNoSpecification text tokens (errors.LeftOut place) =
     IsRefusal text tokens (refusals.LeftOut place)
-IsNoSpecification text tokens (errors.NotYet place) = IsRefusal text tokens (refusals.NotYet place)
-IsNoSpecification text tokens (errors.BrokenRule place rule) =
-    (spec : Spec) × HasOneTree text tokens spec × IsLeastFault spec place rule
+IsNoSpecification text tokens (errors.TooDeep place) =
+    IsRefusal text tokens (refusals.TooDeep place)
+IsNoSpecification text tokens errors.NotBuilt =
+    (spec : Spec) × HasOneTree text tokens spec × (IsSkeleton spec → ⊥)
+IsNoSpecification text tokens (errors.BrokenRule place rule) = (spec : Spec)
+    × HasOneTree text tokens spec × IsSkeleton spec × IsLeastFault spec place rule
 IsNoSpecification text tokens (errors.Memory error) = Unit {0}
 
 -- what read_specification answers: the specification that the tokens are, or why they are none

@@ -10,15 +10,20 @@ use std::alloc::AllocError;
 use thiserror::Error;
 
 /// Why tokens are no specification, with the number of the refused token, counted from 0. Only a
-/// sentence breaks a rule; the place is then that of its least fault.
+/// sentence breaks a rule, or is not built yet; the place of a broken rule is that of the least
+/// fault.
 #[derive(Debug, Drop, Error)]
 pub enum SpecificationError {
     #[error("bad token {place}")]
     BadToken { place: u32 },
     #[error("token {place} is left out")]
     LeftOut { place: u32 },
-    #[error("token {place} is not built yet")]
-    NotYet { place: u32 },
+    /// The token opens more levels than a tree may have.
+    #[error("token {place} is too deep")]
+    TooDeep { place: u32 },
+    /// A sentence with parts whose rules are not checked yet.
+    #[error("not built yet")]
+    NotBuilt,
     #[error("token {place}: {rule:?}")]
     BrokenRule { place: u32, rule: Rule },
     #[error(transparent)]
@@ -32,7 +37,7 @@ impl From<ParseError> for SpecificationError {
         match refusal {
             ParseError::BadToken { place } => SpecificationError::BadToken { place },
             ParseError::LeftOut { place } => SpecificationError::LeftOut { place },
-            ParseError::NotYet { place } => SpecificationError::NotYet { place },
+            ParseError::TooDeep { place } => SpecificationError::TooDeep { place },
             ParseError::Memory(error) => SpecificationError::Memory(error),
         }
     }
@@ -43,6 +48,7 @@ impl From<CheckError> for SpecificationError {
 
     fn from(fault: CheckError) -> SpecificationError {
         match fault {
+            CheckError::NotBuilt => SpecificationError::NotBuilt,
             CheckError::Fault { place, rule } => SpecificationError::BrokenRule { place, rule },
             CheckError::Memory(error) => SpecificationError::Memory(error),
         }

@@ -1,4 +1,5 @@
-//! What holds of every sentence: the rules that it can break, and that it is of one specification.
+//! What holds of sentences: the rules that a skeleton can break, and that each is of one
+//! specification.
 ghost use Rattle.est_specification.specs.SentenceRules.{SentencesBreakFew};
 ghost use Rattle.est_specification.specs.Unique.{SpecificationsAreUnique};
 

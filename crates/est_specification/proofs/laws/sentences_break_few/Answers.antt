@@ -1,4 +1,4 @@
-use Rattle.est_specification.proofs.OrderLaws.{few_broken}
+use Rattle.est_specification.proofs.Order.{few_broken}
 use Rattle.est_specification.proofs.laws.sentences_break_few.Goals as goal
 
 pub returns : goal.returns

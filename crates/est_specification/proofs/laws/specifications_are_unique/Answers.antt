@@ -1,4 +1,4 @@
-use Rattle.est_specification.proofs.UniqueLaws.{same_specification}
+use Rattle.est_specification.proofs.Unique.{same_specification}
 use Rattle.est_specification.proofs.laws.specifications_are_unique.Goals as goal
 
 pub returns : goal.returns

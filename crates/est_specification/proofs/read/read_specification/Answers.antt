@@ -1,11 +1,11 @@
 use Rattle.std.proofs.lemmas.Result.{err_from_is_err_and}
 use Rattle.est_lexer.specs.Places.{text_of, tokens_of}
 use Rattle.est_specification.proofs.Refused.{refused}
-use Rattle.est_specification.proofs.SkeletonLaws.{sentence_is_skeleton}
+use Rattle.est_specification.proofs.Small.{sentence_is_small}
 use Rattle.est_specification.proofs.read.read_specification.Goals as goal
 
 pub check-requires : goal.check-requires
-check-requires c = sentence_is_skeleton _ _ c.in_ok-spec.spec c.in_ok-spec.ensures.tree c.requires.few
+check-requires c = sentence_is_small _ _ c.in_ok-spec.spec c.in_ok-spec.ensures.tree c.requires.few
 
 pub returns-in_err-check : goal.returns-in_err-check
 returns-in_err-check c =

@@ -1,0 +1,229 @@
+-- A sentence has no more interaction points, interactions of a channel, and transitions than tokens.
+use Rattle.std.proofs.Common.{◌≡◌, ◌+◌, ◌≤◌, ℕ, List, [], ◌∷◌, length, map, arith, refl, subst}
+use Rattle.std.specs.Prelude.{sum_by}
+use Rattle.std.proofs.lemmas.List.Sums.{sum_by-cons}
+use Rattle.est_lexer.specs.declared.kind.Token.{Token}
+use Rattle.est_syntax.specs.declared.name.Used.{Used}
+use Rattle.est_syntax.specs.declared.channel.InteractionDef.{InteractionDef}
+use Rattle.est_syntax.specs.declared.channel.ByPart.{ByPart}
+use Rattle.est_syntax.specs.declared.channel.Channel.{Channel}
+use Rattle.est_syntax.specs.declared.header.Point.{Point}
+use Rattle.est_syntax.specs.declared.header.Header.{Header}
+use Rattle.est_syntax.specs.declared.body.Body.{Body, out-Body}
+use Rattle.est_syntax.specs.declared.body.Part.{Part}
+use Rattle.est_syntax.specs.declared.body.Part.TheOpen as form
+use Rattle.est_syntax.specs.declared.body.Part.TheVariants as part
+use Rattle.est_syntax.specs.declared.transition.Transition.{Transition}
+use Rattle.est_syntax.specs.declared.transition.Group.{Group, out-Group}
+use Rattle.est_syntax.specs.declared.specification.Spec.{Spec}
+use Rattle.est_language.specs.Grammar.{Tree, rep, rule, t_word, t_deeper, t_seq, t_left, t_right, t_rule}
+use Rattle.est_language.specs.Shown.{Shows, node, nodes, s_at, s_pair, s_first, s_second, s_kept, s_node}
+use Rattle.est_language.proofs.Kept.{leaves, leaves_fit, turns_fit, several_fit, one_fits, ones, sum_map, parts_show, sections_show}
+use Rattle.est_language.proofs.Trees.{tree_forward}
+use Rattle.est_reader.specs.Tests.{language}
+use Rattle.est_reader.specs.Going.{Shape}
+use Rattle.est_productions.specs.Grammar.{Rule, production, specification, common, body, transpart, transition}
+use Rattle.est_productions.specs.FirstTokens.{marks}
+use Rattle.est_productions.specs.Nodes as shown
+use Rattle.est_productions.specs.Nodes.{Node, View, a_use, an_interaction, a_by_part, a_channel, a_point, a_header, an_export, a_common_part, a_transition, a_group, a_body, a_specification, layer}
+use Rattle.est_productions.proofs.Fits.{fits}
+use Rattle.est_check.specs.Counts.{group_count, transition_count}
+
+-- WHAT IS COUNTED
+
+-- the interaction points that one declaration has
+abbrev pub names_in : Point → ℕ
+names_in p = length p.names
+
+-- the interactions of one part of a channel
+abbrev pub signals_in : ByPart → ℕ
+signals_in b = length b.interactions
+
+-- the interaction points that a part declares
+abbrev pub points_of : Part → ℕ
+points_of (part.Header h) = sum_by names_in h.points
+points_of _ = 0
+
+-- the interaction points of the parts
+abbrev pub port_sum : List Part → ℕ
+port_sum ps = sum_by points_of ps
+
+-- the names that are counted in a part: interaction points and interactions
+abbrev pub names_counted : Part → ℕ
+names_counted (part.Header h) = sum_by names_in h.points
+names_counted (part.Channel c) = sum_by signals_in c.by
+names_counted _ = 0
+
+-- the transitions that a part declares
+abbrev transitions_of : Part → ℕ
+transitions_of (part.Body x) = group_count (out-Body x).groups
+transitions_of _ = 0
+
+abbrev transitions_in : Group → ℕ
+transitions_in g = length (out-Group g).transitions
+
+group_count-sum : (gs : List Group) → group_count gs ≡ sum_by transitions_in gs
+group_count-sum [] = refl
+group_count-sum (g ∷ gs) = omega (arith, group_count-sum gs, sum_by-cons transitions_in g gs)
+
+transition_count-cons : (p : Part) (ps : List Part) → transition_count (p ∷ ps) ≡ transitions_of p + transition_count ps
+transition_count-cons (part.Body x) ps = refl
+transition_count-cons _ ps = omega arith
+
+transition_count-sum : (ps : List Part) → transition_count ps ≡ sum_by transitions_of ps
+transition_count-sum [] = refl
+transition_count-sum (p ∷ ps) = omega (arith, transition_count-cons p ps, transition_count-sum ps, sum_by-cons transitions_of p ps)
+
+-- NAMES
+
+abbrev Has : View → Shape → Type 0
+Has v t = Shows layer v t
+
+-- where parts made of the items of a list each show so many tokens
+listed_show : {A : Type 0} (f : Node → ℕ) (each : (n : Node) (t : Shape) → Has (node n) t → f n ≤ leaves t) (made : A → Node) (xs : List A) {t : Shape}
+    → Has (nodes (map made xs)) t → sum_by (λ x. f (made x)) xs ≤ leaves t
+listed_show f each made xs {t} h = omega (arith, parts_show layer f each (map made xs) t h, sum_map f made xs)
+
+-- a name and an interaction have one name
+abbrev one_name : Node → ℕ
+one_name (a_use u) = 1
+one_name (an_interaction i) = 1
+one_name _ = 0
+
+one_name_shows : (n : Node) (t : Shape) → Has (node n) t → one_name n ≤ leaves t
+one_name_shows (a_use u) t (s_node (s_at p (s_kept v))) = omega arith
+one_name_shows (an_interaction i) t (s_node (s_pair (s_at p (s_kept v)) rest)) = omega arith
+one_name_shows _ t h = omega arith
+
+names_show : (us : List Used) {t : Shape} → Has (nodes (map a_use us)) t → length us ≤ leaves t
+names_show us h = omega (arith, listed_show one_name one_name_shows a_use us h, ones us)
+
+interactions_show : (is : List InteractionDef) {t : Shape} → Has (nodes (map an_interaction is)) t → length is ≤ leaves t
+interactions_show is h = omega (arith, listed_show one_name one_name_shows an_interaction is h, ones is)
+
+roles_show : (us : List Used) (is : List InteractionDef) {t : Shape} → Has (shown.roles us (nodes (map an_interaction is))) t → length is ≤ leaves t
+roles_show [] is h = elim h [ ]
+roles_show (one ∷ []) is (s_pair x (s_pair y z)) = omega (arith, interactions_show is z)
+roles_show (one ∷ other ∷ []) is (s_pair x (s_pair y z)) = omega (arith, interactions_show is z)
+roles_show (one ∷ other ∷ more ∷ us) is h = elim h [ ]
+
+-- a declaration of interaction points, and a part of a channel
+abbrev several_names : Node → ℕ
+several_names (a_point p) = names_in p
+several_names (a_by_part b) = signals_in b
+several_names _ = 0
+
+several_names_show : (n : Node) (t : Shape) → Has (node n) t → several_names n ≤ leaves t
+several_names_show (a_point p) t (s_node (s_at q (s_pair x y))) = omega (arith, names_show p.names x)
+several_names_show (a_by_part b) t (s_node h) = roles_show b.roles b.interactions h
+several_names_show _ t h = omega arith
+
+two_names_show : (us : List Used) (bs : List ByPart) {t : Shape} → Has (shown.two_names us (nodes (map a_by_part bs))) t → sum_by signals_in bs ≤ leaves t
+two_names_show [] bs h = elim h [ ]
+two_names_show (one ∷ []) bs h = elim h [ ]
+two_names_show (one ∷ other ∷ []) bs (s_pair x (s_pair y z)) = omega (arith, listed_show several_names several_names_show a_by_part bs z)
+two_names_show (one ∷ other ∷ more ∷ us) bs h = elim h [ ]
+
+channel_shows : (c : Channel) {t : Shape} → Has (node (a_channel c)) t → sum_by signals_in c.by ≤ leaves t
+channel_shows c (s_node (s_pair x y)) = omega (arith, two_names_show c.roles c.by y)
+
+header_shows : (h : Header) {t : Shape} → Has (node (a_header h)) t → sum_by names_in h.points ≤ leaves t
+header_shows h (s_node (s_pair x (s_pair y (s_pair z (s_pair w end_))))) = omega (arith, sections_show layer several_names several_names_show w, sum_map several_names a_point h.points)
+
+-- a part of a specification
+abbrev part_names : Node → ℕ
+part_names (a_common_part p) = names_counted p
+part_names _ = 0
+
+common_shows : (p : Part) (t : Shape) → Has (node (a_common_part p)) t → names_counted p ≤ leaves t
+common_shows (part.Channel c) t (s_node h) = elim_channel (subst (λ v. Has (shown.common_part v) t) (part.outs-Channel c) h)
+  where
+    elim_channel : {u : Shape} → Has (shown.common_part (form.Channel c)) u → sum_by signals_in c.by ≤ leaves u
+    elim_channel (s_second (s_second (s_first x))) = channel_shows c x
+common_shows (part.Header h) t (s_node x) = elim_header (subst (λ v. Has (shown.common_part v) t) (part.outs-Header h) x)
+  where
+    elim_header : {u : Shape} → Has (shown.common_part (form.Header h)) u → sum_by names_in h.points ≤ leaves u
+    elim_header (s_second (s_second (s_second (s_first y)))) = header_shows h y
+common_shows _ t h = omega arith
+
+part_names_show : (n : Node) (t : Shape) → Has (node n) t → part_names n ≤ leaves t
+part_names_show (a_common_part p) t h = common_shows p t h
+part_names_show _ t h = omega arith
+
+parts_show_names : (ps : List Part) {t : Shape} → Has (nodes (map a_common_part ps)) t → sum_by names_counted ps ≤ leaves t
+parts_show_names ps h = listed_show part_names part_names_show a_common_part ps h
+
+-- interaction points are some of the names that are counted
+points_counted : (p : Part) → points_of p ≤ names_counted p
+points_counted (part.Header h) = omega arith
+points_counted _ = omega arith
+
+port_sum-counted : (ps : List Part) → port_sum ps ≤ sum_by names_counted ps
+port_sum-counted [] = omega arith
+port_sum-counted (p ∷ ps) = omega (arith, port_sum-counted ps, points_counted p, sum_by-cons points_of p ps, sum_by-cons names_counted p ps)
+
+-- TRANSITIONS
+
+module _ (text : List ℕ) (tokens : List Token) where
+  abbrev Reads : Rule → ℕ → ℕ → ℕ → Shape → Type 0
+  Reads g d a b t = Tree (language production text) tokens (length tokens) g d a b t
+
+  forward : {g : Rule} {d a b : ℕ} {t : Shape} → Reads g d a b t → a ≤ b
+  forward x = tree_forward (language production text) tokens (length tokens) x
+
+  -- a transition has a token
+  transition_long : (x : Transition) (d a b : ℕ) (t : Shape) → Has (node (a_transition x)) t → Reads (rule transition) d a b t → a + 1 ≤ b
+  transition_long x d a b t h tree = one_fits (language production text) marks (fits text) tokens (length tokens) (rule transition) refl d a b t tree
+
+  -- so a group has no fewer tokens than transitions, and nor has a body
+  group_long : (g : Group) (d a b : ℕ) (t : Shape) → Has (node (a_group g)) t → Reads (rule transpart) d a b t → a + transitions_in g ≤ b
+  group_long g d a b t (s_node h) (t_rule (t_word k i e tree)) =
+      let ts = (out-Group g).transitions in
+      omega (arith, several_fit (language production text) tokens (length tokens) layer (λ x. 1) a_transition (rule transition) transition_long ts h tree, ones ts)
+
+  body_long : (x : Body) (d a b : ℕ) (t : Shape) → Has (node (a_body x)) t → Reads (rule body) d a b t → a + group_count (out-Body x).groups ≤ b
+  body_long x d a b t (s_node (s_pair h1 (s_pair h2 (s_pair h3 (s_pair h4 (s_pair h5 h6)))))) (t_rule (t_deeper (t_word k i e (t_seq one (t_word k' i' e' (t_seq two (t_word k'' i'' e'' (t_seq parts (t_seq first (t_seq groups end_)))))))))) =
+      let gs = (out-Body x).groups in
+      omega (
+        arith,
+        forward one,
+        forward two,
+        forward parts,
+        forward first,
+        forward end_,
+        turns_fit (language production text) tokens (length tokens) layer transitions_in a_group (rule transpart) group_long gs h5 groups,
+        group_count-sum gs,
+      )
+
+  -- a part of a specification
+  part_long : (p : Part) (d a b : ℕ) (t : Shape) → Has (node (a_common_part p)) t → Reads (rule common) d a b t → a + transitions_of p ≤ b
+  part_long (part.Body x) d a b t (s_node h) tree = of_body (subst (λ v. Has (shown.common_part v) t) (part.outs-Body x) h) tree
+    where
+      of_body : {u : Shape} → Has (shown.common_part (form.Body x)) u → Reads (rule common) d a b u → a + group_count (out-Body x).groups ≤ b
+      of_body (s_second (s_second (s_second (s_second (s_first {t = u} k))))) (t_rule (t_right (t_right (t_right (t_right (t_left read)))))) = body_long x d a b u k read
+  part_long _ d a b t h tree = omega (arith, forward tree)
+
+  -- the parts of a specification
+  pub record HasParts (spec : Spec) : Type 0 where
+    pub levels : ℕ
+    pub from : ℕ
+    pub to : ℕ
+    pub shape : Shape
+    pub within : to ≤ length tokens
+    pub tree : Reads (rep (rule common)) levels from to shape
+    pub shows : Has (nodes (map a_common_part spec.parts)) shape
+
+  pub parts_read : (spec : Spec) (d : ℕ) (t : Shape) → Has (node (a_specification spec)) t → Reads (rule specification) d 0 (length tokens) t → HasParts spec
+  parts_read spec d t (s_node (s_pair h1 (s_pair h2 (s_pair h3 (s_pair h4 h5))))) (t_rule (t_word k i e (t_seq one (t_word k' i' e' (t_seq queue (t_seq scale (t_seq {d = d'} {a = a} {b = b} {t = u} parts end_))))))) =
+      record { levels = d'; from = a; to = b; shape = u; within = forward end_; tree = parts; shows = h4 }
+
+  -- no more interaction points, interactions of a channel, and transitions than tokens
+  pub names_few : (spec : Spec) → HasParts spec → sum_by names_counted spec.parts ≤ length tokens
+  names_few spec x = omega (arith, parts_show_names spec.parts x.shows, leaves_fit (language production text) tokens (length tokens) x.tree, x.within)
+
+  pub ports_few : (spec : Spec) → HasParts spec → port_sum spec.parts ≤ length tokens
+  ports_few spec x = omega (arith, names_few spec x, port_sum-counted spec.parts)
+
+  pub transitions_few : (spec : Spec) → HasParts spec → transition_count spec.parts ≤ length tokens
+  transitions_few spec x =
+      omega (arith, turns_fit (language production text) tokens (length tokens) layer transitions_of a_common_part (rule common) part_long spec.parts x.shows x.tree, x.within, transition_count-sum spec.parts)

@@ -1,0 +1,10 @@
+-- The tokens of a text have at most one specification.
+use Rattle.std.proofs.Common.{◌≡◌, ℕ, List, subst}
+use Rattle.est_lexer.specs.declared.kind.Token.{Token}
+use Rattle.est_syntax.specs.declared.specification.Spec.{Spec}
+use Rattle.est_language.specs.Shown.{Shows, node}
+use Rattle.est_productions.specs.Nodes.{a_specification, layer}
+use Rattle.est_grammar.specs.Answer.{HasOneTree}
+
+pub same_specification : (text : List ℕ) (tokens : List Token) (a b : Spec) → HasOneTree text tokens a → HasOneTree text tokens b → a ≡ b
+same_specification text tokens a b p q = q.only_spec a (subst (λ t. Shows layer (node (a_specification a)) t) (q.only_tree p.shape p.tree) p.shows)
