@@ -26,11 +26,16 @@ use Rattle.est_check.specs.Entries.{Entries, Declared, entry, entry_of, enter_al
 use Rattle.est_check.specs.Declarations.{together_entries, variable_entries, part_entries, parts_entries, state_entries, body_entries}
 use Rattle.est_check.specs.Tables.{first_of, members_by, names_by, own_entry, header_entry, look_up, outer_found, table_environment}
 use Rattle.est_check.specs.LeastFaults.{outside, names_of_channel_part, names_of_channels, names_of_header, names_of_header_part, names_of_headers, header_number, header_entries, least_inside, least_of_body, least_of_part, least_of_parts, point_entries}
-use Rattle.est_check.specs.Skeleton.{AreStates}
 use Rattle.est_check.proofs.Entering.{first, whole-enter_all, noted-enter_all, first_of-none}
 use Rattle.est_check.proofs.Stands.{Both, Alike, alike-append, names_alike, first_alike, EntryFor, FoundFor, ChannelFor, HeaderFor, declared_in-append, both_append, found_inside, found_around, header_for}
 use Rattle.est_check.proofs.Channels.{MembersFor, members_for, noted_channel, agree_front}
 use Rattle.est_check.proofs.Environments.{OuterFor, ChannelsFor, HeadersFor, alone, means_outside, environment_outside, environment_is, together_alike, points_alike, header_both, header_entry_is}
+
+-- parts that are all `state` sections
+abbrev pub AreStates : List Part → Type 0
+AreStates [] = Unit {0}
+AreStates (part.States us ∷ ps) = AreStates ps
+AreStates (_ ∷ ps) = ⊥
 
 -- parts in which no body but the outermost stands
 abbrev pub IsFlat : Part → Type 0

@@ -7,5 +7,7 @@ pub mod Least
 pub mod LeastFaults
 pub mod Signals
 pub mod Skeleton
+pub mod Small
 pub mod SkeletonRules
 pub mod Tables
+pub mod inside

@@ -8,6 +8,7 @@ ghost use Rattle.est_syntax.specs.Ports.{interaction_signals, by_signals, signal
 ghost use Rattle.est_syntax.specs.Ports.{named_ports, point_ports, ports_of};
 ghost use Rattle.est_check.specs.LeastFaults.{tables};
 ghost use Rattle.est_check.specs.Skeleton.{IsSkeleton};
+ghost use Rattle.est_check.specs.Small.{most};
 ghost use Rattle.est_check.specs.Signals.{RolesFor, PartRolesFor, side, channel_signals};
 ghost use Rattle.est_check.specs.Signals.{part_signals, role_signals, sides_of, signals_by, bare_port};
 ghost use Rattle.est_check.specs.Tables.{members_at};
@@ -275,7 +276,7 @@ pub fn ports(alloc: Global, table: &Table, spec: &Spec) -> Result<Ports, AllocEr
 
 /// The number of bodies that these parts declare.
 pub fn body_count(parts: &[Part]) -> u32
-    requires { body_count parts.now ≤ 1048576 }
+    requires { body_count parts.now ≤ most }
     ensures { result ≡ body_count parts.now }
 {
     let mut count = 0;
@@ -289,7 +290,7 @@ pub fn body_count(parts: &[Part]) -> u32
 
 /// The number of transitions of these groups.
 fn group_count(groups: &[Group]) -> u32
-    requires { group_count groups.now ≤ 1048576 }
+    requires { group_count groups.now ≤ most }
     ensures { result ≡ group_count groups.now }
 {
     let mut count = 0;
@@ -301,7 +302,7 @@ fn group_count(groups: &[Group]) -> u32
 
 /// The number of transitions of the bodies that these parts declare.
 pub fn transition_count(parts: &[Part]) -> u32
-    requires { transition_count parts.now ≤ 1048576 }
+    requires { transition_count parts.now ≤ most }
     ensures { result ≡ transition_count parts.now }
 {
     let mut count = 0;
