@@ -3,6 +3,7 @@ use Rattle.std.specs.Prelude.{if◌then◌else◌, slice_get, ◌⊎◌, nat_lt}
 use Rattle.std.specs.List.{All}
 use Rattle.std.proofs.Common.{◌≡◌, refl, sym, ap, ◌∙◌, subst, ℕ, Bool, true, false, List, [], ◌∷◌, ◌++◌, Option, Some, None, inl, inr, suc, arith}
 use Rattle.std.proofs.lemmas.Option.{none-some}
+use Rattle.std.specs.Option.{unwrap_or}
 use Rattle.est_syntax.specs.declared.name.Used.{Used}
 use Rattle.est_syntax.specs.declared.expression.Access.{Access}
 use Rattle.est_syntax.specs.declared.expression.Expr.{Expr}
@@ -18,7 +19,7 @@ use Rattle.est_syntax.specs.declared.body.Part.{Part}
 use Rattle.est_syntax.specs.declared.body.Part.TheVariants as part
 use Rattle.est_syntax.specs.declared.specification.Spec.{Spec}
 use Rattle.est_syntax.specs.Least.{IsIn, IsLeast}
-use Rattle.est_check.specs.Least.{least_with}
+use Rattle.est_check.specs.inside.Least.{least_with}
 use Rattle.est_syntax.specs.Names.{Sort, Declaration, Region, Scope, is_predeclared, Meaning, nothing, unseen, predeclared, seen, meaning, meaning_by, in_force, declared_in, spelled, is_name, header_in, header_by, parts_region, spec_scope}
 use Rattle.est_syntax.specs.Names as names
 use Rattle.est_syntax.specs.Environment.{environment}
@@ -28,10 +29,10 @@ use Rattle.est_syntax.proofs.Members.{in_first, in_second, into_either}
 use Rattle.est_check.proofs.LeastLaws.{least_append, least_is}
 use Rattle.est_check.specs.declared.table.Table.{Table}
 use Rattle.est_check.specs.declared.table.Members.{Members}
-use Rattle.est_check.specs.Entries.{Entries, Declared, enter_all}
-use Rattle.est_check.specs.Declarations.{parts_entries}
-use Rattle.est_check.specs.Tables.{members_by, names_by}
-use Rattle.est_check.specs.LeastFaults.{names_of_channels, least_of_parts, tables, least_of_spec}
+use Rattle.est_check.specs.inside.Entries.{Entries, Declared, enter_all}
+use Rattle.est_check.specs.inside.Declarations.{parts_entries}
+use Rattle.est_check.specs.inside.Tables.{no_members}
+use Rattle.est_check.specs.inside.LeastFaults.{names_of_channels, least_of_parts, tables, least_of_spec}
 use Rattle.est_syntax.specs.declared.transition.Group.{out-Group}
 use Rattle.est_check.specs.Skeleton.{IsOne, IsEmpty, IsPlain, IsPlainTransition, IsPlainGroup, IsStates, IsPlainBody, IsSkeleton, channel_parts}
 use Rattle.est_check.proofs.Stands.{ChannelFor, HeaderFor}
@@ -46,11 +47,11 @@ table_for ps f =
     let c : List Members × Option Fault = names_of_channels ([], o.1) ps in
     let bare : Table = record { outer = o.0; channels = c.0; headers = [] } in
     let outer : OuterFor ps (parts_region ps) bare = outer_both None ps f in
-    let channels : ChannelsFor ps bare = λ k x h. subst (λ ms. MembersFor x (members_by (slice_get ms k))) (sym (members_are [] o.1 ps)) (members_at_for o.1 ps k x h) in
+    let channels : ChannelsFor ps bare = λ k x h. subst (λ ms. MembersFor x (unwrap_or (slice_get ms k) no_members)) (sym (members_are [] o.1 ps)) (members_at_for o.1 ps k x h) in
     record {
       outer = outer;
       channels = channels;
-      headers = λ k h is n. subst (λ es. Rattle.est_check.proofs.Stands.Both (Rattle.est_check.proofs.Stands.EntryFor ps) (Rattle.est_check.specs.Entries.entry_of (names_by (slice_get es k)) n) (declared_in (names.points_region (alone (parts_region ps)) h.points) n))
+      headers = λ k h is n. subst (λ es. Rattle.est_check.proofs.Stands.Both (Rattle.est_check.proofs.Stands.EntryFor ps) (Rattle.est_check.specs.inside.Entries.entry_of (unwrap_or (slice_get es k) []) n) (declared_in (names.points_region (alone (parts_region ps)) h.points) n))
           (sym (names_are bare [] c.1 ps)) (names_at_for ps (parts_region ps) bare outer channels c.1 ps k h is n);
     }
 

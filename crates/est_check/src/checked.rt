@@ -6,7 +6,7 @@ ghost use Rattle.est_syntax.specs.Breaks.{IsGood};
 ghost use Rattle.est_syntax.specs.Ports.{ports_of};
 ghost use Rattle.est_check.specs.Answers.{IsRefused};
 ghost use Rattle.est_check.specs.Checked.{counts_of};
-ghost use Rattle.est_check.specs.LeastFaults.{least_of_spec, tables};
+ghost use Rattle.est_check.specs.inside.LeastFaults.{least_of_spec, tables};
 ghost use Rattle.est_check.specs.Skeleton.{IsSkeleton};
 ghost use Rattle.est_check.specs.Small.{IsSmall};
 

@@ -1,5 +1,6 @@
 -- What a name means by the tables of a specification.
 use Rattle.std.specs.Prelude.{ℕ, Bool, true, false, not, ◌&&◌, nat_lt, List, [], Option, Some, None, if◌then◌else◌, slice_get}
+use Rattle.std.specs.Option.{option_or, unwrap_or}
 use Rattle.est_syntax.specs.declared.name.Used.{Used}
 use Rattle.est_syntax.specs.declared.sort.NameSort.{NameSort}
 use Rattle.est_syntax.specs.declared.sort.NameSort.TheVariants as sort
@@ -8,41 +9,32 @@ use Rattle.est_syntax.specs.Environment.{Environment, Passage, missing, no_inter
 use Rattle.est_check.specs.declared.names.Entity.{Entity}
 use Rattle.est_check.specs.declared.names.Entity.TheVariants as entities
 use Rattle.est_check.specs.declared.names.Entry.{Entry}
-use Rattle.est_check.specs.declared.names.Senders.{Senders}
+use Rattle.est_check.specs.declared.names.Role.{Role}
 use Rattle.est_check.specs.declared.names.PointSide.{PointSide}
 use Rattle.est_check.specs.declared.table.Members.{Members}
 use Rattle.est_check.specs.declared.table.Table.{Table}
 use Rattle.est_check.specs.declared.table.BodyNames.{BodyNames}
+use Rattle.est_check.specs.declared.uses.Direction.{Direction}
+use Rattle.est_check.specs.declared.uses.Direction.TheVariants.{Sends, Receives}
 use Rattle.est_check.specs.declared.table.Found.{Found}
 use Rattle.est_check.specs.declared.table.Found.TheVariants as found
-use Rattle.est_check.specs.Entries.{Entries, entry_of}
-
--- the first of two entries, where one is there
-abbrev pub first_of : Option Entry → Option Entry → Option Entry
-first_of None other = other
-first_of (Some e) other = Some e
+use Rattle.est_check.specs.inside.Entries.{other, may_send, Entries, entry_of}
 
 -- the entry of a name in a channel: of a role, or else of an interaction
 abbrev pub member_entry : Members → List ℕ → Option Entry
-member_entry m name = first_of (entry_of m.roles name) (entry_of m.interactions name)
+member_entry m name = option_or (entry_of m.roles name) (entry_of m.interactions name)
 
--- the names of a channel, where there is one; else none
-abbrev pub members_by : Option Members → Members
-members_by None = record { roles = []; interactions = [] }
-members_by (Some m) = m
+-- a channel without names
+abbrev pub no_members : Members
+no_members = record { roles = []; interactions = [] }
 
 -- the names of the channel that is the part of this number; none where there is no such part
 abbrev pub members_at : List Members → ℕ → Members
-members_at all number = members_by (slice_get all number)
-
--- the names of a header, where there is one; else none
-abbrev pub names_by : Option Entries → Entries
-names_by None = []
-names_by (Some es) = es
+members_at all number = unwrap_or (slice_get all number) no_members
 
 -- the names of the header that is the part of this number; none where there is no such part
 abbrev pub names_at : List Entries → ℕ → Entries
-names_at all number = names_by (slice_get all number)
+names_at all number = unwrap_or (slice_get all number) []
 
 -- the entry of a name in the header of this number, where a header is given
 abbrev pub header_entry : Table → Option ℕ → List ℕ → Option Entry
@@ -51,7 +43,7 @@ header_entry t (Some number) name = entry_of (names_at t.headers number) name
 
 -- the entry of a name in the region of a body: of its header, or else of its own states
 abbrev pub own_entry : Table → BodyNames → List ℕ → Option Entry
-own_entry t b name = first_of (header_entry t b.header name) (entry_of b.own name)
+own_entry t b name = option_or (header_entry t b.header name) (entry_of b.own name)
 
 -- whether a body sees what stands around it as this: a channel, a header or a body
 abbrev pub is_shared : Entity → Bool
@@ -93,7 +85,7 @@ name_sort entities.Body = sort.Body
 name_sort entities.ModuleVariable = sort.ModuleVariable
 name_sort (entities.Point side) = sort.Point
 name_sort entities.State = sort.State
-name_sort (entities.Role second) = sort.Role
+name_sort (entities.Role r) = sort.Role
 name_sort (entities.Interaction senders) = sort.Interaction
 
 -- the sort of what a name means
@@ -138,27 +130,27 @@ abbrev pub point_side : Found → Option PointSide
 point_side (found.Seen e) = side_in e.entity
 point_side _ = None
 
--- whether the first role of a channel, or the second (true), is one of these senders
-abbrev pub may_send : Bool → Senders → Bool
-may_send false who = who.first
-may_send true who = who.second
+-- whether an interaction is sent, and not received
+abbrev pub is_sending : Direction → Bool
+is_sending Sends = true
+is_sending Receives = false
 
 -- what an interaction point in this role may do with what a name of its channel stands for
-abbrev pub passage_in : Bool → Entity → Passage
-passage_in second (entities.Interaction who) =
-    passage_with who.known (may_send second who) (may_send (not second) who)
-passage_in second _ = no_interaction
+abbrev pub passage_in : Role → Entity → Passage
+passage_in r (entities.Interaction who) =
+    passage_with who.known (may_send r who) (may_send (other r) who)
+passage_in r _ = no_interaction
 
 -- what an interaction point in this role may do with a name by its entry in the channel
-abbrev pub passage_by : Bool → Option Entry → Passage
-passage_by second None = missing
-passage_by second (Some e) = passage_in second e.entity
+abbrev pub passage_by : Role → Option Entry → Passage
+passage_by r None = missing
+passage_by r (Some e) = passage_in r e.entity
 
 -- what an interaction point of this side may do with a name; none without a side
 abbrev pub passage_at : Table → Option PointSide → Used → Option Passage
 passage_at t None u = None
 passage_at t (Some side) u =
-    Some (passage_by side.second (member_entry (members_at t.channels side.channel) (spelled u)))
+    Some (passage_by side.role (member_entry (members_at t.channels side.channel) (spelled u)))
 
 -- what names mean by the tables, in a body or outside
 abbrev pub table_environment : Table → BodyNames → Environment

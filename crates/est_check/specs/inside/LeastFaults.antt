@@ -1,5 +1,5 @@
 -- The tables of a specification, and the least of the faults that they show.
-use Rattle.std.specs.Prelude.{ℕ, Bool, true, false, List, [], ◌∷◌, ◌++◌, Option, Some, None}
+use Rattle.std.specs.Prelude.{ℕ, true, false, List, [], ◌∷◌, ◌++◌, Option, Some, None}
 use Rattle.est_syntax.specs.declared.name.Used.{Used}
 use Rattle.est_syntax.specs.declared.sort.NameSort.TheVariants as sort
 use Rattle.est_syntax.specs.declared.rule.Fault.{Fault}
@@ -10,9 +10,10 @@ use Rattle.est_syntax.specs.declared.body.Body.{Body, out-Body}
 use Rattle.est_syntax.specs.declared.body.Part.{Part}
 use Rattle.est_syntax.specs.declared.body.Part.TheVariants as part
 use Rattle.est_syntax.specs.declared.specification.Spec.{Spec}
-use Rattle.est_check.specs.Least.{least_with}
+use Rattle.est_check.specs.inside.Least.{least_with}
 use Rattle.est_syntax.specs.Names.{spelled}
 use Rattle.est_syntax.specs.Faults.{by_faults, points_faults, use_faults, modvars_faults, text_faults, statement_faults}
+use Rattle.est_check.specs.declared.names.Role.{Role}
 use Rattle.est_check.specs.declared.names.Entity.{Entity}
 use Rattle.est_check.specs.declared.names.Entity.TheVariants as entities
 use Rattle.est_check.specs.declared.names.Entry.{Entry}
@@ -22,9 +23,9 @@ use Rattle.est_check.specs.declared.table.Table.{Table}
 use Rattle.est_check.specs.declared.table.BodyNames.{BodyNames}
 use Rattle.est_check.specs.declared.table.Found.{Found}
 use Rattle.est_check.specs.declared.table.Found.TheVariants as found
-use Rattle.est_check.specs.Entries.{Entries, Declared, entry, role_by, enter_all}
-use Rattle.est_check.specs.Declarations.{together_entries, role_entries, by_entries, parts_entries, body_entries}
-use Rattle.est_check.specs.Tables.{member_entry, members_at, names_at, look_up, channel_number, table_environment, members_environment}
+use Rattle.est_check.specs.inside.Entries.{Entries, Declared, entry, role_by, enter_all}
+use Rattle.est_check.specs.inside.Declarations.{together_entries, role_entries, by_entries, parts_entries, body_entries}
+use Rattle.est_check.specs.inside.Tables.{member_entry, members_at, names_at, look_up, channel_number, table_environment, members_environment}
 
 -- no body is around
 abbrev pub outside : BodyNames
@@ -52,9 +53,9 @@ names_of_channels s (p ∷ ps) =
     names_of_channels (s.0 ++ members.0 ∷ [], members.1) ps
 
 -- the side of an interaction point in this role of the channel of this number; none without a role
-abbrev pub side_with : ℕ → Option Bool → Option PointSide
+abbrev pub side_with : ℕ → Option Role → Option PointSide
 side_with number None = None
-side_with number (Some second) = Some record { channel = number; second = second }
+side_with number (Some r) = Some record { channel = number; role = r }
 
 -- the side of an interaction point of the channel of this number whose role has this name
 abbrev pub side_by : Table → Option ℕ → Used → Option PointSide

@@ -1,5 +1,5 @@
 -- What the parts of a specification declare: names with their entries, in the order of the text.
-use Rattle.std.specs.Prelude.{ℕ, suc, true, false, List, [], ◌∷◌, ◌++◌}
+use Rattle.std.specs.Prelude.{ℕ, suc, List, [], ◌∷◌, ◌++◌}
 use Rattle.est_syntax.specs.declared.name.Used.{Used}
 use Rattle.est_syntax.specs.declared.channel.InteractionDef.{InteractionDef}
 use Rattle.est_syntax.specs.declared.channel.ByPart.{ByPart}
@@ -8,10 +8,11 @@ use Rattle.est_syntax.specs.declared.body.Body.{out-Body}
 use Rattle.est_syntax.specs.declared.body.Part.{Part}
 use Rattle.est_syntax.specs.declared.body.Part.TheVariants as part
 use Rattle.est_syntax.specs.Names.{channel_last, header_last}
+use Rattle.est_check.specs.declared.names.Role.TheVariants.{First, Second}
 use Rattle.est_check.specs.declared.names.Entity.TheVariants as entities
 use Rattle.est_check.specs.declared.names.Entry.{Entry}
 use Rattle.est_check.specs.declared.names.Senders.{Senders}
-use Rattle.est_check.specs.Entries.{Entries, entry, senders}
+use Rattle.est_check.specs.inside.Entries.{Entries, entry, senders}
 
 -- names that are declared together stand for the same
 abbrev pub together_entries : List Used → Entry → List (Used × Entry)
@@ -21,12 +22,12 @@ together_entries (u ∷ us) e = (u, e) ∷ together_entries us e
 -- the roles of a channel after the first one
 abbrev pub other_role_entries : List Used → List (Used × Entry)
 other_role_entries [] = []
-other_role_entries (u ∷ us) = (u, entry u.place (entities.Role true)) ∷ other_role_entries us
+other_role_entries (u ∷ us) = (u, entry u.place (entities.Role Second)) ∷ other_role_entries us
 
 -- the roles of a channel
 abbrev pub role_entries : List Used → List (Used × Entry)
 role_entries [] = []
-role_entries (u ∷ us) = (u, entry u.place (entities.Role false)) ∷ other_role_entries us
+role_entries (u ∷ us) = (u, entry u.place (entities.Role First)) ∷ other_role_entries us
 
 -- the interactions of a `by` part with these senders
 abbrev pub interaction_entries : Senders → List InteractionDef → List (Used × Entry)

@@ -4,13 +4,25 @@ use Rattle.std.specs.Map.{lookup}
 use Rattle.est_syntax.specs.declared.name.Used.{Used}
 use Rattle.est_syntax.specs.declared.rule.Fault.{Fault}
 use Rattle.est_syntax.specs.declared.rule.Rule.TheVariants.{DeclaredTwice}
-use Rattle.est_check.specs.Least.{least_with}
+use Rattle.est_check.specs.inside.Least.{least_with}
 use Rattle.est_syntax.specs.Names.{is_name, spelled}
 use Rattle.est_syntax.specs.Faults.{broken}
+use Rattle.est_check.specs.declared.names.Role.{Role}
+use Rattle.est_check.specs.declared.names.Role.TheVariants.{First, Second}
 use Rattle.est_check.specs.declared.names.Entity.{Entity}
 use Rattle.est_check.specs.declared.names.Entity.TheVariants as entities
 use Rattle.est_check.specs.declared.names.Entry.{Entry}
 use Rattle.est_check.specs.declared.names.Senders.{Senders}
+
+-- whether a role is the second of its channel
+abbrev pub is_second : Role → Bool
+is_second First = false
+is_second Second = true
+
+-- the other role of a channel
+abbrev pub other : Role → Role
+other First = Second
+other Second = First
 
 -- names with their entries
 abbrev pub Entries : Type 0
@@ -52,21 +64,21 @@ abbrev pub enter_all : Entries → Declared → List (Used × Entry) → Declare
 enter_all front s [] = s
 enter_all front s (d ∷ ds) = enter_all front (enter_following front s d.0 d.1) ds
 
--- which role of its channel a name stands for, if one: the first, or the second (true)
-abbrev pub role_in : Entity → Option Bool
-role_in (entities.Role second) = Some second
+-- which role of its channel a name stands for, if one
+abbrev pub role_in : Entity → Option Role
+role_in (entities.Role r) = Some r
 role_in _ = None
 
 -- which role the entry of a name makes it, if one
-abbrev pub role_by : Option Entry → Option Bool
+abbrev pub role_by : Option Entry → Option Role
 role_by None = None
 role_by (Some e) = role_in e.entity
 
 -- the senders that these names are, and one more that is this role, or none
-abbrev pub with_role : Senders → Option Bool → Senders
+abbrev pub with_role : Senders → Option Role → Senders
 with_role a None = record { known = false; first = a.first; second = a.second }
-with_role a (Some true) = record { known = a.known; first = a.first; second = true }
-with_role a (Some false) = record { known = a.known; first = true; second = a.second }
+with_role a (Some Second) = record { known = a.known; first = a.first; second = true }
+with_role a (Some First) = record { known = a.known; first = true; second = a.second }
 
 -- the senders that some names are, and these names more
 abbrev pub senders_from : Entries → Senders → List Used → Senders
@@ -77,3 +89,8 @@ senders_from roles a (u ∷ us) =
 -- who may send the interactions of a `by` part: the roles of the channel that it names
 abbrev pub senders : Entries → List Used → Senders
 senders roles us = senders_from roles record { known = true; first = false; second = false } us
+
+-- whether a role of a channel is one of these senders
+abbrev pub may_send : Role → Senders → Bool
+may_send First who = who.first
+may_send Second who = who.second
