@@ -2,13 +2,14 @@
 use Rattle.std.specs.Prelude.{if◌then◌else◌, ◌&&◌, ◌||◌, is_some}
 use Rattle.std.proofs.Common.{◌≡◌, refl, sym, ap, ◌∙◌, subst, ℕ, Bool, true, false, List, [], ◌∷◌, ◌++◌, Option, Some, None, append_assoc}
 use Rattle.std.proofs.lemmas.List.{append-nil}
+use Rattle.std.specs.Option.{option_map, option_or}
 use Rattle.est_syntax.specs.declared.name.Used.{Used}
 use Rattle.est_syntax.specs.declared.rule.Fault.{Fault}
 use Rattle.est_syntax.specs.declared.rule.Rule.TheVariants.{DeclaredTwice}
 use Rattle.est_syntax.specs.declared.channel.InteractionDef.{InteractionDef}
 use Rattle.est_syntax.specs.declared.channel.ByPart.{ByPart}
 use Rattle.est_syntax.specs.declared.channel.Channel.{Channel}
-use Rattle.est_check.specs.Least.{least_with}
+use Rattle.est_check.specs.inside.Least.{least_with}
 use Rattle.est_syntax.specs.Names.{is_name, spelled, Sort, role, interaction, Declaration, Region, declared_in, roles_region, other_roles, interactions_region, by_region, channel_region, role_named}
 use Rattle.est_syntax.specs.Names as names
 use Rattle.est_syntax.specs.Environment.{Environment, are_roles, has_role, is_known, is_role, channel_environment}
@@ -17,17 +18,19 @@ use Rattle.est_syntax.specs.Faults.{names_of, spellings_of, is_among, twice_faul
 use Rattle.est_check.proofs.LeastLaws.{least_append}
 use Rattle.est_check.specs.declared.names.Entry.{Entry}
 use Rattle.est_check.specs.declared.names.Senders.{Senders}
+use Rattle.est_check.specs.declared.names.Role.{Role}
+use Rattle.est_check.specs.declared.names.Role.TheVariants.{First, Second}
 use Rattle.est_check.specs.declared.names.Entity.{Entity}
 use Rattle.est_check.specs.declared.names.Entity.TheVariants as entities
 use Rattle.est_check.specs.declared.table.Members.{Members}
-use Rattle.est_check.specs.Entries.{Entries, Declared, entry_of, senders, senders_from, with_role, enter_all}
-use Rattle.est_check.specs.Entries as entries
-use Rattle.est_check.specs.Declarations.{other_role_entries, role_entries, interaction_entries, by_entries}
-use Rattle.est_check.specs.Tables.{first_of, member_entry, look_up_member, sort_found, entry_found, members_environment}
-use Rattle.est_check.specs.Tables as tables
-use Rattle.est_check.specs.LeastFaults.{names_of_channel}
-use Rattle.est_check.specs.Signals.{RolesFor}
-use Rattle.est_check.proofs.Entering.{first, whole, whole-enter_all, noted-enter_all, first_of-none, Agree}
+use Rattle.est_check.specs.inside.Entries.{is_second, Entries, Declared, entry_of, senders, senders_from, with_role, enter_all}
+use Rattle.est_check.specs.inside.Entries as entries
+use Rattle.est_check.specs.inside.Declarations.{other_role_entries, role_entries, interaction_entries, by_entries}
+use Rattle.est_check.specs.inside.Tables.{member_entry, look_up_member, sort_found, entry_found, members_environment}
+use Rattle.est_check.specs.inside.Tables as tables
+use Rattle.est_check.specs.inside.LeastFaults.{names_of_channel}
+use Rattle.est_check.specs.inside.Signals.{RolesFor}
+use Rattle.est_check.proofs.Entering.{first, whole, whole-enter_all, noted-enter_all, option_or-none, Agree}
 use Rattle.est_check.proofs.Stands.{Both, Alike, alike-append, names_alike, first_alike, or_declared, declared_in-append, both_append}
 
 -- names that are declared again, in two regions one after the other
@@ -59,11 +62,11 @@ both_some R (Some e) (Some d) h = refl
 
 -- the names of a region in front agree with a table that has its names
 pub agree_front : (R : Entry → Declaration → Type 0) (front : Entries) (ds : Region) → ((n : List ℕ) → Both R (entry_of front n) (declared_in ds n)) → Agree (spellings_of ds) (whole front [])
-agree_front R front ds h n = among_region n ds ∙ both_some R (entry_of front n) (declared_in ds n) (h n) ∙ ap is_some (sym (first_of-none (entry_of front n)))
+agree_front R front ds h n = among_region n ds ∙ both_some R (entry_of front n) (declared_in ds n) (h n) ∙ ap is_some (sym (option_or-none (entry_of front n)))
 
 -- roles and interactions
 abbrev pub MemberStands : Channel → Entity → Sort → Type 0
-MemberStands c (entities.Role second) (role other) = second ≡ other
+MemberStands c (entities.Role r) (role other) = is_second r ≡ other
 MemberStands c (entities.Interaction who) (interaction part i) =
     who ≡ record { known = are_roles c part.roles; first = has_role c false part.roles; second = has_role c true part.roles }
 MemberStands c _ _ = ⊥
@@ -83,12 +86,12 @@ roles_alike c (u ∷ us) = (refl, refl, other_roles_alike c us)
 pub roles_table : (least : Option Fault) (us : List Used) (n : List ℕ) → entry_of (enter_all [] ([], least) (role_entries us)).0 n ≡ first (role_entries us) n
 roles_table least us n = whole-enter_all [] ([], least) (role_entries us) n
 
-pub role_stands : (c : Channel) (s : Entity) (t : Sort) → MemberStands c s t → entries.role_in s ≡ names.role_in t
-role_stands c (entities.Role second) (role other) h = ap Some h
+pub role_stands : (c : Channel) (s : Entity) (t : Sort) → MemberStands c s t → option_map is_second (entries.role_in s) ≡ names.role_in t
+role_stands c (entities.Role r) (role other) h = ap Some h
 role_stands c (entities.Interaction who) (interaction part i) h = refl
 role_stands c _ _ h = absurd h
 
-pub role_both : (c : Channel) (o : Option Entry) (p : Option Declaration) → Both (MemberFor c) o p → entries.role_by o ≡ names.role_by p
+pub role_both : (c : Channel) (o : Option Entry) (p : Option Declaration) → Both (MemberFor c) o p → option_map is_second (entries.role_by o) ≡ names.role_by p
 role_both c None None h = refl
 role_both c None (Some d) h = absurd h
 role_both c (Some e) None h = absurd h
@@ -115,7 +118,7 @@ role_or (Some d) q h = refl
 -- a table has the roles of the channel
 pub roles_for : (c : Channel) (least : Option Fault) → RolesFor c (enter_all [] ([], least) (role_entries c.roles)).0
 roles_for c least u =
-    ap entries.role_by (roles_table least c.roles (spelled u))
+    ap (λ o. option_map is_second (entries.role_by o)) (roles_table least c.roles (spelled u))
     ∙ role_both c (first (role_entries c.roles) (spelled u)) (declared_in (roles_region c.roles) (spelled u)) (first_alike (MemberFor c) (role_entries c.roles) (roles_region c.roles) (spelled u) (roles_alike c c.roles))
     ∙ sym (role_or (declared_in (roles_region c.roles) (spelled u)) (declared_in (by_region c.by) (spelled u)) (no_role c.by (spelled u)))
     ∙ ap names.role_by (sym (declared_in-append (roles_region c.roles) (by_region c.by) (spelled u)))
@@ -140,19 +143,20 @@ pub or_true : (b : Bool) → (b || true) ≡ true
 or_true true = refl
 or_true false = refl
 
-pub merged_role : (a : Senders) (o : Option Bool) (known one other : Bool)
-    → merged (with_role a o) known one other ≡ merged a (is_known o && known) (is_role false o || one) (is_role true o || other)
+pub merged_role : (a : Senders) (o : Option Role) (known one other : Bool)
+    → merged (with_role a o) known one other
+    ≡ merged a (is_known (option_map is_second o) && known) (is_role false (option_map is_second o) || one) (is_role true (option_map is_second o) || other)
 merged_role a None known one other = λ i. record { known = sym (and_false a.known) i; first = a.first || one; second = a.second || other }
-merged_role a (Some true) known one other = λ i. record { known = a.known && known; first = a.first || one; second = sym (or_true a.second) i }
-merged_role a (Some false) known one other = λ i. record { known = a.known && known; first = sym (or_true a.first) i; second = a.second || other }
+merged_role a (Some Second) known one other = λ i. record { known = a.known && known; first = a.first || one; second = sym (or_true a.second) i }
+merged_role a (Some First) known one other = λ i. record { known = a.known && known; first = sym (or_true a.first) i; second = a.second || other }
 
 pub senders_for : (c : Channel) (front : Entries) → RolesFor c front → (a : Senders) (us : List Used)
     → senders_from front a us ≡ merged a (are_roles c us) (has_role c false us) (has_role c true us)
 senders_for c front h a [] = λ i. record { known = sym (and_true a.known) i; first = sym (or_false a.first) i; second = sym (or_false a.second) i }
 senders_for c front h a (u ∷ us) =
     senders_for c front h (with_role a (entries.role_by (entry_of front (spelled u)))) us
-    ∙ ap (λ o. merged (with_role a o) (are_roles c us) (has_role c false us) (has_role c true us)) (h u)
-    ∙ merged_role a (role_named c u) (are_roles c us) (has_role c false us) (has_role c true us)
+    ∙ merged_role a (entries.role_by (entry_of front (spelled u))) (are_roles c us) (has_role c false us) (has_role c true us)
+    ∙ ap (λ o. merged a (is_known o && are_roles c us) (is_role false o || has_role c false us) (is_role true o || has_role c true us)) (h u)
 
 pub interactions_alike : (c : Channel) (part : ByPart) (who : Senders) (is : List InteractionDef)
     → who ≡ record { known = are_roles c part.roles; first = has_role c false part.roles; second = has_role c true part.roles }
@@ -175,18 +179,18 @@ pub members_for : (c : Channel) (least : Option Fault) → MembersFor c (names_o
 members_for c least n =
     let front : Entries = (enter_all [] ([], least) (role_entries c.roles)).0 in
     let state : Declared = ([], (enter_all [] ([], least) (role_entries c.roles)).1) in
-    let is : member_entry (names_of_channel least c).0 n ≡ first_of (first (role_entries c.roles) n) (first (by_entries front c.by) n) =
+    let is : member_entry (names_of_channel least c).0 n ≡ option_or (first (role_entries c.roles) n) (first (by_entries front c.by) n) =
     whole-enter_all front state (by_entries front c.by) n
-    ∙ ap (λ o. first_of o (first (by_entries front c.by) n)) (first_of-none (entry_of front n) ∙ roles_table least c.roles n)
+    ∙ ap (λ o. option_or o (first (by_entries front c.by) n)) (option_or-none (entry_of front n) ∙ roles_table least c.roles n)
     in subst (λ o. Both (MemberFor c) o (declared_in (channel_region c) n)) (sym is)
-    (subst (Both (MemberFor c) (first_of (first (role_entries c.roles) n) (first (by_entries front c.by) n))) (sym (declared_in-append (roles_region c.roles) (by_region c.by) n))
+    (subst (Both (MemberFor c) (option_or (first (role_entries c.roles) n) (first (by_entries front c.by) n))) (sym (declared_in-append (roles_region c.roles) (by_region c.by) n))
     (both_append (MemberFor c) (first (role_entries c.roles) n) (first (by_entries front c.by) n) (declared_in (roles_region c.roles) n) (declared_in (by_region c.by) n)
     (first_alike (MemberFor c) (role_entries c.roles) (roles_region c.roles) n (roles_alike c c.roles))
     (first_alike (MemberFor c) (by_entries front c.by) (by_region c.by) n (by_alike c front (roles_for c least) c.by))))
 
 -- the environment within a channel
 pub member_sort_stands : (c : Channel) (s : Entity) (t : Sort) → MemberStands c s t → tables.name_sort s ≡ environment.name_sort t
-member_sort_stands c (entities.Role second) (role other) h = refl
+member_sort_stands c (entities.Role r) (role other) h = refl
 member_sort_stands c (entities.Interaction who) (interaction part i) h = refl
 member_sort_stands c _ _ h = absurd h
 

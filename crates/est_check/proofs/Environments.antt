@@ -1,6 +1,6 @@
 -- The environments by the tables are those of the scopes.
 use Rattle.std.specs.Prelude.{not}
-use Rattle.std.proofs.Common.{◌≡◌, refl, sym, ap, ◌∙◌, subst, ℕ, Bool, true, false, List, [], ◌∷◌, Option, Some, None}
+use Rattle.std.proofs.Common.{◌≡◌, refl, ap, ◌∙◌, subst, ℕ, true, false, List, [], ◌∷◌, Option, Some, None}
 use Rattle.est_syntax.specs.declared.name.Used.{Used}
 use Rattle.est_syntax.specs.declared.channel.Channel.{Channel}
 use Rattle.est_syntax.specs.declared.header.Header.{Header}
@@ -11,17 +11,20 @@ use Rattle.est_syntax.specs.Names as names
 use Rattle.est_syntax.specs.Environment.{Environment, are_roles, has_role, environment}
 use Rattle.est_syntax.specs.Environment as environments
 use Rattle.est_check.specs.declared.names.Entry.{Entry}
+use Rattle.std.specs.Option.{option_map}
+use Rattle.est_check.specs.declared.names.Role.{Role}
+use Rattle.est_check.specs.declared.names.Role.TheVariants.{First, Second}
 use Rattle.est_check.specs.declared.names.PointSide.{PointSide}
 use Rattle.est_check.specs.declared.names.Entity.{Entity}
 use Rattle.est_check.specs.declared.names.Entity.TheVariants as entities
 use Rattle.est_check.specs.declared.table.Table.{Table}
 use Rattle.est_check.specs.declared.table.BodyNames.{BodyNames}
-use Rattle.est_check.specs.Entries.{entry, entry_of}
-use Rattle.est_check.specs.Declarations.{together_entries}
-use Rattle.est_check.specs.Tables.{first_of, member_entry, members_at, names_at, header_entry, own_entry, look_up, channel_number, point_side, sort_found, member_sort_at, may_send, table_environment}
-use Rattle.est_check.specs.Tables as tables
-use Rattle.est_check.specs.LeastFaults.{outside, table_side, header_number, header_entries, point_entries}
-use Rattle.est_check.specs.LeastFaults as least_faults
+use Rattle.est_check.specs.inside.Entries.{is_second, other, may_send, entry, entry_of, role_by}
+use Rattle.est_check.specs.inside.Declarations.{together_entries}
+use Rattle.est_check.specs.inside.Tables.{member_entry, members_at, names_at, header_entry, own_entry, look_up, channel_number, point_side, sort_found, member_sort_at, table_environment}
+use Rattle.est_check.specs.inside.Tables as tables
+use Rattle.est_check.specs.inside.LeastFaults.{outside, table_side, header_number, header_entries, point_entries}
+use Rattle.est_check.specs.inside.LeastFaults as least_faults
 use Rattle.est_check.proofs.Stands.{Both, Alike, alike-append, SideFor, EntryFor, FoundFor, ChannelFor, HeaderFor, found_outside, sort_found_for, channel_for, side_for}
 use Rattle.est_check.proofs.Channels.{MemberStands, MemberFor, MembersFor, role_both, member_sort_for}
 
@@ -36,29 +39,34 @@ abbrev pub HeadersFor : List Part → Scope → Table → Type 0
 HeadersFor all scope t = (k : ℕ) (h : Header) → HeaderFor all k h → (n : List ℕ) → Both (EntryFor all) (entry_of (names_at t.headers k) n) (declared_in (points_region scope h.points) n)
 
 -- what an interaction point lets pass
-pub may_send_for : (c : Channel) (us : List Used) (b : Bool) → may_send b record { known = are_roles c us; first = has_role c false us; second = has_role c true us } ≡ has_role c b us
-may_send_for c us true = refl
-may_send_for c us false = refl
+pub may_send_for : (c : Channel) (us : List Used) (r : Role) → may_send r record { known = are_roles c us; first = has_role c false us; second = has_role c true us } ≡ has_role c (is_second r) us
+may_send_for c us First = refl
+may_send_for c us Second = refl
 
-pub passage_stands : (side : Side) (second : Bool) (s : Entity) (t : Sort) → second ≡ side.is_second → MemberStands side.channel s t → tables.passage_in second s ≡ environments.passage_in side t
-passage_stands side second (entities.Role a) (role b) e h = refl
-passage_stands side second (entities.Interaction who) (interaction p i) e h =
-    (λ j. environments.passage_with (h j).known (may_send (e j) (h j)) (may_send (not (e j)) (h j)))
-    ∙ (λ j. environments.passage_with (are_roles side.channel p.roles) (may_send_for side.channel p.roles side.is_second j) (may_send_for side.channel p.roles (not side.is_second) j))
-passage_stands side second _ _ e h = absurd h
+pub other_second : (r : Role) → is_second (other r) ≡ not (is_second r)
+other_second First = refl
+other_second Second = refl
 
-pub passage_both : (side : Side) (second : Bool) (o : Option Entry) (p : Option Declaration) → second ≡ side.is_second → Both (MemberFor side.channel) o p → tables.passage_by second o ≡ environments.passage_by side p
-passage_both side second None None e h = refl
-passage_both side second None (Some d) e h = absurd h
-passage_both side second (Some x) None e h = absurd h
-passage_both side second (Some x) (Some d) e h = passage_stands side second x.entity d.sort e h
+pub passage_stands : (side : Side) (r : Role) (s : Entity) (t : Sort) → is_second r ≡ side.is_second → MemberStands side.channel s t → tables.passage_in r s ≡ environments.passage_in side t
+passage_stands side r (entities.Role a) (role b) e h = refl
+passage_stands side r (entities.Interaction who) (interaction p i) e h =
+    (λ j. environments.passage_with (h j).known (may_send r (h j)) (may_send (other r) (h j)))
+    ∙ (λ j. environments.passage_with (are_roles side.channel p.roles) (may_send_for side.channel p.roles r j) (may_send_for side.channel p.roles (other r) j))
+    ∙ (λ j. environments.passage_with (are_roles side.channel p.roles) (has_role side.channel (e j) p.roles) (has_role side.channel ((other_second r ∙ ap not e) j) p.roles))
+passage_stands side r _ _ e h = absurd h
+
+pub passage_both : (side : Side) (r : Role) (o : Option Entry) (p : Option Declaration) → is_second r ≡ side.is_second → Both (MemberFor side.channel) o p → tables.passage_by r o ≡ environments.passage_by side p
+passage_both side r None None e h = refl
+passage_both side r None (Some d) e h = absurd h
+passage_both side r (Some x) None e h = absurd h
+passage_both side r (Some x) (Some d) e h = passage_stands side r x.entity d.sort e h
 
 pub passage_for : (all : List Part) (t : Table) (q : Option PointSide) (side : Option Side) (u : Used) → ChannelsFor all t → SideFor all q side → tables.passage_at t q u ≡ environments.passage_at side u
 passage_for all t None None u channels h = refl
 passage_for all t None (Some side) u channels h = absurd h
 passage_for all t (Some q) None u channels h = absurd h
 passage_for all t (Some q) (Some side) u channels h =
-    ap Some (passage_both side q.second (member_entry (members_at t.channels q.channel) (spelled u)) (declared_in (channel_region side.channel) (spelled u)) h.1
+    ap Some (passage_both side q.role (member_entry (members_at t.channels q.channel) (spelled u)) (declared_in (channel_region side.channel) (spelled u)) h.1
     (channels q.channel side.channel h.0 (spelled u)))
 
 pub role_sort_for : (all : List Part) (t : Table) (o : Option ℕ) (p : Option Channel) (u : Used) → ChannelsFor all t → Both (ChannelFor all) o p → member_sort_at t o u ≡ environments.role_sort p u
@@ -86,18 +94,19 @@ pub environment_outside : (all : List Part) (r : Region) (t : Table) → OuterFo
 environment_outside all r t outer channels = environment_is all t outside (alone r) channels (means_outside all r t outer)
 
 -- sides
-pub side_with_for : (all : List Part) (k : ℕ) (c : Channel) (o : Option Bool) → ChannelFor all k c → SideFor all (least_faults.side_with k o) (names.side_with c o)
+pub side_with_for : (all : List Part) (k : ℕ) (c : Channel) (o : Option Role) → ChannelFor all k c → SideFor all (least_faults.side_with k o) (names.side_with c (option_map is_second o))
 side_with_for all k c None h = tt
-side_with_for all k c (Some second) h = (h, refl)
+side_with_for all k c (Some r) h = (h, refl)
 
 pub side_by_for : (all : List Part) (t : Table) (o : Option ℕ) (p : Option Channel) (u : Used) → ChannelsFor all t → Both (ChannelFor all) o p → SideFor all (least_faults.side_by t o u) (names.side_by p u)
 side_by_for all t None None u channels h = tt
 side_by_for all t None (Some c) u channels h = absurd h
 side_by_for all t (Some k) None u channels h = absurd h
 side_by_for all t (Some k) (Some c) u channels h =
-    subst (λ o. SideFor all (least_faults.side_with k o) (names.side_by (Some c) u))
-    (sym (role_both c (member_entry (members_at t.channels k) (spelled u)) (declared_in (channel_region c) (spelled u)) (channels k c h (spelled u))))
-    (side_with_for all k c (role_named c u) h)
+    let found : Option Role = role_by (member_entry (members_at t.channels k) (spelled u)) in
+    subst (λ o. SideFor all (least_faults.side_with k found) (names.side_with c o))
+    (role_both c (member_entry (members_at t.channels k) (spelled u)) (declared_in (channel_region c) (spelled u)) (channels k c h (spelled u)))
+    (side_with_for all k c found h)
 
 pub side_outside : (all : List Part) (r : Region) (t : Table) → OuterFor all r t → ChannelsFor all t → (p : Point) → SideFor all (table_side t outside p) (side_of (alone r) p)
 side_outside all r t outer channels p =

@@ -4,7 +4,7 @@ use Rattle.std.proofs.Common.{arith, Bool, true, false, ◌⊎◌, inl, inr, sub
 use Rattle.std.proofs.lemmas.List.{drop_more}
 use Rattle.est_syntax.specs.declared.rule.Fault.{Fault}
 use Rattle.est_syntax.specs.Least.{is_before, number, IsIn, IsLeast}
-use Rattle.est_check.specs.Least.{lesser, least_with}
+use Rattle.est_check.specs.inside.Least.{lesser, least_with}
 
 pub least_append : (least : Option Fault) (xs ys : List Fault) → least_with least (xs ++ ys) ≡ least_with (least_with least xs) ys
 least_append least [] ys = refl

@@ -4,6 +4,7 @@ use Rattle.std.proofs.Common.{◌≡◌, refl, sym, ap, ◌∙◌, subst, ℕ, �
 use Rattle.std.proofs.lemmas.Option.{none-some}
 use Rattle.std.proofs.lemmas.List.{append-nil}
 use Rattle.std.proofs.Math.Nat.{add-zero, zero-add}
+use Rattle.std.specs.Option.{option_or, unwrap_or}
 use Rattle.est_syntax.specs.declared.name.Used.{Used}
 use Rattle.est_syntax.specs.declared.sort.NameSort.TheVariants as sort
 use Rattle.est_syntax.specs.declared.rule.Fault.{Fault}
@@ -13,7 +14,7 @@ use Rattle.est_syntax.specs.declared.header.ModvarDef.{ModvarDef}
 use Rattle.est_syntax.specs.declared.body.Body.{Body, out-Body}
 use Rattle.est_syntax.specs.declared.body.Part.{Part}
 use Rattle.est_syntax.specs.declared.body.Part.TheVariants as part
-use Rattle.est_check.specs.Least.{least_with}
+use Rattle.est_check.specs.inside.Least.{least_with}
 use Rattle.est_syntax.specs.Names.{spelled, Region, Scope, is_predeclared, declared_in, declared_together, module_variable, modvars_region, part_region, parts_region, states_region, points_region, header_region, header_by, meaning, found, body_region, body_scope}
 use Rattle.est_syntax.specs.Environment.{environment}
 use Rattle.est_syntax.specs.Faults.{names_of, spellings_of, twice_faults, channel_faults, points_faults, header_faults, use_faults, modvars_faults, text_faults, body_faults}
@@ -22,15 +23,20 @@ use Rattle.est_check.specs.declared.names.Entity.TheVariants as entities
 use Rattle.est_check.specs.declared.table.Members.{Members}
 use Rattle.est_check.specs.declared.table.Table.{Table}
 use Rattle.est_check.specs.declared.table.BodyNames.{BodyNames}
-use Rattle.est_check.specs.Entries.{Entries, Declared, entry, entry_of, enter_all}
-use Rattle.est_check.specs.Declarations.{together_entries, variable_entries, part_entries, parts_entries, state_entries, body_entries}
-use Rattle.est_check.specs.Tables.{first_of, members_by, names_by, own_entry, header_entry, look_up, outer_found, table_environment}
-use Rattle.est_check.specs.LeastFaults.{outside, names_of_channel_part, names_of_channels, names_of_header, names_of_header_part, names_of_headers, header_number, header_entries, least_inside, least_of_body, least_of_part, least_of_parts, point_entries}
-use Rattle.est_check.specs.Skeleton.{AreStates}
-use Rattle.est_check.proofs.Entering.{first, whole-enter_all, noted-enter_all, first_of-none}
+use Rattle.est_check.specs.inside.Entries.{Entries, Declared, entry, entry_of, enter_all}
+use Rattle.est_check.specs.inside.Declarations.{together_entries, variable_entries, part_entries, parts_entries, state_entries, body_entries}
+use Rattle.est_check.specs.inside.Tables.{no_members, own_entry, header_entry, look_up, outer_found, table_environment}
+use Rattle.est_check.specs.inside.LeastFaults.{outside, names_of_channel_part, names_of_channels, names_of_header, names_of_header_part, names_of_headers, header_number, header_entries, least_inside, least_of_body, least_of_part, least_of_parts, point_entries}
+use Rattle.est_check.proofs.Entering.{first, whole-enter_all, noted-enter_all, option_or-none}
 use Rattle.est_check.proofs.Stands.{Both, Alike, alike-append, names_alike, first_alike, EntryFor, FoundFor, ChannelFor, HeaderFor, declared_in-append, both_append, found_inside, found_around, header_for}
 use Rattle.est_check.proofs.Channels.{MembersFor, members_for, noted_channel, agree_front}
 use Rattle.est_check.proofs.Environments.{OuterFor, ChannelsFor, HeadersFor, alone, means_outside, environment_outside, environment_is, together_alike, points_alike, header_both, header_entry_is}
+
+-- parts that are all `state` sections
+abbrev pub AreStates : List Part → Type 0
+AreStates [] = Unit {0}
+AreStates (part.States us ∷ ps) = AreStates ps
+AreStates (_ ∷ ps) = ⊥
 
 -- parts in which no body but the outermost stands
 abbrev pub IsFlat : Part → Type 0
@@ -126,7 +132,7 @@ abbrev pub or_part : Part → Option Part → Part
 or_part p None = p
 or_part p (Some q) = q
 
-pub members_at_for : (least : Option Fault) (ps : List Part) (k : ℕ) (c : Channel) → ChannelFor ps k c → MembersFor c (members_by (slice_get (members_list least ps) k))
+pub members_at_for : (least : Option Fault) (ps : List Part) (k : ℕ) (c : Channel) → ChannelFor ps k c → MembersFor c (unwrap_or (slice_get (members_list least ps) k) no_members)
 members_at_for least [] k c h = absurd (none-some (part.Channel c) h)
 members_at_for least (p ∷ ps) zero c h =
     subst (λ q. MembersFor c (names_of_channel_part least q).0) (sym (ap (or_part p) h)) (members_for c least)
@@ -165,7 +171,7 @@ header_for_points all r t outer channels least h n =
     (first_alike (EntryFor all) (point_entries t outside h.points) (points_region (alone r) h.points) n (points_alike all r t outer channels h.points))
 
 pub names_at_for : (all : List Part) (r : Region) (t : Table) → OuterFor all r t → ChannelsFor all t → (least : Option Fault) (ps : List Part) (k : ℕ) (h : Header) → HeaderFor ps k h → (n : List ℕ)
-    → Both (EntryFor all) (entry_of (names_by (slice_get (names_list t least ps) k)) n) (declared_in (points_region (alone r) h.points) n)
+    → Both (EntryFor all) (entry_of (unwrap_or (slice_get (names_list t least ps) k) []) n) (declared_in (points_region (alone r) h.points) n)
 names_at_for all r t outer channels least [] k h is n = absurd (none-some (part.Header h) is)
 names_at_for all r t outer channels least (p ∷ ps) zero h is n =
     subst (λ q. Both (EntryFor all) (entry_of (names_of_header_part t outside least q).0 n) (declared_in (points_region (alone r) h.points) n)) (sym (ap (or_part p) is))
@@ -218,12 +224,12 @@ pub own_both : (all : List Part) (r : Region) (t : Table) → TableFor all r t �
 own_both all r t for number least b f h n =
     let front : Entries = header_entries t number in
     let own : Entries = (enter_all front ([], least) (body_entries (out-Body b).parts)).0 in
-    let is : first_of (header_entry t number n) (entry_of own n) ≡ first_of (entry_of front n) (first (body_entries (out-Body b).parts) n) =
-    ap (λ o. first_of o (entry_of own n)) (header_entry_is t number n)
+    let is : option_or (header_entry t number n) (entry_of own n) ≡ option_or (entry_of front n) (first (body_entries (out-Body b).parts) n) =
+    ap (λ o. option_or o (entry_of own n)) (header_entry_is t number n)
     ∙ whole-enter_all front ([], least) (body_entries (out-Body b).parts) n
-    ∙ ap (λ o. first_of o (first (body_entries (out-Body b).parts) n)) (first_of-none (entry_of front n))
+    ∙ ap (λ o. option_or o (first (body_entries (out-Body b).parts) n)) (option_or-none (entry_of front n))
     in subst (λ o. Both (EntryFor all) o (declared_in (body_region (alone r) b) n)) (sym is)
-    (subst (Both (EntryFor all) (first_of (entry_of front n) (first (body_entries (out-Body b).parts) n))) (sym (declared_in-append (header_region (alone r) b) (parts_region (out-Body b).parts) n))
+    (subst (Both (EntryFor all) (option_or (entry_of front n) (first (body_entries (out-Body b).parts) n))) (sym (declared_in-append (header_region (alone r) b) (parts_region (out-Body b).parts) n))
     (both_append (EntryFor all) (entry_of front n) (first (body_entries (out-Body b).parts) n) (declared_in (header_region (alone r) b) n) (declared_in (parts_region (out-Body b).parts) n)
     (header_both all (alone r) t number (header_by (meaning (alone r) (out-Body b).header)) n for.headers h)
     (first_alike (EntryFor all) (body_entries (out-Body b).parts) (parts_region (out-Body b).parts) n (state_parts_alike all (out-Body b).parts f))))

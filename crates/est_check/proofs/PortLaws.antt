@@ -25,16 +25,19 @@ use Rattle.est_syntax.specs.Faults.{takes, used_as, use_faults, modvars_faults, 
 use Rattle.est_syntax.specs.Breaks.{outermost, outside, inside, IsGood, modvar_by, modvar_in}
 use Rattle.est_syntax.specs.Ports.{by_signals, signals_of, header_ports, header_of_variable, header_started, ports_of}
 use Rattle.est_syntax.proofs.Members.{in_first, in_second}
+use Rattle.std.specs.Option.{unwrap_or}
+use Rattle.est_check.specs.declared.names.Role.{Role}
+use Rattle.est_check.specs.declared.names.Role.TheVariants.{First, Second}
 use Rattle.est_check.specs.declared.names.PointSide.{PointSide}
 use Rattle.est_check.specs.declared.table.BodyNames.{BodyNames}
 use Rattle.est_check.specs.declared.table.Table.{Table}
-use Rattle.est_check.specs.Entries.{Entries, Declared, senders, enter_all}
-use Rattle.est_check.specs.Declarations.{parts_entries}
-use Rattle.est_check.specs.Tables.{members_by, members_at, may_send}
-use Rattle.est_check.specs.LeastFaults as least_faults
-use Rattle.est_check.specs.LeastFaults.{names_of_channel_part, names_of_channels, table_side, tables}
+use Rattle.est_check.specs.inside.Entries.{is_second, may_send, Entries, Declared, senders, enter_all}
+use Rattle.est_check.specs.inside.Declarations.{parts_entries}
+use Rattle.est_check.specs.inside.Tables.{no_members, members_at}
+use Rattle.est_check.specs.inside.LeastFaults as least_faults
+use Rattle.est_check.specs.inside.LeastFaults.{names_of_channel_part, names_of_channels, table_side, tables}
 use Rattle.est_check.specs.declared.ports.Sides.{Sides}
-use Rattle.est_check.specs.Signals.{RolesFor, PartRolesFor, channel_signals, part_signals, role_signals, sides_of, signals_by, first_header}
+use Rattle.est_check.specs.inside.Signals.{RolesFor, PartRolesFor, channel_signals, part_signals, role_signals, sides_of, signals_at, signals_by, first_header}
 use Rattle.est_check.specs.Skeleton.{IsInit, IsSkeleton, channel_parts}
 use Rattle.est_check.specs.Counts.{body_count}
 use Rattle.est_check.proofs.Stands.{SideFor, ChannelFor}
@@ -45,7 +48,7 @@ use Rattle.est_check.proofs.Sound.{IsYes, Known, KnownMeaning, known_meaning, al
 
 -- the roles of each channel's table
 pub roles_at_for : (least : Option Fault) (ps : List Part) (k : ℕ) (c : Channel) → ChannelFor ps k c
-    → RolesFor c (members_by (slice_get (members_list least ps) k)).roles
+    → RolesFor c (unwrap_or (slice_get (members_list least ps) k) no_members).roles
 roles_at_for least [] k c h = absurd (none-some (part.Channel c) h)
 roles_at_for least (p ∷ ps) zero c h =
     subst (λ q. RolesFor c (names_of_channel_part least q).0.roles) (sym (ap (or_part p) h)) (roles_for c least)
@@ -55,7 +58,7 @@ pub roles_at : (ps : List Part) (k : ℕ) (c : Channel) → ChannelFor ps k c
     → RolesFor c (members_at (tables None ps).0.channels k).roles
 roles_at ps k c h =
     let o : Declared = enter_all [] ([], None) (parts_entries 0 ps) in
-    subst (λ ms. RolesFor c (members_by (slice_get ms k)).roles) (sym (members_are [] o.1 ps))
+    subst (λ ms. RolesFor c (unwrap_or (slice_get ms k) no_members).roles) (sym (members_are [] o.1 ps))
     (roles_at_for o.1 ps k c h)
 
 -- the roles of a part, by the number of the part
@@ -65,32 +68,32 @@ part_roles_at ps k (part.Channel c) h = roles_at ps k c h
 part_roles_at ps k _ h = tt
 
 -- who may send by the table of a channel may do so by the channel
-pub senders_may : (c : Channel) (roles : Entries) → RolesFor c roles → (second : Bool) (us : List Used)
-    → may_send second (senders roles us) ≡ has_role c second us
-senders_may c roles h second us =
-    ap (may_send second) (senders_for c roles h record { known = true; first = false; second = false } us)
-    ∙ may_send_for c us second
+pub senders_may : (c : Channel) (roles : Entries) → RolesFor c roles → (r : Role) (us : List Used)
+    → may_send r (senders roles us) ≡ has_role c (is_second r) us
+senders_may c roles h r us =
+    ap (may_send r) (senders_for c roles h record { known = true; first = false; second = false } us)
+    ∙ may_send_for c us r
 
 -- the signals of a channel, by the number of its part
-pub role_signals_at : (second : Bool) (ps : List Part) (k : ℕ) (c : Channel)
-    → slice_get ps k ≡ Some (part.Channel c) → get_or (role_signals second ps) k [] ≡ channel_signals second c
-role_signals_at second [] k c h = absurd (none-some (part.Channel c) h)
-role_signals_at second (p ∷ ps) zero c h = ap (part_signals second) (ap (or_part p) h)
-role_signals_at second (p ∷ ps) (suc k) c h = role_signals_at second ps k c h
+pub role_signals_at : (r : Role) (ps : List Part) (k : ℕ) (c : Channel)
+    → slice_get ps k ≡ Some (part.Channel c) → get_or (role_signals r ps) k [] ≡ channel_signals r c
+role_signals_at r [] k c h = absurd (none-some (part.Channel c) h)
+role_signals_at r (p ∷ ps) zero c h = ap (part_signals r) (ap (or_part p) h)
+role_signals_at r (p ∷ ps) (suc k) c h = role_signals_at r ps k c h
 
-pub sides_at : (second : Bool) (ps : List Part) (k : ℕ)
-    → get_or (if second then (sides_of ps).second else (sides_of ps).first) k [] ≡ get_or (role_signals second ps) k []
-sides_at true ps k = refl
-sides_at false ps k = refl
+pub sides_at : (r : Role) (ps : List Part) (k : ℕ)
+    → get_or (signals_at (sides_of ps) r) k [] ≡ get_or (role_signals r ps) k []
+sides_at First ps k = refl
+sides_at Second ps k = refl
 
 -- the signals of a side
 pub side_signals_are : (ps : List Part) (q : PointSide) (s : Side)
-    → slice_get ps q.channel ≡ Some (part.Channel s.channel) → q.second ≡ s.is_second
-    → get_or (if q.second then (sides_of ps).second else (sides_of ps).first) q.channel [] ≡ by_signals s s.channel.by
+    → slice_get ps q.channel ≡ Some (part.Channel s.channel) → is_second q.role ≡ s.is_second
+    → get_or (signals_at (sides_of ps) q.role) q.channel [] ≡ by_signals s s.channel.by
 side_signals_are ps q s h e =
-    sides_at q.second ps q.channel
-    ∙ role_signals_at q.second ps q.channel s.channel h
-    ∙ ap (λ b. channel_signals b s.channel) e
+    sides_at q.role ps q.channel
+    ∙ role_signals_at q.role ps q.channel s.channel h
+    ∙ ap (λ b. by_signals record { channel = s.channel; is_second = b } s.channel.by) e
 
 -- the side of an interaction point of a skeleton
 pub side_is : (s : Spec) → IsSkeleton s → (p : Point)

@@ -1,7 +1,9 @@
 -- The faults by the tables are those of the skeleton.
 use Rattle.std.specs.Prelude.{if◌then◌else◌, slice_get, ◌⊎◌, nat_lt}
-use Rattle.std.proofs.Common.{◌≡◌, refl, sym, ap, ◌∙◌, subst, ℕ, Bool, true, false, List, [], ◌∷◌, ◌++◌, Option, Some, None, inl, inr}
+use Rattle.std.specs.List.{All}
+use Rattle.std.proofs.Common.{◌≡◌, refl, sym, ap, ◌∙◌, subst, ℕ, Bool, true, false, List, [], ◌∷◌, ◌++◌, Option, Some, None, inl, inr, suc, arith}
 use Rattle.std.proofs.lemmas.Option.{none-some}
+use Rattle.std.specs.Option.{unwrap_or}
 use Rattle.est_syntax.specs.declared.name.Used.{Used}
 use Rattle.est_syntax.specs.declared.expression.Access.{Access}
 use Rattle.est_syntax.specs.declared.expression.Expr.{Expr}
@@ -17,7 +19,7 @@ use Rattle.est_syntax.specs.declared.body.Part.{Part}
 use Rattle.est_syntax.specs.declared.body.Part.TheVariants as part
 use Rattle.est_syntax.specs.declared.specification.Spec.{Spec}
 use Rattle.est_syntax.specs.Least.{IsIn, IsLeast}
-use Rattle.est_check.specs.Least.{least_with}
+use Rattle.est_check.specs.inside.Least.{least_with}
 use Rattle.est_syntax.specs.Names.{Sort, Declaration, Region, Scope, is_predeclared, Meaning, nothing, unseen, predeclared, seen, meaning, meaning_by, in_force, declared_in, spelled, is_name, header_in, header_by, parts_region, spec_scope}
 use Rattle.est_syntax.specs.Names as names
 use Rattle.est_syntax.specs.Environment.{environment}
@@ -27,16 +29,16 @@ use Rattle.est_syntax.proofs.Members.{in_first, in_second, into_either}
 use Rattle.est_check.proofs.LeastLaws.{least_append, least_is}
 use Rattle.est_check.specs.declared.table.Table.{Table}
 use Rattle.est_check.specs.declared.table.Members.{Members}
-use Rattle.est_check.specs.Entries.{Entries, Declared, enter_all}
-use Rattle.est_check.specs.Declarations.{parts_entries}
-use Rattle.est_check.specs.Tables.{members_by, names_by}
-use Rattle.est_check.specs.LeastFaults.{names_of_channels, least_of_parts, tables, least_of_spec}
+use Rattle.est_check.specs.inside.Entries.{Entries, Declared, enter_all}
+use Rattle.est_check.specs.inside.Declarations.{parts_entries}
+use Rattle.est_check.specs.inside.Tables.{no_members}
+use Rattle.est_check.specs.inside.LeastFaults.{names_of_channels, least_of_parts, tables, least_of_spec}
 use Rattle.est_syntax.specs.declared.transition.Group.{out-Group}
-use Rattle.est_check.specs.Skeleton.{AreStates, IsOne, IsPlain, IsPlainTransition, IsPlainBody, IsSkeleton, channel_parts}
+use Rattle.est_check.specs.Skeleton.{IsOne, IsEmpty, IsPlain, IsPlainTransition, IsPlainGroup, IsStates, IsPlainBody, IsSkeleton, channel_parts}
 use Rattle.est_check.proofs.Stands.{ChannelFor, HeaderFor}
 use Rattle.est_check.proofs.Channels.{MembersFor}
 use Rattle.est_check.proofs.Environments.{OuterFor, ChannelsFor, alone, environment_outside}
-use Rattle.est_check.proofs.Parts.{IsFlat, AreFlat, each, of_channel, of_header, of_rest, outer_both, noted_outer, members_are, members_at_for, noted_channels, names_are, names_at_for, noted_headers, TableFor, noted_parts}
+use Rattle.est_check.proofs.Parts.{AreStates, IsFlat, AreFlat, each, of_channel, of_header, of_rest, outer_both, noted_outer, members_are, members_at_for, noted_channels, names_are, names_at_for, noted_headers, TableFor, noted_parts}
 
 -- the tables of flat parts
 pub table_for : (ps : List Part) → AreFlat ps → TableFor ps (parts_region ps) (tables None ps).0
@@ -45,11 +47,11 @@ table_for ps f =
     let c : List Members × Option Fault = names_of_channels ([], o.1) ps in
     let bare : Table = record { outer = o.0; channels = c.0; headers = [] } in
     let outer : OuterFor ps (parts_region ps) bare = outer_both None ps f in
-    let channels : ChannelsFor ps bare = λ k x h. subst (λ ms. MembersFor x (members_by (slice_get ms k))) (sym (members_are [] o.1 ps)) (members_at_for o.1 ps k x h) in
+    let channels : ChannelsFor ps bare = λ k x h. subst (λ ms. MembersFor x (unwrap_or (slice_get ms k) no_members)) (sym (members_are [] o.1 ps)) (members_at_for o.1 ps k x h) in
     record {
       outer = outer;
       channels = channels;
-      headers = λ k h is n. subst (λ es. Rattle.est_check.proofs.Stands.Both (Rattle.est_check.proofs.Stands.EntryFor ps) (Rattle.est_check.specs.Entries.entry_of (names_by (slice_get es k)) n) (declared_in (names.points_region (alone (parts_region ps)) h.points) n))
+      headers = λ k h is n. subst (λ es. Rattle.est_check.proofs.Stands.Both (Rattle.est_check.proofs.Stands.EntryFor ps) (Rattle.est_check.specs.inside.Entries.entry_of (unwrap_or (slice_get es k) []) n) (declared_in (names.points_region (alone (parts_region ps)) h.points) n))
           (sym (names_are bare [] c.1 ps)) (names_at_for ps (parts_region ps) bare outer channels c.1 ps k h is n);
     }
 
@@ -295,10 +297,15 @@ outer_parts (c ∷ cs) h b m plain = (tt, outer_parts cs h b m plain)
 pub all_outer : {s : Spec} (sk : IsSkeleton s) → AreOuter s.parts
 all_outer sk = subst AreOuter (sym sk.parts) (outer_parts sk.channels sk.header sk.body sk.variable sk.plain)
 
+pub are_states : (ps : List Part) → IsStates ps → AreStates ps
+are_states [] h = tt
+are_states (part.States us ∷ []) h = tt
+are_states _ h = absurd h
+
 pub outer_flat : (p : Part) → IsOuter p → IsFlat p
 outer_flat (part.Channel c) h = tt
 outer_flat (part.Header x) h = tt
-outer_flat (part.Body b) h = h.states
+outer_flat (part.Body b) h = are_states (out-Body b).parts h.states
 outer_flat (part.Modvars ms) h = tt
 outer_flat _ h = h
 
@@ -347,7 +354,7 @@ pub plain_part : {s : Spec} (sk : IsSkeleton s) (scope : Scope) (p : Part) → H
 plain_part {s = s} sk _ p (outermost i) = plain_outer p (outer_in s.parts p (all_outer sk) i)
 plain_part sk _ p (nested scope b hb i) =
     let plain : IsPlainBody b = plain_part sk scope (part.Body b) hb
-    in plain_states p (states_in (out-Body b).parts p plain.states i)
+    in plain_states p (states_in (out-Body b).parts p (are_states (out-Body b).parts plain.states) i)
 
 pub no_faults_of_states : (scope : Scope) (f : Fault) (p : Part) → IsStatePart p → IsIn f (part_faults scope p) → ⊥
 no_faults_of_states scope f (part.Channel c) h i = h
@@ -360,7 +367,7 @@ pub noted_part_of : {s : Spec} (sk : IsSkeleton s) (f : Fault) (scope : Scope) (
 noted_part_of {s = s} sk f _ p (outermost i) h = noted_either s f p i (from_part (spec_scope s) f p h)
 noted_part_of sk f _ p (nested scope b hb i) h =
     let plain : IsPlainBody b = plain_part sk scope (part.Body b) hb
-    in absurd (no_faults_of_states (names.body_scope scope b) f p (states_in (out-Body b).parts p plain.states i) h)
+    in absurd (no_faults_of_states (names.body_scope scope b) f p (states_in (out-Body b).parts p (are_states (out-Body b).parts plain.states) i) h)
 
 -- what holds of the one item of a list holds of each
 pub one_in : {X : Type 0} (P : X → Type 0) (xs : List X) (x : X) → IsOne P xs → IsIn x xs → P x
@@ -373,15 +380,25 @@ one_in P (y ∷ z ∷ xs) x h i = absurd h
 pub is_no_init : (st : Statement) (at : Access) (named : Used) (arguments : List Expr) (place : ℕ) → IsPlain st → st ≡ statement.Init at named arguments place → ⊥
 is_no_init st at named arguments place h e = subst IsPlain e h
 
+pub empty_plain : (st : Statement) → IsEmpty st → IsPlain st
+empty_plain (statement.Empty place) h = tt
+empty_plain _ h = absurd h
+
+-- what holds of all items of a list holds of each
+pub all_in : {X : Type 0} (P : X → Type 0) (xs : List X) (x : X) → All P xs → IsIn x xs → P x
+all_in P [] x h i = absurd i
+all_in P (y ∷ ys) x h (inl e) = subst P e (h 0 y (omega arith))
+all_in P (y ∷ ys) x h (inr i) = all_in P ys x (λ k d l. h (suc k) d (omega (arith, l))) i
+
 pub starts_outside : {s : Spec} (sk : IsSkeleton s) (scope : Scope) (st : Statement) (at : Access) (named : Used) (arguments : List Expr) (place : ℕ)
     → HasStatement s scope st → st ≡ statement.Init at named arguments place → scope ≡ spec_scope s
 starts_outside sk _ _ at named arguments place own e = refl
 starts_outside sk _ _ at named arguments place (of_first_part scope b f st hb is i) e =
     let plain : IsPlainBody b = plain_part sk scope (part.Body b) hb
-    in absurd (is_no_init st at named arguments place (one_in IsPlain f.block.statements st (plain.first f is).block.statements i) e)
+    in absurd (is_no_init st at named arguments place (empty_plain st (one_in IsEmpty f.block.statements st (plain.first f is).block.statements i)) e)
 starts_outside sk _ _ at named arguments place (of_transition scope b g t st hb i j k) e =
     let plain : IsPlainBody b = plain_part sk scope (part.Body b) hb
-    in absurd (is_no_init st at named arguments place (one_in IsPlain t.block.statements st (one_in IsPlainTransition (out-Group g).transitions t (plain.groups g i) j).block.statements k) e)
+    in absurd (is_no_init st at named arguments place (one_in IsPlain t.block.statements st (one_in IsPlainTransition (out-Group g).transitions t (all_in IsPlainGroup (out-Body b).groups g plain.groups i) j).block.statements k) e)
 
 abbrev pub IsYes : Bool → Type 0
 IsYes true = Unit {0}
@@ -396,7 +413,7 @@ broken_noted sk _ _ (no_system ms m h i j is system) =
     absurd (subst IsYes (sym (ap (λ x. x.system) (header_is sk m.header h is) ∙ sk.plain_header.system) ∙ system) tt)
 broken_noted sk _ _ (system_inside scope b ms m h hb i j is system) =
     let plain : IsPlainBody b = plain_part sk scope (part.Body b) hb
-    in absurd (states_in (out-Body b).parts (part.Modvars ms) plain.states i)
+    in absurd (states_in (out-Body b).parts (part.Modvars ms) (are_states (out-Body b).parts plain.states) i)
 broken_noted {s = s} sk _ _ (other_header scope at named arguments place m b h k st is_variable is_header is_body is_other differ) =
     let out : scope ≡ spec_scope s = starts_outside sk scope (statement.Init at named arguments place) at named arguments place st refl in
     let one : h ≡ sk.header = header_is sk m.header h (subst (λ x. header_by (meaning x m.header) ≡ Some h) out is_header) in

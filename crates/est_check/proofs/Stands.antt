@@ -1,6 +1,7 @@
 -- Which entries stand for which declarations.
 use Rattle.std.specs.Prelude.{if◌then◌else◌, nat_lt, not, slice_get}
 use Rattle.std.proofs.Common.{◌≡◌, refl, ap, ◌∙◌, subst, ℕ, Bool, true, false, List, [], ◌∷◌, ◌++◌, Option, Some, None}
+use Rattle.std.specs.Option.{option_or}
 use Rattle.est_syntax.specs.declared.name.Used.{Used}
 use Rattle.est_syntax.specs.declared.channel.Channel.{Channel}
 use Rattle.est_syntax.specs.declared.header.Header.{Header}
@@ -13,14 +14,15 @@ use Rattle.est_syntax.specs.Environment.{are_roles, has_role}
 use Rattle.est_syntax.specs.Faults.{names_of}
 use Rattle.est_check.specs.declared.names.Entry.{Entry}
 use Rattle.est_check.specs.declared.names.PointSide.{PointSide}
+use Rattle.est_check.specs.inside.Entries.{is_second}
 use Rattle.est_check.specs.declared.names.Entity.{Entity}
 use Rattle.est_check.specs.declared.names.Entity.TheVariants as entities
 use Rattle.est_check.specs.declared.table.Found.{Found}
 use Rattle.est_check.specs.declared.table.Found.TheVariants as found
-use Rattle.est_check.specs.Tables as tables
-use Rattle.est_check.specs.Tables.{first_of, own_found, undeclared, outer_found, sort_found, channel_number, point_side}
-use Rattle.est_check.specs.LeastFaults as least_faults
-use Rattle.est_check.specs.LeastFaults.{header_number}
+use Rattle.est_check.specs.inside.Tables as tables
+use Rattle.est_check.specs.inside.Tables.{own_found, undeclared, outer_found, sort_found, channel_number, point_side}
+use Rattle.est_check.specs.inside.LeastFaults as least_faults
+use Rattle.est_check.specs.inside.LeastFaults.{header_number}
 use Rattle.est_check.proofs.Entering.{first, names_in}
 
 -- both are none, or R holds of what they have
@@ -75,7 +77,7 @@ declared_in-append (x ∷ xs) ys n =
     ap (λ o. if is_name n (spelled x.name) then Some x else o) (declared_in-append xs ys n)
     ∙ or_declared-if (is_name n (spelled x.name)) x (declared_in xs n) (declared_in ys n)
 
-pub both_append : (R : Entry → Declaration → Type 0) (a b : Option Entry) (x y : Option Declaration) → Both R a x → Both R b y → Both R (first_of a b) (or_declared x y)
+pub both_append : (R : Entry → Declaration → Type 0) (a b : Option Entry) (x y : Option Declaration) → Both R a x → Both R b y → Both R (option_or a b) (or_declared x y)
 both_append R None b None y h k = k
 both_append R None b (Some d) y h k = absurd h
 both_append R (Some e) b None y h k = absurd h
@@ -86,7 +88,7 @@ abbrev pub SideFor : List Part → Option PointSide → Option Side → Type 0
 SideFor all None None = Unit {0}
 SideFor all None (Some side) = ⊥
 SideFor all (Some q) None = ⊥
-SideFor all (Some q) (Some side) = (slice_get all q.channel ≡ Some (part.Channel side.channel)) × (q.second ≡ side.is_second)
+SideFor all (Some q) (Some side) = (slice_get all q.channel ≡ Some (part.Channel side.channel)) × (is_second q.role ≡ side.is_second)
 
 -- what a name of the specification or of a body stands for, where the parts of the specification have numbers
 abbrev pub StandsFor : List Part → Entity → Sort → Type 0

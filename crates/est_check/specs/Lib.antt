@@ -1,11 +1,7 @@
 pub mod Answers
 pub mod Checked
 pub mod Counts
-pub mod Declarations
-pub mod Entries
-pub mod Least
-pub mod LeastFaults
-pub mod Signals
 pub mod Skeleton
+pub mod Small
 pub mod SkeletonRules
-pub mod Tables
+pub mod inside

@@ -2,9 +2,9 @@
 #![tactic(auto)]
 
 ghost use Rattle.std.specs.Prelude.{◌≡◌, [], OnOk, IfOk};
-ghost use Rattle.est_check.specs.Entries.{enter_all, role_by};
-ghost use Rattle.est_check.specs.Declarations.{parts_entries};
-ghost use Rattle.est_check.specs.LeastFaults.{outside, names_of_channel, names_of_channel_part, names_of_channels, side_with, table_side, point_entries, names_of_header, names_of_header_part, names_of_headers, tables};
+ghost use Rattle.est_check.specs.inside.Entries.{enter_all, role_by};
+ghost use Rattle.est_check.specs.inside.Declarations.{parts_entries};
+ghost use Rattle.est_check.specs.inside.LeastFaults.{outside, names_of_channel, names_of_channel_part, names_of_channels, side_with, table_side, point_entries, names_of_header, names_of_header_part, names_of_headers, tables};
 
 use crate::constructs::{check_by_parts, check_points};
 use crate::declare::{enter_by_parts, enter_parts, enter_roles, enter_together};
@@ -90,9 +90,9 @@ fn side_with(number: usize, role: Option<Entry>) -> Option<PointSide>
     match role {
         None => None,
         Some(entry) => match entry.entity {
-            Entity::Role(second) => Some(PointSide {
+            Entity::Role(role) => Some(PointSide {
                 channel: number,
-                second,
+                role,
             }),
             _ => None,
         },

@@ -6,8 +6,9 @@ ghost use Rattle.est_syntax.specs.Breaks.{IsGood};
 ghost use Rattle.est_syntax.specs.Ports.{ports_of};
 ghost use Rattle.est_check.specs.Answers.{IsRefused};
 ghost use Rattle.est_check.specs.Checked.{counts_of};
-ghost use Rattle.est_check.specs.LeastFaults.{least_of_spec, tables};
+ghost use Rattle.est_check.specs.inside.LeastFaults.{least_of_spec, tables};
 ghost use Rattle.est_check.specs.Skeleton.{IsSkeleton};
+ghost use Rattle.est_check.specs.Small.{IsSmall};
 
 use crate::build::tables;
 use crate::counts::Counts;
@@ -15,6 +16,7 @@ use crate::error::CheckError;
 use crate::least::Least;
 use crate::pass::least_fault;
 use crate::ports::{body_count, ports, transition_count};
+use crate::skeleton::skeleton;
 use crate::table::Table;
 use est_items::Boxed;
 use est_syntax::ports::Ports;
@@ -64,6 +66,7 @@ impl Checked {
     pub fn spec(&self) -> &Spec
         ensures same { result.now ≡ self.now }
         ensures skeleton { IsSkeleton self.now }
+        ensures small { IsSmall self.now }
         ensures good { IsGood self.now }
     {
         self.kept.get().tree.spec()
@@ -88,6 +91,7 @@ impl Checked {
 #[tactic(auto, using(crate::proofs::PortLaws::bodies))]
 fn counted(spec: &Spec, ports: &Ports) -> Counts
     requires skeleton { IsSkeleton spec.now }
+    requires small { IsSmall spec.now }
     requires ports { ports.now ≡ ports_of spec.now }
     ensures { result ≡ counts_of spec.now }
 {
@@ -101,6 +105,7 @@ fn counted(spec: &Spec, ports: &Ports) -> Counts
 // A good skeleton with its ports. Where memory runs out both are dropped.
 fn kept(alloc: Global, tree: SyntaxTree, ports: Ports) -> Result<Checked, AllocError>
     requires skeleton { IsSkeleton tree }
+    requires small { IsSmall tree }
     requires good { IsGood tree }
     requires ports { ports ≡ ports_of tree }
     ensures { IfOk result (λ c. c ≡ tree) }
@@ -169,19 +174,37 @@ fn good_ports(alloc: Global, spec: &Spec) -> Result<Ports, CheckError>
     }
 }
 
-/// Checks a specification. The tree of one that is refused, or for which memory is wanting, is
+// The ports of a specification that is a skeleton and breaks no rule.
+fn skeleton_ports(alloc: Global, spec: &Spec) -> Result<Ports, CheckError>
+    ensures ports { IfOk result (λ p. p ≡ ports_of spec.now) }
+    ensures skeleton { IfOk result (λ _. IsSkeleton spec.now) }
+    ensures good { IfOk result (λ _. IsGood spec.now) }
+    ensures fault { IfErr result (IsRefused spec.now) }
+{
+    if skeleton(spec) {
+        good_ports(alloc, spec)
+    } else {
+        Err(CheckError::NotBuilt)
+    }
+}
+
+/// Checks a specification. The tree of one that is refused, or for which memory runs out, is
 /// dropped.
 pub fn check(alloc: Global, tree: SyntaxTree) -> Result<Checked, CheckError>
-    requires { IsSkeleton tree }
+    requires { IsSmall tree }
 
-    // A specification that breaks no rule is kept as it is.
-    ensures good { IfOk result (λ c. (c ≡ tree) × IsGood tree) }
+    // A skeleton that breaks no rule is kept as it is.
+    ensures good { IfOk result (λ c. (c ≡ tree) × IsSkeleton tree × IsGood tree) }
 
-    // Else the least fault is reported; memory may run out at any time.
+    // What is no skeleton is not built yet. Else the least fault is reported; memory may run out at
+    // any time.
     ensures fault { IfErr result (IsRefused tree) }
 {
-    match good_ports(alloc, tree.spec()) {
-        Err(error) => Err(error),
+    match skeleton_ports(alloc, tree.spec()) {
+        Err(error) => {
+            drop(tree);
+            Err(error)
+        }
         Ok(ports) => kept(alloc, tree, ports).map_err(CheckError::Memory),
     }
 }

@@ -3,14 +3,14 @@
 
 ghost use Rattle.std.specs.Prelude.{◌≡◌};
 ghost use Rattle.est_syntax.specs.declared.body.Body.{out-Body};
-ghost use Rattle.est_check.specs.Least.{least_with};
+ghost use Rattle.est_check.specs.inside.Least.{least_with};
 ghost use Rattle.est_syntax.specs.Faults.{by_faults, point_faults, points_faults, modvars_faults, sendings_faults, statement_faults, statements_faults, state_faults, clause_faults, clauses_faults, transition_faults, transitions_faults, groups_faults, has_states, to_faults, first_faults, text_faults};
-ghost use Rattle.est_check.specs.Tables.{table_environment, members_environment};
+ghost use Rattle.est_check.specs.inside.Tables.{table_environment, members_environment};
 
 use crate::least::Least;
 use crate::table::{BodyNames, Members, Table};
 use crate::uses::{
-    check_point_role, check_received, check_roles, check_sent, check_use, check_uses,
+    Direction, check_interaction, check_point_role, check_roles, check_use, check_uses,
 };
 use est_syntax::body::{Body, Part};
 use est_syntax::channel::ByPart;
@@ -71,7 +71,14 @@ fn check_sendings(table: &Table, body: &BodyNames, list: &[Sending], least: &mut
         (sendings_faults (table_environment table.now body.now) list.now) }
 {
     for item in list {
-        check_sent(table, body, &item.at.name, &item.signal, least);
+        check_interaction(
+            table,
+            body,
+            Direction::Sends,
+            &item.at.name,
+            &item.signal,
+            least,
+        );
     }
 }
 
@@ -132,7 +139,7 @@ fn check_clause(table: &Table, body: &BodyNames, clause: &Clause, least: &mut Le
             at,
             signal,
             place: _,
-        } => check_received(table, body, &at.name, signal, least),
+        } => check_interaction(table, body, Direction::Receives, &at.name, signal, least),
         _ => (),
     }
 }

@@ -3,11 +3,11 @@
 
 ghost use Rattle.std.specs.Prelude.{◌≡◌, [], OnOk};
 ghost use Rattle.est_syntax.specs.Names.{vars_last, interactions_last, by_last, points_last, header_last};
-ghost use Rattle.est_check.specs.Entries.{entry_of, enter, enter_following, enter_all, role_by, with_role, senders};
-ghost use Rattle.est_check.specs.Declarations.{together_entries, other_role_entries, role_entries, interaction_entries, by_entries, variable_entries, part_entries, parts_entries, state_entries, section_entries, body_entries};
+ghost use Rattle.est_check.specs.inside.Entries.{entry_of, enter, enter_following, enter_all, role_by, with_role, senders};
+ghost use Rattle.est_check.specs.inside.Declarations.{together_entries, other_role_entries, role_entries, interaction_entries, by_entries, variable_entries, part_entries, parts_entries, state_entries, section_entries, body_entries};
 
 use crate::least::Least;
-use crate::names::{Entity, Entry, Names, Senders};
+use crate::names::{Entity, Entry, Names, Role, Senders};
 use est_syntax::body::Part;
 use est_syntax::channel::{ByPart, Channel, InteractionDef};
 use est_syntax::header::{Header, ModvarDef, Point};
@@ -131,7 +131,7 @@ fn enter_other_roles(names: &mut Names, roles: &[Used], least: &mut Least) -> Re
         enter(
             names,
             used,
-            Entry::new(used.place, Entity::Role(true)),
+            Entry::new(used.place, Entity::Role(Role::Second)),
             least,
         )?;
     }
@@ -149,7 +149,7 @@ pub fn enter_roles(names: &mut Names, roles: &[Used], least: &mut Least) -> Resu
             enter(
                 names,
                 used,
-                Entry::new(used.place, Entity::Role(false)),
+                Entry::new(used.place, Entity::Role(Role::First)),
                 least,
             )?;
             enter_other_roles(names, rest, least)
@@ -158,20 +158,20 @@ pub fn enter_roles(names: &mut Names, roles: &[Used], least: &mut Least) -> Resu
 }
 
 /// Which role of a channel a name is, if one.
-fn role_of(roles: &Names, used: &Used) -> Option<bool>
+fn role_of(roles: &Names, used: &Used) -> Option<Role>
     ensures { result ≡ role_by (entry_of roles.now used.now.name.bytes) }
 {
     match roles.find(&used.name) {
         None => None,
         Some(entry) => match entry.entity {
-            Entity::Role(second) => Some(second),
+            Entity::Role(role) => Some(role),
             _ => None,
         },
     }
 }
 
 /// These senders, and one name more: a role, or none.
-fn with_role(senders: Senders, role: Option<bool>) -> Senders
+fn with_role(senders: Senders, role: Option<Role>) -> Senders
     ensures { result ≡ with_role senders role }
 {
     match role {
@@ -180,12 +180,12 @@ fn with_role(senders: Senders, role: Option<bool>) -> Senders
             first: senders.first,
             second: senders.second,
         },
-        Some(true) => Senders {
+        Some(Role::Second) => Senders {
             known: senders.known,
             first: senders.first,
             second: true,
         },
-        Some(false) => Senders {
+        Some(Role::First) => Senders {
             known: senders.known,
             first: true,
             second: senders.second,

@@ -12,6 +12,7 @@ mod least;
 mod names;
 mod pass;
 mod ports;
+mod skeleton;
 mod table;
 mod uses;
 

@@ -1,13 +1,20 @@
 //! The names of one region, in order of declaration.
 
 ghost use Rattle.std.specs.Prelude.{◌≡◌, [], ◌∷◌, ◌++◌, OnOk, IfOk, None};
-ghost use Rattle.est_check.specs.Entries.{entry, entry_of};
+ghost use Rattle.est_check.specs.inside.Entries.{other, may_send, entry, entry_of};
 
 use est_syntax::name::{Name, Used};
 use est_syntax::rule::Rule;
 use indexmap::IndexMap;
 use std::alloc::{AllocError, Global};
 use std::marker::Model;
+
+/// A role of a channel.
+#[derive(Clone, Copy)]
+pub enum Role {
+    First,
+    Second,
+}
 
 /// Which roles of its channel may send an interaction, and whether the names of its `by` part are
 /// all roles.
@@ -22,7 +29,7 @@ pub struct Senders {
 #[derive(Clone, Copy)]
 pub struct PointSide {
     pub channel: usize,
-    pub second: bool,
+    pub role: Role,
 }
 
 /// What a name stands for. Channels and headers go by the numbers of their parts, counted from 0.
@@ -34,7 +41,7 @@ pub enum Entity {
     ModuleVariable,
     Point(Option<PointSide>),
     State,
-    Role(bool),
+    Role(Role),
     Interaction(Senders),
 }
 
@@ -43,6 +50,30 @@ pub enum Entity {
 pub struct Entry {
     pub last: u32,
     pub entity: Entity,
+}
+
+impl Role {
+    /// The other role of the channel.
+    pub fn other(self) -> Role
+        ensures { result ≡ other self }
+    {
+        match self {
+            Role::First => Role::Second,
+            Role::Second => Role::First,
+        }
+    }
+}
+
+impl Senders {
+    /// Whether this role may send the interaction.
+    pub fn may_send(self, role: Role) -> bool
+        ensures { result ≡ may_send role self }
+    {
+        match role {
+            Role::First => self.first,
+            Role::Second => self.second,
+        }
+    }
 }
 
 impl Entry {

@@ -2,11 +2,11 @@
 #![tactic(auto, using(crate::proofs::LeastLaws::least_append))]
 
 ghost use Rattle.std.specs.Prelude.{◌≡◌, [], OnOk, IfOk, None};
-ghost use Rattle.est_check.specs.Least.{least_with};
-ghost use Rattle.est_check.specs.Entries.{enter_all};
-ghost use Rattle.est_check.specs.Declarations.{body_entries};
-ghost use Rattle.est_check.specs.Tables.{look_up};
-ghost use Rattle.est_check.specs.LeastFaults.{outside, header_number, header_entries, least_inside, least_of_body, least_of_part, least_of_parts, least_of_spec, tables};
+ghost use Rattle.est_check.specs.inside.Least.{least_with};
+ghost use Rattle.est_check.specs.inside.Entries.{enter_all};
+ghost use Rattle.est_check.specs.inside.Declarations.{body_entries};
+ghost use Rattle.est_check.specs.inside.Tables.{look_up};
+ghost use Rattle.est_check.specs.inside.LeastFaults.{outside, header_number, header_entries, least_inside, least_of_body, least_of_part, least_of_parts, least_of_spec, tables};
 
 use crate::constructs::{check_modvars, check_statement, check_text};
 use crate::declare::enter_state_parts;

@@ -1,23 +1,23 @@
 //! The ports of a specification, and how much it declares.
 #![tactic(auto)]
 
-ghost use Rattle.std.specs.Prelude.{◌≡◌, ◌++◌, ◌≤◌, [], OnOk, IfOk, None, get_or, if◌then◌else◌};
+ghost use Rattle.std.specs.Prelude.{◌≡◌, ◌++◌, ◌≤◌, [], OnOk, IfOk, None, get_or};
 ghost use Rattle.est_syntax.specs.Breaks.{IsGood};
 ghost use Rattle.est_syntax.specs.Names.{side_of, spec_scope};
 ghost use Rattle.est_syntax.specs.Ports.{interaction_signals, by_signals, signals_of};
 ghost use Rattle.est_syntax.specs.Ports.{named_ports, point_ports, ports_of};
-ghost use Rattle.est_check.specs.LeastFaults.{tables};
+ghost use Rattle.est_check.specs.inside.LeastFaults.{tables};
 ghost use Rattle.est_check.specs.Skeleton.{IsSkeleton};
-ghost use Rattle.est_check.specs.Signals.{RolesFor, PartRolesFor, side, channel_signals};
-ghost use Rattle.est_check.specs.Signals.{part_signals, role_signals, sides_of, signals_by, bare_port};
-ghost use Rattle.est_check.specs.Tables.{members_at};
+ghost use Rattle.est_check.specs.Small.{most};
+ghost use Rattle.est_check.specs.inside.Signals.{RolesFor, PartRolesFor, side, channel_signals};
+ghost use Rattle.est_check.specs.inside.Signals.{part_signals, role_signals, sides_of, signals_by, bare_port};
+ghost use Rattle.est_check.specs.inside.Tables.{members_at};
 ghost use Rattle.est_check.specs.Counts.{body_count, group_count, transition_count};
 
 use crate::build::side_of;
 use crate::declare::senders;
-use crate::names::{Names, PointSide};
+use crate::names::{Names, PointSide, Role};
 use crate::table::{BodyNames, Table};
-use crate::uses::may_send;
 use est_items::{Items, Shared};
 use est_syntax::body::Part;
 use est_syntax::channel::{ByPart, Channel};
@@ -44,26 +44,27 @@ impl Drop for Sides {
 }
 
 /// Pushes the interactions of a `by` part of a channel with these roles, at a port in this role.
-
 fn push_interactions(
     into: &mut Signals,
     channel: &Channel,
     roles: &Names,
-    second: bool,
+    role: Role,
     by: &ByPart,
 ) -> Result<(), AllocError>
     requires { RolesFor channel.now roles.now }
     ensures { OnOk result (into.new ≡ into.old
-        ++ interaction_signals (side channel.now second) by.now by.now.interactions) }
+        ++ interaction_signals (side channel.now role) by.now by.now.interactions) }
 {
     let alloc = *into.items.allocator();
     let who = senders(roles, by.roles.as_slice());
+    let sends = who.may_send(role);
+    let receives = who.may_send(role.other());
     for item in by.interactions.as_slice() {
         into.push(Signal {
             name: item.name.name.copy(alloc)?,
             kinds: Items::new(alloc),
-            sends: may_send(second, who),
-            receives: may_send(!second, who),
+            sends,
+            receives,
         })?;
     }
     Ok(())
@@ -74,14 +75,14 @@ fn channel_signals(
     alloc: Global,
     channel: &Channel,
     roles: &Names,
-    second: bool,
+    role: Role,
 ) -> Result<Signals, AllocError>
     requires { RolesFor channel.now roles.now }
-    ensures { IfOk result (λ s. s ≡ channel_signals second channel.now) }
+    ensures { IfOk result (λ s. s ≡ channel_signals role channel.now) }
 {
     let mut signals = Items::new(alloc);
     for by in channel.by.as_slice() {
-        push_interactions(&mut signals, channel, roles, second, by)?;
+        push_interactions(&mut signals, channel, roles, role, by)?;
     }
     Ok(signals)
 }
@@ -90,17 +91,17 @@ fn channel_signals(
 fn part_signals(
     alloc: Global,
     table: &Table,
-    second: bool,
+    role: Role,
     number: usize,
     part: &Part,
 ) -> Result<Signals, AllocError>
     requires { PartRolesFor part.now (members_at table.now.channels number).roles }
-    ensures { IfOk result (λ s. s ≡ part_signals second part.now) }
+    ensures { IfOk result (λ s. s ≡ part_signals role part.now) }
 {
     match part {
         Part::Channel(channel) => match table.channels.as_slice().get(number) {
-            None => channel_signals(alloc, channel, &Names::new(alloc), second),
-            Some(members) => channel_signals(alloc, channel, &members.roles, second),
+            None => channel_signals(alloc, channel, &Names::new(alloc), role),
+            Some(members) => channel_signals(alloc, channel, &members.roles, role),
         },
         _ => Ok(Items::new(alloc)),
     }
@@ -110,15 +111,15 @@ fn part_signals(
 fn push_role(
     into: &mut Items<SharedSignals>,
     table: &Table,
-    second: bool,
+    role: Role,
     parts: &[Part],
 ) -> Result<(), AllocError>
     requires { table.now ≡ (tables None parts.now).0 }
-    ensures { OnOk result (into.new ≡ into.old ++ role_signals second parts.now) }
+    ensures { OnOk result (into.new ≡ into.old ++ role_signals role parts.now) }
 {
     let alloc = *into.items.allocator();
     for (number, part) in parts.iter().enumerate() {
-        let signals = part_signals(alloc, table, second, number, part)?;
+        let signals = part_signals(alloc, table, role, number, part)?;
         into.push(Shared::new(alloc, signals)?)?;
     }
     Ok(())
@@ -150,10 +151,9 @@ fn side_signals(
         None => Shared::new(alloc, Items::new(alloc)),
         Some(side) => shared_at(
             alloc,
-            if side.second {
-                sides.second.as_slice()
-            } else {
-                sides.first.as_slice()
+            match side.role {
+                Role::First => sides.first.as_slice(),
+                Role::Second => sides.second.as_slice(),
             },
             side.channel,
         ),
@@ -234,7 +234,6 @@ fn push_points(
 }
 
 /// The ports that the interaction points of the first header are; none without a header.
-
 fn header_ports(
     alloc: Global,
     table: &Table,
@@ -268,14 +267,19 @@ pub fn ports(alloc: Global, table: &Table, spec: &Spec) -> Result<Ports, AllocEr
         first: Items::new(alloc),
         second: Items::new(alloc),
     };
-    push_role(&mut sides.first, table, false, spec.parts.as_slice())?;
-    push_role(&mut sides.second, table, true, spec.parts.as_slice())?;
+    push_role(&mut sides.first, table, Role::First, spec.parts.as_slice())?;
+    push_role(
+        &mut sides.second,
+        table,
+        Role::Second,
+        spec.parts.as_slice(),
+    )?;
     header_ports(alloc, table, &sides, spec)
 }
 
 /// The number of bodies that these parts declare.
 pub fn body_count(parts: &[Part]) -> u32
-    requires { body_count parts.now ≤ 1048576 }
+    requires { body_count parts.now ≤ most }
     ensures { result ≡ body_count parts.now }
 {
     let mut count = 0;
@@ -289,7 +293,7 @@ pub fn body_count(parts: &[Part]) -> u32
 
 /// The number of transitions of these groups.
 fn group_count(groups: &[Group]) -> u32
-    requires { group_count groups.now ≤ 1048576 }
+    requires { group_count groups.now ≤ most }
     ensures { result ≡ group_count groups.now }
 {
     let mut count = 0;
@@ -301,7 +305,7 @@ fn group_count(groups: &[Group]) -> u32
 
 /// The number of transitions of the bodies that these parts declare.
 pub fn transition_count(parts: &[Part]) -> u32
-    requires { transition_count parts.now ≤ 1048576 }
+    requires { transition_count parts.now ≤ most }
     ensures { result ≡ transition_count parts.now }
 {
     let mut count = 0;

@@ -1,13 +1,14 @@
 //! The uses of names.
 #![tactic(auto, using(crate::proofs::LeastLaws::least_append))]
 
-ghost use Rattle.std.specs.Prelude.{◌≡◌, Some, true, false, not};
-ghost use Rattle.est_check.specs.Least.{least_with};
+ghost use Rattle.std.specs.Prelude.{◌≡◌, Some};
+ghost use Rattle.est_check.specs.inside.Least.{least_with};
 ghost use Rattle.est_syntax.specs.Faults.{takes, used_as, use_faults, uses_faults, direction_faults, passage_faults, interaction_faults, role_faults};
-ghost use Rattle.est_check.specs.Tables.{sort_found, may_send, passage_by, passage_at, member_sort_at, table_environment, members_environment};
+ghost use Rattle.est_check.specs.inside.Entries.{other, may_send};
+ghost use Rattle.est_check.specs.inside.Tables.{sort_found, is_sending, passage_by, passage_at, member_sort_at, table_environment, members_environment};
 
 use crate::least::Least;
-use crate::names::{Entity, Entry, PointSide, Senders};
+use crate::names::{Entity, Entry, PointSide, Role, Senders};
 use crate::table::{BodyNames, Found, Members, Table, entry_found, member_of, name_sort};
 use est_syntax::name::Used;
 use est_syntax::rule::Rule;
@@ -91,39 +92,44 @@ pub fn check_point_role(table: &Table, channel: Option<usize>, used: &Used, leas
     }
 }
 
-/// Whether the first role of a channel, or the second (true), may send an interaction.
-pub fn may_send(second: bool, who: Senders) -> bool
-    ensures { result ≡ may_send second who }
-{
-    if second { who.second } else { who.first }
+/// What an interaction point does with an interaction.
+#[derive(Clone, Copy)]
+pub enum Direction {
+    Sends,
+    Receives,
 }
 
 /// Checks that an interaction point in this role may send an interaction, or receive it.
-fn check_direction(sending: bool, place: u32, second: bool, who: Senders, least: &mut Least)
-    ensures { least.new.at ≡ least_with least.old.at
-        (direction_faults sending place (may_send second who) (may_send (not second) who)) }
+fn check_direction(direction: Direction, place: u32, role: Role, who: Senders, least: &mut Least)
+    ensures { least.new.at ≡ least_with least.old.at (direction_faults
+        (is_sending direction) place (may_send role who) (may_send (other role) who)) }
 {
-    let passes = if sending {
-        may_send(second, who)
-    } else {
-        may_send(!second, who)
+    let sender = match direction {
+        Direction::Sends => role,
+        Direction::Receives => role.other(),
     };
-    if !passes {
+    if !who.may_send(sender) {
         least.note(place, Rule::WrongDirection);
     }
 }
 
 /// Checks the entry of a name that an interaction point in this role sends or receives.
 /// Without an entry the name is unknown, and what is no interaction is of a wrong sort.
-fn check_passage(sending: bool, place: u32, second: bool, entry: Option<Entry>, least: &mut Least)
+fn check_passage(
+    direction: Direction,
+    place: u32,
+    role: Role,
+    entry: Option<Entry>,
+    least: &mut Least,
+)
     ensures { least.new.at ≡ least_with least.old.at
-        (passage_faults sending place (Some (passage_by second entry))) }
+        (passage_faults (is_sending direction) place (Some (passage_by role entry))) }
 {
     match entry {
         None => least.note(place, Rule::UnknownName),
         Some(entry) => match entry.entity {
             Entity::Interaction(who) => if who.known {
-                check_direction(sending, place, second, who, least)
+                check_direction(direction, place, role, who, least)
             },
             _ => least.note(place, Rule::WrongSort),
         },
@@ -134,33 +140,31 @@ fn check_passage(sending: bool, place: u32, second: bool, entry: Option<Entry>, 
 fn check_passage_at(
     table: &Table,
     side: Option<PointSide>,
-    sending: bool,
+    direction: Direction,
     used: &Used,
     least: &mut Least,
 )
-    ensures { least.new.at ≡ least_with least.old.at
-        (passage_faults sending used.now.place (passage_at table.now side used.now)) }
+    ensures { least.new.at ≡ least_with least.old.at (passage_faults
+        (is_sending direction) used.now.place (passage_at table.now side used.now)) }
 {
     if let Some(side) = side {
         let entry = member_of(table.channels.as_slice(), side.channel, &used.name);
-        check_passage(sending, used.place, side.second, entry, least);
+        check_passage(direction, used.place, side.role, entry, least);
     }
 }
 
-/// Checks an interaction that is sent at an interaction point.
-pub fn check_sent(table: &Table, body: &BodyNames, at: &Used, used: &Used, least: &mut Least)
-    ensures { least.new.at ≡ least_with least.old.at
-        (interaction_faults (table_environment table.now body.now) true at.now used.now) }
+/// Checks an interaction that is sent or received at an interaction point.
+pub fn check_interaction(
+    table: &Table,
+    body: &BodyNames,
+    direction: Direction,
+    at: &Used,
+    used: &Used,
+    least: &mut Least,
+)
+    ensures { least.new.at ≡ least_with least.old.at (interaction_faults
+        (table_environment table.now body.now) (is_sending direction) at.now used.now) }
 {
     check_use(table, body, NameSort::Point, at, least);
-    check_passage_at(table, table.point_side(body, at), true, used, least);
-}
-
-/// Checks an interaction that is received at an interaction point.
-pub fn check_received(table: &Table, body: &BodyNames, at: &Used, used: &Used, least: &mut Least)
-    ensures { least.new.at ≡ least_with least.old.at
-        (interaction_faults (table_environment table.now body.now) false at.now used.now) }
-{
-    check_use(table, body, NameSort::Point, at, least);
-    check_passage_at(table, table.point_side(body, at), false, used, least);
+    check_passage_at(table, table.point_side(body, at), direction, used, least);
 }

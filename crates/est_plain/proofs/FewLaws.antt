@@ -1,4 +1,4 @@
--- A skeleton has few ports, signals and transitions.
+-- A small specification has few ports, signals and transitions.
 use Rattle.std.proofs.Common.{◌≡◌, ◌<◌, ◌≤◌, ◌^◌, Bool, true, false, List, [], ◌∷◌, inl, inr, Option, Some, None, length, length-append, arith, refl, sym, subst}
 use Rattle.std.specs.Prelude.{find, option_and_then, filter_map, flat_map, if◌then◌else◌}
 use Rattle.est_syntax.specs.declared.name.Used.{Used}
@@ -11,7 +11,7 @@ use Rattle.est_syntax.specs.Least.{IsIn}
 use Rattle.est_syntax.specs.Ports.{ports_of}
 use Rattle.est_syntax.proofs.Members.{in_at}
 use Rattle.est_check.specs.Counts.{group_count, transition_count}
-use Rattle.est_check.specs.Skeleton.{IsSkeleton}
+use Rattle.est_check.specs.Small.{IsSmall}
 use Rattle.est_meaning.specs.Text.{uses_name, body_in, body_named, started_by, root_of, transitions_of}
 use Rattle.est_plain.specs.PlainSituation.{HasFew}
 
@@ -48,13 +48,13 @@ root_counted s (Some named) b e =
 root_counted s None b e = cc
 
 -- the transitions of the root are few
-pub few_transitions : (s : Spec) → IsSkeleton s → (b : Body) → root_of s ≡ Some b → length (transitions_of b) < 2 ^ 32
-few_transitions s sk b e =
-    omega (arith, root_counted s (started_by s.first) b e, sk.few_transitions)
+pub few_transitions : (s : Spec) → IsSmall s → (b : Body) → root_of s ≡ Some b → length (transitions_of b) < 2 ^ 32
+few_transitions s small b e =
+    omega (arith, root_counted s (started_by s.first) b e, small.few_transitions)
 
 -- so are the ports and their signals
-pub few_ports : (s : Spec) → IsSkeleton s → HasFew (ports_of s)
-few_ports s sk = record {
-  ports_few = omega (arith, sk.few_ports);
-  signals_few = λ k p e. omega (arith, sk.few_signals p (in_at (ports_of s) k p e));
+pub few_ports : (s : Spec) → IsSmall s → HasFew (ports_of s)
+few_ports s small = record {
+  ports_few = omega (arith, small.few_ports);
+  signals_few = λ k p e. omega (arith, small.few_signals p (in_at (ports_of s) k p e));
 }

@@ -2,7 +2,7 @@
 
 ghost use Rattle.std.specs.Prelude.{◌≡◌, ◌<◌, ◌^◌, ◌+◌, refl, length, Some, IfOk};
 ghost use Rattle.est_syntax.specs.Ports.{ports_of};
-ghost use Rattle.est_check.specs.Skeleton.{IsSkeleton};
+ghost use Rattle.est_check.specs.Small.{IsSmall};
 ghost use Rattle.est_meaning.specs.Text.{root_of, transitions_of};
 ghost use Rattle.est_meaning.specs.Stack.{StartedAs};
 ghost use Rattle.est_plain.specs.PlainSituation.{queues_for, referred, HasFew};
@@ -198,7 +198,7 @@ impl<'c> PlainWorld<'c> {
         statements: u32,
     ) -> Result<Started<PlainWorld<'c>>, AllocError>
         requires ports { ports.now ≡ ports_of spec.now }
-        requires skeleton { IsSkeleton spec.now }
+        requires small { IsSmall spec.now }
         ensures { IfOk result
             (λ started. StartedAs ⟦<PlainWorld<'c> as World>⟧.speaks ⟦<PlainWorld<'c> as World>⟧.stack ⟦<PlainWorld<'c> as World>⟧.limit ⟦<PlainWorld<'c> as World>⟧.fired statements spec.now started) }
     {

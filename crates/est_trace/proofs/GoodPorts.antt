@@ -24,6 +24,7 @@ use Rattle.est_syntax.specs.Ports.{interaction_signals, by_signals, signals_of, 
 use Rattle.est_syntax.proofs.Members.{in_first, in_second, in_at}
 use Rattle.est_syntax.proofs.Declared.{side_meant}
 use Rattle.est_check.specs.Skeleton.{IsSkeleton, channel_parts}
+use Rattle.est_check.specs.Small.{IsSmall}
 use Rattle.est_check.proofs.PortLaws.{NoFault, started}
 use Rattle.est_trace.specs.Skeletons.{HaveDifferentNames, ArePlain}
 use Rattle.est_trace.specs.Directories.{signal_name, port_name}
@@ -169,7 +170,7 @@ points_bare : (scope : Scope) → ((p : Point) (side : Side) → side_of scope p
 points_bare scope h [] i p e = cc
 points_bare scope h (q ∷ qs) i p e = each-append IsBare (named_ports (signals_of (side_of scope q)) q.names) (point_ports scope qs) (named_bare (signals_of (side_of scope q)) (side_different (side_of scope q) (h q)) (side_plain (side_of scope q)) q.names) (points_bare scope h qs) i p e
 
-module _ (s : Spec) (sk : IsSkeleton s) (good : IsGood s) where
+module _ (s : Spec) (sk : IsSkeleton s) (small : IsSmall s) (good : IsGood s) where
   side_fine : (p : Point) (side : Side) → side_of (spec_scope s) p ≡ Some side → NoFault (channel_faults side.channel)
   side_fine p side e = λ f k. good f.place f.rule (inside (spec_scope s) (part.Channel side.channel) (outermost (side_meant s p side e)) k)
 
@@ -191,8 +192,8 @@ module _ (s : Spec) (sk : IsSkeleton s) (good : IsGood s) where
       let are : ports_of s ≡ point_ports (spec_scope s) sk.header.points = ap (header_ports (spec_scope s)) (started s sk good) in
       record {
         different = subst (HaveDifferentNames port_name) (sym are) points_different;
-        few = sk.few_ports;
+        few = small.few_ports;
         each = λ i p e.
             let bare : IsBare p = points_bare (spec_scope s) side_fine sk.header.points i p (subst (λ ps. slice_get ps i ≡ Some p) are e) in
-            record { no_subscripts = bare.0; different = bare.1; few = sk.few_signals p (in_at (ports_of s) i p e); no_parameters = bare.2 };
+            record { no_subscripts = bare.0; different = bare.1; few = small.few_signals p (in_at (ports_of s) i p e); no_parameters = bare.2 };
       }

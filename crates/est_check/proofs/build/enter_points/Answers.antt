@@ -1,8 +1,8 @@
 use Rattle.std.proofs.Common.{refl, ap, ◌∙◌, []}
 use Rattle.est_check.specs.declared.names.Entity.TheVariants.{Point}
-use Rattle.est_check.specs.Entries.{entry, enter_all}
-use Rattle.est_check.specs.Declarations.{together_entries}
-use Rattle.est_check.specs.LeastFaults.{point_entries, table_side}
+use Rattle.est_check.specs.inside.Entries.{entry, enter_all}
+use Rattle.est_check.specs.inside.Declarations.{together_entries}
+use Rattle.est_check.specs.inside.LeastFaults.{point_entries, table_side}
 use Rattle.est_check.proofs.Entering.{enter_loop}
 use Rattle.est_check.proofs.build.enter_points.Goals as goal
 

@@ -1,6 +1,6 @@
 use Rattle.std.proofs.Common.{◌≡◌, drop, []}
-use Rattle.est_check.specs.Entries.{enter_all}
-use Rattle.est_check.specs.LeastFaults.{point_entries}
+use Rattle.est_check.specs.inside.Entries.{enter_all}
+use Rattle.est_check.specs.inside.LeastFaults.{point_entries}
 use Rattle.est_check.proofs.build.enter_points.Given as goal
 
 abbrev pub invariant-loop-item : goal.invariant-loop-item

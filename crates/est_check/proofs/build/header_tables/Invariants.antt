@@ -1,5 +1,5 @@
 use Rattle.std.proofs.Common.{◌≡◌, drop, []}
-use Rattle.est_check.specs.LeastFaults.{names_of_headers}
+use Rattle.est_check.specs.inside.LeastFaults.{names_of_headers}
 use Rattle.est_check.proofs.build.header_tables.Given as goal
 
 abbrev pub invariant-loop-part : goal.invariant-loop-part

@@ -18,5 +18,7 @@ returns-in-None-clause-good c =
     c.map_err.result
 
 pub returns-in-Some-clause-fault : goal.returns-in-Some-clause-fault
-returns-in-Some-clause-fault c =
-    least c.args.spec.now c.requires.skeleton c.args.least c.in-Some.fault c.requires.least c.in-Some.is
+returns-in-Some-clause-fault c = (
+  c.requires.skeleton,
+  least c.args.spec.now c.requires.skeleton c.args.least c.in-Some.fault c.requires.least c.in-Some.is,
+)

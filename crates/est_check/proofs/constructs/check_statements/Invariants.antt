@@ -1,7 +1,7 @@
 use Rattle.std.proofs.Common.{◌≡◌, drop}
-use Rattle.est_check.specs.Least.{least_with}
+use Rattle.est_check.specs.inside.Least.{least_with}
 use Rattle.est_syntax.specs.Faults.{statements_faults}
-use Rattle.est_check.specs.Tables.{table_environment}
+use Rattle.est_check.specs.inside.Tables.{table_environment}
 use Rattle.est_check.proofs.constructs.check_statements.Given as goal
 
 abbrev pub invariant-loop-item : goal.invariant-loop-item

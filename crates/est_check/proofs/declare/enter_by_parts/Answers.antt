@@ -1,6 +1,6 @@
 use Rattle.std.proofs.Common.{refl, ap, ◌∙◌}
-use Rattle.est_check.specs.Entries.{senders, enter_all}
-use Rattle.est_check.specs.Declarations.{by_entries, interaction_entries}
+use Rattle.est_check.specs.inside.Entries.{senders, enter_all}
+use Rattle.est_check.specs.inside.Declarations.{by_entries, interaction_entries}
 use Rattle.est_check.proofs.Entering.{enter_loop}
 use Rattle.est_check.proofs.declare.enter_by_parts.Goals as goal
 

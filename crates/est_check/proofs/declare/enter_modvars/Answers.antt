@@ -1,7 +1,7 @@
 use Rattle.std.proofs.Common.{refl, ◌∙◌, []}
 use Rattle.est_check.specs.declared.names.Entity.TheVariants.{ModuleVariable}
-use Rattle.est_check.specs.Entries.{entry, enter_all}
-use Rattle.est_check.specs.Declarations.{variable_entries, together_entries}
+use Rattle.est_check.specs.inside.Entries.{entry, enter_all}
+use Rattle.est_check.specs.inside.Declarations.{variable_entries, together_entries}
 use Rattle.est_check.proofs.Entering.{enter_loop}
 use Rattle.est_check.proofs.declare.enter_modvars.Goals as goal
 

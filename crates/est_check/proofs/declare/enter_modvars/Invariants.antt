@@ -1,6 +1,6 @@
 use Rattle.std.proofs.Common.{◌≡◌, drop, []}
-use Rattle.est_check.specs.Entries.{enter_all}
-use Rattle.est_check.specs.Declarations.{variable_entries}
+use Rattle.est_check.specs.inside.Entries.{enter_all}
+use Rattle.est_check.specs.inside.Declarations.{variable_entries}
 use Rattle.est_check.proofs.declare.enter_modvars.Given as goal
 
 abbrev pub invariant-loop-item : goal.invariant-loop-item

@@ -1,5 +1,5 @@
 use Rattle.std.proofs.Common.{◌≡◌, ap, ℕ, suc, ◌+◌, [], ◌++◌, arith}
-use Rattle.est_check.specs.Declarations.{parts_entries, part_entries}
+use Rattle.est_check.specs.inside.Declarations.{parts_entries, part_entries}
 use Rattle.est_check.proofs.Entering.{enter_loop}
 use Rattle.est_check.proofs.declare.enter_parts.Goals as goal
 

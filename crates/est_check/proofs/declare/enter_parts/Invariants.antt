@@ -1,6 +1,6 @@
 use Rattle.std.proofs.Common.{◌≡◌, drop, []}
-use Rattle.est_check.specs.Entries.{enter_all}
-use Rattle.est_check.specs.Declarations.{parts_entries}
+use Rattle.est_check.specs.inside.Entries.{enter_all}
+use Rattle.est_check.specs.inside.Declarations.{parts_entries}
 use Rattle.est_check.proofs.declare.enter_parts.Given as goal
 
 abbrev pub invariant-loop-number : goal.invariant-loop-number

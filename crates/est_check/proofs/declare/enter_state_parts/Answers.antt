@@ -1,5 +1,5 @@
 use Rattle.std.proofs.Common.{refl}
-use Rattle.est_check.specs.Declarations.{body_entries, section_entries}
+use Rattle.est_check.specs.inside.Declarations.{body_entries, section_entries}
 use Rattle.est_check.proofs.Entering.{enter_loop}
 use Rattle.est_check.proofs.declare.enter_state_parts.Goals as goal
 

@@ -1,6 +1,6 @@
 use Rattle.std.proofs.Common.{◌≡◌, drop}
-use Rattle.est_check.specs.Entries.{enter_all}
-use Rattle.est_check.specs.Declarations.{body_entries}
+use Rattle.est_check.specs.inside.Entries.{enter_all}
+use Rattle.est_check.specs.inside.Declarations.{body_entries}
 use Rattle.est_check.proofs.declare.enter_state_parts.Given as goal
 
 abbrev pub invariant-loop-part : goal.invariant-loop-part

@@ -1,6 +1,6 @@
 use Rattle.std.proofs.Common.{◌≡◌, drop}
-use Rattle.est_check.specs.Entries.{enter_all}
-use Rattle.est_check.specs.Declarations.{state_entries}
+use Rattle.est_check.specs.inside.Entries.{enter_all}
+use Rattle.est_check.specs.inside.Declarations.{state_entries}
 use Rattle.est_check.proofs.declare.enter_states.Given as goal
 
 abbrev pub invariant-loop-used : goal.invariant-loop-used

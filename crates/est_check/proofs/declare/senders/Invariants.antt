@@ -1,5 +1,5 @@
 use Rattle.std.proofs.Common.{◌≡◌, drop}
-use Rattle.est_check.specs.Entries.{senders, senders_from}
+use Rattle.est_check.specs.inside.Entries.{senders, senders_from}
 use Rattle.est_check.proofs.declare.senders.Given as goal
 
 abbrev pub invariant-loop-used : goal.invariant-loop-used

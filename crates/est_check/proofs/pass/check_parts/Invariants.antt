@@ -1,5 +1,5 @@
 use Rattle.std.proofs.Common.{◌≡◌, drop}
-use Rattle.est_check.specs.LeastFaults.{least_of_parts}
+use Rattle.est_check.specs.inside.LeastFaults.{least_of_parts}
 use Rattle.est_check.proofs.pass.check_parts.Given as goal
 
 abbrev pub invariant-loop-part : goal.invariant-loop-part

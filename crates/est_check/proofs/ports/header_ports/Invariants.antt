@@ -1,5 +1,5 @@
 use Rattle.std.proofs.Common.{◌≡◌, drop, []}
-use Rattle.est_check.specs.Signals.{first_header}
+use Rattle.est_check.specs.inside.Signals.{first_header}
 use Rattle.est_check.proofs.ports.header_ports.Given as goal
 
 abbrev pub invariant-loop-part : goal.invariant-loop-part

@@ -1,6 +1,6 @@
 use Rattle.std.proofs.Common.{◌≡◌, drop, ◌++◌}
 use Rattle.est_syntax.specs.Ports.{named_ports}
-use Rattle.est_check.specs.Signals.{signals_by}
+use Rattle.est_check.specs.inside.Signals.{signals_by}
 use Rattle.est_check.proofs.ports.push_named.Given as goal
 
 abbrev pub invariant-loop-used : goal.invariant-loop-used

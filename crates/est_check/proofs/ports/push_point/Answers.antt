@@ -1,7 +1,7 @@
 use Rattle.std.proofs.Common.{◌≡◌, sym}
 use Rattle.est_syntax.specs.Names.{side_of, spec_scope}
 use Rattle.est_syntax.specs.Ports.{signals_of}
-use Rattle.est_check.specs.Signals.{signals_by}
+use Rattle.est_check.specs.inside.Signals.{signals_by}
 use Rattle.est_check.proofs.PortLaws.{point_signals_are}
 use Rattle.est_check.proofs.ports.push_point.Goals as goal
 

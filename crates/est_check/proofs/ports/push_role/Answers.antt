@@ -1,7 +1,7 @@
 use Rattle.std.proofs.Common.{subst, sym, refl, length}
 use Rattle.std.proofs.lemmas.Option.{slice_get_read}
-use Rattle.est_check.specs.Signals.{PartRolesFor}
-use Rattle.est_check.specs.Tables.{members_at}
+use Rattle.est_check.specs.inside.Signals.{PartRolesFor}
+use Rattle.est_check.specs.inside.Tables.{members_at}
 use Rattle.est_check.proofs.PortLaws.{part_roles_at}
 use Rattle.est_check.proofs.ports.push_role.Goals as goal
 
