@@ -7,4 +7,4 @@ use Rattle.est_productions.specs.Nodes.{a_specification, layer}
 use Rattle.est_grammar.specs.Answer.{HasOneTree}
 
 pub same_specification : (text : List ℕ) (tokens : List Token) (a b : Spec) → HasOneTree text tokens a → HasOneTree text tokens b → a ≡ b
-same_specification text tokens a b p q = q.only_spec a (subst (λ t. Shows layer (node (a_specification a)) t) (q.only_tree p.shape p.tree) p.shows)
+same_specification text tokens a b p q = q.only_value a (p.shape, p.tree, p.shows)
