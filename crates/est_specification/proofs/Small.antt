@@ -10,7 +10,7 @@ use Rattle.est_specification.proofs.PortBounds.{length-ports_of, signals_few, su
 
 -- the parts of a sentence
 pub parts_of : (text : List ℕ) (tokens : List Token) (spec : Spec) → HasOneTree text tokens spec → HasParts text tokens spec
-parts_of text tokens spec one = parts_read text tokens spec 32 one.shape one.shows one.tree
+parts_of text tokens spec one = parts_read text tokens spec _ one.shape one.shows one.tree
 
 pub sentence_is_small : (text : List ℕ) (tokens : List Token) (spec : Spec) → HasOneTree text tokens spec → length tokens ≤ most → IsSmall spec
 sentence_is_small text tokens spec one few =

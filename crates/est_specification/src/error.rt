@@ -18,8 +18,8 @@ pub enum SpecificationError {
     BadToken { place: u32 },
     #[error("token {place} is left out")]
     LeftOut { place: u32 },
-    /// The token opens more levels than a tree may have.
-    #[error("token {place} is too deep")]
+    /// The token opens a level more than may be open.
+    #[error("token {place} is nested too deep")]
     TooDeep { place: u32 },
     /// A sentence with parts whose rules are not checked yet.
     #[error("not built yet")]
