@@ -361,14 +361,17 @@ fn for_statement(reader: &mut Reader) -> Statement
     let last = reader.boxed(last);
     let turn = reader.boxed(turn);
     match first.zip(last).zip(turn) {
-        Some(((first, last), turn)) => Statement::For {
-            name,
-            first,
-            down,
-            last,
-            turn,
-            place,
-        },
+        Some((bounds, turn)) => {
+            let (first, last) = bounds;
+            Statement::For {
+                name,
+                first,
+                down,
+                last,
+                turn,
+                place,
+            }
+        }
         None => Statement::Empty { place },
     }
 }

@@ -84,10 +84,10 @@ pub repeat_statement-returns-in-None : goal.repeat_statement-returns-in-None
 repeat_statement-returns-in-None t c = part_still (rule_goes K (here_goes K (opt_in K (kind (Reserved words.Repeat)) refl refl c.requires (chosen K 5 (kind (Reserved words.Repeat)) refl c.requires (deep K c.requires c.open-levels.ensures (then K refl c.statements-turn.ensures (take K c.word.ensures c.expr-until.ensures)) c.close.ensures))))) c.boxed.ensures.still (λ w. absurd (no_box c.in-None.is c.boxed.ensures.boxed w))
 
 pub for_statement-returns-in-Some : goal.for_statement-returns-in-Some
-for_statement-returns-in-Some t c = part_still (rule_goes K (here_goes K (opt_in K (kind (Reserved words.For)) refl refl c.requires (chosen K 6 (kind (Reserved words.For)) refl c.requires (deep K c.requires c.open-levels.ensures (then K refl (name_goes K c.name-name.ensures) (take K c.symbol.ensures (then K refl c.expr-first.ensures (then K refl c.direction-down.ensures (then K refl c.expr-last.ensures (take K c.word.ensures c.statement-turn.ensures)))))) c.close.ensures))))) (still_on (still_on c.boxed-first.ensures.still c.boxed-last.ensures.still) c.boxed-turn.ensures.still) (λ w. let h = made.zip_holds3 c.in-Some.is c.zip-2.ensures c.zip.ensures (λ w. c.boxed-first.ensures.boxed (still_well c.boxed-last.ensures.still (still_well c.boxed-turn.ensures.still w))) (λ w. c.boxed-last.ensures.boxed (still_well c.boxed-turn.ensures.still w)) c.boxed-turn.ensures.boxed w in made.for_held _ _ _ h.0 h.1 h.2)
+for_statement-returns-in-Some t c = part_still (rule_goes K (here_goes K (opt_in K (kind (Reserved words.For)) refl refl c.requires (chosen K 6 (kind (Reserved words.For)) refl c.requires (deep K c.requires c.open-levels.ensures (then K refl (name_goes K c.name-name.ensures) (take K c.symbol.ensures (then K refl c.expr-first.ensures (then K refl c.direction-down.ensures (then K refl c.expr-last.ensures (take K c.word.ensures c.statement-turn.ensures)))))) c.close.ensures))))) (still_on (still_on c.boxed-first.ensures.still c.boxed-last.ensures.still) c.boxed-turn.ensures.still) (λ w. let h = made.zip_holds c.in-Some.is c.zip-2.ensures (made.zip_is c.zip.ensures (λ w. c.boxed-first.ensures.boxed (still_well c.boxed-last.ensures.still (still_well c.boxed-turn.ensures.still w))) (λ w. c.boxed-last.ensures.boxed (still_well c.boxed-turn.ensures.still w))) c.boxed-turn.ensures.boxed w in rw (h.0, h.1) (made.for_made _ _ _ _ _ _))
 
 pub for_statement-returns-in-None : goal.for_statement-returns-in-None
-for_statement-returns-in-None t c = part_still (rule_goes K (here_goes K (opt_in K (kind (Reserved words.For)) refl refl c.requires (chosen K 6 (kind (Reserved words.For)) refl c.requires (deep K c.requires c.open-levels.ensures (then K refl (name_goes K c.name-name.ensures) (take K c.symbol.ensures (then K refl c.expr-first.ensures (then K refl c.direction-down.ensures (then K refl c.expr-last.ensures (take K c.word.ensures c.statement-turn.ensures)))))) c.close.ensures))))) (still_on (still_on c.boxed-first.ensures.still c.boxed-last.ensures.still) c.boxed-turn.ensures.still) (λ w. absurd (made.no_zip3 c.in-None.is c.zip-2.ensures c.zip.ensures (λ w. c.boxed-first.ensures.boxed (still_well c.boxed-last.ensures.still (still_well c.boxed-turn.ensures.still w))) (λ w. c.boxed-last.ensures.boxed (still_well c.boxed-turn.ensures.still w)) c.boxed-turn.ensures.boxed w))
+for_statement-returns-in-None t c = part_still (rule_goes K (here_goes K (opt_in K (kind (Reserved words.For)) refl refl c.requires (chosen K 6 (kind (Reserved words.For)) refl c.requires (deep K c.requires c.open-levels.ensures (then K refl (name_goes K c.name-name.ensures) (take K c.symbol.ensures (then K refl c.expr-first.ensures (then K refl c.direction-down.ensures (then K refl c.expr-last.ensures (take K c.word.ensures c.statement-turn.ensures)))))) c.close.ensures))))) (still_on (still_on c.boxed-first.ensures.still c.boxed-last.ensures.still) c.boxed-turn.ensures.still) (λ w. absurd (made.no_zip c.in-None.is c.zip-2.ensures (made.zip_is c.zip.ensures (λ w. c.boxed-first.ensures.boxed (still_well c.boxed-last.ensures.still (still_well c.boxed-turn.ensures.still w))) (λ w. c.boxed-last.ensures.boxed (still_well c.boxed-turn.ensures.still w))) c.boxed-turn.ensures.boxed w))
 
 pub all_statement-returns-in-Some : goal.all_statement-returns-in-Some
 all_statement-returns-in-Some t c = part_still (rule_goes K (here_goes K (opt_in K (kind (Reserved words.All)) refl refl c.requires (chosen K 7 (kind (Reserved words.All)) refl c.requires (deep K c.requires c.open-levels.ensures (then K refl (name_goes K c.name-name.ensures) (take K c.symbol.ensures (then K refl (expressions.short_node c.shorttype-over.ensures) (take K c.word.ensures c.statement-turn.ensures)))) c.close.ensures))))) (still_on c.boxed-over.ensures.still c.boxed-turn.ensures.still) (λ w. let h = made.zip_holds c.in-Some.is c.zip.ensures (λ w. c.boxed-over.ensures.boxed (still_well c.boxed-turn.ensures.still w)) c.boxed-turn.ensures.boxed w in rw (h.0, h.1) (made.all_made _ _ _ _))
