@@ -4,7 +4,11 @@
 ghost use Rattle.std.specs.Prelude.{◌≡◌, [], OnOk, IfOk};
 ghost use Rattle.est_check.specs.inside.Entries.{enter_all, role_by};
 ghost use Rattle.est_check.specs.inside.Declarations.{parts_entries};
-ghost use Rattle.est_check.specs.inside.LeastFaults.{outside, names_of_channel, names_of_channel_part, names_of_channels, side_with, table_side, point_entries, names_of_header, names_of_header_part, names_of_headers, tables};
+ghost use Rattle.est_check.specs.inside.LeastFaults.{outside, names_of_channel};
+ghost use Rattle.est_check.specs.inside.LeastFaults.{names_of_channel_part, names_of_channels};
+ghost use Rattle.est_check.specs.inside.LeastFaults.{side_with, table_side, point_entries};
+ghost use Rattle.est_check.specs.inside.LeastFaults.{names_of_header, names_of_header_part};
+ghost use Rattle.est_check.specs.inside.LeastFaults.{names_of_headers, tables};
 
 use crate::constructs::{check_by_parts, check_points};
 use crate::declare::{enter_by_parts, enter_parts, enter_roles, enter_together};
@@ -56,7 +60,8 @@ fn channel_members(
 
 /// The names of a part that is a channel; none of another part.
 fn part_members(alloc: Global, part: &Part, least: &mut Least) -> Result<Members, AllocError>
-    ensures { IfOk result (λ m. (m, least.new.at) ≡ names_of_channel_part least.old.at part.now) }
+    ensures { IfOk result (λ m. (m, least.new.at)
+        ≡ names_of_channel_part least.old.at part.now) }
 {
     match part {
         Part::Channel(channel) => channel_members(alloc, channel, least),

@@ -4,7 +4,11 @@
 ghost use Rattle.std.specs.Prelude.{◌≡◌};
 ghost use Rattle.est_syntax.specs.declared.body.Body.{out-Body};
 ghost use Rattle.est_check.specs.inside.Least.{least_with};
-ghost use Rattle.est_syntax.specs.Faults.{by_faults, point_faults, points_faults, modvars_faults, sendings_faults, statement_faults, statements_faults, state_faults, clause_faults, clauses_faults, transition_faults, transitions_faults, groups_faults, has_states, to_faults, first_faults, text_faults};
+ghost use Rattle.est_syntax.specs.Faults.{by_faults, point_faults, points_faults, modvars_faults};
+ghost use Rattle.est_syntax.specs.Faults.{sendings_faults, statement_faults, statements_faults};
+ghost use Rattle.est_syntax.specs.Faults.{state_faults, clause_faults, clauses_faults};
+ghost use Rattle.est_syntax.specs.Faults.{transition_faults, transitions_faults, groups_faults};
+ghost use Rattle.est_syntax.specs.Faults.{has_states, to_faults, first_faults, text_faults};
 ghost use Rattle.est_check.specs.inside.Tables.{table_environment, members_environment};
 
 use crate::least::Least;

@@ -2,9 +2,15 @@
 #![tactic(auto)]
 
 ghost use Rattle.std.specs.Prelude.{◌≡◌, [], OnOk};
-ghost use Rattle.est_syntax.specs.Names.{vars_last, interactions_last, by_last, points_last, header_last};
-ghost use Rattle.est_check.specs.inside.Entries.{entry_of, enter, enter_following, enter_all, role_by, with_role, senders};
-ghost use Rattle.est_check.specs.inside.Declarations.{together_entries, other_role_entries, role_entries, interaction_entries, by_entries, variable_entries, part_entries, parts_entries, state_entries, section_entries, body_entries};
+ghost use Rattle.est_syntax.specs.Names.{vars_last, interactions_last, by_last, points_last};
+ghost use Rattle.est_syntax.specs.Names.{header_last};
+ghost use Rattle.est_check.specs.inside.Entries.{entry_of, enter, enter_following, enter_all};
+ghost use Rattle.est_check.specs.inside.Entries.{role_by, with_role, senders};
+ghost use Rattle.est_check.specs.inside.Declarations.{together_entries, other_role_entries};
+ghost use Rattle.est_check.specs.inside.Declarations.{role_entries, interaction_entries};
+ghost use Rattle.est_check.specs.inside.Declarations.{by_entries, variable_entries, part_entries};
+ghost use Rattle.est_check.specs.inside.Declarations.{parts_entries, state_entries};
+ghost use Rattle.est_check.specs.inside.Declarations.{section_entries, body_entries};
 
 use crate::least::Least;
 use crate::names::{Entity, Entry, Names, Role, Senders};

@@ -6,7 +6,9 @@ ghost use Rattle.est_check.specs.inside.Least.{least_with};
 ghost use Rattle.est_check.specs.inside.Entries.{enter_all};
 ghost use Rattle.est_check.specs.inside.Declarations.{body_entries};
 ghost use Rattle.est_check.specs.inside.Tables.{look_up};
-ghost use Rattle.est_check.specs.inside.LeastFaults.{outside, header_number, header_entries, least_inside, least_of_body, least_of_part, least_of_parts, least_of_spec, tables};
+ghost use Rattle.est_check.specs.inside.LeastFaults.{outside, header_number, header_entries};
+ghost use Rattle.est_check.specs.inside.LeastFaults.{least_inside, least_of_body, least_of_part};
+ghost use Rattle.est_check.specs.inside.LeastFaults.{least_of_parts, least_of_spec, tables};
 
 use crate::constructs::{check_modvars, check_statement, check_text};
 use crate::declare::enter_state_parts;
@@ -72,7 +74,8 @@ fn own_names(
     least: &mut Least,
 ) -> Result<Names, AllocError>
     ensures { IfOk result (λ n. (n, least.new.at)
-        ≡ enter_all (header_entries table.now header) ([], least.old.at) (body_entries parts.now)) }
+        ≡ enter_all (header_entries table.now header) ([], least.old.at)
+        (body_entries parts.now)) }
 {
     let none = Names::new(alloc);
     state_names(alloc, front_names(table, &none, header), parts, least)

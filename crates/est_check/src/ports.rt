@@ -10,7 +10,8 @@ ghost use Rattle.est_check.specs.inside.LeastFaults.{tables};
 ghost use Rattle.est_check.specs.Skeleton.{IsSkeleton};
 ghost use Rattle.est_check.specs.Small.{most};
 ghost use Rattle.est_check.specs.inside.Signals.{RolesFor, PartRolesFor, side, channel_signals};
-ghost use Rattle.est_check.specs.inside.Signals.{part_signals, role_signals, sides_of, signals_by, bare_port};
+ghost use Rattle.est_check.specs.inside.Signals.{part_signals, role_signals, sides_of, signals_by};
+ghost use Rattle.est_check.specs.inside.Signals.{bare_port};
 ghost use Rattle.est_check.specs.inside.Tables.{members_at};
 ghost use Rattle.est_check.specs.Counts.{body_count, group_count, transition_count};
 

@@ -3,7 +3,9 @@
 ghost use Rattle.std.specs.Prelude.{◌≡◌};
 ghost use Rattle.est_syntax.specs.Names.{is_predeclared};
 ghost use Rattle.est_check.specs.inside.Entries.{entry_of};
-ghost use Rattle.est_check.specs.inside.Tables.{member_entry, members_at, header_entry, own_entry, is_shared, undeclared, outer_found, look_up, entry_found, name_sort, channel_number, point_side};
+ghost use Rattle.est_check.specs.inside.Tables.{member_entry, members_at, header_entry, own_entry};
+ghost use Rattle.est_check.specs.inside.Tables.{is_shared, undeclared, outer_found, look_up};
+ghost use Rattle.est_check.specs.inside.Tables.{entry_found, name_sort, channel_number, point_side};
 
 use crate::names::{Entity, Entry, Names, PointSide};
 use est_items::Items;

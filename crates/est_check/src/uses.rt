@@ -3,9 +3,13 @@
 
 ghost use Rattle.std.specs.Prelude.{◌≡◌, Some};
 ghost use Rattle.est_check.specs.inside.Least.{least_with};
-ghost use Rattle.est_syntax.specs.Faults.{takes, used_as, use_faults, uses_faults, direction_faults, passage_faults, interaction_faults, role_faults};
+ghost use Rattle.est_syntax.specs.Faults.{takes, used_as, use_faults, uses_faults};
+ghost use Rattle.est_syntax.specs.Faults.{direction_faults, passage_faults, interaction_faults};
+ghost use Rattle.est_syntax.specs.Faults.{role_faults};
 ghost use Rattle.est_check.specs.inside.Entries.{other, may_send};
-ghost use Rattle.est_check.specs.inside.Tables.{sort_found, is_sending, passage_by, passage_at, member_sort_at, table_environment, members_environment};
+ghost use Rattle.est_check.specs.inside.Tables.{sort_found, is_sending, passage_by, passage_at};
+ghost use Rattle.est_check.specs.inside.Tables.{member_sort_at, table_environment};
+ghost use Rattle.est_check.specs.inside.Tables.{members_environment};
 
 use crate::least::Least;
 use crate::names::{Entity, Entry, PointSide, Role, Senders};
