@@ -21,29 +21,6 @@ module _ {Token V T P : Type 0} (L : Language Token V T P) (s : List Token) (n :
   forward : {g : Grammar T P} {d a b : ℕ} {t : Shape V} → Tree L s n g d a b t → a ≤ b
   forward x = tree_forward L s n x
 
-  -- the places that a tree keeps lie within it
-  pub places_lie_within : {g : Grammar T P} {d a b : ℕ} {t : Shape V} → Tree L s n g d a b t → IsPlacedWithin a b t
-  places_lie_within t_done = tt
-  places_lie_within (t_word {a = a} {b = b} {t = t} k l e x) = placed_wider a b (suc a) b t (omega arith) (omega arith) (places_lie_within x)
-  places_lie_within (t_token v k l e z) = tt
-  places_lie_within (t_here x) = (omega arith, forward x, places_lie_within x)
-  places_lie_within (t_skip x) = tt
-  places_lie_within (t_seq {a = a} {b = b} {c = c} {t = t} {u = u} x y) = (placed_wider a c a b t (omega arith) (forward y) (places_lie_within x), placed_wider a c b c u (forward x) (omega arith) (places_lie_within y))
-  places_lie_within (t_left x) = places_lie_within x
-  places_lie_within (t_right x) = places_lie_within x
-  places_lie_within t_opt_out = tt
-  places_lie_within (t_opt_in x) = places_lie_within x
-  places_lie_within t_rep_out = tt
-  places_lie_within (t_rep_in {a = a} {b = b} {c = c} {t = t} {u = u} x y) = (placed_wider a c a b t (omega arith) (forward y) (places_lie_within x), placed_wider a c b c u (forward x) (omega arith) (places_lie_within y))
-  places_lie_within (t_nearest_out h) = tt
-  places_lie_within (t_nearest_in {a = a} {b = b} {t = t} k l e x) = placed_wider a b (suc a) b t (omega arith) (omega arith) (places_lie_within x)
-  places_lie_within t_ended_out = tt
-  places_lie_within (t_ended_last k l e) = tt
-  places_lie_within (t_ended_in {a = a} {b = b} {c = c} {t = t} {u = u} k l e x y) =
-      (placed_wider a c (suc a) b t (omega arith) (forward y) (places_lie_within x), placed_wider a c b c u (omega (arith, forward x)) (omega arith) (places_lie_within y))
-  places_lie_within (t_deeper x) = places_lie_within x
-  places_lie_within (t_rule x) = places_lie_within x
-
   -- each token that a tree keeps is one of those that it takes
   pub leaves_are_tokens : {g : Grammar T P} {d a b : ℕ} {t : Shape V} → Tree L s n g d a b t → a + leaves t ≤ b
   leaves_are_tokens t_done = omega arith
@@ -65,6 +42,29 @@ module _ {Token V T P : Type 0} (L : Language Token V T P) (s : List Token) (n :
   leaves_are_tokens (t_ended_in k l e x y) = omega (arith, leaves_are_tokens x, leaves_are_tokens y)
   leaves_are_tokens (t_deeper x) = leaves_are_tokens x
   leaves_are_tokens (t_rule x) = leaves_are_tokens x
+
+  -- the places that a tree keeps lie within it
+  pub places_lie_within : {g : Grammar T P} {d a b : ℕ} {t : Shape V} → Tree L s n g d a b t → IsPlacedWithin a b t
+  places_lie_within t_done = tt
+  places_lie_within (t_word {a = a} {b = b} {t = t} k l e x) = placed_wider a b (suc a) b t (omega arith) (omega arith) (places_lie_within x)
+  places_lie_within (t_token v k l e z) = tt
+  places_lie_within (t_here x) = (omega arith, leaves_are_tokens x, places_lie_within x)
+  places_lie_within (t_skip x) = tt
+  places_lie_within (t_seq {a = a} {b = b} {c = c} {t = t} {u = u} x y) = (placed_wider a c a b t (omega arith) (forward y) (places_lie_within x), placed_wider a c b c u (forward x) (omega arith) (places_lie_within y))
+  places_lie_within (t_left x) = places_lie_within x
+  places_lie_within (t_right x) = places_lie_within x
+  places_lie_within t_opt_out = tt
+  places_lie_within (t_opt_in x) = places_lie_within x
+  places_lie_within t_rep_out = tt
+  places_lie_within (t_rep_in {a = a} {b = b} {c = c} {t = t} {u = u} x y) = (placed_wider a c a b t (omega arith) (forward y) (places_lie_within x), placed_wider a c b c u (forward x) (omega arith) (places_lie_within y))
+  places_lie_within (t_nearest_out h) = tt
+  places_lie_within (t_nearest_in {a = a} {b = b} {t = t} k l e x) = placed_wider a b (suc a) b t (omega arith) (omega arith) (places_lie_within x)
+  places_lie_within t_ended_out = tt
+  places_lie_within (t_ended_last k l e) = tt
+  places_lie_within (t_ended_in {a = a} {b = b} {c = c} {t = t} {u = u} k l e x y) =
+      (placed_wider a c (suc a) b t (omega arith) (forward y) (places_lie_within x), placed_wider a c b c u (omega (arith, forward x)) (omega arith) (places_lie_within y))
+  places_lie_within (t_deeper x) = places_lie_within x
+  places_lie_within (t_rule x) = places_lie_within x
 
   module _ {S : Marks T P} (fits : Fits L S) where
     -- a tree of what cannot be empty takes a token

@@ -9,4 +9,4 @@ pub mod Fronts
 pub mod OneTree
 pub mod Alike
 pub mod Extents
-pub mod Kept
+pub mod Sums

@@ -22,7 +22,8 @@ use Rattle.est_syntax.specs.declared.transition.Group.{Group, out-Group}
 use Rattle.est_syntax.specs.declared.specification.Spec.{Spec}
 use Rattle.est_language.specs.Grammar.{Tree, rep, rule, t_rep_in}
 use Rattle.est_language.specs.Shown.{Shows, node, nodes, s_at, s_pair, s_first, s_second, s_given, s_kept, s_none, s_more, s_node}
-use Rattle.est_language.proofs.Kept.{Lies, lies, lies_within}
+use Rattle.est_language.specs.Extents.{IsPlacedWithin}
+use Rattle.est_language.proofs.Extents.{places_lie_within, placed_wider}
 use Rattle.est_reader.specs.Tests.{language}
 use Rattle.est_reader.specs.Going.{Shape, used}
 use Rattle.est_productions.specs.Grammar.{Rule, production, common}
@@ -47,7 +48,7 @@ module _ (a c : ℕ) where
 
   -- what lies before the place
   abbrev In : Shape → Type 0
-  In t = Lies a c t
+  In t = IsPlacedWithin a c t
 
   name_before : (u : Used) {t : Shape} → Has (used u) t → In t → Before u
   name_before u (s_at p (s_kept v)) l = omega (arith, l.1)
@@ -116,7 +117,7 @@ module _ (a c : ℕ) where
   body_before x (s_node (s_pair h1 (s_pair h2 (s_pair h3 (s_pair f (s_pair g h4)))))) l = (first_before (out-Body x).first f l.1.1.1.0, groups_before (out-Body x).groups g l.1.1.1.1.0)
 
 -- the module variable stands after its place
-header_from : (a c : ℕ) (m : ModvarDef) {t : Shape} → Has (nodes (map a_module_variable (m ∷ []))) t → Lies a c t → a ≤ m.header.place
+header_from : (a c : ℕ) (m : ModvarDef) {t : Shape} → Has (nodes (map a_module_variable (m ∷ []))) t → IsPlacedWithin a c t → a ≤ m.header.place
 header_from a c m (s_more (s_node (s_at p (s_pair h (s_pair i (s_pair (s_at q k) j))))) x) l = l.0.2.1.1.0.0
 
 -- THE PARTS OF A SKELETON
@@ -132,8 +133,8 @@ module _ (text : List ℕ) (tokens : List Token) where
   two_parts : (x : Body) (m : ModvarDef) {d p q r : ℕ} (t u : Shape) → Has (shown.common_part (form.Body x)) t → Has (shown.common_part (form.Modvars (m ∷ []))) u
       → Reads (rule common) d p q t → Reads (rule common) d q r u → Precedes x m
   two_parts x m {d} {p} {q} {r} t u (s_second (s_second (s_second (s_second (s_first {t = v} h))))) (s_second (s_second (s_second (s_second (s_second (s_second k)))))) one other =
-      let from : q ≤ m.header.place = header_from q r m k (lies (language production text) tokens (length tokens) other) in
-      body_before p m.header.place x h (lies_within p q p m.header.place v (omega arith) from (lies (language production text) tokens (length tokens) one))
+      let from : q ≤ m.header.place = header_from q r m k (places_lie_within (language production text) tokens (length tokens) other) in
+      body_before p m.header.place x h (placed_wider p m.header.place p q v (omega arith) from (places_lie_within (language production text) tokens (length tokens) one))
 
   last_order : (cs : List Channel) (h : Header) (x : Body) (m : ModvarDef) {d a b : ℕ} {t : Shape}
       → Has (nodes (map a_common_part (channel_parts cs ++ part.Header h ∷ part.Body x ∷ part.Modvars (m ∷ []) ∷ []))) t → Reads (rep (rule common)) d a b t → Precedes x m

@@ -18,7 +18,9 @@ use Rattle.est_syntax.specs.declared.transition.Group.{Group, out-Group}
 use Rattle.est_syntax.specs.declared.specification.Spec.{Spec}
 use Rattle.est_language.specs.Grammar.{Tree, rep, rule, t_word, t_deeper, t_seq, t_left, t_right, t_rule}
 use Rattle.est_language.specs.Shown.{Shows, node, nodes, s_at, s_pair, s_first, s_second, s_kept, s_node}
-use Rattle.est_language.proofs.Kept.{leaves, leaves_fit, turns_fit, several_fit, one_fits, ones, sum_map, parts_show, sections_show}
+use Rattle.est_language.specs.Extents.{leaves}
+use Rattle.est_language.proofs.Extents.{leaves_are_tokens}
+use Rattle.est_language.proofs.Sums.{turns_fit, several_fit, one_fits, ones, sum_map, parts_show, sections_show}
 use Rattle.est_language.proofs.Trees.{tree_forward}
 use Rattle.est_reader.specs.Tests.{language}
 use Rattle.est_reader.specs.Going.{Shape}
@@ -219,7 +221,7 @@ module _ (text : List ℕ) (tokens : List Token) where
 
   -- no more interaction points, interactions of a channel, and transitions than tokens
   pub names_few : (spec : Spec) → HasParts spec → sum_by names_counted spec.parts ≤ length tokens
-  names_few spec x = omega (arith, parts_show_names spec.parts x.shows, leaves_fit (language production text) tokens (length tokens) x.tree, x.within)
+  names_few spec x = omega (arith, parts_show_names spec.parts x.shows, leaves_are_tokens (language production text) tokens (length tokens) x.tree, x.within)
 
   pub ports_few : (spec : Spec) → HasParts spec → port_sum spec.parts ≤ length tokens
   ports_few spec x = omega (arith, names_few spec x, port_sum-counted spec.parts)
