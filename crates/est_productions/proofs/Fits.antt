@@ -6,7 +6,7 @@ use Rattle.est_language.proofs.OneTree.{decided, decides}
 use Rattle.est_reader.specs.Tests.{apart, implies, language}
 use Rattle.est_reader.proofs.Apart.{apart-holds, near}
 use Rattle.est_reader.proofs.Going.{Known}
-use Rattle.est_productions.specs.Grammar.{Rule, Production, specification, common, own, consts, constdef, constant, types, typedef, typetext, shorttype, arraytype, recordtype, settype, vars, vardef, channel, by_part, interaction, param, header, point, dims, queue, export, modvar, stateset, body, routine, formal, block, transpart, transition, clause, access, statement, arm, sending, init, end_point, expr, simple, term, factor, selector, member, production}
+use Rattle.est_productions.specs.Grammar.{Production, specification, common, own, consts, constdef, constant, types, typedef, typetext, shorttype, arraytype, recordtype, settype, vars, vardef, channel, by_part, interaction, param, header, point, dims, queue, export, modvar, stateset, body, routine, formal, block, transpart, transition, clause, access, statement, arm, sending, init, end_point, expr, simple, term, factor, selector, member, production}
 use Rattle.est_productions.specs.FirstTokens.{begins, goes_on, can_be_left_out, marks}
 use Rattle.est_productions.specs.Nodes.{Node}
 use Rattle.est_productions.specs.Syntax.{estelle}

@@ -9,9 +9,9 @@ use Rattle.est_syntax.specs.declared.type_text.TypeText.TheViews as texts
 use Rattle.est_syntax.specs.declared.type_text.TypeText.TheOpen as forms
 use Rattle.est_syntax.specs.declared.type_text.VarDef.{VarDef, roll-VarDef, out-roll-VarDef}
 use Rattle.est_syntax.specs.declared.expression.Operator.{Operator}
-use Rattle.est_syntax.specs.declared.expression.Selector.{Selector, out-Selector, Index, Field}
+use Rattle.est_syntax.specs.declared.expression.Selector.{Selector, Index, Field}
 use Rattle.est_syntax.specs.declared.expression.Member.{Member, roll-Member, out-roll-Member}
-use Rattle.est_syntax.specs.declared.expression.Factor.{Factor, out-Factor, Number, Character, Group, Not, Variable, Call}
+use Rattle.est_syntax.specs.declared.expression.Factor.{Factor, Number, Character, Group, Not, Variable, Call}
 use Rattle.est_syntax.specs.declared.expression.Factor.{Set as SetOf}
 use Rattle.est_syntax.specs.declared.expression.Factor.TheViews as factors
 use Rattle.est_syntax.specs.declared.expression.ProductStep.{ProductStep, roll-ProductStep, out-roll-ProductStep}

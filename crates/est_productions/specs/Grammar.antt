@@ -9,7 +9,7 @@ use Rattle.est_lexer.specs.declared.kind.Symbol.{Symbol}
 use Rattle.est_lexer.specs.declared.kind.Symbol.TheVariants as symbols
 use Rattle.est_lexer.specs.declared.kind.TokenKind.TheVariants.{Number, Character, Reserved, Symbol as Special}
 use Rattle.est_language.specs.Grammar.{done, word, token, here, skip, seq, alt, opt, rep, nearest, ended, deeper, rule}
-use Rattle.est_reader.specs.Tests.{Test, kind}
+use Rattle.est_reader.specs.Tests.{kind}
 use Rattle.est_reader.specs.Going as going
 use Rattle.est_reader.specs.Going.{identifier}
 
