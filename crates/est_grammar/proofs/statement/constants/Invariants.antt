@@ -1,13 +1,8 @@
-use Rattle.std.proofs.Common.{◌≡◌, ◌+◌, ◌*◌, map, List}
-use Rattle.est_lexer.specs.declared.kind.ReservedWord.TheVariants as words
+use Rattle.std.proofs.Common.{map}
 use Rattle.est_lexer.specs.declared.kind.Symbol.TheVariants as symbols
-use Rattle.est_lexer.specs.declared.kind.TokenKind.TheVariants.{Identifier, Number, Character, Reserved, Symbol as Special}
-use Rattle.est_language.specs.Grammar.{rule, seq, rep, alt, opt, ended}
-use Rattle.est_reader.specs.Tests.{kind}
-use Rattle.est_language.specs.Shown.{nodes}
-use Rattle.est_reader.specs.Moving.{weight}
+use Rattle.est_language.specs.Grammar.{rule, rep}
 use Rattle.est_reader.proofs.Steps.{left_of}
-use Rattle.est_reader.proofs.Turns.{Turning, Each, Sections, Adding}
+use Rattle.est_reader.proofs.Turns.{Turning, Each}
 use Rattle.est_productions.specs.Grammar as grammar
 use Rattle.est_productions.specs.Nodes as node
 use Rattle.est_productions.proofs.Fits.{K}
