@@ -1,8 +1,6 @@
 -- What is told of its files determines what a call reports.
-use Rattle.std.proofs.Common.{◌≡◌, ◌∙◌, ◌⊎◌, inl, inr, ℕ, ◌<◌, Bool, true, false, List, [], ◌∷◌, length, codes, get_or, Option, Some, None, IfSome, if◌then◌else◌, slice_get, sym, subst, ap, refl, arith}
+use Rattle.std.proofs.Common.{◌≡◌, ◌∙◌, ◌⊎◌, inl, inr, ℕ, ◌+◌, ◌<◌, Bool, true, false, List, [], ◌∷◌, length, codes, get_or, Option, Some, None, IfSome, if◌then◌else◌, slice_get, sym, subst, ap, refl, arith}
 use Rattle.est_lexer.specs.declared.kind.Token.{Token}
-use Rattle.est_lexer.specs.declared.kind.TokenKind.{TokenKind}
-use Rattle.est_lexer.specs.declared.kind.TokenKind.TheVariants.{LeftOut}
 use Rattle.est_lexer.proofs.Unique.{tokens_unique}
 use Rattle.est_language.proofs.Fronts.{at_most_one_bad_place}
 use Rattle.est_syntax.specs.declared.rule.Rule.{Rule}
@@ -12,12 +10,17 @@ use Rattle.est_syntax.specs.Breaks.{IsLeastFault}
 use Rattle.est_syntax.specs.Least.{number}
 use Rattle.est_syntax.specs.Ports.{ports_of}
 use Rattle.est_check.proofs.LeastLaws.{lex}
-use Rattle.est_grammar.specs.Answer.{HasOneTree, IsFirstBadPlace, is_left_out, is_not_yet, passes}
+use Rattle.est_grammar.specs.Answer.{HasOneTree, Says, estelle_in, is_left_out, levels}
+use Rattle.est_language.specs.Answers.{wrong_at, too_deep_at}
+use Rattle.est_language.specs.Grammar.{rule}
+use Rattle.est_language.specs.Places.{HasPartial, IsFirstBadPlace}
+use Rattle.est_productions.specs.Grammar.{specification as specification_rule}
+use Rattle.est_check.specs.Skeleton.{IsSkeleton}
 use Rattle.est_meaning.specs.declared.event.Event.{Event}
 use Rattle.est_specification.specs.Reading.{IsSpecification, IsNoSpecification}
 use Rattle.est_specification.specs.declared.error.SpecificationError.{SpecificationError}
 use Rattle.est_specification.specs.declared.error.SpecificationError.TheVariants as specification
-use Rattle.est_specification.proofs.UniqueLaws.{same_specification}
+use Rattle.est_specification.proofs.Unique.{same_specification}
 use Rattle.est_trace.specs.Reading.{IsOnlyTraceText, IsTraceRefusal, IsFull}
 use Rattle.est_trace.specs.declared.error.TraceError.{TraceError}
 use Rattle.est_trace.specs.declared.error.TraceError.TheVariants as trace
@@ -45,7 +48,7 @@ abbrev Goods : Type 0 → Type 1
 Goods A = A → List ℕ → List Token → Type 0
 
 -- two refusals say the same of their tokens
-abbrev AreAlike : Status → Status → ℕ → ℕ → List ℕ → List ℕ → Type 0
+abbrev AreAlike : Status → Status → Option ℕ → Option ℕ → List ℕ → List ℕ → Type 0
 AreAlike s s' place place' why why' = (s ≡ s') × (place ≡ place') × (why ≡ why')
 
 -- two results are the same
@@ -54,8 +57,8 @@ AreSame s s' r r' = (s ≡ s') × (r ≡ r')
 
 -- A text is refused in one way, or good with one value, and never both.
 record IsDecided {A : Type 0} (Refuses : Refusals) (Good : Goods A) : Type 0 where
-  one_refusal : (text : List ℕ) (tokens : List Token) (s s' : Status) (place place' : ℕ) (why why' : List ℕ) → Refuses text tokens s place why → Refuses text tokens s' place' why' → AreAlike s s' place place' why why'
-  not_both : (x : A) (text : List ℕ) (tokens : List Token) (s : Status) (place : ℕ) (why : List ℕ) → Good x text tokens → Refuses text tokens s place why → ⊥
+  one_refusal : (text : List ℕ) (tokens : List Token) (s s' : Status) (place place' : Option ℕ) (why why' : List ℕ) → Refuses text tokens s place why → Refuses text tokens s' place' why' → AreAlike s s' place place' why why'
+  not_both : (x : A) (text : List ℕ) (tokens : List Token) (s : Status) (place : Option ℕ) (why : List ℕ) → Good x text tokens → Refuses text tokens s place why → ⊥
   one_value : (x y : A) (text : List ℕ) (tokens : List Token) → Good x text tokens → Good y text tokens → x ≡ y
 
 -- SPECIFICATIONS
@@ -100,73 +103,90 @@ same_fault spec place place' r r' x y =
     let numbered : number r ≡ number r' = same_number place (number r) place' (number r') no_sooner no_later in
     (at, sym (by_number r) ∙ ap (λ n. get_or rules n UnknownName) numbered ∙ by_number r')
 
--- a token that is left out is none that comes later
-out_for_good : (kind : TokenKind) → is_left_out kind ≡ true → is_not_yet kind ≡ false
-out_for_good (LeftOut token) e = refl
-out_for_good kind e = cc
-
-passes_out : (token : Option Token) → passes is_left_out token ≡ true → passes is_not_yet token ≡ false
-passes_out None e = cc
-passes_out (Some token) e = out_for_good token.kind e
-
--- what is said of a first bad place, by the sort of the token there
-abbrev status_by : Bool → Status
-status_by not_yet = if not_yet then NotBuilt else BadSpec
-
-abbrev why_by : Bool → Bool → List ℕ
-why_by not_yet left_out = if not_yet then codes "not built yet" else (if left_out then codes "left out" else codes "bad token")
-
-status_at : List Token → ℕ → Status
-status_at tokens place = status_by (passes is_not_yet (slice_get tokens place))
+-- why a token is refused where the list is wrong, by whether it is left out
+abbrev why_by : Bool → List ℕ
+why_by left_out = if left_out then codes "left out" else codes "bad token"
 
 why_at : List Token → ℕ → List ℕ
-why_at tokens place = why_by (passes is_not_yet (slice_get tokens place)) (passes is_left_out (slice_get tokens place))
+why_at tokens place = why_by (is_left_out (slice_get tokens place))
 
-status_of : (tokens : List Token) (place : ℕ) (n : Bool) → passes is_not_yet (slice_get tokens place) ≡ n → status_by n ≡ status_at tokens place
-unfolding status_at
-status_of tokens place n p = ap status_by (sym p)
-
-why_of : (tokens : List Token) (place : ℕ) (n o : Bool) → passes is_not_yet (slice_get tokens place) ≡ n → passes is_left_out (slice_get tokens place) ≡ o → why_by n o ≡ why_at tokens place
+why_of : (tokens : List Token) (place : ℕ) (out : Bool) → is_left_out (slice_get tokens place) ≡ out → why_by out ≡ why_at tokens place
 unfolding why_at
-why_of tokens place n o p q = λ i. why_by (sym p i) (sym q i)
+why_of tokens place out p = ap why_by (sym p)
 
--- a specification is refused at its first bad place, or at its least broken rule
-data IsRefusedSpecification (text : List ℕ) (tokens : List Token) (s : Status) (place : ℕ) (why : List ℕ) : Type 0 where
-  bad : IsFirstBadPlace text tokens place → s ≡ status_at tokens place → why ≡ why_at tokens place → IsRefusedSpecification text tokens s place why
-  broken : (spec : Spec) (r : Rule) → HasOneTree text tokens spec → IsLeastFault spec place r → s ≡ BadSpec → why ≡ rule_text r → IsRefusedSpecification text tokens s place why
+-- a specification is refused at its first bad place, as a sentence that is no skeleton, or at its
+-- least broken rule
+data IsRefusedSpecification (text : List ℕ) (tokens : List Token) (s : Status) (place : Option ℕ) (why : List ℕ) : Type 0 where
+  bad : (at : ℕ) → Says text tokens (wrong_at at) → s ≡ BadSpec → place ≡ Some at → why ≡ why_at tokens at → IsRefusedSpecification text tokens s place why
+  deep : (at : ℕ) → Says text tokens (too_deep_at at) → s ≡ BadSpec → place ≡ Some at → why ≡ codes "nested too deep" → IsRefusedSpecification text tokens s place why
+  unbuilt : (spec : Spec) → HasOneTree text tokens spec → (IsSkeleton spec → ⊥) → s ≡ NotBuilt → place ≡ None → why ≡ codes "not built yet" → IsRefusedSpecification text tokens s place why
+  broken : (at : ℕ) (spec : Spec) (r : Rule) → HasOneTree text tokens spec → IsSkeleton spec → IsLeastFault spec at r → s ≡ BadSpec → place ≡ Some at → why ≡ rule_text r → IsRefusedSpecification text tokens s place why
 
-bad_at : (text : List ℕ) (tokens : List Token) (s s' : Status) (place at : ℕ) (why why' : List ℕ) → IsFirstBadPlace text tokens at → s ≡ s' → s' ≡ status_at tokens at → place ≡ at → why ≡ why' → why' ≡ why_at tokens at
-    → IsRefusedSpecification text tokens s place why
-bad_at text tokens s s' place at why why' is e f p g h =
-    bad (subst (λ n. IsFirstBadPlace text tokens n) (sym p) is) (e ∙ f ∙ ap (λ n. status_at tokens n) (sym p)) (g ∙ h ∙ ap (λ n. why_at tokens n) (sym p))
-
-how_refused : (text : List ℕ) (tokens : List Token) (error : SpecificationError) (s : Status) (place : ℕ) (why : List ℕ) → IsNoSpecification text tokens error → SaysOfSpecification error s place why → IsRefusedSpecification text tokens s place why
-how_refused text tokens (specification.BadToken at) s place why is says =
-    bad_at text tokens s _ place at why _ is.0 says.0 (status_of tokens at false is.1.2) says.1 says.2 (why_of tokens at false false is.1.2 is.1.1)
-how_refused text tokens (specification.LeftOut at) s place why is says =
-    let later : passes is_not_yet (slice_get tokens at) ≡ false = passes_out (slice_get tokens at) is.1.1 in
-    bad_at text tokens s _ place at why _ is.0 says.0 (status_of tokens at false later) says.1 says.2 (why_of tokens at false true later is.1.1)
-how_refused text tokens (specification.NotYet at) s place why is says =
-    bad_at text tokens s _ place at why _ is.0 says.0 (status_of tokens at true is.1.1) says.1 says.2 (why_of tokens at true _ is.1.1 refl)
-how_refused text tokens (specification.BrokenRule at r) s place why is says = broken is.0 r is.1 (subst (λ n. IsLeastFault is.0 n r) (sym says.1) is.2) says.0 says.2
+how_refused : (text : List ℕ) (tokens : List Token) (error : SpecificationError) (s : Status) (place : Option ℕ) (why : List ℕ) → IsNoSpecification text tokens error → SaysOfSpecification error s place why → IsRefusedSpecification text tokens s place why
+how_refused text tokens (specification.BadToken at) s place why is says = bad at is.0 says.0 says.1 (says.2 ∙ why_of tokens at false is.1)
+how_refused text tokens (specification.LeftOut at) s place why is says = bad at is.0 says.0 says.1 (says.2 ∙ why_of tokens at true is.1)
+how_refused text tokens (specification.TooDeep at) s place why is says = deep at is says.0 says.1 says.2
+how_refused text tokens specification.NotBuilt s place why is says = unbuilt is.0 is.1 is.2 says.0 says.1 says.2
+how_refused text tokens (specification.BrokenRule at r) s place why is says = broken at is.0 r is.1 is.2 is.3 says.0 says.1 says.2
 how_refused text tokens (specification.Memory error) s place why is says = absurd says
 
-specifications_alike : (text : List ℕ) (tokens : List Token) (s s' : Status) (place place' : ℕ) (why why' : List ℕ) → IsRefusedSpecification text tokens s place why → IsRefusedSpecification text tokens s' place' why' → AreAlike s s' place place' why why'
-specifications_alike text tokens s s' place place' why why' (bad x e f) (bad y g h) =
-    let at : place ≡ place' = at_most_one_bad_place _ _ _ _ place place' x y in
-    (e ∙ ap (λ n. status_at tokens n) at ∙ sym g, at, f ∙ ap (λ n. why_at tokens n) at ∙ sym h)
-specifications_alike text tokens s s' place place' why why' (bad x e f) (broken spec r one least g h) = absurd (x.no_tree _ one.tree)
-specifications_alike text tokens s s' place place' why why' (broken spec r one least g h) (bad x e f) = absurd (x.no_tree _ one.tree)
-specifications_alike text tokens s s' place place' why why' (broken spec r one least e f) (broken spec' r' one' least' g h) =
-    let same : spec' ≡ spec = same_specification text tokens spec' spec one' one in
-    let fault = same_fault spec place place' r r' least (subst (λ z. IsLeastFault z place' r') same least') in
-    (e ∙ sym g, fault.0, f ∙ ap rule_text fault.1 ∙ sym h)
+module _ (text : List ℕ) (tokens : List Token) where
+  -- there is one first bad place
+  one_place : (at at' : ℕ) → IsFirstBadPlace (estelle_in text) (rule specification_rule) levels tokens at → IsFirstBadPlace (estelle_in text) (rule specification_rule) levels tokens at' → at ≡ at'
+  one_place at at' x y = at_most_one_bad_place _ _ _ _ at at' x y
 
-good_not_refused : (text : List ℕ) (tokens : List Token) (spec : Spec) (s : Status) (place : ℕ) (why : List ℕ) → IsSpecification text tokens spec → IsRefusedSpecification text tokens s place why → ⊥
-good_not_refused text tokens spec s place why is (bad x e f) = x.no_tree _ is.tree.tree
-good_not_refused text tokens spec s place why is (broken spec' r one least e f) =
+  -- a list is wrong at its first bad place, or nested too deep there, and not both
+  wrong_or_deep : (at at' : ℕ) → Says text tokens (wrong_at at) → Says text tokens (too_deep_at at') → ⊥
+  wrong_or_deep at at' x y =
+      let e : at' ≡ at = one_place at' at y.0 x.0 in
+      x.1 (subst (λ i. i < length tokens) e y.1) (levels + 1) (subst (λ i. HasPartial (estelle_in text) (rule specification_rule) (levels + 1) tokens (i + 1)) e y.2)
+
+  -- what has a first bad place has no tree
+  not_wrong : (at : ℕ) (spec : Spec) → Says text tokens (wrong_at at) → HasOneTree text tokens spec → ⊥
+  not_wrong at spec x one = x.0.no_tree _ one.tree
+
+  not_deep : (at : ℕ) (spec : Spec) → Says text tokens (too_deep_at at) → HasOneTree text tokens spec → ⊥
+  not_deep at spec x one = x.0.no_tree _ one.tree
+
+  -- a specification that is a skeleton is no other one
+  skeleton_only : (spec spec' : Spec) → HasOneTree text tokens spec → IsSkeleton spec → HasOneTree text tokens spec' → (IsSkeleton spec' → ⊥) → ⊥
+  skeleton_only spec spec' one is one' not = not (subst IsSkeleton (same_specification text tokens spec spec' one one') is)
+
+  one_fault : (spec spec' : Spec) (at at' : ℕ) (r r' : Rule) → HasOneTree text tokens spec → IsLeastFault spec at r → HasOneTree text tokens spec' → IsLeastFault spec' at' r' → (at ≡ at') × (r ≡ r')
+  one_fault spec spec' at at' r r' one least one' least' =
+      let same : spec' ≡ spec = same_specification text tokens spec' spec one' one in
+      same_fault spec at at' r r' least (subst (λ z. IsLeastFault z at' r') same least')
+
+specifications_alike : (text : List ℕ) (tokens : List Token) (s s' : Status) (place place' : Option ℕ) (why why' : List ℕ) → IsRefusedSpecification text tokens s place why → IsRefusedSpecification text tokens s' place' why' → AreAlike s s' place place' why why'
+specifications_alike text tokens s s' place place' why why' (bad at x e f g) (bad at' y h k l) =
+    let same : at ≡ at' = one_place text tokens at at' x.0 y.0 in
+    (e ∙ sym h, f ∙ ap (λ n. Some n) same ∙ sym k, g ∙ ap (λ n. why_at tokens n) same ∙ sym l)
+specifications_alike text tokens s s' place place' why why' (deep at x e f g) (deep at' y h k l) =
+    (e ∙ sym h, f ∙ ap (λ n. Some n) (one_place text tokens at at' x.0 y.0) ∙ sym k, g ∙ sym l)
+specifications_alike text tokens s s' place place' why why' (unbuilt spec one not e f g) (unbuilt spec' one' not' h k l) = (e ∙ sym h, f ∙ sym k, g ∙ sym l)
+specifications_alike text tokens s s' place place' why why' (broken at spec r one is least e f g) (broken at' spec' r' one' is' least' h k l) =
+    let fault = one_fault text tokens spec spec' at at' r r' one least one' least' in
+    (e ∙ sym h, f ∙ ap (λ n. Some n) fault.0 ∙ sym k, g ∙ ap rule_text fault.1 ∙ sym l)
+specifications_alike text tokens s s' place place' why why' (bad at x e f g) (deep at' y h k l) = absurd (wrong_or_deep text tokens at at' x y)
+specifications_alike text tokens s s' place place' why why' (deep at x e f g) (bad at' y h k l) = absurd (wrong_or_deep text tokens at' at y x)
+specifications_alike text tokens s s' place place' why why' (bad at x e f g) (unbuilt spec one not h k l) = absurd (not_wrong text tokens at spec x one)
+specifications_alike text tokens s s' place place' why why' (unbuilt spec one not e f g) (bad at y h k l) = absurd (not_wrong text tokens at spec y one)
+specifications_alike text tokens s s' place place' why why' (deep at x e f g) (unbuilt spec one not h k l) = absurd (not_deep text tokens at spec x one)
+specifications_alike text tokens s s' place place' why why' (unbuilt spec one not e f g) (deep at y h k l) = absurd (not_deep text tokens at spec y one)
+specifications_alike text tokens s s' place place' why why' (bad at x e f g) (broken at' spec r one is least h k l) = absurd (not_wrong text tokens at spec x one)
+specifications_alike text tokens s s' place place' why why' (broken at' spec r one is least e f g) (bad at y h k l) = absurd (not_wrong text tokens at spec y one)
+specifications_alike text tokens s s' place place' why why' (deep at x e f g) (broken at' spec r one is least h k l) = absurd (not_deep text tokens at spec x one)
+specifications_alike text tokens s s' place place' why why' (broken at' spec r one is least e f g) (deep at y h k l) = absurd (not_deep text tokens at spec y one)
+specifications_alike text tokens s s' place place' why why' (unbuilt spec one not e f g) (broken at spec' r one' is least h k l) = absurd (skeleton_only text tokens spec' spec one' is one not)
+specifications_alike text tokens s s' place place' why why' (broken at spec r one is least e f g) (unbuilt spec' one' not h k l) = absurd (skeleton_only text tokens spec spec' one is one' not)
+
+good_not_refused : (text : List ℕ) (tokens : List Token) (spec : Spec) (s : Status) (place : Option ℕ) (why : List ℕ) → IsSpecification text tokens spec → IsRefusedSpecification text tokens s place why → ⊥
+good_not_refused text tokens spec s place why is (bad at x e f g) = not_wrong text tokens at spec x is.tree
+good_not_refused text tokens spec s place why is (deep at x e f g) = not_deep text tokens at spec x is.tree
+good_not_refused text tokens spec s place why is (unbuilt spec' one not e f g) = skeleton_only text tokens spec spec' is.tree is.skeleton one not
+good_not_refused text tokens spec s place why is (broken at spec' r one skeleton least e f g) =
     let same : spec' ≡ spec = same_specification text tokens spec' spec one is.tree in
-    is.good place r (subst (λ z. IsLeastFault z place r) same least).0
+    is.good at r (subst (λ z. IsLeastFault z at r) same least).0
 
 specifications_decided : IsDecided RefusesSpecification OfSpecification
 specifications_decided = record {
@@ -178,12 +198,12 @@ specifications_decided = record {
 -- TRACES
 
 module _ (spec : Spec) (text : List ℕ) (tokens : List Token) where
-  traces_alike : (a b : TraceError) (s s' : Status) (place place' : ℕ) (why why' : List ℕ) → IsTraceRefusal (ports_of spec) text tokens a → SaysOfTrace a s place why
+  traces_alike : (a b : TraceError) (s s' : Status) (place place' : Option ℕ) (why why' : List ℕ) → IsTraceRefusal (ports_of spec) text tokens a → SaysOfTrace a s place why
       → IsTraceRefusal (ports_of spec) text tokens b → SaysOfTrace b s' place' why' → AreAlike s s' place place' why why'
   traces_alike (trace.BadToken at) (trace.BadToken at') s s' place place' why why' x e y f =
-      (e.0 ∙ sym f.0, e.1 ∙ at_most_one_bad_place _ _ _ _ at at' x.0 y.0 ∙ sym f.1, e.2 ∙ sym f.2)
+      (e.0 ∙ sym f.0, e.1 ∙ ap (λ n. Some n) (at_most_one_bad_place _ _ _ _ at at' x.0 y.0) ∙ sym f.1, e.2 ∙ sym f.2)
   traces_alike (trace.TooMany at) (trace.TooMany at') s s' place place' why why' x e y f =
-      (e.0 ∙ sym f.0, e.1 ∙ at_most_one_bad_place _ _ _ _ at at' x.0 y.0 ∙ sym f.1, e.2 ∙ sym f.2)
+      (e.0 ∙ sym f.0, e.1 ∙ ap (λ n. Some n) (at_most_one_bad_place _ _ _ _ at at' x.0 y.0) ∙ sym f.1, e.2 ∙ sym f.2)
   traces_alike (trace.BadToken at) (trace.TooMany at') s s' place place' why why' x e y f =
       absurd (x.1 (subst (λ n. IsFull (ports_of spec) 200000 text tokens n) (at_most_one_bad_place _ _ _ _ at' at y.0 x.0) y.1))
   traces_alike (trace.TooMany at) (trace.BadToken at') s s' place place' why why' x e y f =
@@ -191,7 +211,7 @@ module _ (spec : Spec) (text : List ℕ) (tokens : List Token) where
   traces_alike (trace.Memory error) b s s' place place' why why' x e y f = absurd e
   traces_alike a (trace.Memory error) s s' place place' why why' x e y f = absurd f
 
-  trace_not_refused : (events : List Event) (error : TraceError) (s : Status) (place : ℕ) (why : List ℕ) → IsOnlyTraceText (ports_of spec) text tokens events → IsTraceRefusal (ports_of spec) text tokens error → SaysOfTrace error s place why → ⊥
+  trace_not_refused : (events : List Event) (error : TraceError) (s : Status) (place : Option ℕ) (why : List ℕ) → IsOnlyTraceText (ports_of spec) text tokens events → IsTraceRefusal (ports_of spec) text tokens error → SaysOfTrace error s place why → ⊥
   trace_not_refused events (trace.BadToken at) s place why is x e = x.0.no_tree _ is.0.1
   trace_not_refused events (trace.TooMany at) s place why is x e = x.0.no_tree _ is.0.1
   trace_not_refused events (trace.Memory error) s place why is x e = e
@@ -206,14 +226,14 @@ traces_decided spec = record {
 -- EXPLANATIONS
 
 module _ (text : List ℕ) (tokens : List Token) where
-  explanations_alike : (a b : ExplanationError) (s s' : Status) (place place' : ℕ) (why why' : List ℕ) → IsExplanationRefusal text tokens a → SaysOfExplanation a s place why
+  explanations_alike : (a b : ExplanationError) (s s' : Status) (place place' : Option ℕ) (why why' : List ℕ) → IsExplanationRefusal text tokens a → SaysOfExplanation a s place why
       → IsExplanationRefusal text tokens b → SaysOfExplanation b s' place' why' → AreAlike s s' place place' why why'
   explanations_alike (explanation.BadToken at) (explanation.BadToken at') s s' place place' why why' x e y f =
-      (e.0 ∙ sym f.0, e.1 ∙ at_most_one_bad_place _ _ _ _ at at' x y ∙ sym f.1, e.2 ∙ sym f.2)
+      (e.0 ∙ sym f.0, e.1 ∙ ap (λ n. Some n) (at_most_one_bad_place _ _ _ _ at at' x y) ∙ sym f.1, e.2 ∙ sym f.2)
   explanations_alike (explanation.Memory error) b s s' place place' why why' x e y f = absurd e
   explanations_alike a (explanation.Memory error) s s' place place' why why' x e y f = absurd f
 
-  explanation_not_refused : (read : Explanation) (error : ExplanationError) (s : Status) (place : ℕ) (why : List ℕ) → IsOnlyExplanationText text tokens read → IsExplanationRefusal text tokens error → SaysOfExplanation error s place why → ⊥
+  explanation_not_refused : (read : Explanation) (error : ExplanationError) (s : Status) (place : Option ℕ) (why : List ℕ) → IsOnlyExplanationText text tokens read → IsExplanationRefusal text tokens error → SaysOfExplanation error s place why → ⊥
   explanation_not_refused read (explanation.BadToken at) s place why is x e = x.no_tree _ is.0.1
   explanation_not_refused read (explanation.Memory error) s place why is x e = e
 

@@ -1,5 +1,6 @@
 -- What readers of files answer, from what their steps answered.
-use Rattle.std.proofs.Common.{◌≡◌, ◌≤◌, ◌⊎◌, inl, inr, ℕ, List, Option, Some, None, length, min, sym, subst, ap, ◌∙◌, IfSome, Result, Ok, Err, true, false, arith}
+use Rattle.std.proofs.Common.{◌≡◌, ◌≤◌, ◌⊎◌, inl, inr, ℕ, List, Option, Some, None, length, min, sym, subst, ap, ◌∙◌, IfSome, IfNone, Result, Ok, Err, true, false, arith}
+use Rattle.std.specs.Prelude.{string_bytes}
 use Rattle.std.specs.Result.{IsErr, IsErrAnd}
 use Rattle.std.specs.Global.{Vec}
 use Rattle.std.proofs.lemmas.Option.{slice_get_past}
@@ -8,14 +9,15 @@ use Rattle.est_lexer.specs.declared.kind.Token.{Token}
 use Rattle.est_lexer.specs.Places.{offset_at, last_end}
 use Rattle.est_lexer.specs.TokenList.{IsTokenList}
 use Rattle.est_edge.specs.Counts.{AllStay}
+use Rattle.est_tool.specs.declared.refusal.Refusal.{Refusal}
 use Rattle.est_tool.specs.declared.stop.Stop.{Stop}
 use Rattle.est_tool.specs.declared.stop.Stop.TheVariants.{Refused, ReadFault, OutOfMemory}
 use Rattle.est_tool.specs.declared.file.File.{File}
 use Rattle.est_tool.specs.Files.{limit_of}
 use Rattle.est_tool.specs.Seen.{Seen}
-use Rattle.est_tool.specs.Texts.{IsText, Holds, Refusals}
+use Rattle.est_tool.specs.Texts.{IsText, Holds, Refusals, IsReported, refusal_at}
 use Rattle.est_tool.specs.Ends.{End, reported, unread, EndsAt, longer, refused, failed}
-use Rattle.est_tool.specs.inside.Steps.{IsStop, IsQuiet, IsUnread, IsRefusedText, IsRead, Touches, ReadsBytes, ReadsText, ReadsFile}
+use Rattle.est_tool.specs.inside.Steps.{IsStop, StopsWith, IsQuiet, IsUnread, IsRefusedText, IsRead, Touches, ReadsBytes, ReadsText, ReadsFile}
 
 -- TEXTS
 
@@ -64,6 +66,28 @@ pub quiet_stop : (A B : Type 0) (shelf : Seen) (e : Stop) → IsQuiet {A = A} sh
 quiet_stop A B shelf (Refused report) quiet = quiet
 quiet_stop A B shelf ReadFault quiet = tt
 quiet_stop A B shelf OutOfMemory quiet = quiet
+
+-- the stop of a text that is refused, or where memory ran out
+pub reads_refused : {A : Type 0} {file : File} {Is : A → List ℕ → List Token → Type 0} {Refuses : Refusals} {text own : List ℕ} {tokens : List Token} (said : Option Refusal) (stop : Stop)
+    → own ≡ text → length text ≤ limit_of file → IsTokenList text tokens → IfSome said (λ r. Refuses own tokens r.status r.place r.why.now)
+    → IfSome said (λ r. StopsWith r.status (refusal_at file own tokens r.place r.why.now) stop) → IfNone said (stop ≡ OutOfMemory) → ReadsText file Is Refuses text (Err stop)
+reads_refused {file = file} {Refuses = Refuses} {text} {own} {tokens} (Some r) stop same short list refuses stops wants = record { good = tt; refused = by_stop stop stops }
+  where
+    by_stop : (stop : Stop) → StopsWith r.status (refusal_at file own tokens r.place r.why.now) stop → IsStop (IsRefusedText file Refuses text) stop
+    by_stop (Refused report) stops = is_text {Is = IsReported file Refuses report.status (string_bytes report.text)} same short list (record {
+      place = r.place;
+      why = r.why.now;
+      refused = subst (λ s. Refuses own tokens s r.place r.why.now) (sym stops.0) refuses;
+      report_is = stops.1;
+    })
+    by_stop ReadFault stops = absurd stops
+    by_stop OutOfMemory stops = tt
+reads_refused {file = file} {Refuses = Refuses} {text} None stop same short list refuses stops wants = record { good = tt; refused = subst (IsStop (IsRefusedText file Refuses text)) (sym wants) tt }
+
+-- what is said of an error is said of the tokens
+pub said_then : {X : Type 0} {P Q : X → Type 0} (said : Option X) → ((x : X) → P x → Q x) → IfSome said P → IfSome said Q
+said_then (Some x) weaker holds = weaker x holds
+said_then None weaker holds = tt
 
 -- FILES
 

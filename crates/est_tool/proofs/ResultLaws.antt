@@ -34,21 +34,22 @@ use Rattle.est_tool.proofs.WorkLaws.{made_then}
 
 -- each refusal has a status with a report
 abbrev AreReportable : Refusals → Type 0
-AreReportable Refuses = (text : List ℕ) (tokens : List Token) (status : Status) (place : ℕ) (why : List ℕ) → Refuses text tokens status place why → HasReport status
+AreReportable Refuses = (text : List ℕ) (tokens : List Token) (status : Status) (place : Option ℕ) (why : List ℕ) → Refuses text tokens status place why → HasReport status
 
-of_specification : (error : SpecificationError) (status : Status) (place : ℕ) (why : List ℕ) → SaysOfSpecification error status place why → HasReport status
+of_specification : (error : SpecificationError) (status : Status) (place : Option ℕ) (why : List ℕ) → SaysOfSpecification error status place why → HasReport status
 of_specification (specification.BadToken at) status place why said = subst HasReport (sym said.0) tt
 of_specification (specification.LeftOut at) status place why said = subst HasReport (sym said.0) tt
-of_specification (specification.NotYet at) status place why said = subst HasReport (sym said.0) tt
+of_specification (specification.TooDeep at) status place why said = subst HasReport (sym said.0) tt
+of_specification specification.NotBuilt status place why said = subst HasReport (sym said.0) tt
 of_specification (specification.BrokenRule at rule) status place why said = subst HasReport (sym said.0) tt
 of_specification (specification.Memory error) status place why said = absurd said
 
-of_trace : (error : TraceError) (status : Status) (place : ℕ) (why : List ℕ) → SaysOfTrace error status place why → HasReport status
+of_trace : (error : TraceError) (status : Status) (place : Option ℕ) (why : List ℕ) → SaysOfTrace error status place why → HasReport status
 of_trace (trace.BadToken at) status place why said = subst HasReport (sym said.0) tt
 of_trace (trace.TooMany at) status place why said = subst HasReport (sym said.0) tt
 of_trace (trace.Memory error) status place why said = absurd said
 
-of_explanation : (error : ExplanationError) (status : Status) (place : ℕ) (why : List ℕ) → SaysOfExplanation error status place why → HasReport status
+of_explanation : (error : ExplanationError) (status : Status) (place : Option ℕ) (why : List ℕ) → SaysOfExplanation error status place why → HasReport status
 of_explanation (explanation.BadToken at) status place why said = subst HasReport (sym said.0) tt
 of_explanation (explanation.Memory error) status place why said = absurd said
 

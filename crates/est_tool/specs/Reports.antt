@@ -24,6 +24,10 @@ ok_line counts =
     ++ decimal counts.transitions ++ codes " transitions, "
     ++ decimal counts.ports ++ codes " ports" ++ line_feed
 
+-- a line of its own
+abbrev pub line_of : List ℕ → List ℕ
+line_of why = why ++ line_feed
+
 -- a file that is refused at a line and a column
 abbrev pub refusal_line : File → ℕ → ℕ → List ℕ → List ℕ
 refusal_line file line column why =

@@ -21,7 +21,7 @@ use Rattle.est_tool.specs.declared.file.File.{File}
 use Rattle.est_tool.specs.declared.status.Status.{Status}
 use Rattle.est_tool.specs.declared.status.Status.TheVariants.{BadSpec, BadTrace, BadExplanation, NotBuilt}
 use Rattle.est_tool.specs.Files.{limit_of}
-use Rattle.est_tool.specs.Reports.{refusal_line, rule_text}
+use Rattle.est_tool.specs.Reports.{line_of, refusal_line, rule_text}
 
 -- TEXTS
 
@@ -55,37 +55,41 @@ OfExplanation explanation text tokens = IsOnlyExplanationText text tokens explan
 
 -- REFUSALS
 
--- what is said of an error: the status, the place and why
-abbrev pub SaysOfSpecification : SpecificationError → Status → ℕ → List ℕ → Type 0
+-- what is said of an error: the status, the place, where there is one, and why
+abbrev pub SaysOfSpecification : SpecificationError → Status → Option ℕ → List ℕ → Type 0
 SaysOfSpecification (specification.BadToken at) status place why =
-    (status ≡ BadSpec) × (place ≡ at) × (why ≡ codes "bad token")
+    (status ≡ BadSpec) × (place ≡ Some at) × (why ≡ codes "bad token")
 SaysOfSpecification (specification.LeftOut at) status place why =
-    (status ≡ BadSpec) × (place ≡ at) × (why ≡ codes "left out")
-SaysOfSpecification (specification.NotYet at) status place why =
-    (status ≡ NotBuilt) × (place ≡ at) × (why ≡ codes "not built yet")
+    (status ≡ BadSpec) × (place ≡ Some at) × (why ≡ codes "left out")
+SaysOfSpecification (specification.TooDeep at) status place why =
+    (status ≡ BadSpec) × (place ≡ Some at) × (why ≡ codes "nested too deep")
+SaysOfSpecification specification.NotBuilt status place why =
+    (status ≡ NotBuilt) × (place ≡ None) × (why ≡ codes "not built yet")
 SaysOfSpecification (specification.BrokenRule at rule) status place why =
-    (status ≡ BadSpec) × (place ≡ at) × (why ≡ rule_text rule)
+    (status ≡ BadSpec) × (place ≡ Some at) × (why ≡ rule_text rule)
 SaysOfSpecification (specification.Memory error) status place why = ⊥
 
 -- the same of a trace
-abbrev pub SaysOfTrace : TraceError → Status → ℕ → List ℕ → Type 0
+abbrev pub SaysOfTrace : TraceError → Status → Option ℕ → List ℕ → Type 0
 SaysOfTrace (trace.BadToken at) status place why =
-    (status ≡ BadTrace) × (place ≡ at) × (why ≡ codes "bad token")
+    (status ≡ BadTrace) × (place ≡ Some at) × (why ≡ codes "bad token")
 SaysOfTrace (trace.TooMany at) status place why =
-    (status ≡ BadTrace) × (place ≡ at) × (why ≡ codes "too many events")
+    (status ≡ BadTrace) × (place ≡ Some at) × (why ≡ codes "too many events")
 SaysOfTrace (trace.Memory error) status place why = ⊥
 
 -- the same of an explanation
-abbrev pub SaysOfExplanation : ExplanationError → Status → ℕ → List ℕ → Type 0
+abbrev pub SaysOfExplanation : ExplanationError → Status → Option ℕ → List ℕ → Type 0
 SaysOfExplanation (explanation.BadToken at) status place why =
-    (status ≡ BadExplanation) × (place ≡ at) × (why ≡ codes "bad token")
+    (status ≡ BadExplanation) × (place ≡ Some at) × (why ≡ codes "bad token")
 SaysOfExplanation (explanation.Memory error) status place why = ⊥
 
--- how a kind of text is refused: of which tokens, with which status, at which place and why
+-- how a kind of text is refused: of which tokens, with which status, at which place, where it is
+-- refused at one, and why
 abbrev pub Refusals : Type 1
-Refusals = List ℕ → List Token → Status → ℕ → List ℕ → Type 0
+Refusals = List ℕ → List Token → Status → Option ℕ → List ℕ → Type 0
 
--- a specification: at its first bad place, or at its least broken rule
+-- a specification: at its first bad place, as a sentence that is no skeleton, or at its least
+-- broken rule
 abbrev pub RefusesSpecification : Refusals
 RefusesSpecification text tokens status place why =
     (error : SpecificationError) × IsNoSpecification text tokens error
@@ -103,18 +107,19 @@ RefusesExplanation text tokens status place why =
     (error : ExplanationError) × IsExplanationRefusal text tokens error
     × SaysOfExplanation error status place why
 
--- the line of a refusal at the token with this number
-abbrev pub refusal_at : File → List ℕ → List Token → ℕ → List ℕ → List ℕ
-refusal_at file text tokens place why =
+-- the line of a refusal at the token with this number, and of one that is at no token
+abbrev pub refusal_at : File → List ℕ → List Token → Option ℕ → List ℕ → List ℕ
+refusal_at file text tokens (Some place) why =
     refusal_line file (line_at text (offset_at tokens place))
     (column_at text (offset_at tokens place)) why
+refusal_at file text tokens None why = line_of why
 
 -- the tokens of a text are refused, with this status and this report
 pub record IsReported
     (file : File) (Refuses : Refusals) (status : Status) (report text : List ℕ)
     (tokens : List Token)
     : Type 0 where
-  pub place : ℕ
+  pub place : Option ℕ
   pub why : List ℕ
   pub refused : Refuses text tokens status place why
   pub report_is : report ≡ refusal_at file text tokens place why

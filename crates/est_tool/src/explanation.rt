@@ -53,7 +53,7 @@ fn said_of(error: ExplanationError) -> Option<Refusal>
     match error {
         ExplanationError::BadToken { place } => Some(Refusal {
             status: Status::BadExplanation,
-            place,
+            place: Some(place),
             why: "bad token",
         }),
         ExplanationError::Memory(_) => None,

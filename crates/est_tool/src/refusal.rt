@@ -1,22 +1,22 @@
 //! Refusals of texts.
-ghost use Rattle.std.specs.Prelude.{◌≡◌, IfSome, IfNone};
+ghost use Rattle.std.specs.Prelude.{◌≡◌, IfSome, IfNone, IfOk, string_bytes};
 ghost use Rattle.est_lexer.specs.Places.{text_of, tokens_of};
 ghost use Rattle.est_tool.specs.declared.stop.Stop.TheVariants.{OutOfMemory as Wanting};
 ghost use Rattle.est_tool.specs.Texts.{refusal_at};
 ghost use Rattle.est_tool.specs.inside.Steps.{StopsWith};
 
 use crate::file::File;
-use crate::report::{Report, refusal_report};
+use crate::report::{Report, line_report, refusal_report};
 use crate::status::Status;
 use crate::stop::Stop;
 use est_lexer::tokens::Tokens;
-use std::alloc::Global;
+use std::alloc::{AllocError, Global};
 
-/// What is said of a text that is refused at a token, or after the last one.
+/// What is said of a text that is refused: at a token or after the last one, or as a whole.
 #[derive(Clone, Copy)]
 pub(crate) struct Refusal {
     pub status: Status,
-    pub place: u32,
+    pub place: Option<u32>,
     pub why: &'static str,
 }
 
@@ -34,9 +34,28 @@ pub(crate) fn refuse(
     let Some(Refusal { status, place, why }) = refusal else {
         return Stop::OutOfMemory;
     };
-    let (line, column) = tokens.line_column(place.min(tokens.count()));
-    match refusal_report(alloc, file, line, column, why) {
+    match refusal_text(alloc, file, tokens, place, why) {
         Ok(text) => Stop::Refused(Report { status, text }),
         Err(_) => Stop::OutOfMemory,
+    }
+}
+
+// The line of a refusal.
+fn refusal_text(
+    alloc: Global,
+    file: File,
+    tokens: &Tokens<'_>,
+    place: Option<u32>,
+    why: &str,
+) -> Result<String, AllocError>
+    ensures { IfOk result (λ report. string_bytes report ≡ refusal_at file
+        (text_of tokens.now) (tokens_of tokens.now) place why.now) }
+{
+    match place {
+        Some(place) => {
+            let (line, column) = tokens.line_column(place.min(tokens.count()));
+            refusal_report(alloc, file, line, column, why)
+        }
+        None => line_report(alloc, why),
     }
 }

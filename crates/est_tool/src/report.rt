@@ -1,8 +1,8 @@
 //! The lines of reports.
 ghost use Rattle.std.specs.Prelude.{◌≡◌, ◌++◌, IfOk, codes, string_bytes};
-ghost use Rattle.est_tool.specs.Reports.{all_line, fault_text, first_line, ok_line, refusal_line};
-ghost use Rattle.est_tool.specs.Reports.{rejected_line, replay_line, rule_text, too_long_line};
-ghost use Rattle.est_tool.specs.Reports.{why_text};
+ghost use Rattle.est_tool.specs.Reports.{all_line, fault_text, first_line, line_of, ok_line};
+ghost use Rattle.est_tool.specs.Reports.{refusal_line, rejected_line, replay_line, rule_text};
+ghost use Rattle.est_tool.specs.Reports.{too_long_line, why_text};
 ghost use Rattle.est_tool.specs.Statuses.{replay_status};
 
 use crate::file::File;
@@ -70,6 +70,13 @@ pub(crate) fn refusal_report(
 {
     let word = file.word();
     format!(in alloc; "{word}:{line}:{column}: {why}\n")
+}
+
+/// The report that is this line.
+pub(crate) fn line_report(alloc: Global, why: &str) -> Result<String, AllocError>
+    ensures { IfOk result (λ report. string_bytes report ≡ line_of why.now) }
+{
+    format!(in alloc; "{why}\n")
 }
 
 /// The report of a file that is longer than its limit.

@@ -18,6 +18,13 @@ use est_lexer::lex::lex;
 use est_specification::{SpecificationError, read_specification};
 use std::alloc::Global;
 
+// What is said of a sentence that is no skeleton.
+const NOT_BUILT: Refusal = Refusal {
+    status: Status::NotBuilt,
+    place: None,
+    why: "not built yet",
+};
+
 /// The specification in the file of this name.
 pub(crate) fn specification_in<S: Shelf>(
     alloc: Global,
@@ -50,12 +57,17 @@ fn said_of(error: SpecificationError) -> Option<Refusal>
     ensures { IfSome result
         (λ said. SaysOfSpecification error said.status said.place said.why.now) }
 {
-    let (status, place, why) = match error {
-        SpecificationError::BadToken { place } => (Status::BadSpec, place, "bad token"),
-        SpecificationError::LeftOut { place } => (Status::BadSpec, place, "left out"),
-        SpecificationError::NotYet { place } => (Status::NotBuilt, place, "not built yet"),
-        SpecificationError::BrokenRule { place, rule } => (Status::BadSpec, place, rule_text(rule)),
+    let (place, why) = match error {
+        SpecificationError::BadToken { place } => (place, "bad token"),
+        SpecificationError::LeftOut { place } => (place, "left out"),
+        SpecificationError::TooDeep { place } => (place, "nested too deep"),
+        SpecificationError::BrokenRule { place, rule } => (place, rule_text(rule)),
+        SpecificationError::NotBuilt => return Some(NOT_BUILT),
         SpecificationError::Memory(_) => return None,
     };
-    Some(Refusal { status, place, why })
+    Some(Refusal {
+        status: Status::BadSpec,
+        place: Some(place),
+        why,
+    })
 }

@@ -25,7 +25,7 @@ pub enum Status {
     WriteFault = 9,
     /// Out of memory.
     OutOfMemory = 10,
-    /// The specification has a form that is not built yet.
+    /// The specification is a sentence that is no skeleton: its rules are not built yet.
     NotBuilt = 12,
 }
 

@@ -63,7 +63,7 @@ fn said_of(error: TraceError) -> Option<Refusal>
     };
     Some(Refusal {
         status: Status::BadTrace,
-        place,
+        place: Some(place),
         why,
     })
 }
