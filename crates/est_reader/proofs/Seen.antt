@@ -1,11 +1,11 @@
 -- Steps that one of several tokens decides, and what is refused where none of them comes next.
-use Rattle.std.proofs.Common.{◌≡◌, ℕ, ◌<◌, Bool, true, false, ◌&&◌, List, [], ◌∷◌, ◌++◌, Option, Some, None, ◌⊎◌, inl, inr, refl, sym, ◌∙◌, subst}
-use Rattle.est_language.specs.Grammar.{seq, opt, rep, ended, Shape}
+use Rattle.std.proofs.Common.{◌≡◌, ℕ, ◌<◌, Bool, true, false, ◌&&◌, List, [], ◌∷◌, ◌++◌, Option, Some, None, inl, inr, refl, sym, ◌∙◌, subst}
+use Rattle.est_language.specs.Grammar.{opt, rep, ended, Shape}
 use Rattle.est_language.specs.Marks.{can_begin, can_go_on, can_be_empty, disjoint, covered, implies_one}
-use Rattle.est_language.specs.Shown.{Shows, node, nodes, given}
+use Rattle.est_language.specs.Shown.{Shows, node, given}
 use Rattle.est_language.proofs.Laws as laws
 use Rattle.est_language.proofs.Members.{and_left, and_right}
-use Rattle.est_lexer.specs.Places.{text_of, tokens_of}
+use Rattle.est_lexer.specs.Places.{text_of}
 use Rattle.est_reader.specs.declared.reader.Reader.{Reader}
 use Rattle.est_reader.specs.declared.outcome.Outcome.{Outcome}
 use Rattle.est_reader.specs.declared.outcome.Outcome.TheVariants.{Well, Wrong, TooDeep, NoMemory}
@@ -77,7 +77,7 @@ module _ {P N : Type 0} (K : Known P N) where
     moves = onto (Taken A.tokens.now k A.at) (Finds K.syntax A.tokens.now g A.levels A.at v) (NotThere A.tokens.now k A.at) (Fails K.syntax A.tokens.now g A.levels A.at) A.at B.at A.outcome B.outcome
         (λ w t. absurd (let p : stands A.tokens.now A.at k ≡ false = sees_not w s in let q : stands A.tokens.now A.at k ≡ true = t.0 in cc))
         (λ w z t. subst (λ u. Fails K.syntax A.tokens.now g A.levels A.at B.at u) (sym t.2) (subst (λ j. Fails K.syntax A.tokens.now g A.levels A.at j false) (sym t.1)
-            (laws.refused_here (K.fits (text_of A.tokens.now)) f A.inside (begins_not K A (can_begin K.syntax.marks g) ks i n w))))
+        (laws.refused_here (K.fits (text_of A.tokens.now)) f A.inside (begins_not K A (can_begin K.syntax.marks g) ks i n w))))
         x.takes;
     same = x.same;
   }
