@@ -23,13 +23,15 @@ use std::process::ExitCode;
 use std::str;
 
 // The files of cases, in the order in which they are run. The first has the texts that all share.
-const FILES: [&str; 10] = [
+const FILES: [&str; 12] = [
     "texts.cases",
     "words.cases",
     "tokens.cases",
     "grammar.cases",
+    "whole.cases",
     "rules.cases",
     "specifications.cases",
+    "profile.cases",
     "traces.cases",
     "explanations.cases",
     "replays.cases",

@@ -45,7 +45,7 @@ pub data EndsAt (shelf : Seen) (file : File) (name : List ℕ) (Refuses : Refusa
   failed : Rose (shelf.before.faults name) (shelf.after.faults name)
       → EndsAt shelf file name Refuses unread
 
--- the file of this name holds the text of a specification that breaks no rule
+-- the file of this name holds the text of a specification: a skeleton that breaks no rule
 abbrev pub HoldsSpecification : Seen → List ℕ → Spec → Type 0
 HoldsSpecification shelf name spec =
     Holds Specification (shelf.before.told name) (OfSpecification spec)

@@ -41,7 +41,7 @@ SomeText None P = (text : List ℕ) × P text
 abbrev pub Holds : File → Option (List ℕ) → (List ℕ → List Token → Type 0) → Type 0
 Holds file told Is = SomeText told (λ text. IsText file text Is)
 
--- the tokens of the text are this specification, and it breaks no rule
+-- the tokens of the text are this specification, a skeleton that breaks no rule
 abbrev pub OfSpecification : Spec → List ℕ → List Token → Type 0
 OfSpecification spec text tokens = IsSpecification text tokens spec
 
