@@ -12,7 +12,7 @@ ghost use Rattle.est_productions.specs.Grammar as grammar;
 ghost use Rattle.est_productions.specs.Nodes as node;
 ghost use Rattle.est_productions.specs.Syntax.{estelle};
 ghost use Rattle.est_productions.specs.Tokens.{pascal_tokens, unlinked_tokens};
-ghost use Rattle.est_grammar.specs.Steps.{Initializes};
+ghost use Rattle.est_grammar.specs.inside.Steps.{Initializes};
 
 use est_lexer::kind::{ReservedWord, Symbol, TokenKind};
 use est_productions::access::{access, arguments, end_point};

@@ -37,7 +37,7 @@ use Rattle.est_productions.specs.Nodes as node_of
 use Rattle.est_productions.specs.Grammar as grammar
 use Rattle.est_productions.specs.Grammar.{production}
 use Rattle.est_productions.specs.Nodes.{Node, View, layer, a_use, a_constant, a_type, a_short_type, a_field, a_variable, a_parameter, an_export, an_expr, a_simple, a_sum_step, a_term, a_product_step, a_factor, a_selector, a_member, TypeTextForm, names, unnamed, constant, range, short_type, type_text, structured, choice, last_choice, first_place, beginning, dimensions}
-use Rattle.est_productions.specs.Structures.{declared_place}
+use Rattle.est_productions.specs.inside.Structures.{declared_place}
 use Rattle.est_productions.proofs.Fits.{K}
 
 -- a name, as a part

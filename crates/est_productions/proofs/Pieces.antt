@@ -576,13 +576,13 @@ sign_back true false = refl
 sign_back true true = refl
 sign_back false true = refl
 
-abbrev pub bracketed_in : View → List Expr
-bracketed_in (given (pair (nodes ns) empty)) = read expr_of ns
-bracketed_in v = []
+abbrev pub exprs_given_in : View → List Expr
+exprs_given_in (given (pair (nodes ns) empty)) = read expr_of ns
+exprs_given_in v = []
 
-pub bracketed_back : (es : List Expr) → bracketed_in (shown.bracketed es) ≡ es
-bracketed_back [] = refl
-bracketed_back (e ∷ es) = exprs_back (e ∷ es)
+pub exprs_given_back : (es : List Expr) → exprs_given_in (shown.exprs_given es) ≡ es
+exprs_given_back [] = refl
+exprs_given_back (e ∷ es) = exprs_back (e ∷ es)
 
 abbrev pub members_in : View → List Member
 members_in (given (nodes ns)) = read member_of ns

@@ -341,12 +341,12 @@ sign_is true false = f_nowhere
 sign_is true true = f_in (written_sign_is true)
 sign_is false true = f_in (written_sign_is false)
 
-abbrev of_bracketed : Sort
-of_bracketed = of_option (of_pair (of_parts exprs) of_nothing)
+abbrev of_exprs_given : Sort
+of_exprs_given = of_option (of_pair (of_parts exprs) of_nothing)
 
-bracketed_are : (es : List Expr) → IsOf of_bracketed (shown.bracketed es)
-bracketed_are [] = f_out
-bracketed_are (e ∷ es) = f_in (f_pair (are an_expr exprs (λ x. refl) (e ∷ es)) f_empty)
+exprs_given_are : (es : List Expr) → IsOf of_exprs_given (shown.exprs_given es)
+exprs_given_are [] = f_out
+exprs_given_are (e ∷ es) = f_in (f_pair (are an_expr exprs (λ x. refl) (e ∷ es)) f_empty)
 
 members_are : (ms : List Member) → IsOf (of_option (of_parts members)) (shown.members ms)
 members_are [] = f_out
@@ -410,10 +410,10 @@ call_is [] = f_out
 call_is (e ∷ es) = f_in (f_second (f_pair (are an_expr exprs (λ x. refl) (e ∷ es)) f_empty))
 
 abbrev of_init : Sort
-of_init = of_pair (of_part accesses) (of_pair of_used of_bracketed)
+of_init = of_pair (of_part accesses) (of_pair of_used of_exprs_given)
 
 init_is : (target : Access) (body : Used) (es : List Expr) → IsOf of_init (shown.init target body es)
-init_is target body es = f_pair (f_part (an_access target) refl) (f_pair (used_is body) (bracketed_are es))
+init_is target body es = f_pair (f_part (an_access target) refl) (f_pair (used_is body) (exprs_given_are es))
 
 abbrev of_statement : Sort
 of_statement = of_at (of_option
@@ -603,11 +603,11 @@ sort_of clauses = of_clause
 sort_of transitions = of_pair (of_parts clauses) (of_pair (of_option (of_pair of_used of_nothing)) (of_pair (of_part blocks) of_nothing))
 sort_of groups = of_parts transitions
 sort_of bodies = of_pair of_used (of_pair of_used (of_pair (of_parts body_parts) (of_pair of_first (of_pair (of_parts groups) of_nothing))))
-sort_of accesses = of_pair of_used of_bracketed
+sort_of accesses = of_pair of_used of_exprs_given
 sort_of end_points = of_pair (of_part accesses) (of_option (of_part accesses))
 sort_of statements = of_statement
 sort_of arms = of_pair (of_parts constants) (of_part statements)
-sort_of sendings = of_pair (of_part accesses) (of_pair of_used of_bracketed)
+sort_of sendings = of_pair (of_part accesses) (of_pair of_used of_exprs_given)
 sort_of exprs = of_at (of_pair (of_part simples) of_relation)
 sort_of simples = of_pair (of_option of_either) (of_pair (of_part terms) (of_parts sum_steps))
 sort_of sum_steps = of_pair of_adding (of_part terms)
@@ -651,11 +651,11 @@ layer_is (a_transition t) = f_pair (are a_clause clauses (λ x. refl) (out-Trans
 layer_is (a_group g) = are a_transition transitions (λ x. refl) (out-Group g).transitions
 layer_is (a_body b) = f_pair (used_is (out-Body b).name) (f_pair (used_is (out-Body b).header) (f_pair (are a_body_part body_parts (λ x. refl) (out-Body b).parts)
     (f_pair (first_part_is (out-Body b).first) (f_pair (are a_group groups (λ x. refl) (out-Body b).groups) f_empty))))
-layer_is (an_access a) = f_pair (used_is a.name) (bracketed_are a.index)
+layer_is (an_access a) = f_pair (used_is a.name) (exprs_given_are a.index)
 layer_is (an_end_point e) = f_pair (f_part (an_access e.first) refl) (access_given_is e.second)
 layer_is (a_statement s) = statement_is (out-Statement s)
 layer_is (an_arm a) = f_pair (are a_constant constants (λ x. refl) (out-Arm a).constants) (f_part (a_statement (out-Arm a).turn) refl)
-layer_is (a_sending s) = f_pair (f_part (an_access s.at) refl) (f_pair (used_is s.signal) (bracketed_are s.arguments))
+layer_is (a_sending s) = f_pair (f_part (an_access s.at) refl) (f_pair (used_is s.signal) (exprs_given_are s.arguments))
 layer_is (an_expr e) = f_at (out-Expr e).place (f_pair (f_part (a_simple (out-Expr e).left) refl) (relation_is (out-Expr e).relation))
 layer_is (a_simple s) = f_pair (sign_is (out-Simple s).minus (out-Simple s).sign) (f_pair (f_part (a_term (out-Simple s).first) refl) (are a_sum_step sum_steps (λ x. refl) (out-Simple s).rest))
 layer_is (a_sum_step s) = f_pair (adding_is (out-SumStep s).operator) (f_part (a_term (out-SumStep s).right) refl)

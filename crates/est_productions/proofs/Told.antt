@@ -33,7 +33,7 @@ use Rattle.est_reader.specs.Going.{Shape}
 use Rattle.est_productions.specs.Nodes as shown
 use Rattle.est_productions.specs.Nodes.{Node, View, a_use, a_constant, a_constant_definition, a_type, a_short_type, a_type_definition, a_field, a_variable, a_parameter, an_export, an_interaction, a_by_part, a_channel, a_point, a_header, a_module_variable, a_state_set, a_formal, a_routine, a_common_part, a_body_part, a_block_part, a_block, a_clause, a_transition, a_group, a_body, an_access, an_end_point, a_statement, an_arm, a_sending, an_expr, a_simple, a_sum_step, a_term, a_product_step, a_factor, a_selector, a_member, a_specification, layer, TypeTextForm, FactorForm, SelectorForm, StatementForm, PartForm}
 use Rattle.est_productions.proofs.Sorts.{Tag, uses, constants, constant_definitions, types, short_types, type_definitions, fields, variables, parameters, exports, interactions, by_parts, channels, points, headers, module_variables, state_sets, formals, routines, common_parts, body_parts, block_parts, blocks, clauses, transitions, groups, bodies, accesses, end_points, statements, arms, sendings, exprs, simples, sum_steps, terms, product_steps, factors, selectors, members, specifications, tag}
-use Rattle.est_productions.proofs.Pieces.{Has, read, use_of, uses_back, constant_of, constants_back, constant_definition_of, constant_definitions_back, type_definition_of, type_definitions_back, variable_of, variables_back, parameter_of, parameters_back, export_of, exports_back, point_of, points_back, module_variable_of, module_variables_back, state_set_of, state_sets_back, common_part_of, common_parts_back, body_part_of, body_parts_back, block_part_of, block_parts_back, clause_of, clauses_back, transition_of, transitions_back, group_of, groups_back, statement_of, statements_back, arm_of, arms_back, sending_of, sendings_back, expr_of, exprs_back, sum_step_of, sum_steps_back, product_step_of, product_steps_back, selector_of, selectors_back, used_in, name_given_in, name_given_back, is_second, constant_in, constant_back, short_in, short_back, type_in, type_back, parameters_in, parameters_are, by_part_in, by_part_back, channel_in, channel_back, queue_in, queue_back, queue_given_in, queue_given_back, dimensions_in, dimensions_back, place_in, place_back, is_first, attribute_back, is_given, by_place_back, routine_in, routine_back, adding_in, adding_back, multiplying_in, multiplying_back, relation_in, relation_back, minus_in, minus_back, sign_back, bracketed_in, bracketed_back, factor_in, factor_back, selector_in, selector_back, expr_given_in, expr_given_back, access_given_in, access_given_back}
+use Rattle.est_productions.proofs.Pieces.{Has, read, use_of, uses_back, constant_of, constants_back, constant_definition_of, constant_definitions_back, type_definition_of, type_definitions_back, variable_of, variables_back, parameter_of, parameters_back, export_of, exports_back, point_of, points_back, module_variable_of, module_variables_back, state_set_of, state_sets_back, common_part_of, common_parts_back, body_part_of, body_parts_back, block_part_of, block_parts_back, clause_of, clauses_back, transition_of, transitions_back, group_of, groups_back, statement_of, statements_back, arm_of, arms_back, sending_of, sendings_back, expr_of, exprs_back, sum_step_of, sum_steps_back, product_step_of, product_steps_back, selector_of, selectors_back, used_in, name_given_in, name_given_back, is_second, constant_in, constant_back, short_in, short_back, type_in, type_back, parameters_in, parameters_are, by_part_in, by_part_back, channel_in, channel_back, queue_in, queue_back, queue_given_in, queue_given_back, dimensions_in, dimensions_back, place_in, place_back, is_first, attribute_back, is_given, by_place_back, routine_in, routine_back, adding_in, adding_back, multiplying_in, multiplying_back, relation_in, relation_back, minus_in, minus_back, sign_back, exprs_given_in, exprs_given_back, factor_in, factor_back, selector_in, selector_back, expr_given_in, expr_given_back, access_given_in, access_given_back}
 
 -- STATEMENTS
 
@@ -68,11 +68,11 @@ call_back name place [] = refl
 call_back name place (e ∷ es) = ap (λ l. statement.Call name l place) (exprs_back (e ∷ es))
 
 abbrev init_in : ℕ → View → Option StatementForm
-init_in place (pair (node (an_access target)) (pair v w)) = Some (statement.Init target (used_in v) (bracketed_in w) place)
+init_in place (pair (node (an_access target)) (pair v w)) = Some (statement.Init target (used_in v) (exprs_given_in w) place)
 init_in place v = None
 
 init_back : (target : Access) (body : Used) (es : List Expr) (place : ℕ) → init_in place (shown.init target body es) ≡ Some (statement.Init target body es place)
-init_back target body es place = ap (λ l. Some (statement.Init target body l place)) (bracketed_back es)
+init_back target body es place = ap (λ l. Some (statement.Init target body l place)) (exprs_given_back es)
 
 abbrev compound_in : ℕ → View → Option StatementForm
 compound_in place (pair (nodes ns) empty) = Some (statement.Compound (read statement_of ns) place)
@@ -289,11 +289,11 @@ time_scale_back None = refl
 time_scale_back (Some u) = refl
 
 abbrev first_statement_in : View → StatementForm
-first_statement_in (at place (pair (node (an_access target)) (pair v w))) = statement.Init target (used_in v) (bracketed_in w) place
+first_statement_in (at place (pair (node (an_access target)) (pair v w))) = statement.Init target (used_in v) (exprs_given_in w) place
 first_statement_in v = statement.Empty 0
 
 first_statement_back : (s : StatementForm) {t : Shape} → Has (shown.first_statement s) t → first_statement_in (shown.first_statement s) ≡ s
-first_statement_back (statement.Init target body es place) d = ap (λ l. statement.Init target body l place) (bracketed_back es)
+first_statement_back (statement.Init target body es place) d = ap (λ l. statement.Init target body l place) (exprs_given_back es)
 first_statement_back (statement.Empty place) d = elim d [ ]
 first_statement_back (statement.Compound ss place) d = elim d [ ]
 first_statement_back (statement.Assign target path value place) d = elim d [ ]
@@ -358,11 +358,11 @@ from transitions (pair (nodes ns) (pair v (pair (node (a_block b)) empty))) = So
 from groups (nodes ns) = Some (a_group (roll-Group record { transitions = read transition_of ns }))
 from bodies (pair v (pair w (pair (nodes ps) (pair f (pair (nodes gs) empty))))) =
     Some (a_body (roll-Body record { name = used_in v; header = used_in w; parts = read body_part_of ps; first = first_part_in f; groups = read group_of gs }))
-from accesses (pair v w) = Some (an_access record { name = used_in v; index = bracketed_in w })
+from accesses (pair v w) = Some (an_access record { name = used_in v; index = exprs_given_in w })
 from end_points (pair (node (an_access a)) w) = Some (an_end_point record { first = a; second = access_given_in w })
 from statements v = made (λ x. a_statement (roll-Statement x)) (statement_in v)
 from arms (pair (nodes ns) (node (a_statement s))) = Some (an_arm (roll-Arm record { constants = read constant_of ns; turn = s }))
-from sendings (pair (node (an_access a)) (pair v w)) = Some (a_sending record { at = a; signal = used_in v; arguments = bracketed_in w })
+from sendings (pair (node (an_access a)) (pair v w)) = Some (a_sending record { at = a; signal = used_in v; arguments = exprs_given_in w })
 from exprs (at place (pair (node (a_simple s)) w)) = Some (an_expr (roll-Expr record { left = s; relation = relation_in w; place = place }))
 from simples (pair v (pair (node (a_term x)) (nodes ns))) = Some (a_simple (roll-Simple record { minus = minus_in v; sign = is_given v; first = x; rest = read sum_step_of ns }))
 from sum_steps (pair v (node (a_term x))) = Some (a_sum_step (roll-SumStep record { operator = adding_in v; right = x }))
@@ -403,11 +403,11 @@ told (a_clause c) t d = ap (made (λ y. a_clause y)) (clause_back c)
 told (a_transition x) t d = (λ i. Some (a_transition (roll-Transition record { clauses = clauses_back (out-Transition x).clauses i; name = transition_name_back (out-Transition x).name i; block = (out-Transition x).block }))) ∙ ap (λ y. Some (a_transition y)) (roll-out-Transition x)
 told (a_group g) t d = ap (λ l. Some (a_group (roll-Group record { transitions = l }))) (transitions_back (out-Group g).transitions) ∙ ap (λ y. Some (a_group y)) (roll-out-Group g)
 told (a_body b) t d = (λ i. Some (a_body (roll-Body record { name = (out-Body b).name; header = (out-Body b).header; parts = body_parts_back (out-Body b).parts i; first = first_part_back (out-Body b).first i; groups = groups_back (out-Body b).groups i }))) ∙ ap (λ y. Some (a_body y)) (roll-out-Body b)
-told (an_access a) t d = ap (λ l. Some (an_access record { name = a.name; index = l })) (bracketed_back a.index)
+told (an_access a) t d = ap (λ l. Some (an_access record { name = a.name; index = l })) (exprs_given_back a.index)
 told (an_end_point e) t d = ap (λ o. Some (an_end_point record { first = e.first; second = o })) (access_given_back e.second)
 told (a_statement s) t d = ap (made (λ y. a_statement (roll-Statement y))) (statement_back (out-Statement s)) ∙ ap (λ y. Some (a_statement y)) (roll-out-Statement s)
 told (an_arm a) t d = ap (λ l. Some (an_arm (roll-Arm record { constants = l; turn = (out-Arm a).turn }))) (constants_back (out-Arm a).constants) ∙ ap (λ y. Some (an_arm y)) (roll-out-Arm a)
-told (a_sending s) t d = ap (λ l. Some (a_sending record { at = s.at; signal = s.signal; arguments = l })) (bracketed_back s.arguments)
+told (a_sending s) t d = ap (λ l. Some (a_sending record { at = s.at; signal = s.signal; arguments = l })) (exprs_given_back s.arguments)
 told (an_expr e) t (s_at p (s_pair d d')) = ap (λ o. Some (an_expr (roll-Expr record { left = (out-Expr e).left; relation = o; place = (out-Expr e).place }))) (relation_back (out-Expr e).relation d') ∙ ap (λ y. Some (an_expr y)) (roll-out-Expr e)
 told (a_simple s) t d = (λ i. Some (a_simple (roll-Simple record { minus = minus_back (out-Simple s).minus (out-Simple s).sign i; sign = sign_back (out-Simple s).minus (out-Simple s).sign i; first = (out-Simple s).first; rest = sum_steps_back (out-Simple s).rest i }))) ∙ ap (λ y. Some (a_simple y)) (roll-out-Simple s)
 told (a_sum_step s) t (s_pair d e) = ap (λ o. Some (a_sum_step (roll-SumStep record { operator = o; right = (out-SumStep s).right }))) (adding_back (out-SumStep s).operator d) ∙ ap (λ y. Some (a_sum_step y)) (roll-out-SumStep s)

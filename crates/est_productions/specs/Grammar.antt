@@ -36,8 +36,8 @@ abbrev pub said : ReservedWord → Rule → Rule
 said w g = word (kind (Reserved w)) g
 
 -- a symbol, and then the rest
-abbrev pub sign : Symbol → Rule → Rule
-sign s g = word (kind (Special s)) g
+abbrev pub symbol : Symbol → Rule → Rule
+symbol s g = word (kind (Special s)) g
 
 -- a reserved word alone
 abbrev pub only : ReservedWord → Rule
@@ -45,7 +45,7 @@ only w = said w done
 
 -- a symbol alone
 abbrev pub mark : Symbol → Rule
-mark s = sign s done
+mark s = symbol s done
 
 -- number
 abbrev pub number : Rule
@@ -61,7 +61,7 @@ several g = seq g (rep g)
 
 -- g { s g }
 abbrev pub separated : Symbol → Rule → Rule
-separated s g = seq g (rep (sign s g))
+separated s g = seq g (rep (symbol s g))
 
 -- g { "," g }
 abbrev pub listed : Rule → Rule
@@ -69,7 +69,7 @@ listed g = separated symbols.Comma g
 
 -- [ "(" g ")" ], without a level of its own
 abbrev pub bracketed : Rule → Rule
-bracketed g = opt (sign symbols.LeftParenthesis (seq g (mark symbols.RightParenthesis)))
+bracketed g = opt (symbol symbols.LeftParenthesis (seq g (mark symbols.RightParenthesis)))
 
 -- idents = ident { "," ident } .
 abbrev pub idents : Rule
@@ -109,7 +109,7 @@ unnamed = here (alt number (alt signed character))
 
 -- ".." constant
 abbrev pub upper : Rule
-upper = sign symbols.DoublePeriod (rule constant)
+upper = symbol symbols.DoublePeriod (rule constant)
 
 -- ident [ ".." constant ]
 abbrev pub named_type : Rule
@@ -117,7 +117,7 @@ named_type = here (seq identifier (opt upper))
 
 -- "(" idents ")"
 abbrev pub enumeration : Rule
-enumeration = here (sign symbols.LeftParenthesis (seq idents (mark symbols.RightParenthesis)))
+enumeration = here (symbol symbols.LeftParenthesis (seq idents (mark symbols.RightParenthesis)))
 
 -- [ "packed" ], which leaves no trace
 abbrev pub packed : Rule
@@ -133,7 +133,7 @@ structured = here (seq packed structure)
 
 -- idents ":" typetext
 abbrev pub field : Rule
-field = seq idents (sign symbols.Colon (rule typetext))
+field = seq idents (symbol symbols.Colon (rule typetext))
 
 -- fields = idents ":" typetext { ";" idents ":" typetext } .
 -- with the ";" that may stand after them
@@ -148,7 +148,7 @@ parameters = bracketed params
 
 -- [ "," ident ]
 abbrev pub other_role : Rule
-other_role = opt (sign symbols.Comma identifier)
+other_role = opt (symbol symbols.Comma identifier)
 
 -- "systemactivity" | "activity"
 abbrev pub attribute : Rule
@@ -186,14 +186,14 @@ formal_part = bracketed formals
 
 -- "procedure" ident [ "(" formals ")" ] ";" block ";"
 abbrev pub procedure : Rule
-procedure = said words.Procedure (seq identifier (seq formal_part (sign symbols.Semicolon
+procedure = said words.Procedure (seq identifier (seq formal_part (symbol symbols.Semicolon
     (seq (rule block) (mark symbols.Semicolon)))))
 
 -- [ "pure" ] "function" ident [ "(" formals ")" ] ":" ident ";" block ";"
 abbrev pub function : Rule
 function = seq (skip (opt (only words.Pure)))
-    (said words.Function (seq identifier (seq formal_part (sign symbols.Colon
-    (seq identifier (sign symbols.Semicolon (seq (rule block) (mark symbols.Semicolon))))))))
+    (said words.Function (seq identifier (seq formal_part (symbol symbols.Colon
+    (seq identifier (symbol symbols.Semicolon (seq (rule block) (mark symbols.Semicolon))))))))
 
 -- consts | types | vars
 abbrev pub block_part : Rule
@@ -219,7 +219,7 @@ to_clause = said words.To next_state
 
 -- "when" access "." ident
 abbrev pub when_clause : Rule
-when_clause = said words.When (seq (rule access) (sign symbols.Period identifier))
+when_clause = said words.When (seq (rule access) (symbol symbols.Period identifier))
 
 -- "provided" ( expr | "otherwise" )
 abbrev pub provided_clause : Rule
@@ -235,11 +235,11 @@ priority_clause = said words.Priority (rule constant)
 
 -- [ "," ( expr | "*" ) ]
 abbrev pub later_bound : Rule
-later_bound = opt (sign symbols.Comma (alt (rule expr) (mark symbols.Star)))
+later_bound = opt (symbol symbols.Comma (alt (rule expr) (mark symbols.Star)))
 
 -- "delay" "(" expr [ "," ( expr | "*" ) ] ")"
 abbrev pub delay_clause : Rule
-delay_clause = said words.Delay (sign symbols.LeftParenthesis
+delay_clause = said words.Delay (symbol symbols.LeftParenthesis
     (seq (rule expr) (seq later_bound (mark symbols.RightParenthesis))))
 
 -- [ "name" ident ":" ]
@@ -248,13 +248,13 @@ transition_name = opt (said words.Name (seq identifier (mark symbols.Colon)))
 
 -- [ "." access ]
 abbrev pub access_given : Rule
-access_given = opt (sign symbols.Period (rule access))
+access_given = opt (symbol symbols.Period (rule access))
 
 -- Statements (ISO 7185, 6.8, and ISO 9074).
 
 -- "(" exprs ")", which opens a level
 abbrev pub called : Rule
-called = deeper (sign symbols.LeftParenthesis (seq exprs (mark symbols.RightParenthesis)))
+called = deeper (symbol symbols.LeftParenthesis (seq exprs (mark symbols.RightParenthesis)))
 
 -- [ "(" exprs ")" ]
 abbrev pub arguments : Rule
@@ -262,7 +262,7 @@ arguments = opt called
 
 -- "[" exprs "]", which opens a level
 abbrev pub subscripts : Rule
-subscripts = deeper (sign symbols.LeftBracket (seq exprs (mark symbols.RightBracket)))
+subscripts = deeper (symbol symbols.LeftBracket (seq exprs (mark symbols.RightBracket)))
 
 -- "begin" statements "end", a statement
 abbrev pub compound : Rule
@@ -274,7 +274,7 @@ path = opt (several (rule selector))
 
 -- { selector } ":=" expr
 abbrev pub assigned : Rule
-assigned = seq path (sign symbols.Assign (rule expr))
+assigned = seq path (symbol symbols.Assign (rule expr))
 
 -- ident { selector } ":=" expr | ident [ "(" exprs ")" ]
 abbrev pub assignment_or_call : Rule
@@ -312,12 +312,12 @@ direction = alt (only words.To) (only words.Downto)
 
 -- "for" ident ":=" expr ( "to" | "downto" ) expr "do" statement
 abbrev pub for_statement : Rule
-for_statement = deeper (said words.For (seq identifier (sign symbols.Assign
+for_statement = deeper (said words.For (seq identifier (symbol symbols.Assign
     (seq (rule expr) (seq direction (seq (rule expr) (said words.Do (rule statement))))))))
 
 -- "all" ident ":" shorttype "do" statement
 abbrev pub all_statement : Rule
-all_statement = deeper (said words.All (seq identifier (sign symbols.Colon
+all_statement = deeper (said words.All (seq identifier (symbol symbols.Colon
     (seq (rule shorttype) (said words.Do (rule statement))))))
 
 -- "output" sending { "," sending }
@@ -339,7 +339,7 @@ disconnect_statement = said words.Disconnect (rule end_point)
 -- "attach" access "to" access "." access
 abbrev pub attach_statement : Rule
 attach_statement = said words.Attach (seq (rule access) (said words.To
-    (seq (rule access) (sign symbols.Period (rule access)))))
+    (seq (rule access) (symbol symbols.Period (rule access)))))
 
 -- "detach" end
 abbrev pub detach_statement : Rule
@@ -376,11 +376,11 @@ product_step = seq multiplying_operator (rule factor)
 
 -- [ ".." expr ]
 abbrev pub later_end : Rule
-later_end = opt (sign symbols.DoublePeriod (rule expr))
+later_end = opt (symbol symbols.DoublePeriod (rule expr))
 
 -- "(" expr ")"
 abbrev pub group : Rule
-group = deeper (sign symbols.LeftParenthesis (seq (rule expr) (mark symbols.RightParenthesis)))
+group = deeper (symbol symbols.LeftParenthesis (seq (rule expr) (mark symbols.RightParenthesis)))
 
 -- "not" factor
 abbrev pub negation : Rule
@@ -388,7 +388,7 @@ negation = deeper (said words.Not (rule factor))
 
 -- "[" [ member { "," member } ] "]"
 abbrev pub set : Rule
-set = deeper (sign symbols.LeftBracket
+set = deeper (symbol symbols.LeftBracket
     (seq (opt (listed (rule member))) (mark symbols.RightBracket)))
 
 -- ident ( "(" exprs ")" | { selector } )
@@ -409,7 +409,7 @@ time_scale = opt (said words.Timescale (seq identifier (mark symbols.Semicolon))
 abbrev pub initialization : Rule
 initialization = said words.Initialize (said words.Begin (seq (here (rule init))
     (seq (skip (opt (mark symbols.Semicolon)))
-    (said words.End (sign symbols.Semicolon (said words.End (mark symbols.Period)))))))
+    (said words.End (symbol symbols.Semicolon (said words.End (mark symbols.Period)))))))
 
 -- common | own
 abbrev pub body_part : Rule
@@ -428,7 +428,7 @@ first_part = opt (said words.Initialize (seq first_state
 abbrev pub production : Production → Rule
 -- specification = "specification" ident ";" [ "default" queue ";" ] [ "timescale" ident ";" ]
 --     { common } "initialize" "begin" init [ ";" ] "end" ";" "end" "." .
-production specification = said words.Specification (seq identifier (sign symbols.Semicolon
+production specification = said words.Specification (seq identifier (symbol symbols.Semicolon
     (seq default_queue (seq time_scale (seq (rep (rule common)) initialization)))))
 -- common = consts | types | channel | header | body | routine | "modvar" modvar { modvar } .
 production common = alt (rule consts) (alt (rule types) (alt (rule channel)
@@ -438,22 +438,22 @@ production own = alt points (alt (rule vars) (alt states statesets))
 -- consts = "const" constdef { constdef } .
 production consts = said words.Const (several (rule constdef))
 -- constdef = ident "=" constant ";" .
-production constdef = seq identifier (sign symbols.Equal
+production constdef = seq identifier (symbol symbols.Equal
     (seq (rule constant) (mark symbols.Semicolon)))
 -- constant = [ "+" | "-" ] ( number | ident ) | character .
 production constant = alt unnamed (here identifier)
 -- types = "type" typedef { typedef } .
 production types = said words.Type (several (rule typedef))
 -- typedef = ident "=" typetext ";" .
-production typedef = seq identifier (sign symbols.Equal
+production typedef = seq identifier (symbol symbols.Equal
     (seq (rule typetext) (mark symbols.Semicolon)))
 -- typetext = shorttype | "(" idents ")" | [ "packed" ] ( arraytype | recordtype | settype ) .
 production typetext = alt (rule shorttype) (alt enumeration structured)
 -- shorttype = ident | constant ".." constant .
 production shorttype = alt (seq unnamed upper) named_type
 -- arraytype = "array" "[" typetext { "," typetext } "]" "of" typetext .
-production arraytype = deeper (said words.Array (sign symbols.LeftBracket
-    (seq (listed (rule typetext)) (sign symbols.RightBracket (said words.Of (rule typetext))))))
+production arraytype = deeper (said words.Array (symbol symbols.LeftBracket
+    (seq (listed (rule typetext)) (symbol symbols.RightBracket (said words.Of (rule typetext))))))
 -- recordtype = "record" fields [ ";" ] "end" .
 production recordtype = deeper (said words.Record (seq fields (only words.End)))
 -- settype = "set" "of" typetext .
@@ -461,53 +461,53 @@ production settype = deeper (said words.Set (said words.Of (rule typetext)))
 -- vars = "var" vardef { vardef } .
 production vars = said words.Var (several (rule vardef))
 -- vardef = idents ":" typetext ";" .
-production vardef = seq idents (sign symbols.Colon
+production vardef = seq idents (symbol symbols.Colon
     (seq (rule typetext) (mark symbols.Semicolon)))
 -- channel = "channel" ident "(" ident "," ident ")" ";" by { by } .
-production channel = said words.Channel (seq identifier (sign symbols.LeftParenthesis
-    (seq identifier (sign symbols.Comma (seq identifier (sign symbols.RightParenthesis
-    (sign symbols.Semicolon (several (rule by_part)))))))))
+production channel = said words.Channel (seq identifier (symbol symbols.LeftParenthesis
+    (seq identifier (symbol symbols.Comma (seq identifier (symbol symbols.RightParenthesis
+    (symbol symbols.Semicolon (several (rule by_part)))))))))
 -- by = "by" ident [ "," ident ] ":" interaction { interaction } .
 production by_part = said words.By (seq identifier (seq other_role
-    (sign symbols.Colon (several (rule interaction)))))
+    (symbol symbols.Colon (several (rule interaction)))))
 -- interaction = ident [ "(" params ")" ] ";" .
 production interaction = seq identifier (seq parameters (mark symbols.Semicolon))
 -- idents ":" shorttype, one part of params
-production param = seq idents (sign symbols.Colon (rule shorttype))
+production param = seq idents (symbol symbols.Colon (rule shorttype))
 -- header = "module" ident ( "systemactivity" | "activity" ) [ "(" params ")" ] ";"
 --     { "ip" point { point } | "export" export { export } } "end" ";" .
 production header = said words.Module (seq identifier (seq attribute (seq parameters
-    (sign symbols.Semicolon (seq (rep (alt points exports))
+    (symbol symbols.Semicolon (seq (rep (alt points exports))
     (said words.End (mark symbols.Semicolon)))))))
 -- point = idents ":" [ dims ] ident "(" ident ")" [ queue ] ";" .
-production point = here (seq idents (sign symbols.Colon (seq dimensions (seq identifier
-    (sign symbols.LeftParenthesis (seq identifier (sign symbols.RightParenthesis
+production point = here (seq idents (symbol symbols.Colon (seq dimensions (seq identifier
+    (symbol symbols.LeftParenthesis (seq identifier (symbol symbols.RightParenthesis
     (seq (opt (rule queue)) (mark symbols.Semicolon)))))))))
 -- dims = "array" "[" shorttype { "," shorttype } "]" "of" .
-production dims = said words.Array (sign symbols.LeftBracket
-    (seq (listed (rule shorttype)) (sign symbols.RightBracket (only words.Of))))
+production dims = said words.Array (symbol symbols.LeftBracket
+    (seq (listed (rule shorttype)) (symbol symbols.RightBracket (only words.Of))))
 -- queue = ( "individual" | "common" ) "queue" .
 production queue = alt (said words.Individual (only words.Queue))
     (said words.Common (only words.Queue))
 -- export = idents ":" shorttype ";" .
-production export = seq idents (sign symbols.Colon
+production export = seq idents (symbol symbols.Colon
     (seq (rule shorttype) (mark symbols.Semicolon)))
 -- modvar = idents ":" [ dims ] ident ";" .
-production modvar = here (seq idents (sign symbols.Colon
+production modvar = here (seq idents (symbol symbols.Colon
     (seq dimensions (seq identifier (mark symbols.Semicolon)))))
 -- stateset = ident "=" "[" idents "]" ";" .
-production stateset = seq identifier (sign symbols.Equal (sign symbols.LeftBracket
-    (seq idents (sign symbols.RightBracket (mark symbols.Semicolon)))))
+production stateset = seq identifier (symbol symbols.Equal (symbol symbols.LeftBracket
+    (seq idents (symbol symbols.RightBracket (mark symbols.Semicolon)))))
 -- body = "body" ident "for" ident ";" { common | own }
 --     [ "initialize" [ "to" ident ] block ";" ] { transpart } "end" ";" .
 production body = deeper (said words.Body (seq identifier (said words.For (seq identifier
-    (sign symbols.Semicolon (seq (rep body_part) (seq first_part
+    (symbol symbols.Semicolon (seq (rep body_part) (seq first_part
     (seq (rep (rule transpart)) (said words.End (mark symbols.Semicolon))))))))))
 -- routine = "procedure" ident [ "(" formals ")" ] ";" block ";"
 --     | [ "pure" ] "function" ident [ "(" formals ")" ] ":" ident ";" block ";" .
 production routine = alt procedure function
 -- formal = [ "var" ] idents ":" ident .
-production formal = seq (opt (only words.Var)) (seq idents (sign symbols.Colon identifier))
+production formal = seq (opt (only words.Var)) (seq idents (symbol symbols.Colon identifier))
 -- block = { consts | types | vars } "begin" statements "end" .
 production block = seq (rep block_part) (here begin_end)
 -- transpart = "trans" transition { transition } .
@@ -531,9 +531,9 @@ production statement = here (opt (alt compound (alt assignment_or_call (alt if_s
     (alt connect_statement (alt disconnect_statement
     (alt attach_statement detach_statement)))))))))))))))
 -- arm = constant { "," constant } ":" statement .
-production arm = seq (listed (rule constant)) (sign symbols.Colon (rule statement))
+production arm = seq (listed (rule constant)) (symbol symbols.Colon (rule statement))
 -- sending = access "." ident [ "(" exprs ")" ] .
-production sending = seq (rule access) (sign symbols.Period (seq identifier arguments))
+production sending = seq (rule access) (symbol symbols.Period (seq identifier arguments))
 -- init = "init" access "with" ident [ "(" exprs ")" ] .
 production init = said words.Init (seq (rule access) (said words.With
     (seq identifier arguments)))
@@ -550,6 +550,6 @@ production term = seq (rule factor) (rep product_step)
 production factor = here (alt number (alt character (alt group (alt negation
     (alt set variable_or_call)))))
 -- selector = "." ident | "[" exprs "]" .
-production selector = alt (sign symbols.Period identifier) (here subscripts)
+production selector = alt (symbol symbols.Period identifier) (here subscripts)
 -- member = expr [ ".." expr ] .
 production member = seq (rule expr) later_end

@@ -3,4 +3,4 @@ pub mod FirstTokens
 pub mod Nodes
 pub mod Syntax
 pub mod Tokens
-pub mod Structures
+pub mod inside

@@ -132,12 +132,14 @@ written_sign true = second empty
 abbrev pub unnamed : Constant → View
 unnamed (constants.Number minus true number place) =
     at place (choice 1 (pair (written_sign minus) (first (kept (kinds.value number)))))
-unnamed (constants.Number false false number place) = at place (choice 0 (kept (kinds.value number)))
+unnamed (constants.Number false false number place) =
+    at place (choice 0 (kept (kinds.value number)))
 unnamed (constants.Number true false number place) = nowhere
 unnamed (constants.Named minus true name place) =
     at place (choice 1 (pair (written_sign minus) (second (used name))))
 unnamed (constants.Named minus false name place) = nowhere
-unnamed (constants.Character character place) = at place (last_choice 2 (kept (kinds.code character)))
+unnamed (constants.Character character place) =
+    at place (last_choice 2 (kept (kinds.code character)))
 
 -- a constant
 abbrev pub constant : Constant → View
@@ -380,9 +382,9 @@ product_step s = let x = out-ProductStep s in
     pair (multiplying_operator x.operator) (node (a_factor x.right))
 
 -- expressions in brackets, where there are any: arguments or subscripts
-abbrev pub bracketed : List Expr → View
-bracketed [] = empty
-bracketed (e ∷ es) = given (pair (nodes (map an_expr (e ∷ es))) empty)
+abbrev pub exprs_given : List Expr → View
+exprs_given [] = empty
+exprs_given (e ∷ es) = given (pair (nodes (map an_expr (e ∷ es))) empty)
 
 -- the members of a set, where there are any
 abbrev pub members : List Member → View
@@ -434,7 +436,7 @@ member m = let x = out-Member m in pair (node (an_expr x.low)) (expr_given x.hig
 
 -- a name with its subscripts
 abbrev pub access : Access → View
-access a = pair (used a.name) (bracketed a.index)
+access a = pair (used a.name) (exprs_given a.index)
 
 -- the point of a module variable, where there is one
 abbrev pub access_given : Option Access → View
@@ -470,7 +472,7 @@ call (e ∷ es) = given (second (pair (nodes (map an_expr (e ∷ es))) empty))
 -- an `init`: a module variable, a body and its arguments
 abbrev pub init : Access → Used → List Expr → View
 init target body arguments =
-    pair (node (an_access target)) (pair (used body) (bracketed arguments))
+    pair (node (an_access target)) (pair (used body) (exprs_given arguments))
 
 -- A statement, with its parts.
 abbrev pub StatementForm : Type 0
@@ -524,7 +526,7 @@ arm a = let x = out-Arm a in pair (nodes (map a_constant x.constants)) (node (a_
 
 -- a sending
 abbrev pub sending : Sending → View
-sending s = pair (node (an_access s.at)) (pair (used s.signal) (bracketed s.arguments))
+sending s = pair (node (an_access s.at)) (pair (used s.signal) (exprs_given s.arguments))
 
 -- Transitions and bodies.
 
@@ -566,8 +568,8 @@ transition t = let x = out-Transition t in
     (pair (transition_name x.name) (pair (node (a_block x.block)) empty))
 
 -- the transitions after one `trans`
-abbrev pub group : Group → View
-group g = nodes (map a_transition (out-Group g).transitions)
+abbrev pub transpart : Group → View
+transpart g = nodes (map a_transition (out-Group g).transitions)
 
 -- the initialize part of a body, where there is one
 abbrev pub first_part : Option FirstPart → View
@@ -671,7 +673,7 @@ layer (a_block_part p) = block_part (out-Part p)
 layer (a_block b) = block b
 layer (a_clause c) = clause c
 layer (a_transition t) = transition t
-layer (a_group g) = group g
+layer (a_group g) = transpart g
 layer (a_body b) = body b
 layer (an_access a) = access a
 layer (an_end_point e) = end_point e

@@ -25,7 +25,7 @@ pub fn access(reader: &mut Reader) -> Access
 // [ "[" exprs "]" ]
 fn subscripts_given(reader: &mut Reader) -> Exprs
     ensures { Goes estelle (opt grammar.subscripts) reader.old
-        (node.bracketed result) reader.new }
+        (node.exprs_given result) reader.new }
 {
     if reader.sees(TokenKind::Symbol(Symbol::LeftBracket)) {
         return subscripts(reader);
@@ -35,7 +35,7 @@ fn subscripts_given(reader: &mut Reader) -> Exprs
 
 /// [ "(" exprs ")" ]
 pub fn arguments(reader: &mut Reader) -> Exprs
-    ensures { Goes estelle grammar.arguments reader.old (node.bracketed result) reader.new }
+    ensures { Goes estelle grammar.arguments reader.old (node.exprs_given result) reader.new }
 {
     if reader.sees(TokenKind::Symbol(Symbol::LeftParenthesis)) {
         return called(reader);

@@ -6,7 +6,7 @@ ghost use Rattle.est_language.specs.Shown.{node as shown, nodes, pair, empty, se
 ghost use Rattle.est_reader.specs.Going.{Goes, Adds};
 ghost use Rattle.est_productions.specs.Grammar as grammar;
 ghost use Rattle.est_productions.specs.Nodes as node;
-ghost use Rattle.est_productions.specs.Structures.{declared_place};
+ghost use Rattle.est_productions.specs.inside.Structures.{declared_place};
 ghost use Rattle.est_productions.specs.Syntax.{estelle};
 
 use crate::declaration::parameters;

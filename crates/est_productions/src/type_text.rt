@@ -12,7 +12,7 @@ ghost use Rattle.est_reader.specs.Moving.{Sees, OneSeen, SeesOne};
 ghost use Rattle.est_reader.specs.Tests.{kind};
 ghost use Rattle.est_productions.specs.Grammar as grammar;
 ghost use Rattle.est_productions.specs.Nodes as node;
-ghost use Rattle.est_productions.specs.Structures.{Structured};
+ghost use Rattle.est_productions.specs.inside.Structures.{Structured};
 ghost use Rattle.est_productions.specs.Tokens.{structure_words};
 ghost use Rattle.est_productions.specs.Syntax.{estelle};
 

@@ -9,7 +9,7 @@ use Rattle.est_productions.proofs.Fits.{K}
 use Rattle.est_grammar.proofs.routine.formals.Given as goal
 
 abbrev pub invariant-loop-reader : goal.invariant-loop-reader
-invariant-loop-reader l = Turning K (grammar.separated symbols.Semicolon (rule grammar.formal)) (rep (grammar.sign symbols.Semicolon (rule grammar.formal))) l.fn.reader (Each K (map node.a_formal l.items)) l.reader
+invariant-loop-reader l = Turning K (grammar.separated symbols.Semicolon (rule grammar.formal)) (rep (grammar.symbol symbols.Semicolon (rule grammar.formal))) l.fn.reader (Each K (map node.a_formal l.items)) l.reader
 
 abbrev pub decreases-loop-reader : goal.decreases-loop-reader
 decreases-loop-reader l = left_of l.reader

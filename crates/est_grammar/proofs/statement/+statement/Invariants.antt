@@ -12,7 +12,7 @@ use Rattle.est_productions.proofs.Fits.{K}
 use Rattle.est_grammar.proofs.statement.+statement.Given as goal
 
 abbrev pub invariant-statements-loop-reader : goal.invariant-statements-loop-reader
-invariant-statements-loop-reader l = Turning K (grammar.separated symbols.Semicolon (rule grammar.statement)) (rep (grammar.sign symbols.Semicolon (rule grammar.statement))) l.fn.reader (Each K (map node.a_statement l.items)) l.reader
+invariant-statements-loop-reader l = Turning K (grammar.separated symbols.Semicolon (rule grammar.statement)) (rep (grammar.symbol symbols.Semicolon (rule grammar.statement))) l.fn.reader (Each K (map node.a_statement l.items)) l.reader
 
 abbrev pub decreases-statements-loop-reader : goal.decreases-statements-loop-reader
 decreases-statements-loop-reader l = left_of l.reader

@@ -10,7 +10,7 @@ use Rattle.est_productions.proofs.Fits.{K}
 use Rattle.est_productions.proofs.expression.+expr.Given as goal
 
 abbrev pub invariant-exprs-loop-reader : goal.invariant-exprs-loop-reader
-invariant-exprs-loop-reader l = Turning K (grammar.separated symbols.Comma (rule grammar.expr)) (rep (grammar.sign symbols.Comma (rule grammar.expr))) l.fn.reader (Each K (map node.an_expr l.items)) l.reader
+invariant-exprs-loop-reader l = Turning K (grammar.separated symbols.Comma (rule grammar.expr)) (rep (grammar.symbol symbols.Comma (rule grammar.expr))) l.fn.reader (Each K (map node.an_expr l.items)) l.reader
 
 abbrev pub decreases-exprs-loop-reader : goal.decreases-exprs-loop-reader
 decreases-exprs-loop-reader l = left_of l.reader
@@ -28,7 +28,7 @@ abbrev pub decreases-product_steps-loop-reader : goal.decreases-product_steps-lo
 decreases-product_steps-loop-reader l = left_of l.reader
 
 abbrev pub invariant-members-loop-reader : goal.invariant-members-loop-reader
-invariant-members-loop-reader l = Turning K (grammar.separated symbols.Comma (rule grammar.member)) (rep (grammar.sign symbols.Comma (rule grammar.member))) l.fn.reader (Each K (map node.a_member l.items)) l.reader
+invariant-members-loop-reader l = Turning K (grammar.separated symbols.Comma (rule grammar.member)) (rep (grammar.symbol symbols.Comma (rule grammar.member))) l.fn.reader (Each K (map node.a_member l.items)) l.reader
 
 abbrev pub decreases-members-loop-reader : goal.decreases-members-loop-reader
 decreases-members-loop-reader l = left_of l.reader

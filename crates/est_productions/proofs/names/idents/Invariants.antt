@@ -10,7 +10,7 @@ use Rattle.est_reader.specs.Going.{identifier}
 use Rattle.est_productions.proofs.names.idents.Given as goal
 
 abbrev pub invariant-loop-reader : goal.invariant-loop-reader
-invariant-loop-reader l = Turning K grammar.idents (rep (grammar.sign symbols.Comma identifier)) l.fn.reader (Each K (map node.a_use l.items)) l.reader
+invariant-loop-reader l = Turning K grammar.idents (rep (grammar.symbol symbols.Comma identifier)) l.fn.reader (Each K (map node.a_use l.items)) l.reader
 
 abbrev pub decreases-loop-reader : goal.decreases-loop-reader
 decreases-loop-reader l = left_of l.reader

@@ -12,7 +12,7 @@ use Rattle.est_productions.proofs.Fits.{K}
 use Rattle.est_productions.proofs.type_text.+type_text.Given as goal
 
 abbrev pub invariant-typetexts-loop-reader : goal.invariant-typetexts-loop-reader
-invariant-typetexts-loop-reader l = Turning K (grammar.separated symbols.Comma (rule grammar.typetext)) (rep (grammar.sign symbols.Comma (rule grammar.typetext))) l.fn.reader (Each K (map node.a_type l.items)) l.reader
+invariant-typetexts-loop-reader l = Turning K (grammar.separated symbols.Comma (rule grammar.typetext)) (rep (grammar.symbol symbols.Comma (rule grammar.typetext))) l.fn.reader (Each K (map node.a_type l.items)) l.reader
 
 abbrev pub decreases-typetexts-loop-reader : goal.decreases-typetexts-loop-reader
 decreases-typetexts-loop-reader l = left_of l.reader

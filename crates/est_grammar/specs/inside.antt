@@ -1,0 +1,2 @@
+-- What only functions of this crate say.
+pub mod Steps
