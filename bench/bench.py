@@ -33,7 +33,7 @@ ctypes.CDLL(None).prctl(36, 1, 0, 0, 0)
 def started(command, folder):
     """Starts a command by way of a shell that ends at once: a process is charged with the memory of the one
     that started it, and a shell has little."""
-    shell = ["sh", "-c", '"$@" >/dev/null 2>&1 & echo $!', "sh", *map(str, command)]
+    shell = ["sh", "-c", '"$@" >/dev/null 2>&1 & exec echo $!', "sh", *map(str, command)]
     return int(subprocess.run(shell, cwd=folder, stdout=subprocess.PIPE, check=True).stdout)
 
 
