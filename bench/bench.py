@@ -1,12 +1,13 @@
 #!/usr/bin/env python3
-"""Times the program on inputs that it makes itself, and prints one table.
+"""Times the program on inputs that it makes itself, and prints tables.
 
-Each row is the best of some runs of one command on one input, in processor time (user and system),
-so that other work on the machine changes it little, with the most memory that a run held. The last
-column is the time over that of the row above, whose input is half as large: near 2 where the work is
-linear.
+Each row of the first table is the best of some runs of one command on one input, in processor time (user
+and system), so that other work on the machine changes it little, with the most memory that a run held.
+The last column is the time over that of the row above, whose input is half as large: near 2 where the
+work is linear. The second table has a row for each construct of the language alone.
 """
 
+import ctypes
 import os
 import pathlib
 import shutil
@@ -14,24 +15,35 @@ import subprocess
 import sys
 import tempfile
 
-import inputs
+import constructs
 
 TOP = pathlib.Path(__file__).resolve().parent.parent
 PROGRAM = TOP / "crates" / "hawkopal" / "out" / "hawkopal"
 SEED = 20261127
 RUNS = 5
 KIB, MIB = 1 << 10, 1 << 20
+SIZES = [256 * KIB, 512 * KIB, MIB]
+# The answer to a sentence whose rules are not built yet.
+SENTENCE = 12
+
+# A process that has lost its parent comes to this one (PR_SET_CHILD_SUBREAPER).
+ctypes.CDLL(None).prctl(36, 1, 0, 0, 0)
+
+
+def started(command, folder):
+    """Starts a command by way of a shell that ends at once: a process is charged with the memory of the one
+    that started it, and a shell has little."""
+    shell = ["sh", "-c", '"$@" >/dev/null 2>&1 & exec echo $!', "sh", *map(str, command)]
+    return int(subprocess.run(shell, cwd=folder, stdout=subprocess.PIPE, check=True).stdout)
 
 
 def measured(command, folder, status):
     """The least processor time of some runs, in seconds, and the most memory, in bytes."""
     best, most = None, 0
     for _ in range(RUNS):
-        run = subprocess.Popen(command, cwd=folder, stdout=subprocess.DEVNULL, stderr=subprocess.DEVNULL)
-        _, ended, used = os.wait4(run.pid, 0)
-        run.returncode = os.waitstatus_to_exitcode(ended)
-        if run.returncode != status:
-            sys.exit(f"{command} ended with status {run.returncode}")
+        _, ended, used = os.wait4(started(command, folder), 0)
+        if os.waitstatus_to_exitcode(ended) != status:
+            sys.exit(f"{command} ended with status {os.waitstatus_to_exitcode(ended)}")
         taken = used.ru_utime + used.ru_stime
         best = taken if best is None else min(best, taken)
         most = max(most, used.ru_maxrss * 1024)
@@ -39,9 +51,9 @@ def measured(command, folder, status):
 
 
 def rows(what, sizes, unit, made, status, folder):
-    """A row for each size. `made` writes the inputs of a size, and answers the command and how many
-    of the unit there are."""
-    before = None
+    """A row for each size, and the times. `made` writes the inputs of a size, and answers the command and
+    how many of the unit there are."""
+    before, times = None, []
     for size in sizes:
         command, count = made(size)
         taken, most = measured(command, folder, status)
@@ -49,11 +61,12 @@ def rows(what, sizes, unit, made, status, folder):
         rate = f"{count / taken / 1e6:.2f} M {unit}/s"
         print(f"| {what} | {count:,} {unit} | {taken * 1000:.1f} | {rate} | {most / MIB:.0f} | {ratio} |", flush=True)
         before = taken
+        times.append(taken)
+    return times
 
 
 def written(folder, name, *what):
-    """Has another process write an input, so that this one stays small: a process that it starts is
-    charged with its memory."""
+    """Has another process write an input, and answers its path and length."""
     path = folder / name
     with open(path, "wb") as file:
         subprocess.run([sys.executable, TOP / "bench" / "inputs.py", *map(str, what)], stdout=file, check=True)
@@ -68,9 +81,9 @@ def checks(folder, kind):
     return made
 
 
-def compiles(folder):
+def compiles(folder, kind):
     def made(size):
-        path, length = written(folder, "large.pas", "pascal", size, SEED)
+        path, length = written(folder, "large.pas", kind, size, SEED)
         return ["fpc", "-Cn", path], length
 
     return made
@@ -98,17 +111,46 @@ def reads_explanation(folder):
     return made
 
 
+def shares(folder):
+    """Rows of whole texts and of Pascal programs of the same content, and the share of their times."""
+    ours = rows("check of whole texts", SIZES, "bytes", checks(folder, "whole"), SENTENCE, folder)
+    if not shutil.which("fpc"):
+        return
+    others = rows("fpc -Cn of the same in Pascal", SIZES, "bytes", compiles(folder, "whole_pascal"), 0, folder)
+    told = ", ".join(f"{one / other:.3f}" for one, other in zip(ours, others))
+    print(f"| check over fpc | | | {told} | | |", flush=True)
+
+
+def constructs_table(folder):
+    """A row for each construct: the times of three sizes, their ratios, and how many bytes of memory a byte
+    of text takes at most, beside what an empty text takes."""
+    print("| construct | " + " | ".join(f"ms, {size // KIB} KiB" for size in SIZES) + " | ratios | bytes a byte |")
+    print("|---|---|---|---|---|---|")
+    (folder / "empty.est").touch()
+    _, own = measured([PROGRAM, "check", folder / "empty.est"], folder, 2)
+    for number, name in enumerate(constructs.CONSTRUCTS):
+        times, most = [], 0
+        for size in SIZES:
+            path, length = written(folder, "large.est", "construct", size, number)
+            taken, peak = measured([PROGRAM, "check", path], folder, SENTENCE)
+            times.append(taken)
+            most = max(most, (peak - own) / length)
+        told = " | ".join(f"{taken * 1000:.1f}" for taken in times)
+        ratios = ", ".join(f"{later / sooner:.2f}" for sooner, later in zip(times, times[1:]))
+        print(f"| {name} | {told} | {ratios} | {most:.0f} |", flush=True)
+
+
 def main():
     subprocess.run([TOP / "hawkopal", "check", TOP / "examples" / "skel.est"], check=True, stdout=subprocess.DEVNULL)
     print("| what | size | ms | rate | peak MiB | ratio |")
     print("|---|---|---|---|---|---|")
     with tempfile.TemporaryDirectory() as name:
         folder = pathlib.Path(name)
-        sizes = [256 * KIB, 512 * KIB, MIB]
-        rows("check of transitions", sizes, "bytes", checks(folder, "skeleton"), 0, folder)
-        rows("check of states", sizes, "bytes", checks(folder, "states"), 0, folder)
+        rows("check of transitions", SIZES, "bytes", checks(folder, "skeleton"), 0, folder)
+        rows("check of states", SIZES, "bytes", checks(folder, "states"), 0, folder)
         if shutil.which("fpc"):
-            rows("fpc -Cn of Pascal", sizes, "bytes", compiles(folder), 0, folder)
+            rows("fpc -Cn of Pascal", SIZES, "bytes", compiles(folder, "pascal"), 0, folder)
+        shares(folder)
         many = [50_000, 100_000, 200_000]
         rows("a trace is read", many, "events", replays(folder, "echo_trace", "no_moves"), 0, folder)
         rows("an explanation is read", [32 * MIB, 64 * MIB, 128 * MIB], "bytes", reads_explanation(folder), 1, folder)
@@ -116,6 +158,8 @@ def main():
         rows("arrivals alone", many, "moves", replays(folder, "arrivals_trace", "arrivals_moves"), 0, folder)
         silent = replays(folder, "silent_trace", "silent_moves", ["20", "2"])
         rows("silent firings", [1_050_000, 2_100_000, 4_200_000], "moves", silent, 0, folder)
+        print()
+        constructs_table(folder)
 
 
 main()
