@@ -8,7 +8,7 @@ ghost use Rattle.est_syntax.specs.Ports.{interaction_signals, by_signals, signal
 ghost use Rattle.est_syntax.specs.Ports.{named_ports, point_ports, ports_of};
 ghost use Rattle.est_check.specs.inside.LeastFaults.{tables};
 ghost use Rattle.est_check.specs.Skeleton.{IsSkeleton};
-ghost use Rattle.est_check.specs.Small.{most};
+ghost use Rattle.est_check.specs.Small.{most_parts};
 ghost use Rattle.est_check.specs.inside.Signals.{RolesFor, PartRolesFor, side, channel_signals};
 ghost use Rattle.est_check.specs.inside.Signals.{part_signals, role_signals, sides_of, signals_by};
 ghost use Rattle.est_check.specs.inside.Signals.{bare_port};
@@ -280,7 +280,7 @@ pub fn ports(alloc: Global, table: &Table, spec: &Spec) -> Result<Ports, AllocEr
 
 /// The number of bodies that these parts declare.
 pub fn body_count(parts: &[Part]) -> u32
-    requires { body_count parts.now ≤ most }
+    requires { body_count parts.now ≤ most_parts }
     ensures { result ≡ body_count parts.now }
 {
     let mut count = 0;
@@ -294,7 +294,7 @@ pub fn body_count(parts: &[Part]) -> u32
 
 /// The number of transitions of these groups.
 fn group_count(groups: &[Group]) -> u32
-    requires { group_count groups.now ≤ most }
+    requires { group_count groups.now ≤ most_parts }
     ensures { result ≡ group_count groups.now }
 {
     let mut count = 0;
@@ -306,7 +306,7 @@ fn group_count(groups: &[Group]) -> u32
 
 /// The number of transitions of the bodies that these parts declare.
 pub fn transition_count(parts: &[Part]) -> u32
-    requires { transition_count parts.now ≤ most }
+    requires { transition_count parts.now ≤ most_parts }
     ensures { result ≡ transition_count parts.now }
 {
     let mut count = 0;

@@ -28,8 +28,10 @@ pub struct MemShelf {
     trail: Trail,
     ghost chunked: { 0 < chunk },
     ghost held: { ForSome started (λ place. place < length files.items) },
-    ghost first: { ForSome started (λ place. ForSome (name_at files.items place) (λ name. place_of files.items name ≡ place)) },
-    ghost not_past_end: { ForSome started (λ place. ForSome (bytes_at files.items place) (λ bytes. taken ≤ length bytes)) },
+    ghost first: { ForSome started (λ place. ForSome (name_at files.items place)
+        (λ name. place_of files.items name ≡ place)) },
+    ghost not_past_end: { ForSome started (λ place. ForSome (bytes_at files.items place)
+        (λ bytes. taken ≤ length bytes)) },
 }
 
 impl MemShelf {

@@ -42,9 +42,13 @@ IsArrival spec (event.Arrives i) = IsReceivable spec i
 IsArrival spec (event.Leaves i) = ⊥
 IsArrival spec (event.Passes units) = ⊥
 
+-- as many events as a trace may have
+abbrev pub most_events : ℕ
+most_events = 200000
+
 -- a trace within its limits
 pub record IsAllowedTrace (spec : Spec) (trace : List Event) : Type 0 where
-  pub few : length trace ≤ 200000
+  pub few : length trace ≤ most_events
   pub each : All (IsAllowed spec) trace
 
 -- the time that passes in an event

@@ -87,8 +87,15 @@ pub record Situation : Type 0 where
 
 -- the situation before the specification's initialize part
 abbrev pub empty_situation : Situation
-empty_situation = record
-    { rows = []; peer = nothing; down = nothing; queues = λ q. []; stamps = nothing; clock = 0; next = 1 }
+empty_situation = record {
+  rows = [];
+  peer = nothing;
+  down = nothing;
+  queues = λ q. [];
+  stamps = nothing;
+  clock = 0;
+  next = 1;
+}
 
 -- the row of a living instance
 abbrev pub row_of : Situation → ℕ → Option Row

@@ -64,8 +64,15 @@ pub record IsStep (limit : ℕ) (spec : Spec) (s : Situation) (f : Firing) (next
 
 -- the row of the root: instance 1, whose parent is 0 and whose variables are undefined
 abbrev pub root_row : Body → Row
-root_row body = record
-    { number = 1; parent = 0; body = body; state = None; variables = nothing; exported = nothing; children = nothing }
+root_row body = record {
+  number = 1;
+  parent = 0;
+  body = body;
+  state = None;
+  variables = nothing;
+  exported = nothing;
+  children = nothing;
+}
 
 -- the situation of the root alone, before its initialize part
 abbrev pub born : Body → Situation

@@ -20,7 +20,9 @@ use std::mem;
 pub struct History {
     pub current: PlainSituation,
     undos: Vec<Undo>,
-    ghost room: { CanUndoAll (deque_capacity current.waiting) (held current) (reverse undos.items) } by { CanUndoAll-prop (deque_capacity current.waiting) (held current) (reverse undos.items) },
+    ghost room: { CanUndoAll (deque_capacity current.waiting) (held current)
+        (reverse undos.items) } by { CanUndoAll-prop (deque_capacity current.waiting)
+            (held current) (reverse undos.items) },
 }
 
 impl History {

@@ -155,7 +155,9 @@ impl<'c> PlainWorld<'c> {
         requires few { HasFew ports.now }
         requires few_transitions { length (transitions_of root.now) < 2 ^ 32 }
         ensures { IfOk result
-            (λ started. StartedAs ⟦<PlainWorld<'c> as World>⟧.speaks ⟦<PlainWorld<'c> as World>⟧.stack ⟦<PlainWorld<'c> as World>⟧.limit ⟦<PlainWorld<'c> as World>⟧.fired (left + 1) spec.now started) }
+            (λ started. StartedAs ⟦<PlainWorld<'c> as World>⟧.speaks
+            ⟦<PlainWorld<'c> as World>⟧.stack ⟦<PlainWorld<'c> as World>⟧.limit
+            ⟦<PlainWorld<'c> as World>⟧.fired (left + 1) spec.now started) }
     {
         let points = queues_for(alloc, spec, root)?;
         let transitions = transitions_of(alloc, root)?;
@@ -185,7 +187,9 @@ impl<'c> PlainWorld<'c> {
         statements: u32,
     ) -> Result<Started<PlainWorld<'c>>, AllocError>
         ensures { IfOk result
-            (λ started. StartedAs ⟦<PlainWorld<'c> as World>⟧.speaks ⟦<PlainWorld<'c> as World>⟧.stack ⟦<PlainWorld<'c> as World>⟧.limit ⟦<PlainWorld<'c> as World>⟧.fired statements checked.now started) }
+            (λ started. StartedAs ⟦<PlainWorld<'c> as World>⟧.speaks
+            ⟦<PlainWorld<'c> as World>⟧.stack ⟦<PlainWorld<'c> as World>⟧.limit
+            ⟦<PlainWorld<'c> as World>⟧.fired statements checked.now started) }
     {
         PlainWorld::of_spec(alloc, checked.spec(), checked.ports(), statements)
     }
@@ -200,7 +204,9 @@ impl<'c> PlainWorld<'c> {
         requires ports { ports.now ≡ ports_of spec.now }
         requires small { IsSmall spec.now }
         ensures { IfOk result
-            (λ started. StartedAs ⟦<PlainWorld<'c> as World>⟧.speaks ⟦<PlainWorld<'c> as World>⟧.stack ⟦<PlainWorld<'c> as World>⟧.limit ⟦<PlainWorld<'c> as World>⟧.fired statements spec.now started) }
+            (λ started. StartedAs ⟦<PlainWorld<'c> as World>⟧.speaks
+            ⟦<PlainWorld<'c> as World>⟧.stack ⟦<PlainWorld<'c> as World>⟧.limit
+            ⟦<PlainWorld<'c> as World>⟧.fired statements spec.now started) }
     {
         if statements == 0 {
             return Ok(Started::Limit);

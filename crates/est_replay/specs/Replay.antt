@@ -103,13 +103,27 @@ IsAnswer c moves claim (Rejected at w) = IsRejected c moves claim at w
 
 -- what a replay on a world is a replay of
 abbrev pub setup_of : ℕ → ℕ → List Event → Stack → List Event → Spec → Setup
-setup_of limit silent trace stack outs spec = record
-    { spec = spec; limit = limit; silent = silent; trace = trace; start = stack.now; start_outs = outs }
+setup_of limit silent trace stack outs spec = record {
+  spec = spec;
+  limit = limit;
+  silent = silent;
+  trace = trace;
+  start = stack.now;
+  start_outs = outs;
+}
 
 -- the answer from what comes of the start
 abbrev pub AnswersFrom : ℕ → ℕ → Spec → List Event → List Move → ℕ → Replayed → Outcome → Type 0
 AnswersFrom limit silent spec trace moves claim answer (Done s outs) = IsAnswer
-    (record { spec = spec; limit = limit; silent = silent; trace = trace; start = s; start_outs = outs }) moves claim answer
+    (record {
+      spec = spec;
+      limit = limit;
+      silent = silent;
+      trace = trace;
+      start = s;
+      start_outs = outs;
+    })
+    moves claim answer
 AnswersFrom limit silent spec trace moves claim answer (Fault fault) =
     answer ≡ Rejected 0 (why.NoStart fault)
 AnswersFrom limit silent spec trace moves claim answer Limit = answer ≡ Rejected 0 why.Limit

@@ -24,7 +24,8 @@ pub fn replay(
     requires allowed { IsAllowedTrace checked.now trace.now }
     requires few { length explanation.now.moves < 2 ^ 32 - 1 }
     ensures { IfOk result
-        (λ answer. IsReplay limits.now.statements limits.now.silent checked.now trace.now explanation.now.moves explanation.now.claim answer) }
+        (λ answer. IsReplay limits.now.statements limits.now.silent checked.now trace.now
+        explanation.now.moves explanation.now.claim answer) }
 {
     let started = PlainWorld::start(alloc, checked, limits.statements)?;
     match started {

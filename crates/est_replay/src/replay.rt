@@ -2,7 +2,7 @@
 ghost use Rattle.std.specs.Prelude.{◌≡◌, ℕ, ◌+◌, ◌-◌, ◌<◌, ◌≤◌, ◌^◌, ◌↔◌, ◌⊎◌, ◌++◌, List, length, take, IsTrue, IfOk};
 ghost use Rattle.est_syntax.specs.declared.specification.Spec.{Spec};
 ghost use Rattle.est_syntax.specs.Least.{IsIn};
-ghost use Rattle.est_meaning.specs.Allowed.{IsAllowedTrace};
+ghost use Rattle.est_meaning.specs.Allowed.{IsAllowedTrace, most_events};
 ghost use Rattle.est_meaning.specs.Blocks.{Done};
 ghost use Rattle.est_meaning.specs.Run.{Setup, IsPrefix};
 ghost use Rattle.est_meaning.specs.Stack.{Keeps};
@@ -134,7 +134,8 @@ fn take_next<W: World>(
 /// Goes on after a firing with these events.
 fn land(expected: &Expected<'_>, at: Standing, outs: &[Event]) -> Moved
     requires { at.events ≤ length expected.now.trace.now }
-    ensures { HasLanded expected.now.trace.now expected.now.silent expected.now.asked at outs.now result }
+    ensures { HasLanded expected.now.trace.now expected.now.silent expected.now.asked at outs.now
+        result }
 {
     if !agree(expected.trace, at.events, outs, expected.asked) {
         return Moved::Failed(Why::WrongOutput);
@@ -226,7 +227,7 @@ fn make<W: World>(
 
 /// Whether so many events meet the claim, if those up to the claim agree with the trace.
 fn is_met(claim: u32, trace_len: usize, events: usize) -> bool
-    requires { trace_len ≤ 200000 }
+    requires { trace_len ≤ most_events }
     ensures { IsTrue result ↔ IsMet claim trace_len events }
 {
     let claim = claim as usize;
@@ -239,7 +240,7 @@ fn is_met(claim: u32, trace_len: usize, events: usize) -> bool
 
 /// What is answered after the last move, with so many events.
 fn end(replaying: &Replaying<'_>, events: usize) -> Replayed
-    requires short { length replaying.now.trace.now ≤ 200000 }
+    requires short { length replaying.now.trace.now ≤ most_events }
     requires few { length replaying.now.moves.now < 2 ^ 32 - 1 }
     ensures { IsEnding replaying.now.claim (length replaying.now.trace.now)
         (length replaying.now.moves.now) events result }
@@ -266,7 +267,7 @@ fn replay_moves<W: World>(
     ghost setup: { Spec → Setup }
     requires room { W.fired world.old ≤ 2 ^ 63 }
     requires few { length replaying.now.moves.now < 2 ^ 32 - 1 }
-    requires short { length replaying.now.trace.now ≤ 200000 }
+    requires short { length replaying.now.trace.now ≤ most_events }
     requires start { (spec : Spec) → W.speaks world.old spec
         → IsSetup (setup spec) spec (W.limit world.old) replaying.now.silent replaying.now.trace.now
         (W.stack world.old spec) start_outs.now }
@@ -331,7 +332,8 @@ pub fn replay_in<W: World>(
     ensures answer { IfOk result
         (λ answer. (spec : Spec) → W.speaks world.old spec
         → IsAnswer (setup_of (W.limit world.old) replaying.now.silent replaying.now.trace.now
-        (W.stack world.old spec) start_outs.now spec) replaying.now.moves.now replaying.now.claim answer) }
+        (W.stack world.old spec) start_outs.now spec) replaying.now.moves.now replaying.now.claim
+        answer) }
 {
     replay_moves(alloc, world, start_outs, replaying)
 }

@@ -2,6 +2,7 @@
 
 ghost use Rattle.std.specs.Prelude.{◌≤◌, length};
 ghost use Rattle.est_lexer.specs.Places.{text_of, tokens_of};
+ghost use Rattle.est_check.specs.Small.{most_parts};
 ghost use Rattle.est_specification.specs.Reading.{ReadsSpecification};
 
 use crate::error::SpecificationError;
@@ -12,7 +13,7 @@ use std::alloc::Global;
 
 /// The specification that the tokens are, which breaks no rule, or why they are none.
 pub fn read_specification(alloc: Global, tokens: &Tokens) -> Result<Checked, SpecificationError>
-    requires few { length (tokens_of tokens.now) ≤ 1048576 }
+    requires few { length (tokens_of tokens.now) ≤ most_parts }
     ensures { ReadsSpecification (text_of tokens.now) (tokens_of tokens.now) result }
 {
     let spec = parse(alloc, tokens)?;

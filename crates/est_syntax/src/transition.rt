@@ -15,8 +15,8 @@ pub enum Most {
     Never,
 }
 
-/// A clause of a transition (ISO 9074, clause). The place is that of its first token. Expressions stand
-/// in boxes, since most clauses have none and all are of one size.
+/// A clause of a transition (ISO 9074, clause). The place is that of its first token. Expressions
+/// stand in boxes, since most clauses have none and all are of one size.
 #[derive(Drop)]
 pub enum Clause {
     From {

@@ -17,6 +17,7 @@ use Rattle.est_language.specs.Places.{HasPartial, IsFirstBadPlace}
 use Rattle.est_productions.specs.Grammar.{specification as specification_rule}
 use Rattle.est_check.specs.Skeleton.{IsSkeleton}
 use Rattle.est_meaning.specs.declared.event.Event.{Event}
+use Rattle.est_meaning.specs.Allowed.{most_events}
 use Rattle.est_specification.specs.Reading.{IsSpecification, IsNoSpecification}
 use Rattle.est_specification.specs.declared.error.SpecificationError.{SpecificationError}
 use Rattle.est_specification.specs.declared.error.SpecificationError.TheVariants as specification
@@ -205,9 +206,9 @@ module _ (spec : Spec) (text : List ℕ) (tokens : List Token) where
   traces_alike (trace.TooMany at) (trace.TooMany at') s s' place place' why why' x e y f =
       (e.0 ∙ sym f.0, e.1 ∙ ap (λ n. Some n) (at_most_one_bad_place _ _ _ _ at at' x.0 y.0) ∙ sym f.1, e.2 ∙ sym f.2)
   traces_alike (trace.BadToken at) (trace.TooMany at') s s' place place' why why' x e y f =
-      absurd (x.1 (subst (λ n. IsFull (ports_of spec) 200000 text tokens n) (at_most_one_bad_place _ _ _ _ at' at y.0 x.0) y.1))
+      absurd (x.1 (subst (λ n. IsFull (ports_of spec) most_events text tokens n) (at_most_one_bad_place _ _ _ _ at' at y.0 x.0) y.1))
   traces_alike (trace.TooMany at) (trace.BadToken at') s s' place place' why why' x e y f =
-      absurd (y.1 (subst (λ n. IsFull (ports_of spec) 200000 text tokens n) (at_most_one_bad_place _ _ _ _ at at' x.0 y.0) x.1))
+      absurd (y.1 (subst (λ n. IsFull (ports_of spec) most_events text tokens n) (at_most_one_bad_place _ _ _ _ at at' x.0 y.0) x.1))
   traces_alike (trace.Memory error) b s s' place place' why why' x e y f = absurd e
   traces_alike a (trace.Memory error) s s' place place' why why' x e y f = absurd f
 

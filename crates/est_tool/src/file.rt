@@ -2,6 +2,8 @@
 ghost use Rattle.std.specs.Prelude.{◌≡◌};
 ghost use Rattle.est_tool.specs.Files.{limit_of, word_of};
 
+use est_lexer::tokens::MOST_BYTES;
+
 /// A file that a call reads.
 #[derive(Clone, Copy, PartialEq, Eq)]
 pub enum File {
@@ -29,7 +31,7 @@ impl File {
         match self {
             File::Specification => 1_048_576,
             File::Trace => 8_388_608,
-            File::Explanation => 134_217_728,
+            File::Explanation => MOST_BYTES as u32,
         }
     }
 }

@@ -7,6 +7,7 @@ use Rattle.est_language.specs.Places.{HasTree, IsFirstBadPlace}
 use Rattle.est_language.specs.Shown.{Shows, node}
 use Rattle.est_syntax.specs.declared.ports.Port.{Port}
 use Rattle.est_meaning.specs.declared.event.Event.{Event}
+use Rattle.est_meaning.specs.Allowed.{most_events}
 use Rattle.est_reader.specs.Tests.{Test, Kept, said, number, holds, language}
 use Rattle.est_reader.specs.Going.{Shape}
 use Rattle.est_trace.specs.declared.error.TraceError.{TraceError}
@@ -27,7 +28,7 @@ IsTraceOfAtMost most ports text tokens events =
 
 -- the tokens of the text are a text of the trace
 abbrev pub IsTraceText : List Port → List ℕ → List Token → List Event → Type 0
-IsTraceText ports text tokens events = IsTraceOfAtMost 200000 ports text tokens events
+IsTraceText ports text tokens events = IsTraceOfAtMost most_events ports text tokens events
 
 -- the tokens of the text are a text of the trace, and of no other
 abbrev pub IsOnlyTraceText : List Port → List ℕ → List Token → List Event → Type 0
@@ -57,15 +58,16 @@ IsFull ports most text tokens place =
 
 -- the first bad place of the tokens as a trace
 abbrev pub IsBadPlace : List Port → List ℕ → List Token → ℕ → Type 0
-IsBadPlace ports text tokens place = IsFirstBadPlace (traces text) (trace ports) 200000 tokens place
+IsBadPlace ports text tokens place =
+    IsFirstBadPlace (traces text) (trace ports) most_events tokens place
 
 -- what an error says of the tokens: their first bad place, and whether it is an event too many; out
 -- of memory says nothing
 abbrev pub IsTraceRefusal : List Port → List ℕ → List Token → TraceError → Type 0
 IsTraceRefusal ports text tokens (BadToken place) =
-    IsBadPlace ports text tokens place × (IsFull ports 200000 text tokens place → ⊥)
+    IsBadPlace ports text tokens place × (IsFull ports most_events text tokens place → ⊥)
 IsTraceRefusal ports text tokens (TooMany place) =
-    IsBadPlace ports text tokens place × IsFull ports 200000 text tokens place
+    IsBadPlace ports text tokens place × IsFull ports most_events text tokens place
 IsTraceRefusal ports text tokens (Memory error) = Unit {0}
 
 -- what a reader of traces answers: the one trace whose text the tokens are, or why they are none

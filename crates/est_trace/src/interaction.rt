@@ -3,6 +3,7 @@
 ghost use Rattle.std.specs.Prelude.{◌≤◌, length};
 ghost use Rattle.est_language.specs.Grammar.{one_of};
 ghost use Rattle.est_language.specs.Shown.{node};
+ghost use Rattle.est_check.specs.Small.{most_parts};
 ghost use Rattle.est_reader.specs.Going.{Goes};
 ghost use Rattle.est_trace.specs.Grammar.{signal as a_signal, port as a_port};
 ghost use Rattle.est_trace.specs.Nodes.{an_interaction, tracing};
@@ -54,7 +55,7 @@ fn port(reader: &mut Reader, directory: &Directory, hints: &mut Hints, direction
 // The name of a signal that passes in this direction.
 fn signal(reader: &mut Reader, signals: &[Signal], hints: &mut Hints, direction: Direction) -> u32
     requires different { HaveDifferentNames signal_name signals.now }
-    requires few { length signals.now ≤ 1048576 }
+    requires few { length signals.now ≤ most_parts }
     ensures { Chooses (a_signal direction) signals.now reader.old result reader.new }
 {
     let found = find_signal(reader, signals, hints, direction);

@@ -2,6 +2,7 @@
 
 ghost use Rattle.std.specs.Prelude.{◌≡◌, ◌≤◌, length, slice_get, IfOk};
 ghost use Rattle.est_reader.specs.Moving.{Still};
+ghost use Rattle.est_check.specs.Small.{most_parts};
 ghost use Rattle.est_trace.specs.Grammar.{signal as a_signal, port as a_port};
 ghost use Rattle.est_trace.specs.Skeletons.{ArePlain, HaveDifferentNames};
 ghost use Rattle.est_trace.specs.Directories.{signal_name, IsDirectory};
@@ -84,7 +85,7 @@ pub fn find_signal(
     direction: Direction,
 ) -> Option<u32>
     requires different { HaveDifferentNames signal_name signals.now }
-    requires few { length signals.now ≤ 1048576 }
+    requires few { length signals.now ≤ most_parts }
     ensures still { Still reader.old reader.new }
     ensures found { Finds (a_signal direction) signals.now reader.old result reader.new }
 {
