@@ -2,7 +2,7 @@
 use Rattle.std.specs.Prelude.{if◌then◌else◌, ◌&&◌, ◌||◌, is_some}
 use Rattle.std.proofs.Common.{◌≡◌, refl, sym, ap, ◌∙◌, subst, ℕ, Bool, true, false, List, [], ◌∷◌, ◌++◌, Option, Some, None, append_assoc}
 use Rattle.std.proofs.lemmas.List.{append-nil}
-use Rattle.std.specs.Option.{option_map, option_or}
+use Rattle.std.specs.Option.{option_or}
 use Rattle.est_syntax.specs.declared.name.Used.{Used}
 use Rattle.est_syntax.specs.declared.rule.Fault.{Fault}
 use Rattle.est_syntax.specs.declared.rule.Rule.TheVariants.{DeclaredTwice}
@@ -18,12 +18,12 @@ use Rattle.est_syntax.specs.Faults.{names_of, spellings_of, is_among, twice_faul
 use Rattle.est_check.proofs.LeastLaws.{least_append}
 use Rattle.est_check.specs.declared.names.Entry.{Entry}
 use Rattle.est_check.specs.declared.names.Senders.{Senders}
-use Rattle.est_check.specs.declared.names.Role.{Role}
-use Rattle.est_check.specs.declared.names.Role.TheVariants.{First, Second}
+use Rattle.est_syntax.specs.declared.channel.Role.{Role}
+use Rattle.est_syntax.specs.declared.channel.Role.TheVariants.{First, Second}
 use Rattle.est_check.specs.declared.names.Entity.{Entity}
 use Rattle.est_check.specs.declared.names.Entity.TheVariants as entities
 use Rattle.est_check.specs.declared.table.Members.{Members}
-use Rattle.est_check.specs.inside.Entries.{is_second, Entries, Declared, entry_of, senders, senders_from, with_role, enter_all}
+use Rattle.est_check.specs.inside.Entries.{Entries, Declared, entry_of, senders, senders_from, with_role, enter_all}
 use Rattle.est_check.specs.inside.Entries as entries
 use Rattle.est_check.specs.inside.Declarations.{other_role_entries, role_entries, interaction_entries, by_entries}
 use Rattle.est_check.specs.inside.Tables.{member_entry, look_up_member, sort_found, entry_found, members_environment}
@@ -66,9 +66,9 @@ agree_front R front ds h n = among_region n ds ∙ both_some R (entry_of front n
 
 -- roles and interactions
 abbrev pub MemberStands : Channel → Entity → Sort → Type 0
-MemberStands c (entities.Role r) (role other) = is_second r ≡ other
+MemberStands c (entities.Role r) (role other) = r ≡ other
 MemberStands c (entities.Interaction who) (interaction part i) =
-    who ≡ record { known = are_roles c part.roles; first = has_role c false part.roles; second = has_role c true part.roles }
+    who ≡ record { known = are_roles c part.roles; first = has_role c First part.roles; second = has_role c Second part.roles }
 MemberStands c _ _ = ⊥
 
 abbrev pub MemberFor : Channel → Entry → Declaration → Type 0
@@ -86,12 +86,12 @@ roles_alike c (u ∷ us) = (refl, refl, other_roles_alike c us)
 pub roles_table : (least : Option Fault) (us : List Used) (n : List ℕ) → entry_of (enter_all [] ([], least) (role_entries us)).0 n ≡ first (role_entries us) n
 roles_table least us n = whole-enter_all [] ([], least) (role_entries us) n
 
-pub role_stands : (c : Channel) (s : Entity) (t : Sort) → MemberStands c s t → option_map is_second (entries.role_in s) ≡ names.role_in t
+pub role_stands : (c : Channel) (s : Entity) (t : Sort) → MemberStands c s t → entries.role_in s ≡ names.role_in t
 role_stands c (entities.Role r) (role other) h = ap Some h
 role_stands c (entities.Interaction who) (interaction part i) h = refl
 role_stands c _ _ h = absurd h
 
-pub role_both : (c : Channel) (o : Option Entry) (p : Option Declaration) → Both (MemberFor c) o p → option_map is_second (entries.role_by o) ≡ names.role_by p
+pub role_both : (c : Channel) (o : Option Entry) (p : Option Declaration) → Both (MemberFor c) o p → entries.role_by o ≡ names.role_by p
 role_both c None None h = refl
 role_both c None (Some d) h = absurd h
 role_both c (Some e) None h = absurd h
@@ -118,7 +118,7 @@ role_or (Some d) q h = refl
 -- a table has the roles of the channel
 pub roles_for : (c : Channel) (least : Option Fault) → RolesFor c (enter_all [] ([], least) (role_entries c.roles)).0
 roles_for c least u =
-    ap (λ o. option_map is_second (entries.role_by o)) (roles_table least c.roles (spelled u))
+    ap entries.role_by (roles_table least c.roles (spelled u))
     ∙ role_both c (first (role_entries c.roles) (spelled u)) (declared_in (roles_region c.roles) (spelled u)) (first_alike (MemberFor c) (role_entries c.roles) (roles_region c.roles) (spelled u) (roles_alike c c.roles))
     ∙ sym (role_or (declared_in (roles_region c.roles) (spelled u)) (declared_in (by_region c.by) (spelled u)) (no_role c.by (spelled u)))
     ∙ ap names.role_by (sym (declared_in-append (roles_region c.roles) (by_region c.by) (spelled u)))
@@ -145,21 +145,21 @@ or_true false = refl
 
 pub merged_role : (a : Senders) (o : Option Role) (known one other : Bool)
     → merged (with_role a o) known one other
-    ≡ merged a (is_known (option_map is_second o) && known) (is_role false (option_map is_second o) || one) (is_role true (option_map is_second o) || other)
+    ≡ merged a (is_known o && known) (is_role First o || one) (is_role Second o || other)
 merged_role a None known one other = λ i. record { known = sym (and_false a.known) i; first = a.first || one; second = a.second || other }
 merged_role a (Some Second) known one other = λ i. record { known = a.known && known; first = a.first || one; second = sym (or_true a.second) i }
 merged_role a (Some First) known one other = λ i. record { known = a.known && known; first = sym (or_true a.first) i; second = a.second || other }
 
 pub senders_for : (c : Channel) (front : Entries) → RolesFor c front → (a : Senders) (us : List Used)
-    → senders_from front a us ≡ merged a (are_roles c us) (has_role c false us) (has_role c true us)
+    → senders_from front a us ≡ merged a (are_roles c us) (has_role c First us) (has_role c Second us)
 senders_for c front h a [] = λ i. record { known = sym (and_true a.known) i; first = sym (or_false a.first) i; second = sym (or_false a.second) i }
 senders_for c front h a (u ∷ us) =
     senders_for c front h (with_role a (entries.role_by (entry_of front (spelled u)))) us
-    ∙ merged_role a (entries.role_by (entry_of front (spelled u))) (are_roles c us) (has_role c false us) (has_role c true us)
-    ∙ ap (λ o. merged a (is_known o && are_roles c us) (is_role false o || has_role c false us) (is_role true o || has_role c true us)) (h u)
+    ∙ merged_role a (entries.role_by (entry_of front (spelled u))) (are_roles c us) (has_role c First us) (has_role c Second us)
+    ∙ ap (λ o. merged a (is_known o && are_roles c us) (is_role First o || has_role c First us) (is_role Second o || has_role c Second us)) (h u)
 
 pub interactions_alike : (c : Channel) (part : ByPart) (who : Senders) (is : List InteractionDef)
-    → who ≡ record { known = are_roles c part.roles; first = has_role c false part.roles; second = has_role c true part.roles }
+    → who ≡ record { known = are_roles c part.roles; first = has_role c First part.roles; second = has_role c Second part.roles }
     → Alike (MemberFor c) (interaction_entries who is) (interactions_region part is)
 interactions_alike c part who [] h = tt
 interactions_alike c part who (i ∷ is) h = (refl, h, interactions_alike c part who is h)

@@ -1,25 +1,23 @@
 -- The environments by the tables are those of the scopes.
-use Rattle.std.specs.Prelude.{not}
-use Rattle.std.proofs.Common.{◌≡◌, refl, ap, ◌∙◌, subst, ℕ, true, false, List, [], ◌∷◌, Option, Some, None}
+use Rattle.std.proofs.Common.{◌≡◌, refl, ap, ◌∙◌, subst, ℕ, List, [], ◌∷◌, Option, Some, None}
 use Rattle.est_syntax.specs.declared.name.Used.{Used}
 use Rattle.est_syntax.specs.declared.channel.Channel.{Channel}
 use Rattle.est_syntax.specs.declared.header.Header.{Header}
 use Rattle.est_syntax.specs.declared.header.Point.{Point}
 use Rattle.est_syntax.specs.declared.body.Part.{Part}
-use Rattle.est_syntax.specs.Names.{spelled, Side, Sort, role, interaction, Declaration, Region, Scope, Meaning, is_predeclared, declared_in, declaration, declared_together, channel_region, role_named, side_of, meaning, points_region, header_names, header_region, header_by, channel_by, found, in_force}
+use Rattle.est_syntax.specs.Names.{spelled, other_role, Side, Sort, role, interaction, Declaration, Region, Scope, Meaning, is_predeclared, declared_in, declaration, declared_together, channel_region, role_named, side_of, meaning, points_region, header_names, header_region, header_by, channel_by, found, in_force}
 use Rattle.est_syntax.specs.Names as names
 use Rattle.est_syntax.specs.Environment.{Environment, are_roles, has_role, environment}
 use Rattle.est_syntax.specs.Environment as environments
 use Rattle.est_check.specs.declared.names.Entry.{Entry}
-use Rattle.std.specs.Option.{option_map}
-use Rattle.est_check.specs.declared.names.Role.{Role}
-use Rattle.est_check.specs.declared.names.Role.TheVariants.{First, Second}
+use Rattle.est_syntax.specs.declared.channel.Role.{Role}
+use Rattle.est_syntax.specs.declared.channel.Role.TheVariants.{First, Second}
 use Rattle.est_check.specs.declared.names.PointSide.{PointSide}
 use Rattle.est_check.specs.declared.names.Entity.{Entity}
 use Rattle.est_check.specs.declared.names.Entity.TheVariants as entities
 use Rattle.est_check.specs.declared.table.Table.{Table}
 use Rattle.est_check.specs.declared.table.BodyNames.{BodyNames}
-use Rattle.est_check.specs.inside.Entries.{is_second, other, may_send, entry, entry_of, role_by}
+use Rattle.est_check.specs.inside.Entries.{may_send, entry, entry_of, role_by}
 use Rattle.est_check.specs.inside.Declarations.{together_entries}
 use Rattle.est_check.specs.inside.Tables.{member_entry, members_at, names_at, header_entry, own_entry, look_up, channel_number, point_side, sort_found, member_sort_at, table_environment}
 use Rattle.est_check.specs.inside.Tables as tables
@@ -39,23 +37,19 @@ abbrev pub HeadersFor : List Part → Scope → Table → Type 0
 HeadersFor all scope t = (k : ℕ) (h : Header) → HeaderFor all k h → (n : List ℕ) → Both (EntryFor all) (entry_of (names_at t.headers k) n) (declared_in (points_region scope h.points) n)
 
 -- what an interaction point lets pass
-pub may_send_for : (c : Channel) (us : List Used) (r : Role) → may_send r record { known = are_roles c us; first = has_role c false us; second = has_role c true us } ≡ has_role c (is_second r) us
+pub may_send_for : (c : Channel) (us : List Used) (r : Role) → may_send r record { known = are_roles c us; first = has_role c First us; second = has_role c Second us } ≡ has_role c r us
 may_send_for c us First = refl
 may_send_for c us Second = refl
 
-pub other_second : (r : Role) → is_second (other r) ≡ not (is_second r)
-other_second First = refl
-other_second Second = refl
-
-pub passage_stands : (side : Side) (r : Role) (s : Entity) (t : Sort) → is_second r ≡ side.is_second → MemberStands side.channel s t → tables.passage_in r s ≡ environments.passage_in side t
+pub passage_stands : (side : Side) (r : Role) (s : Entity) (t : Sort) → r ≡ side.role → MemberStands side.channel s t → tables.passage_in r s ≡ environments.passage_in side t
 passage_stands side r (entities.Role a) (role b) e h = refl
 passage_stands side r (entities.Interaction who) (interaction p i) e h =
-    (λ j. environments.passage_with (h j).known (may_send r (h j)) (may_send (other r) (h j)))
-    ∙ (λ j. environments.passage_with (are_roles side.channel p.roles) (may_send_for side.channel p.roles r j) (may_send_for side.channel p.roles (other r) j))
-    ∙ (λ j. environments.passage_with (are_roles side.channel p.roles) (has_role side.channel (e j) p.roles) (has_role side.channel ((other_second r ∙ ap not e) j) p.roles))
+    (λ j. environments.passage_with (h j).known (may_send r (h j)) (may_send (other_role r) (h j)))
+    ∙ (λ j. environments.passage_with (are_roles side.channel p.roles) (may_send_for side.channel p.roles r j) (may_send_for side.channel p.roles (other_role r) j))
+    ∙ (λ j. environments.passage_with (are_roles side.channel p.roles) (has_role side.channel (e j) p.roles) (has_role side.channel (other_role (e j)) p.roles))
 passage_stands side r _ _ e h = absurd h
 
-pub passage_both : (side : Side) (r : Role) (o : Option Entry) (p : Option Declaration) → is_second r ≡ side.is_second → Both (MemberFor side.channel) o p → tables.passage_by r o ≡ environments.passage_by side p
+pub passage_both : (side : Side) (r : Role) (o : Option Entry) (p : Option Declaration) → r ≡ side.role → Both (MemberFor side.channel) o p → tables.passage_by r o ≡ environments.passage_by side p
 passage_both side r None None e h = refl
 passage_both side r None (Some d) e h = absurd h
 passage_both side r (Some x) None e h = absurd h
@@ -94,7 +88,7 @@ pub environment_outside : (all : List Part) (r : Region) (t : Table) → OuterFo
 environment_outside all r t outer channels = environment_is all t outside (alone r) channels (means_outside all r t outer)
 
 -- sides
-pub side_with_for : (all : List Part) (k : ℕ) (c : Channel) (o : Option Role) → ChannelFor all k c → SideFor all (least_faults.side_with k o) (names.side_with c (option_map is_second o))
+pub side_with_for : (all : List Part) (k : ℕ) (c : Channel) (o : Option Role) → ChannelFor all k c → SideFor all (least_faults.side_with k o) (names.side_with c o)
 side_with_for all k c None h = tt
 side_with_for all k c (Some r) h = (h, refl)
 

@@ -26,12 +26,12 @@ use Rattle.est_syntax.specs.Breaks.{outermost, outside, inside, IsGood, modvar_b
 use Rattle.est_syntax.specs.Ports.{by_signals, signals_of, header_ports, header_of_variable, header_started, ports_of}
 use Rattle.est_syntax.proofs.Members.{in_first, in_second}
 use Rattle.std.specs.Option.{unwrap_or}
-use Rattle.est_check.specs.declared.names.Role.{Role}
-use Rattle.est_check.specs.declared.names.Role.TheVariants.{First, Second}
+use Rattle.est_syntax.specs.declared.channel.Role.{Role}
+use Rattle.est_syntax.specs.declared.channel.Role.TheVariants.{First, Second}
 use Rattle.est_check.specs.declared.names.PointSide.{PointSide}
 use Rattle.est_check.specs.declared.table.BodyNames.{BodyNames}
 use Rattle.est_check.specs.declared.table.Table.{Table}
-use Rattle.est_check.specs.inside.Entries.{is_second, may_send, Entries, Declared, senders, enter_all}
+use Rattle.est_check.specs.inside.Entries.{may_send, Entries, Declared, senders, enter_all}
 use Rattle.est_check.specs.inside.Declarations.{parts_entries}
 use Rattle.est_check.specs.inside.Tables.{no_members, members_at}
 use Rattle.est_check.specs.inside.LeastFaults as least_faults
@@ -69,7 +69,7 @@ part_roles_at ps k _ h = tt
 
 -- who may send by the table of a channel may do so by the channel
 pub senders_may : (c : Channel) (roles : Entries) → RolesFor c roles → (r : Role) (us : List Used)
-    → may_send r (senders roles us) ≡ has_role c (is_second r) us
+    → may_send r (senders roles us) ≡ has_role c r us
 senders_may c roles h r us =
     ap (may_send r) (senders_for c roles h record { known = true; first = false; second = false } us)
     ∙ may_send_for c us r
@@ -88,12 +88,12 @@ sides_at Second ps k = refl
 
 -- the signals of a side
 pub side_signals_are : (ps : List Part) (q : PointSide) (s : Side)
-    → slice_get ps q.channel ≡ Some (part.Channel s.channel) → is_second q.role ≡ s.is_second
+    → slice_get ps q.channel ≡ Some (part.Channel s.channel) → q.role ≡ s.role
     → get_or (signals_at (sides_of ps) q.role) q.channel [] ≡ by_signals s s.channel.by
 side_signals_are ps q s h e =
     sides_at q.role ps q.channel
     ∙ role_signals_at q.role ps q.channel s.channel h
-    ∙ ap (λ b. by_signals record { channel = s.channel; is_second = b } s.channel.by) e
+    ∙ ap (λ r. by_signals record { channel = s.channel; role = r } s.channel.by) e
 
 -- the side of an interaction point of a skeleton
 pub side_is : (s : Spec) → IsSkeleton s → (p : Point)

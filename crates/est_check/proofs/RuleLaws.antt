@@ -24,6 +24,8 @@ use Rattle.est_syntax.specs.declared.body.Body.{Body, out-Body}
 use Rattle.est_syntax.specs.declared.body.Part.TheVariants as part
 use Rattle.est_syntax.specs.declared.specification.Spec.{Spec}
 use Rattle.est_syntax.specs.Least.{IsIn}
+use Rattle.est_syntax.specs.declared.ports.Direction.{Direction}
+use Rattle.est_syntax.specs.declared.ports.Direction.TheVariants.{Sends, Receives}
 use Rattle.est_syntax.specs.Names.{Declaration, Region, Scope, is_predeclared, Meaning, nothing, unseen, predeclared, seen, meaning, meaning_by, in_force, declared_in, is_name, spelled, is_shared, declared_together, channel_region, header_region, parts_region, points_region, body_scope, spec_scope}
 use Rattle.est_syntax.specs.Names as names
 use Rattle.est_syntax.specs.Environment.{Environment, Passage, missing, no_interaction, unclear, passes, environment, channel_environment, sort_by, sort_declared, role_sort, name_sort}
@@ -137,26 +139,26 @@ rules_modvars r (m ∷ ms) =
     (rules_used sort.Header m.header.place ((environment (alone r)).sort_of m.header) (alone_sees r m.header tt)) (rules_modvars r ms)
 
 -- statements
-pub rules_direction : (sending : Bool) (place : ℕ) (sends receives : Bool) → AllRules (direction_faults sending place sends receives)
-rules_direction true place sends receives = rules_unless sends place rule.WrongDirection tt
-rules_direction false place sends receives = rules_unless receives place rule.WrongDirection tt
+pub rules_direction : (direction : Direction) (place : ℕ) (sends receives : Bool) → AllRules (direction_faults direction place sends receives)
+rules_direction Sends place sends receives = rules_unless sends place rule.WrongDirection tt
+rules_direction Receives place sends receives = rules_unless receives place rule.WrongDirection tt
 
-pub rules_passage : (sending : Bool) (place : ℕ) (o : Option Passage) → AllRules (passage_faults sending place o)
-rules_passage sending place None = tt
-rules_passage sending place (Some missing) = (tt, tt)
-rules_passage sending place (Some no_interaction) = (tt, tt)
-rules_passage sending place (Some unclear) = tt
-rules_passage sending place (Some (passes sends receives)) = rules_direction sending place sends receives
+pub rules_passage : (direction : Direction) (place : ℕ) (o : Option Passage) → AllRules (passage_faults direction place o)
+rules_passage direction place None = tt
+rules_passage direction place (Some missing) = (tt, tt)
+rules_passage direction place (Some no_interaction) = (tt, tt)
+rules_passage direction place (Some unclear) = tt
+rules_passage direction place (Some (passes sends receives)) = rules_direction direction place sends receives
 
-pub rules_interaction : (P : Used → Type 0) (env : Environment) (sending : Bool) (at u : Used) → Sees P env → P at → AllRules (interaction_faults env sending at u)
-rules_interaction P env sending at u sees h =
-    rules-append (use_faults env sort.Point at) (passage_faults sending u.place (env.passage_of at u))
-    (rules_used sort.Point at.place (env.sort_of at) (sees at h)) (rules_passage sending u.place (env.passage_of at u))
+pub rules_interaction : (P : Used → Type 0) (env : Environment) (direction : Direction) (at u : Used) → Sees P env → P at → AllRules (interaction_faults env direction at u)
+rules_interaction P env direction at u sees h =
+    rules-append (use_faults env sort.Point at) (passage_faults direction u.place (env.passage_of at u))
+    (rules_used sort.Point at.place (env.sort_of at) (sees at h)) (rules_passage direction u.place (env.passage_of at u))
 
 pub rules_sendings : (P : Used → Type 0) (env : Environment) (os : List Sending) → Sees P env → EachSending P os → AllRules (sendings_faults env os)
 rules_sendings P env [] sees h = tt
 rules_sendings P env (o ∷ os) sees h =
-    rules-append (interaction_faults env true o.at.name o.signal) (sendings_faults env os) (rules_interaction P env true o.at.name o.signal sees h.0) (rules_sendings P env os sees h.1)
+    rules-append (interaction_faults env Sends o.at.name o.signal) (sendings_faults env os) (rules_interaction P env Sends o.at.name o.signal sees h.0) (rules_sendings P env os sees h.1)
 
 pub rules_statement : (P : Used → Type 0) (env : Environment) (st : Statement) → Sees P env → InStatement P st → AllRules (statement_faults env st)
 rules_statement P env (statement.Empty place) sees h = tt
@@ -179,7 +181,7 @@ rules_state P env (Some u) sees h = rules_used sort.State u.place (env.sort_of u
 pub rules_clause : (P : Used → Type 0) (env : Environment) (c : Clause) → Sees P env → InClause P c → AllRules (clause_faults env c)
 rules_clause P env (clause.From states place) sees h = rules_uses P env sort.State states sees h
 rules_clause P env (clause.To o place) sees h = rules_state P env o sees h
-rules_clause P env (clause.When at signal place) sees h = rules_interaction P env false at.name signal sees h
+rules_clause P env (clause.When at signal place) sees h = rules_interaction P env Receives at.name signal sees h
 rules_clause P env _ sees h = tt
 
 pub rules_clauses : (P : Used → Type 0) (env : Environment) (cs : List Clause) → Sees P env → EachClause P cs → AllRules (clauses_faults env cs)

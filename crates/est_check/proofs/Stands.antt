@@ -14,7 +14,6 @@ use Rattle.est_syntax.specs.Environment.{are_roles, has_role}
 use Rattle.est_syntax.specs.Faults.{names_of}
 use Rattle.est_check.specs.declared.names.Entry.{Entry}
 use Rattle.est_check.specs.declared.names.PointSide.{PointSide}
-use Rattle.est_check.specs.inside.Entries.{is_second}
 use Rattle.est_check.specs.declared.names.Entity.{Entity}
 use Rattle.est_check.specs.declared.names.Entity.TheVariants as entities
 use Rattle.est_check.specs.declared.table.Found.{Found}
@@ -88,7 +87,7 @@ abbrev pub SideFor : List Part → Option PointSide → Option Side → Type 0
 SideFor all None None = Unit {0}
 SideFor all None (Some side) = ⊥
 SideFor all (Some q) None = ⊥
-SideFor all (Some q) (Some side) = (slice_get all q.channel ≡ Some (part.Channel side.channel)) × (is_second q.role ≡ side.is_second)
+SideFor all (Some q) (Some side) = (slice_get all q.channel ≡ Some (part.Channel side.channel)) × (q.role ≡ side.role)
 
 -- what a name of the specification or of a body stands for, where the parts of the specification have numbers
 abbrev pub StandsFor : List Part → Entity → Sort → Type 0

@@ -13,13 +13,12 @@ ghost use Rattle.est_check.specs.inside.Tables.{table_environment, members_envir
 
 use crate::least::Least;
 use crate::table::{BodyNames, Members, Table};
-use crate::uses::{
-    Direction, check_interaction, check_point_role, check_roles, check_use, check_uses,
-};
+use crate::uses::{check_interaction, check_point_role, check_roles, check_use, check_uses};
 use est_syntax::body::{Body, Part};
 use est_syntax::channel::ByPart;
 use est_syntax::header::{ModvarDef, Point};
 use est_syntax::name::Used;
+use est_syntax::ports::Direction;
 use est_syntax::rule::Rule;
 use est_syntax::sort::NameSort;
 use est_syntax::statement::{Sending, Statement};

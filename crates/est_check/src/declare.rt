@@ -13,9 +13,9 @@ ghost use Rattle.est_check.specs.inside.Declarations.{parts_entries, state_entri
 ghost use Rattle.est_check.specs.inside.Declarations.{section_entries, body_entries};
 
 use crate::least::Least;
-use crate::names::{Entity, Entry, Names, Role, Senders};
+use crate::names::{Entity, Entry, Names, Senders};
 use est_syntax::body::Part;
-use est_syntax::channel::{ByPart, Channel, InteractionDef};
+use est_syntax::channel::{ByPart, Channel, InteractionDef, Role};
 use est_syntax::header::{Header, ModvarDef, Point};
 use est_syntax::name::Used;
 use est_syntax::rule::Rule;

@@ -1,20 +1,14 @@
 //! The names of one region, in order of declaration.
 
-ghost use Rattle.std.specs.Prelude.{◌≡◌, [], ◌∷◌, ◌++◌, OnOk, IfOk, None};
-ghost use Rattle.est_check.specs.inside.Entries.{other, may_send, entry, entry_of};
+ghost use Rattle.std.specs.Prelude.{◌≡◌, [], ◌∷◌, ◌++◌, OnOk, None};
+ghost use Rattle.est_check.specs.inside.Entries.{may_send, entry, entry_of};
 
-use est_syntax::name::{Name, Used};
+use est_syntax::channel::Role;
+use est_syntax::name::Name;
 use est_syntax::rule::Rule;
 use indexmap::IndexMap;
 use std::alloc::{AllocError, Global};
 use std::marker::Model;
-
-/// A role of a channel.
-#[derive(Clone, Copy)]
-pub enum Role {
-    First,
-    Second,
-}
 
 /// Which roles of its channel may send an interaction, and whether the names of its `by` part are
 /// all roles.
@@ -50,18 +44,6 @@ pub enum Entity {
 pub struct Entry {
     pub last: u32,
     pub entity: Entity,
-}
-
-impl Role {
-    /// The other role of the channel.
-    pub fn other(self) -> Role
-        ensures { result ≡ other self }
-    {
-        match self {
-            Role::First => Role::Second,
-            Role::Second => Role::First,
-        }
-    }
 }
 
 impl Senders {

@@ -17,11 +17,11 @@ ghost use Rattle.est_check.specs.Counts.{body_count, group_count, transition_cou
 
 use crate::build::side_of;
 use crate::declare::senders;
-use crate::names::{Names, PointSide, Role};
+use crate::names::{Names, PointSide};
 use crate::table::{BodyNames, Table};
 use est_items::{Items, Shared};
 use est_syntax::body::Part;
-use est_syntax::channel::{ByPart, Channel};
+use est_syntax::channel::{ByPart, Channel, Role};
 use est_syntax::header::{Header, Point};
 use est_syntax::name::{Name, Used};
 use est_syntax::ports::{Port, Ports, SharedSignals, Signal, Signals};

@@ -3,18 +3,21 @@
 
 ghost use Rattle.std.specs.Prelude.{◌≡◌, Some};
 ghost use Rattle.est_check.specs.inside.Least.{least_with};
+ghost use Rattle.est_syntax.specs.Names.{other_role};
 ghost use Rattle.est_syntax.specs.Faults.{takes, used_as, use_faults, uses_faults};
 ghost use Rattle.est_syntax.specs.Faults.{direction_faults, passage_faults, interaction_faults};
 ghost use Rattle.est_syntax.specs.Faults.{role_faults};
-ghost use Rattle.est_check.specs.inside.Entries.{other, may_send};
-ghost use Rattle.est_check.specs.inside.Tables.{sort_found, is_sending, passage_by, passage_at};
+ghost use Rattle.est_check.specs.inside.Entries.{may_send};
+ghost use Rattle.est_check.specs.inside.Tables.{sort_found, passage_by, passage_at};
 ghost use Rattle.est_check.specs.inside.Tables.{member_sort_at, table_environment};
 ghost use Rattle.est_check.specs.inside.Tables.{members_environment};
 
 use crate::least::Least;
-use crate::names::{Entity, Entry, PointSide, Role, Senders};
+use crate::names::{Entity, Entry, PointSide, Senders};
 use crate::table::{BodyNames, Found, Members, Table, entry_found, member_of, name_sort};
+use est_syntax::channel::Role;
 use est_syntax::name::Used;
+use est_syntax::ports::Direction;
 use est_syntax::rule::Rule;
 use est_syntax::sort::NameSort;
 
@@ -96,17 +99,10 @@ pub fn check_point_role(table: &Table, channel: Option<usize>, used: &Used, leas
     }
 }
 
-/// What an interaction point does with an interaction.
-#[derive(Clone, Copy)]
-pub enum Direction {
-    Sends,
-    Receives,
-}
-
 /// Checks that an interaction point in this role may send an interaction, or receive it.
 fn check_direction(direction: Direction, place: u32, role: Role, who: Senders, least: &mut Least)
     ensures { least.new.at ≡ least_with least.old.at (direction_faults
-        (is_sending direction) place (may_send role who) (may_send (other role) who)) }
+        direction place (may_send role who) (may_send (other_role role) who)) }
 {
     let sender = match direction {
         Direction::Sends => role,
@@ -127,7 +123,7 @@ fn check_passage(
     least: &mut Least,
 )
     ensures { least.new.at ≡ least_with least.old.at
-        (passage_faults (is_sending direction) place (Some (passage_by role entry))) }
+        (passage_faults direction place (Some (passage_by role entry))) }
 {
     match entry {
         None => least.note(place, Rule::UnknownName),
@@ -149,7 +145,7 @@ fn check_passage_at(
     least: &mut Least,
 )
     ensures { least.new.at ≡ least_with least.old.at (passage_faults
-        (is_sending direction) used.now.place (passage_at table.now side used.now)) }
+        direction used.now.place (passage_at table.now side used.now)) }
 {
     if let Some(side) = side {
         let entry = member_of(table.channels.as_slice(), side.channel, &used.name);
@@ -167,7 +163,7 @@ pub fn check_interaction(
     least: &mut Least,
 )
     ensures { least.new.at ≡ least_with least.old.at (interaction_faults
-        (table_environment table.now body.now) (is_sending direction) at.now used.now) }
+        (table_environment table.now body.now) direction at.now used.now) }
 {
     check_use(table, body, NameSort::Point, at, least);
     check_passage_at(table, table.point_side(body, at), direction, used, least);

@@ -10,6 +10,7 @@ use Rattle.est_syntax.specs.declared.body.Part.{Part}
 use Rattle.est_syntax.specs.declared.body.Part.TheVariants as part
 use Rattle.est_syntax.specs.declared.specification.Spec.{Spec}
 use Rattle.est_syntax.specs.Least.{IsIn}
+use Rattle.est_syntax.specs.declared.channel.Role.{Role}
 use Rattle.est_syntax.specs.Names.{Sort, module_variable, state, Declaration, Region, Meaning, nothing, predeclared, seen, spelled, is_name, is_predeclared, declaration, declared_in, in_force, meaning, meaning_by, declared_together, modvars_region, states_region, part_region, parts_region, spec_scope, channel_by, header_by, Side, side_with, side_by, side_of, role_named}
 use Rattle.est_syntax.specs.Breaks.{body_by}
 use Rattle.est_syntax.proofs.Members.{into_either}
@@ -155,9 +156,9 @@ body_meant s u b e =
     (subst (λ p. IsIn p s.parts) is.0 found.2, subst (λ n. is_name (spelled u) (spelled n) ≡ true) is.1 found.5)
 
 -- the channel of a side is declared, where the interaction point stands at the outermost place
-side_with_is : (c : Channel) (r : Option Bool) (side : Side) → side_with c r ≡ Some side → Some c ≡ Some side.channel
+side_with_is : (c : Channel) (r : Option Role) (side : Side) → side_with c r ≡ Some side → Some c ≡ Some side.channel
 side_with_is c None side e = cc
-side_with_is c (Some second) side e = ap (λ (v : Side). Some v.channel) (some_same e)
+side_with_is c (Some r) side e = ap (λ (v : Side). Some v.channel) (some_same e)
 
 side_by_is : (o : Option Channel) (u : Used) (side : Side) → side_by o u ≡ Some side → o ≡ Some side.channel
 side_by_is None u side e = cc

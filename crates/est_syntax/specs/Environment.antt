@@ -1,10 +1,12 @@
 -- What the rules ask of the names in a scope.
-use Rattle.std.specs.Prelude.{Bool, true, false, not, ◌&&◌, ◌||◌, List, [], ◌∷◌, Option, Some, None, if◌then◌else◌}
+use Rattle.std.specs.Prelude.{Bool, true, false, ◌&&◌, ◌||◌, List, [], ◌∷◌, Option, Some, None, if◌then◌else◌}
 use Rattle.est_syntax.specs.declared.name.Used.{Used}
 use Rattle.est_syntax.specs.declared.sort.NameSort.{NameSort}
 use Rattle.est_syntax.specs.declared.sort.NameSort.TheVariants as sort
 use Rattle.est_syntax.specs.declared.channel.Channel.{Channel}
-use Rattle.est_syntax.specs.Names.{Sort, channel, header, body, module_variable, point, state, role, interaction, Side, Declaration, Scope, Meaning, nothing, unseen, predeclared, seen, meaning, declared_in, spelled, channel_region, channel_by, role_named}
+use Rattle.est_syntax.specs.declared.channel.Role.{Role}
+use Rattle.est_syntax.specs.declared.channel.Role.TheVariants.{First, Second}
+use Rattle.est_syntax.specs.Names.{Sort, channel, header, body, module_variable, point, state, role, interaction, Side, Declaration, Scope, Meaning, nothing, unseen, predeclared, seen, meaning, declared_in, spelled, channel_region, channel_by, role_named, other_role}
 
 -- an interaction named at an interaction point: its channel has no such name, has it as something
 -- else, does not say who sends it, or lets the point send and receive it so
@@ -30,7 +32,7 @@ name_sort (body b) = sort.Body
 name_sort (module_variable m) = sort.ModuleVariable
 name_sort (point p side) = sort.Point
 name_sort state = sort.State
-name_sort (role second) = sort.Role
+name_sort (role r) = sort.Role
 name_sort (interaction part i) = sort.Interaction
 
 -- the sort of what a name means; a name that is unknown, not seen or predeclared stays so
@@ -55,25 +57,25 @@ role_sort None u = None
 role_sort (Some c) u = Some (member_sort c u)
 
 -- whether a role was found
-abbrev pub is_known : Option Bool → Bool
+abbrev pub is_known : Option Role → Bool
 is_known None = false
-is_known (Some second) = true
+is_known (Some r) = true
 
 -- whether each of these names is a role of the channel
 abbrev pub are_roles : Channel → List Used → Bool
 are_roles c [] = true
 are_roles c (u ∷ us) = is_known (role_named c u) && are_roles c us
 
--- whether a role was found and is the one that is asked for, the second or the first
-abbrev pub is_role : Bool → Option Bool → Bool
-is_role second None = false
-is_role second (Some true) = second
-is_role second (Some false) = not second
+-- whether a role was found and is the one that is asked for
+abbrev pub is_role : Role → Option Role → Bool
+is_role First (Some First) = true
+is_role Second (Some Second) = true
+is_role _ _ = false
 
--- whether one of these names is the role of the channel that is asked for, the second or the first
-abbrev pub has_role : Channel → Bool → List Used → Bool
-has_role c second [] = false
-has_role c second (u ∷ us) = is_role second (role_named c u) || has_role c second us
+-- whether one of these names is this role of the channel
+abbrev pub has_role : Channel → Role → List Used → Bool
+has_role c r [] = false
+has_role c r (u ∷ us) = is_role r (role_named c u) || has_role c r us
 
 -- how an interaction passes that may be sent and received so: unclear where a role that sends it is
 -- unknown
@@ -85,8 +87,8 @@ passage_with known sends receives = if known then passes sends receives else unc
 abbrev pub passage_in : Side → Sort → Passage
 passage_in side (interaction part i) =
     passage_with (are_roles side.channel part.roles)
-    (has_role side.channel side.is_second part.roles)
-    (has_role side.channel (not side.is_second) part.roles)
+    (has_role side.channel side.role part.roles)
+    (has_role side.channel (other_role side.role) part.roles)
 passage_in side _ = no_interaction
 
 -- how a name passes at one side by its declaration in the channel: missing where there is none

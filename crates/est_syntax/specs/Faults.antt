@@ -24,6 +24,8 @@ use Rattle.est_syntax.specs.declared.body.Body.{Body, out-Body}
 use Rattle.est_syntax.specs.declared.body.Part.{Part}
 use Rattle.est_syntax.specs.declared.body.Part.TheVariants as part
 use Rattle.est_syntax.specs.declared.specification.Spec.{Spec}
+use Rattle.est_syntax.specs.declared.ports.Direction.{Direction}
+use Rattle.est_syntax.specs.declared.ports.Direction.TheVariants.{Sends, Receives}
 use Rattle.est_syntax.specs.Names.{Region, Scope, Meaning, nothing, unseen, predeclared, seen, spelled, is_name, channel_region, points_region, parts_region, header_region, body_scope, spec_scope}
 use Rattle.est_syntax.specs.Environment.{Environment, Passage, missing, no_interaction, unclear, passes, environment, channel_environment}
 
@@ -120,32 +122,33 @@ abbrev pub modvars_faults : Environment → List ModvarDef → List Fault
 modvars_faults env [] = []
 modvars_faults env (m ∷ ms) = use_faults env sort.Header m.header ++ modvars_faults env ms
 
--- an interaction that is to be sent, or else received, and whether each may be
-abbrev pub direction_faults : Bool → ℕ → Bool → Bool → List Fault
-direction_faults true place sends receives = if sends then [] else broken place rule.WrongDirection
-direction_faults false place sends receives =
+-- an interaction that is to pass in a direction, and whether it may be sent and received
+abbrev pub direction_faults : Direction → ℕ → Bool → Bool → List Fault
+direction_faults Sends place sends receives =
+    if sends then [] else broken place rule.WrongDirection
+direction_faults Receives place sends receives =
     if receives then [] else broken place rule.WrongDirection
 
--- an interaction that is sent, or else received, at an interaction point; only where the point has
--- a channel and a role
-abbrev pub passage_faults : Bool → ℕ → Option Passage → List Fault
-passage_faults sending place None = []
-passage_faults sending place (Some missing) = broken place rule.UnknownName
-passage_faults sending place (Some no_interaction) = broken place rule.WrongSort
-passage_faults sending place (Some unclear) = []
-passage_faults sending place (Some (passes sends receives)) =
-    direction_faults sending place sends receives
+-- an interaction that passes an interaction point in a direction; only where the point has a
+-- channel and a role
+abbrev pub passage_faults : Direction → ℕ → Option Passage → List Fault
+passage_faults direction place None = []
+passage_faults direction place (Some missing) = broken place rule.UnknownName
+passage_faults direction place (Some no_interaction) = broken place rule.WrongSort
+passage_faults direction place (Some unclear) = []
+passage_faults direction place (Some (passes sends receives)) =
+    direction_faults direction place sends receives
 
--- an interaction point and the interaction that is sent, or else received, there
-abbrev pub interaction_faults : Environment → Bool → Used → Used → List Fault
-interaction_faults env sending at u =
-    use_faults env sort.Point at ++ passage_faults sending u.place (env.passage_of at u)
+-- an interaction point and the interaction that passes there in a direction
+abbrev pub interaction_faults : Environment → Direction → Used → Used → List Fault
+interaction_faults env direction at u =
+    use_faults env sort.Point at ++ passage_faults direction u.place (env.passage_of at u)
 
 -- what an `output` sends, and where
 abbrev pub sendings_faults : Environment → List Sending → List Fault
 sendings_faults env [] = []
 sendings_faults env (o ∷ os) =
-    interaction_faults env true o.at.name o.signal ++ sendings_faults env os
+    interaction_faults env Sends o.at.name o.signal ++ sendings_faults env os
 
 -- a statement: the names that it uses
 abbrev pub statement_faults : Environment → Statement → List Fault
@@ -169,7 +172,7 @@ state_faults env (Some u) = use_faults env sort.State u
 abbrev pub clause_faults : Environment → Clause → List Fault
 clause_faults env (clause.From states place) = uses_faults env sort.State states
 clause_faults env (clause.To state place) = state_faults env state
-clause_faults env (clause.When at signal place) = interaction_faults env false at.name signal
+clause_faults env (clause.When at signal place) = interaction_faults env Receives at.name signal
 clause_faults env _ = []
 
 -- the clauses of a transition

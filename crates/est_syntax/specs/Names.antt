@@ -10,6 +10,8 @@ use Rattle.est_syntax.specs.declared.type_text.VarDef.{VarDef}
 use Rattle.est_syntax.specs.declared.channel.InteractionDef.{InteractionDef}
 use Rattle.est_syntax.specs.declared.channel.ByPart.{ByPart}
 use Rattle.est_syntax.specs.declared.channel.Channel.{Channel}
+use Rattle.est_syntax.specs.declared.channel.Role.{Role}
+use Rattle.est_syntax.specs.declared.channel.Role.TheVariants.{First, Second}
 use Rattle.est_syntax.specs.declared.header.Point.{Point}
 use Rattle.est_syntax.specs.declared.header.Header.{Header}
 use Rattle.est_syntax.specs.declared.header.ModvarDef.{ModvarDef}
@@ -26,10 +28,15 @@ spelled u = u.name.bytes
 abbrev pub is_name : List ℕ → List ℕ → Bool
 is_name = pointwise ◌==◌
 
--- the role that an interaction point has of its channel: the first, or the second
+-- the other role of a channel
+abbrev pub other_role : Role → Role
+other_role First = Second
+other_role Second = First
+
+-- the channel of an interaction point, and its role there
 pub record Side : Type 0 where
   pub channel : Channel
-  pub is_second : Bool
+  pub role : Role
 
 -- what a name is declared as
 pub data Sort : Type 0 where
@@ -40,7 +47,7 @@ pub data Sort : Type 0 where
   -- an interaction point, with its side where its channel and role are such
   point : Point → Option Side → Sort
   state : Sort
-  role : (is_second : Bool) → Sort
+  role : Role → Sort
   interaction : ByPart → InteractionDef → Sort
 
 -- a declaration: the name, the last place where it is not yet in force, and what it declares
@@ -126,12 +133,12 @@ declared_together (u ∷ us) last sort = declaration u last sort ∷ declared_to
 -- the roles after the first one of a channel, each declared as its second role
 abbrev pub other_roles : List Used → Region
 other_roles [] = []
-other_roles (u ∷ us) = declaration u u.place (role true) ∷ other_roles us
+other_roles (u ∷ us) = declaration u u.place (role Second) ∷ other_roles us
 
 -- the roles of a channel, of which the first stands first
 abbrev pub roles_region : List Used → Region
 roles_region [] = []
-roles_region (u ∷ us) = declaration u u.place (role false) ∷ other_roles us
+roles_region (u ∷ us) = declaration u u.place (role First) ∷ other_roles us
 
 -- the interactions that stand after one `by` of a channel
 abbrev pub interactions_region : ByPart → List InteractionDef → Region
@@ -220,24 +227,24 @@ abbrev pub channel_by : Meaning Declaration → Option Channel
 channel_by (seen d) = channel_in d.sort
 channel_by _ = None
 
--- which role is declared, where one is: the second, or the first
-abbrev pub role_in : Sort → Option Bool
-role_in (role second) = Some second
+-- which role is declared, where one is
+abbrev pub role_in : Sort → Option Role
+role_in (role r) = Some r
 role_in _ = None
 
 -- which role a name is declared as, where it is declared as one
-abbrev pub role_by : Option Declaration → Option Bool
+abbrev pub role_by : Option Declaration → Option Role
 role_by None = None
 role_by (Some d) = role_in d.sort
 
 -- which role of a channel has this name, where one has
-abbrev pub role_named : Channel → Used → Option Bool
+abbrev pub role_named : Channel → Used → Option Role
 role_named c u = role_by (declared_in (channel_region c) (spelled u))
 
 -- the side with this role of a channel, where it is a role
-abbrev pub side_with : Channel → Option Bool → Option Side
+abbrev pub side_with : Channel → Option Role → Option Side
 side_with c None = None
-side_with c (Some second) = Some record { channel = c; is_second = second }
+side_with c (Some r) = Some record { channel = c; role = r }
 
 -- the side with the role of this name, where there is a channel that has such a role
 abbrev pub side_by : Option Channel → Used → Option Side

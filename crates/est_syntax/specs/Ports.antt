@@ -1,5 +1,5 @@
 -- The outside interaction points of a specification (ISO 9074, interaction points and channels).
-use Rattle.std.specs.Prelude.{not, List, [], ◌∷◌, ◌++◌, Option, Some, None}
+use Rattle.std.specs.Prelude.{List, [], ◌∷◌, ◌++◌, Option, Some, None}
 use Rattle.est_syntax.specs.declared.name.Used.{Used}
 use Rattle.est_syntax.specs.declared.ports.Port.{Port}
 use Rattle.est_syntax.specs.declared.ports.Signal.{Signal}
@@ -11,7 +11,7 @@ use Rattle.est_syntax.specs.declared.header.ModvarDef.{ModvarDef}
 use Rattle.est_syntax.specs.declared.statement.Statement.{Statement}
 use Rattle.est_syntax.specs.declared.statement.Statement.TheVariants.{Init}
 use Rattle.est_syntax.specs.declared.specification.Spec.{Spec}
-use Rattle.est_syntax.specs.Names.{Side, Scope, meaning, header_by, side_of, spec_scope}
+use Rattle.est_syntax.specs.Names.{Side, Scope, meaning, header_by, side_of, spec_scope, other_role}
 use Rattle.est_syntax.specs.Environment.{has_role}
 use Rattle.est_syntax.specs.Breaks.{modvar_by}
 
@@ -34,8 +34,8 @@ interaction_signals side b (i ∷ is) =
     record {
       name = i.name.name;
       kinds = [];
-      sends = has_role side.channel side.is_second b.roles;
-      receives = has_role side.channel (not side.is_second) b.roles;
+      sends = has_role side.channel side.role b.roles;
+      receives = has_role side.channel (other_role side.role) b.roles;
     }
     ∷ interaction_signals side b is
 

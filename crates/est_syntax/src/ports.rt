@@ -4,6 +4,13 @@ use crate::kind::{Kinds, Ordinals};
 use crate::name::Name;
 use est_items::{Items, Shared};
 
+/// What an interaction point does with an interaction.
+#[derive(Clone, Copy)]
+pub enum Direction {
+    Sends,
+    Receives,
+}
+
 /// An interaction that may pass a port, with the kinds of its parameters.
 #[derive(Drop)]
 pub struct Signal {

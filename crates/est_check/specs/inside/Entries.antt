@@ -7,22 +7,12 @@ use Rattle.est_syntax.specs.declared.rule.Rule.TheVariants.{DeclaredTwice}
 use Rattle.est_check.specs.inside.Least.{least_with}
 use Rattle.est_syntax.specs.Names.{is_name, spelled}
 use Rattle.est_syntax.specs.Faults.{broken}
-use Rattle.est_check.specs.declared.names.Role.{Role}
-use Rattle.est_check.specs.declared.names.Role.TheVariants.{First, Second}
+use Rattle.est_syntax.specs.declared.channel.Role.{Role}
+use Rattle.est_syntax.specs.declared.channel.Role.TheVariants.{First, Second}
 use Rattle.est_check.specs.declared.names.Entity.{Entity}
 use Rattle.est_check.specs.declared.names.Entity.TheVariants as entities
 use Rattle.est_check.specs.declared.names.Entry.{Entry}
 use Rattle.est_check.specs.declared.names.Senders.{Senders}
-
--- whether a role is the second of its channel
-abbrev pub is_second : Role → Bool
-is_second First = false
-is_second Second = true
-
--- the other role of a channel
-abbrev pub other : Role → Role
-other First = Second
-other Second = First
 
 -- names with their entries
 abbrev pub Entries : Type 0

@@ -13,7 +13,7 @@ use Rattle.est_syntax.specs.declared.specification.Spec.{Spec}
 use Rattle.est_check.specs.inside.Least.{least_with}
 use Rattle.est_syntax.specs.Names.{spelled}
 use Rattle.est_syntax.specs.Faults.{by_faults, points_faults, use_faults, modvars_faults, text_faults, statement_faults}
-use Rattle.est_check.specs.declared.names.Role.{Role}
+use Rattle.est_syntax.specs.declared.channel.Role.{Role}
 use Rattle.est_check.specs.declared.names.Entity.{Entity}
 use Rattle.est_check.specs.declared.names.Entity.TheVariants as entities
 use Rattle.est_check.specs.declared.names.Entry.{Entry}

@@ -1,6 +1,5 @@
 -- The signals of the channels at either role.
 use Rattle.std.specs.Prelude.{◌≡◌, List, [], ◌∷◌, Option, Some, None, get_or}
-use Rattle.std.specs.Option.{option_map}
 use Rattle.est_syntax.specs.declared.name.Name.{Name}
 use Rattle.est_syntax.specs.declared.name.Used.{Used}
 use Rattle.est_syntax.specs.declared.ports.Port.{Port}
@@ -11,16 +10,16 @@ use Rattle.est_syntax.specs.declared.body.Part.{Part}
 use Rattle.est_syntax.specs.declared.body.Part.TheVariants as part
 use Rattle.est_syntax.specs.Names.{Side, spelled, role_named}
 use Rattle.est_syntax.specs.Ports.{by_signals}
-use Rattle.est_check.specs.declared.names.Role.{Role}
-use Rattle.est_check.specs.declared.names.Role.TheVariants.{First, Second}
+use Rattle.est_syntax.specs.declared.channel.Role.{Role}
+use Rattle.est_syntax.specs.declared.channel.Role.TheVariants.{First, Second}
 use Rattle.est_check.specs.declared.names.PointSide.{PointSide}
 use Rattle.est_check.specs.declared.ports.Sides.{Sides}
-use Rattle.est_check.specs.inside.Entries.{is_second, Entries, entry_of, role_by}
+use Rattle.est_check.specs.inside.Entries.{Entries, entry_of, role_by}
 
 -- a name is a role by these entries where it is that role of the channel, and no other name is one
 abbrev pub RolesFor : Channel → Entries → Type 0
 RolesFor c roles = (u : Used)
-    → option_map is_second (role_by (entry_of roles (spelled u))) ≡ role_named c u
+    → role_by (entry_of roles (spelled u)) ≡ role_named c u
 
 -- the entries are those of the roles of a part that is a channel
 abbrev pub PartRolesFor : Part → Entries → Type 0
@@ -29,7 +28,7 @@ PartRolesFor _ roles = Unit {0}
 
 -- the side of a channel in a role
 abbrev pub side : Channel → Role → Side
-side c r = record { channel = c; is_second = is_second r }
+side c r = record { channel = c; role = r }
 
 -- the interactions of a channel at a port in this role
 abbrev pub channel_signals : Role → Channel → List Signal

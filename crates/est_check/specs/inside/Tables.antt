@@ -4,21 +4,19 @@ use Rattle.std.specs.Option.{option_or, unwrap_or}
 use Rattle.est_syntax.specs.declared.name.Used.{Used}
 use Rattle.est_syntax.specs.declared.sort.NameSort.{NameSort}
 use Rattle.est_syntax.specs.declared.sort.NameSort.TheVariants as sort
-use Rattle.est_syntax.specs.Names.{Meaning, nothing, unseen, predeclared, seen, spelled, is_predeclared}
+use Rattle.est_syntax.specs.Names.{Meaning, nothing, unseen, predeclared, seen, spelled, is_predeclared, other_role}
 use Rattle.est_syntax.specs.Environment.{Environment, Passage, missing, no_interaction, passage_with}
 use Rattle.est_check.specs.declared.names.Entity.{Entity}
 use Rattle.est_check.specs.declared.names.Entity.TheVariants as entities
 use Rattle.est_check.specs.declared.names.Entry.{Entry}
-use Rattle.est_check.specs.declared.names.Role.{Role}
+use Rattle.est_syntax.specs.declared.channel.Role.{Role}
 use Rattle.est_check.specs.declared.names.PointSide.{PointSide}
 use Rattle.est_check.specs.declared.table.Members.{Members}
 use Rattle.est_check.specs.declared.table.Table.{Table}
 use Rattle.est_check.specs.declared.table.BodyNames.{BodyNames}
-use Rattle.est_check.specs.declared.uses.Direction.{Direction}
-use Rattle.est_check.specs.declared.uses.Direction.TheVariants.{Sends, Receives}
 use Rattle.est_check.specs.declared.table.Found.{Found}
 use Rattle.est_check.specs.declared.table.Found.TheVariants as found
-use Rattle.est_check.specs.inside.Entries.{other, may_send, Entries, entry_of}
+use Rattle.est_check.specs.inside.Entries.{may_send, Entries, entry_of}
 
 -- the entry of a name in a channel: of a role, or else of an interaction
 abbrev pub member_entry : Members → List ℕ → Option Entry
@@ -130,15 +128,10 @@ abbrev pub point_side : Found → Option PointSide
 point_side (found.Seen e) = side_in e.entity
 point_side _ = None
 
--- whether an interaction is sent, and not received
-abbrev pub is_sending : Direction → Bool
-is_sending Sends = true
-is_sending Receives = false
-
 -- what an interaction point in this role may do with what a name of its channel stands for
 abbrev pub passage_in : Role → Entity → Passage
 passage_in r (entities.Interaction who) =
-    passage_with who.known (may_send r who) (may_send (other r) who)
+    passage_with who.known (may_send r who) (may_send (other_role r) who)
 passage_in r _ = no_interaction
 
 -- what an interaction point in this role may do with a name by its entry in the channel
