@@ -5,9 +5,9 @@ use Rattle.est_syntax.specs.declared.channel.Channel.{Channel}
 use Rattle.est_syntax.specs.declared.header.Header.{Header}
 use Rattle.est_syntax.specs.declared.header.Point.{Point}
 use Rattle.est_syntax.specs.declared.body.Part.{Part}
-use Rattle.est_syntax.specs.Names.{spelled, other_role, Side, Sort, role, interaction, Declaration, Region, Scope, Meaning, is_predeclared, declared_in, declaration, declared_together, channel_region, role_named, side_of, meaning, points_region, header_names, header_region, header_by, channel_by, found, in_force}
+use Rattle.est_syntax.specs.Names.{spelled, other_role, Side, Sort, role, interaction, Declaration, Region, Scope, is_predeclared, declared_in, declaration, declared_together, channel_region, side_of, meaning, points_region, header_names, channel_by, found}
 use Rattle.est_syntax.specs.Names as names
-use Rattle.est_syntax.specs.Environment.{Environment, are_roles, has_role, environment}
+use Rattle.est_syntax.specs.Environment.{are_roles, has_role, environment}
 use Rattle.est_syntax.specs.Environment as environments
 use Rattle.est_check.specs.declared.names.Entry.{Entry}
 use Rattle.est_syntax.specs.declared.channel.Role.{Role}
@@ -19,9 +19,9 @@ use Rattle.est_check.specs.declared.table.Table.{Table}
 use Rattle.est_check.specs.declared.table.BodyNames.{BodyNames}
 use Rattle.est_check.specs.inside.Entries.{may_send, entry, entry_of, role_by}
 use Rattle.est_check.specs.inside.Declarations.{together_entries}
-use Rattle.est_check.specs.inside.Tables.{member_entry, members_at, names_at, header_entry, own_entry, look_up, channel_number, point_side, sort_found, member_sort_at, table_environment}
+use Rattle.est_check.specs.inside.Tables.{member_entry, members_at, names_at, header_entry, look_up, channel_number, point_side, member_sort_at, table_environment}
 use Rattle.est_check.specs.inside.Tables as tables
-use Rattle.est_check.specs.inside.LeastFaults.{outside, table_side, header_number, header_entries, point_entries}
+use Rattle.est_check.specs.inside.LeastFaults.{outside, table_side, header_entries, point_entries}
 use Rattle.est_check.specs.inside.LeastFaults as least_faults
 use Rattle.est_check.proofs.Stands.{Both, Alike, alike-append, SideFor, EntryFor, FoundFor, ChannelFor, HeaderFor, found_outside, sort_found_for, channel_for, side_for}
 use Rattle.est_check.proofs.Channels.{MemberStands, MemberFor, MembersFor, role_both, member_sort_for}

@@ -18,10 +18,10 @@ use Rattle.est_syntax.specs.declared.body.Part.{Part}
 use Rattle.est_syntax.specs.declared.body.Part.TheVariants as part
 use Rattle.est_syntax.specs.declared.specification.Spec.{Spec}
 use Rattle.est_syntax.specs.Least.{IsIn}
-use Rattle.est_syntax.specs.Names.{Side, Sort, Declaration, Region, Scope, Meaning, nothing, unseen, predeclared, seen, meaning, header_by, header_in, side_of, parts_region, spec_scope}
+use Rattle.est_syntax.specs.Names.{Side, Sort, Declaration, Meaning, nothing, unseen, predeclared, seen, meaning, header_by, header_in, side_of, parts_region, spec_scope}
 use Rattle.est_syntax.specs.Names as names
 use Rattle.est_syntax.specs.Environment.{environment, sort_by, name_sort, has_role}
-use Rattle.est_syntax.specs.Faults.{takes, used_as, use_faults, modvars_faults, statement_faults, names_of, twice_faults, part_faults}
+use Rattle.est_syntax.specs.Faults.{takes, used_as, use_faults, statement_faults, names_of, twice_faults}
 use Rattle.est_syntax.specs.Breaks.{outermost, outside, inside, IsGood, modvar_by, modvar_in}
 use Rattle.est_syntax.specs.Ports.{by_signals, signals_of, header_ports, header_of_variable, header_started, ports_of}
 use Rattle.est_syntax.proofs.Members.{in_first, in_second}
@@ -35,7 +35,7 @@ use Rattle.est_check.specs.inside.Entries.{may_send, Entries, Declared, senders,
 use Rattle.est_check.specs.inside.Declarations.{parts_entries}
 use Rattle.est_check.specs.inside.Tables.{no_members, members_at}
 use Rattle.est_check.specs.inside.LeastFaults as least_faults
-use Rattle.est_check.specs.inside.LeastFaults.{names_of_channel_part, names_of_channels, table_side, tables}
+use Rattle.est_check.specs.inside.LeastFaults.{names_of_channel_part, table_side, tables}
 use Rattle.est_check.specs.declared.ports.Sides.{Sides}
 use Rattle.est_check.specs.inside.Signals.{RolesFor, PartRolesFor, channel_signals, part_signals, role_signals, sides_of, signals_at, signals_by, first_header}
 use Rattle.est_check.specs.Skeleton.{IsInit, IsSkeleton, channel_parts}

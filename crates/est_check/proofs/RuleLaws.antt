@@ -26,9 +26,9 @@ use Rattle.est_syntax.specs.declared.specification.Spec.{Spec}
 use Rattle.est_syntax.specs.Least.{IsIn}
 use Rattle.est_syntax.specs.declared.ports.Direction.{Direction}
 use Rattle.est_syntax.specs.declared.ports.Direction.TheVariants.{Sends, Receives}
-use Rattle.est_syntax.specs.Names.{Declaration, Region, Scope, is_predeclared, Meaning, nothing, unseen, predeclared, seen, meaning, meaning_by, in_force, declared_in, is_name, spelled, is_shared, declared_together, channel_region, header_region, parts_region, points_region, body_scope, spec_scope}
+use Rattle.est_syntax.specs.Names.{Declaration, Region, is_predeclared, Meaning, nothing, unseen, predeclared, seen, meaning, meaning_by, in_force, declared_in, is_name, spelled, is_shared, declared_together, channel_region, header_region, parts_region, points_region, body_scope}
 use Rattle.est_syntax.specs.Names as names
-use Rattle.est_syntax.specs.Environment.{Environment, Passage, missing, no_interaction, unclear, passes, environment, channel_environment, sort_by, sort_declared, role_sort, name_sort}
+use Rattle.est_syntax.specs.Environment.{Environment, Passage, missing, no_interaction, unclear, passes, environment, channel_environment, sort_by, sort_declared, role_sort}
 use Rattle.est_syntax.specs.Environment as environments
 use Rattle.est_syntax.specs.Faults.{broken, broken_if, takes, used_as, use_faults, uses_faults, is_among, twice_faults, names_of, spellings_of, by_faults, channel_faults, role_faults, point_faults, points_faults, header_faults, modvars_faults, direction_faults, passage_faults, interaction_faults, sendings_faults, statement_faults, statements_faults, state_faults, clause_faults, clauses_faults, transitions_faults, groups_faults, has_states, to_faults, first_faults, text_faults, body_faults}
 use Rattle.est_check.specs.Skeleton.{IsInit, IsSkeleton, channel_parts}

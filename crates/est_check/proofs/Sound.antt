@@ -35,7 +35,6 @@ use Rattle.est_check.specs.inside.Tables.{no_members}
 use Rattle.est_check.specs.inside.LeastFaults.{names_of_channels, least_of_parts, tables, least_of_spec}
 use Rattle.est_syntax.specs.declared.transition.Group.{out-Group}
 use Rattle.est_check.specs.Skeleton.{IsOne, IsEmpty, IsPlain, IsPlainTransition, IsPlainGroup, IsStates, IsPlainBody, IsSkeleton, channel_parts}
-use Rattle.est_check.proofs.Stands.{ChannelFor, HeaderFor}
 use Rattle.est_check.proofs.Channels.{MembersFor}
 use Rattle.est_check.proofs.Environments.{OuterFor, ChannelsFor, alone, environment_outside}
 use Rattle.est_check.proofs.Parts.{AreStates, IsFlat, AreFlat, each, of_channel, of_header, of_rest, outer_both, noted_outer, members_are, members_at_for, noted_channels, names_are, names_at_for, noted_headers, TableFor, noted_parts}

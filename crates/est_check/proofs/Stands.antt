@@ -7,10 +7,9 @@ use Rattle.est_syntax.specs.declared.channel.Channel.{Channel}
 use Rattle.est_syntax.specs.declared.header.Header.{Header}
 use Rattle.est_syntax.specs.declared.body.Part.{Part}
 use Rattle.est_syntax.specs.declared.body.Part.TheVariants as part
-use Rattle.est_syntax.specs.Names.{is_name, spelled, Side, Sort, channel, header, body, module_variable, point, state, role, interaction, Declaration, Region, declared_in, in_force, Meaning, nothing, unseen, predeclared, seen, meaning_by, role_named}
+use Rattle.est_syntax.specs.Names.{is_name, spelled, Side, Sort, channel, header, body, module_variable, point, state, role, Declaration, Region, declared_in, in_force, Meaning, nothing, unseen, predeclared, seen, meaning_by}
 use Rattle.est_syntax.specs.Names as names
 use Rattle.est_syntax.specs.Environment as environment
-use Rattle.est_syntax.specs.Environment.{are_roles, has_role}
 use Rattle.est_syntax.specs.Faults.{names_of}
 use Rattle.est_check.specs.declared.names.Entry.{Entry}
 use Rattle.est_check.specs.declared.names.PointSide.{PointSide}

@@ -12,7 +12,7 @@ use Rattle.est_meaning.specs.Text.{Declared, Awaited, is_name, is_declared, disc
 use Rattle.est_meaning.specs.Situation.{QueueName, Own, Shared, Item, Row, Clocked, Situation}
 use Rattle.est_meaning.specs.Links.{queue_of, queue_in, queue_by}
 use Rattle.est_meaning.specs.Choices as meaning
-use Rattle.est_meaning.specs.Choices.{Choice, choice_of, head_of, came_through, has_arrived, fits_state, is_enabled_choice, is_enabled, is_offered, is_due, IsAncestor, parent, beyond, Outranks, priority_at, CanFire, IsPossible, IsSettled, stamp_after, restamped, first_choice}
+use Rattle.est_meaning.specs.Choices.{Choice, choice_of, head_of, came_through, has_arrived, fits_state, is_enabled_choice, is_offered, IsAncestor, parent, beyond, Outranks, IsPossible, IsSettled, stamp_after, restamped, first_choice}
 use Rattle.est_meaning.specs.Step.{root_row}
 use Rattle.est_plain.specs.declared.situation.PointQueue.{PointQueue}
 use Rattle.est_plain.specs.declared.situation.Waiting.{Waiting}

@@ -39,7 +39,7 @@ use Rattle.est_language.specs.Shown.{Shows, empty, kept, at, pair, first, second
 use Rattle.est_reader.specs.Tests as kinds
 use Rattle.est_reader.specs.Going.{Shape, used}
 use Rattle.est_productions.specs.Nodes as shown
-use Rattle.est_productions.specs.Nodes.{Node, View, a_use, a_constant, a_constant_definition, a_type, a_short_type, a_type_definition, a_field, a_variable, a_parameter, an_export, an_interaction, a_by_part, a_channel, a_point, a_header, a_module_variable, a_state_set, a_formal, a_routine, a_common_part, a_body_part, a_block_part, a_block, a_clause, a_transition, a_group, a_body, an_access, an_end_point, a_statement, an_arm, a_sending, an_expr, a_simple, a_sum_step, a_term, a_product_step, a_factor, a_selector, a_member, a_specification, layer, TypeTextForm, FactorForm, SelectorForm, StatementForm, PartForm}
+use Rattle.est_productions.specs.Nodes.{Node, View, a_use, a_constant, a_constant_definition, a_type, a_short_type, a_type_definition, a_field, a_variable, a_parameter, an_export, an_interaction, a_by_part, a_channel, a_point, a_module_variable, a_state_set, a_formal, a_routine, a_common_part, a_body_part, a_block_part, a_block, a_clause, a_transition, a_group, an_access, a_statement, an_arm, a_sending, an_expr, a_simple, a_sum_step, a_product_step, a_factor, a_selector, a_member, layer, TypeTextForm, FactorForm, SelectorForm}
 
 -- the view shows this shape
 abbrev pub Has : View → Shape → Type 0

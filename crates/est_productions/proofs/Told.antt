@@ -31,7 +31,7 @@ use Rattle.est_syntax.specs.declared.statement.Statement.TheOpen as statement
 use Rattle.est_language.specs.Shown.{empty, at, pair, first, second, given, node, nodes, sections, s_at, s_pair, s_first}
 use Rattle.est_reader.specs.Going.{Shape}
 use Rattle.est_productions.specs.Nodes as shown
-use Rattle.est_productions.specs.Nodes.{Node, View, a_use, a_constant, a_constant_definition, a_type, a_short_type, a_type_definition, a_field, a_variable, a_parameter, an_export, an_interaction, a_by_part, a_channel, a_point, a_header, a_module_variable, a_state_set, a_formal, a_routine, a_common_part, a_body_part, a_block_part, a_block, a_clause, a_transition, a_group, a_body, an_access, an_end_point, a_statement, an_arm, a_sending, an_expr, a_simple, a_sum_step, a_term, a_product_step, a_factor, a_selector, a_member, a_specification, layer, TypeTextForm, FactorForm, SelectorForm, StatementForm, PartForm}
+use Rattle.est_productions.specs.Nodes.{Node, View, a_use, a_constant, a_constant_definition, a_type, a_short_type, a_type_definition, a_field, a_variable, a_parameter, an_export, an_interaction, a_by_part, a_channel, a_point, a_header, a_module_variable, a_state_set, a_formal, a_routine, a_common_part, a_body_part, a_block_part, a_block, a_clause, a_transition, a_group, a_body, an_access, an_end_point, a_statement, an_arm, a_sending, an_expr, a_simple, a_sum_step, a_term, a_product_step, a_factor, a_selector, a_member, a_specification, layer, StatementForm, PartForm}
 use Rattle.est_productions.proofs.Sorts.{Tag, uses, constants, constant_definitions, types, short_types, type_definitions, fields, variables, parameters, exports, interactions, by_parts, channels, points, headers, module_variables, state_sets, formals, routines, common_parts, body_parts, block_parts, blocks, clauses, transitions, groups, bodies, accesses, end_points, statements, arms, sendings, exprs, simples, sum_steps, terms, product_steps, factors, selectors, members, specifications, tag}
 use Rattle.est_productions.proofs.Pieces.{Has, read, use_of, uses_back, constant_of, constants_back, constant_definition_of, constant_definitions_back, type_definition_of, type_definitions_back, variable_of, variables_back, parameter_of, parameters_back, export_of, exports_back, point_of, points_back, module_variable_of, module_variables_back, state_set_of, state_sets_back, common_part_of, common_parts_back, body_part_of, body_parts_back, block_part_of, block_parts_back, clause_of, clauses_back, transition_of, transitions_back, group_of, groups_back, statement_of, statements_back, arm_of, arms_back, sending_of, sendings_back, expr_of, exprs_back, sum_step_of, sum_steps_back, product_step_of, product_steps_back, selector_of, selectors_back, used_in, name_given_in, name_given_back, is_second, constant_in, constant_back, short_in, short_back, type_in, type_back, parameters_in, parameters_are, by_part_in, by_part_back, channel_in, channel_back, queue_in, queue_back, queue_given_in, queue_given_back, dimensions_in, dimensions_back, place_in, place_back, is_first, attribute_back, is_given, by_place_back, routine_in, routine_back, adding_in, adding_back, multiplying_in, multiplying_back, relation_in, relation_back, minus_in, minus_back, sign_back, exprs_given_in, exprs_given_back, factor_in, factor_back, selector_in, selector_back, expr_given_in, expr_given_back, access_given_in, access_given_back}
 

@@ -103,7 +103,7 @@ module _ {P N : Type 0} (K : Known P N) {tokens : Tokens} {g : Rule P} {d : ℕ}
 pub read_as : {I P N : Type 0} (K : Known P N) {tokens : Tokens} {g : Rule P} {d : ℕ} {A B : Reader} (view : I → View N) (i : I)
     → ((j : I) (t : Shape) → Shows K.syntax.layer (view j) t → Shows K.syntax.layer (view i) t → j ≡ i)
     → Goes K.syntax g A (view i) B → Starts tokens d A → B.outcome ≡ Well → B.at ≡ length (tokens_of tokens)
-    → IsReadAs K.syntax (text_of tokens) (tokens_of tokens) g d view i
+    → IsReadAs K.syntax.production K.syntax.layer (text_of tokens) (tokens_of tokens) g d view i
 read_as K view i one x s w e =
     let r = whole_read K x s w e in
     record {

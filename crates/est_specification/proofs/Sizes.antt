@@ -27,7 +27,7 @@ use Rattle.est_reader.specs.Going.{Shape}
 use Rattle.est_productions.specs.Grammar.{Rule, production, specification, common, body, transpart, transition}
 use Rattle.est_productions.specs.FirstTokens.{marks}
 use Rattle.est_productions.specs.Nodes as shown
-use Rattle.est_productions.specs.Nodes.{Node, View, a_use, an_interaction, a_by_part, a_channel, a_point, a_header, an_export, a_common_part, a_transition, a_group, a_body, a_specification, layer}
+use Rattle.est_productions.specs.Nodes.{Node, View, a_use, an_interaction, a_by_part, a_channel, a_point, a_header, a_common_part, a_transition, a_group, a_body, a_specification, layer}
 use Rattle.est_productions.proofs.Fits.{fits}
 use Rattle.est_check.specs.Counts.{group_count, transition_count}
 

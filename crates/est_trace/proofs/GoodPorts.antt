@@ -15,7 +15,7 @@ use Rattle.est_syntax.specs.declared.body.Part.{Part}
 use Rattle.est_syntax.specs.declared.body.Part.TheVariants as part
 use Rattle.est_syntax.specs.declared.specification.Spec.{Spec}
 use Rattle.est_syntax.specs.Names as names
-use Rattle.est_syntax.specs.Names.{Side, Sort, Region, Scope, Declaration, Meaning, nothing, unseen, seen, spelled, is_name, is_predeclared, declared_in, in_force, meaning, meaning_by, declared_together, roles_region, interactions_region, by_region, channel_region, states_region, modvars_region, part_region, parts_region, spec_scope, channel_in, channel_by, side_with, side_by, side_of, role_named, points_region}
+use Rattle.est_syntax.specs.Names.{Side, Sort, Region, Scope, spelled, is_name, declared_together, roles_region, interactions_region, by_region, channel_region, spec_scope, side_of, points_region}
 use Rattle.est_syntax.specs.Faults.{broken_if, is_among, twice_faults, names_of, by_faults, channel_faults, points_faults}
 use Rattle.est_syntax.specs.Environment.{environment, channel_environment}
 use Rattle.est_syntax.specs.Least.{IsIn}
