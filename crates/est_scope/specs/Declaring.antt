@@ -1,0 +1,118 @@
+-- How an outline grows by a declaration.
+use Rattle.std.specs.Prelude.{ℕ, Bool, nat_lt, nat_eq, List, [], ◌∷◌, ◌++◌, Option, Some, None, if◌then◌else◌}
+use Rattle.std.specs.Map.{lookup, set_value}
+use Rattle.std.specs.Option.{option_or}
+use Rattle.indexmap.specs.IndexMap.{insert_entry}
+use Rattle.est_syntax.specs.Names.{spelled}
+use Rattle.est_syntax.specs.declared.name.Used.{Used}
+use Rattle.est_scope.specs.declared.declaration.Entry.{Entry}
+use Rattle.est_scope.specs.declared.declaration.Measured.{Measured}
+use Rattle.est_scope.specs.declared.declaration.Member.{Member}
+use Rattle.est_scope.specs.declared.declaration.Standing.{Standing}
+use Rattle.est_scope.specs.declared.declaration.Extent.{Extent}
+use Rattle.est_scope.specs.declared.declaration.Within.{Within}
+use Rattle.est_scope.specs.Outline.{Region, Outline, standing, entry_at}
+
+-- nothing declared
+abbrev pub empty : Outline
+empty = record { entries = []; members = []; regions = []; extents = [] }
+
+-- regions with one name more in one of them
+abbrev pub named_in : Option Region → List (ℕ × Region) → ℕ → List ℕ → Standing → List (ℕ × Region)
+named_in None rs region name s = rs ++ (region, (name, s) ∷ []) ∷ []
+named_in (Some names) rs region name s = set_value (nat_eq region) rs (names ++ (name, s) ∷ [])
+
+abbrev pub named : Outline → ℕ → List ℕ → Standing → List (ℕ × Region)
+named o region name s = named_in (lookup (nat_eq region) o.regions) o.regions region name s
+
+-- where a name stands that a region has, or the header whose names it has too
+abbrev pub standing_of : Outline → Option ℕ → List ℕ → Option Standing
+standing_of o None name = None
+standing_of o (Some header) name = standing o header name
+
+abbrev pub taken : Outline → Within → List ℕ → Option Standing
+taken o w name = option_or (standing o w.region name) (standing_of o w.header name)
+
+-- A name is declared in its region, and is in force after this place. One that is there already is
+-- not declared again.
+abbrev pub declared_by : Option Standing → Within → Used → ℕ → Entry → Outline → Outline
+declared_by (Some s) w u last e o = o
+declared_by None w u last e o = record {
+  entries = insert_entry nat_eq o.entries u.place e;
+  members = o.members;
+  regions = named o w.region (spelled u) record { place = u.place; last = last };
+  extents = o.extents;
+}
+
+abbrev pub declared : Within → Used → ℕ → Entry → Outline → Outline
+declared w u last e o = declared_by (taken o w (spelled u)) w u last e o
+
+-- a name of a channel or a record is put under it, once
+abbrev pub put_by : Option Standing → ℕ → Used → Member → Outline → Outline
+put_by (Some s) region u m o = o
+put_by None region u m o = record {
+  entries = o.entries;
+  members = insert_entry nat_eq o.members u.place m;
+  regions = named o region (spelled u) record { place = u.place; last = u.place };
+  extents = o.extents;
+}
+
+abbrev pub put : ℕ → Used → Member → Outline → Outline
+put region u m o = put_by (standing o region (spelled u)) region u m o
+
+-- what is known of the declaration at a place, where there is one, becomes this
+abbrev pub amended_by : Option Entry → (Entry → Entry) → ℕ → Outline → Outline
+amended_by None f place o = o
+amended_by (Some e) f place o = record {
+  entries = set_value (nat_eq place) o.entries (f e);
+  members = o.members;
+  regions = o.regions;
+  extents = o.extents;
+}
+
+abbrev pub amended : (Entry → Entry) → ℕ → Outline → Outline
+amended f place o = amended_by (entry_at o place) f place o
+
+-- a declaration gets its kind, and its value where it is a constant
+abbrev pub with_kind : Option Measured → Entry → Entry
+with_kind k e = record {
+  declared = e.declared;
+  kind = k;
+  ordinal = e.ordinal;
+  dims = e.dims;
+  side = e.side;
+  closed = e.closed;
+  system = e.system;
+}
+
+-- a routine is closed
+abbrev pub with_closed : Bool → Entry → Entry
+with_closed b e = record {
+  declared = e.declared;
+  kind = e.kind;
+  ordinal = e.ordinal;
+  dims = e.dims;
+  side = e.side;
+  closed = b;
+  system = e.system;
+}
+
+-- From a place on, the text lies within these regions. No extent begins before the one before it.
+abbrev pub last_from : List Extent → ℕ → ℕ
+last_from [] from = from
+last_from (e ∷ es) from = last_from es e.from
+
+abbrev pub later : ℕ → ℕ → ℕ
+later a b = if nat_lt a b then b else a
+
+abbrev pub extended : Within → ℕ → List Extent → List Extent
+extended w place es =
+    es ++ record { from = later (last_from es 0) place; own = w.own; around = w.around } ∷ []
+
+abbrev pub lying : Within → ℕ → Outline → Outline
+lying w place o = record {
+  entries = o.entries;
+  members = o.members;
+  regions = o.regions;
+  extents = extended w place o.extents;
+}

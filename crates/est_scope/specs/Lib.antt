@@ -1,0 +1,4 @@
+pub mod Declaring
+pub mod Least
+pub mod Outline
+pub mod Uses

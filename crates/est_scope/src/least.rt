@@ -1,0 +1,85 @@
+//! The least of the faults that are noted.
+
+ghost use Rattle.std.specs.Prelude.{◌≡◌};
+ghost use Rattle.est_syntax.specs.Least.{number, is_before};
+ghost use Rattle.est_scope.specs.Least.{lesser, least_with};
+ghost use Rattle.est_syntax.specs.Faults.{broken, broken_if};
+
+use est_syntax::rule::{Fault, Rule};
+
+/// The least of the faults that were noted so far.
+#[derive(Clone, Copy)]
+pub struct Least {
+    pub at: Option<Fault>,
+}
+
+/// The number of a rule.
+fn number(rule: Rule) -> u8
+    ensures { result ≡ number rule }
+{
+    match rule {
+        Rule::UnknownName => 1,
+        Rule::DeclaredTwice => 2,
+        Rule::NotSeenHere => 3,
+        Rule::WrongSort => 4,
+        Rule::NumberTooLarge => 5,
+        Rule::WrongBounds => 6,
+        Rule::TooLarge => 7,
+        Rule::WrongKind => 8,
+        Rule::WrongNumber => 9,
+        Rule::NotWritable => 10,
+        Rule::NotInFunction => 11,
+        Rule::WrongDirection => 12,
+        Rule::DelayNotAlone => 13,
+        Rule::NoFirstState => 14,
+        Rule::WrongAttribute => 15,
+        Rule::WrongBody => 16,
+        Rule::WrongLink => 17,
+        Rule::CaseTwice => 18,
+    }
+}
+
+/// Whether one fault comes before another: by place, and at one place by the number of the rule.
+fn is_before(one: Fault, other: Fault) -> bool
+    ensures { result ≡ is_before one other }
+{
+    if one.place < other.place {
+        true
+    } else if other.place < one.place {
+        false
+    } else {
+        number(one.rule) < number(other.rule)
+    }
+}
+
+/// The lesser of the least fault so far and another.
+fn lesser(least: Option<Fault>, fault: Fault) -> Option<Fault>
+    ensures { result ≡ lesser least fault }
+{
+    match least {
+        None => Some(fault),
+        Some(other) => if is_before(fault, other) {
+            Some(fault)
+        } else {
+            Some(other)
+        },
+    }
+}
+
+impl Least {
+    /// Notes that a rule is broken at a place.
+    pub fn note(&mut self, place: u32, rule: Rule)
+        ensures { self.new.at ≡ least_with self.old.at (broken place rule) }
+    {
+        self.at = lesser(self.at, Fault { place, rule });
+    }
+
+    /// Notes that a rule is broken at a place where it is.
+    pub fn note_if(&mut self, is_broken: bool, place: u32, rule: Rule)
+        ensures { self.new.at ≡ least_with self.old.at (broken_if is_broken place rule) }
+    {
+        if is_broken {
+            self.note(place, rule);
+        }
+    }
+}

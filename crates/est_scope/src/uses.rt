@@ -1,0 +1,130 @@
+//! Uses of names.
+#![tactic(auto, using(crate::proofs::LeastLaws::least_append))]
+
+ghost use Rattle.std.specs.Prelude.{◌≡◌};
+ghost use Rattle.est_scope.specs.Least.{least_with};
+ghost use Rattle.est_scope.specs.Outline.{entry_at};
+ghost use Rattle.est_scope.specs.Uses.{same_sort, is_sort, meaning, use_faults, uses_faults};
+ghost use Rattle.est_scope.specs.Uses.{declaration_of, twice_faults, twices_faults};
+ghost use Rattle.est_scope.specs.Uses.{again_faults, agains_faults};
+
+use crate::declaration::{Meant, Sort};
+use crate::least::Least;
+use crate::outline::Outline;
+use est_syntax::name::Used;
+use est_syntax::rule::Rule;
+
+impl Sort {
+    /// Whether two sorts are one.
+    pub fn same(self, other: Sort) -> bool
+        ensures { result ≡ same_sort self other }
+    {
+        match (self, other) {
+            (Sort::Constant, Sort::Constant) => true,
+            (Sort::TypeName, Sort::TypeName) => true,
+            (Sort::Channel, Sort::Channel) => true,
+            (Sort::Header, Sort::Header) => true,
+            (Sort::Body, Sort::Body) => true,
+            (Sort::Variable, Sort::Variable) => true,
+            (Sort::ModuleVariable, Sort::ModuleVariable) => true,
+            (Sort::Point, Sort::Point) => true,
+            (Sort::State, Sort::State) => true,
+            (Sort::StateSet, Sort::StateSet) => true,
+            (Sort::Procedure, Sort::Procedure) => true,
+            (Sort::Function, Sort::Function) => true,
+            _ => false,
+        }
+    }
+}
+
+impl Outline {
+    /// What a name means at its place.
+    pub fn meaning(&self, used: &Used) -> Meant
+        ensures { result ≡ meaning self.now used.now }
+    {
+        self.meant(&used.name, used.place)
+    }
+
+    /// Whether what is declared at a place is of this sort.
+    pub fn is_sort(&self, sort: Sort, place: u32) -> bool
+        ensures { result ≡ is_sort sort (entry_at self.now place) }
+    {
+        match self.entry(place) {
+            None => false,
+            Some(entry) => sort.same(entry.declared.sort),
+        }
+    }
+
+    /// The place of the declaration that a name means, where it is seen and of this sort.
+    pub fn declaration_of(&self, sort: Sort, used: &Used) -> Option<u32>
+        ensures { result ≡ declaration_of self.now sort used.now }
+    {
+        match self.meaning(used) {
+            Meant::Seen(place) => if self.is_sort(sort, place) {
+                Some(place)
+            } else {
+                None
+            },
+            _ => None,
+        }
+    }
+
+    /// Notes what the use of a name breaks where this sort is wanted.
+    pub fn check_use(&self, sort: Sort, used: &Used, least: &mut Least)
+        ensures { least.new.at ≡ least_with least.old.at (use_faults self.now sort used.now) }
+    {
+        match self.meaning(used) {
+            Meant::Nothing => least.note(used.place, Rule::UnknownName),
+            Meant::Predeclared => least.note(used.place, Rule::WrongSort),
+            Meant::Unseen(_) => least.note(used.place, Rule::NotSeenHere),
+            Meant::Seen(place) => if !self.is_sort(sort, place) {
+                least.note(used.place, Rule::WrongSort);
+            },
+        }
+    }
+
+    /// The same of each name of a list.
+    pub fn check_uses(&self, sort: Sort, names: &[Used], least: &mut Least)
+        ensures { least.new.at ≡ least_with least.old.at (uses_faults self.now sort names.now) }
+    {
+        for used in names {
+            self.check_use(sort, used, least);
+        }
+    }
+
+    /// Notes a name that is declared where its region has it already.
+    pub fn check_twice(&self, used: &Used, least: &mut Least)
+        ensures { least.new.at ≡ least_with least.old.at (twice_faults self.now used.now) }
+    {
+        if self.entry(used.place).is_none() {
+            least.note(used.place, Rule::DeclaredTwice);
+        }
+    }
+
+    /// The same of each name of a list.
+    pub fn check_twices(&self, names: &[Used], least: &mut Least)
+        ensures { least.new.at ≡ least_with least.old.at (twices_faults self.now names.now) }
+    {
+        for used in names {
+            self.check_twice(used, least);
+        }
+    }
+
+    /// Notes a name of a channel or a record that stands there already.
+    pub fn check_again(&self, used: &Used, least: &mut Least)
+        ensures { least.new.at ≡ least_with least.old.at (again_faults self.now used.now) }
+    {
+        if self.member(used.place).is_none() {
+            least.note(used.place, Rule::DeclaredTwice);
+        }
+    }
+
+    /// The same of each name of a list.
+    pub fn check_agains(&self, names: &[Used], least: &mut Least)
+        ensures { least.new.at ≡ least_with least.old.at (agains_faults self.now names.now) }
+    {
+        for used in names {
+            self.check_again(used, least);
+        }
+    }
+}
