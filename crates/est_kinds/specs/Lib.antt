@@ -1,0 +1,4 @@
+pub mod Constants
+pub mod Dims
+pub mod Texts
+pub mod Laws
