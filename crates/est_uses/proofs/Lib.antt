@@ -1,0 +1,4 @@
+pub mod ExpressionRows
+pub mod Sequences
+pub mod StatementRows
+pub mod TextRows

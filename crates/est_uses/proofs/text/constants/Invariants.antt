@@ -1,0 +1,9 @@
+use Rattle.std.proofs.Common.{◌≡◌, drop}
+use Rattle.est_uses.specs.Closed.{all_free}
+use Rattle.est_uses.specs.Texts.{constants_names}
+use Rattle.est_uses.proofs.text.constants.Given as goal
+
+abbrev pub invariant-loop-one : goal.invariant-loop-one
+invariant-loop-one l =
+    all_free l.outline l.routine (constants_names (drop l.one-index l.constants))
+    ≡ all_free l.outline l.routine (constants_names l.constants)

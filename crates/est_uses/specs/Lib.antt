@@ -1,0 +1,5 @@
+pub mod Closed
+pub mod Expressions
+pub mod Routines
+pub mod Statements
+pub mod Texts
