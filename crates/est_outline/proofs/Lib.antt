@@ -1,0 +1,3 @@
+pub mod PartRows
+pub mod Rows
+pub mod StatementRows

@@ -1,0 +1,9 @@
+use Rattle.std.proofs.Common.{◌≡◌, drop}
+use Rattle.est_outline.specs.Declares.{names_declare}
+use Rattle.est_outline.specs.Entries.{point}
+use Rattle.est_outline.proofs.modules.point_names.Given as goal
+
+abbrev pub invariant-loop-used : goal.invariant-loop-used
+invariant-loop-used l =
+    names_declare l.within (drop l.used-index l.item.names) l.item.role.place (point l.within l.dims l.side) l.outline
+    ≡ names_declare l.within l.item.names l.item.role.place (point l.within l.dims l.side) l.fn.outline

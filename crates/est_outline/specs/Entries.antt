@@ -1,0 +1,114 @@
+-- What is known of each sort of declaration, and where the parts of a text stand.
+use Rattle.std.specs.Prelude.{ℕ, ◌^◌, ℤ, pos, Bool, false, nat_lt, List, [], ◌∷◌, ◌++◌, Option, Some, None, if◌then◌else◌}
+use Rattle.est_syntax.specs.declared.kind.Kind.{Kind}
+use Rattle.est_scope.specs.declared.declaration.Sort.{Sort}
+use Rattle.est_scope.specs.declared.declaration.Sort.TheVariants as sort
+use Rattle.est_scope.specs.declared.declaration.Entry.{Entry}
+use Rattle.est_scope.specs.declared.declaration.Measured.{Measured}
+use Rattle.est_scope.specs.declared.declaration.Side.{Side}
+use Rattle.est_scope.specs.declared.declaration.Within.{Within}
+use Rattle.est_kinds.specs.declared.value.Valued.{Valued}
+use Rattle.est_kinds.specs.Texts.{scalar}
+
+-- a declaration of this sort with a kind, an ordinal, subscripts and a side, where it has such
+abbrev pub entry :
+    Within → Sort → Option Measured → Option ℤ → Option (List Kind) → Option Side → Entry
+entry w s k z dims side = record {
+  declared = record { sort = s; body = w.body };
+  kind = k;
+  ordinal = z;
+  dims = dims;
+  side = side;
+  closed = false;
+  system = false;
+}
+
+-- a declaration that has none of them
+abbrev pub plain : Within → Sort → Entry
+plain w s = entry w s None None None None
+
+-- a type or a variable
+abbrev pub typed : Within → Sort → Option Measured → Entry
+typed w s k = entry w s k None None None
+
+-- a constant, by its value
+abbrev pub constant : Within → Option Valued → Entry
+constant w None = plain w sort.Constant
+constant w (Some v) =
+    entry w sort.Constant (Some (scalar v.host)) (Some v.ordinal) None None
+
+-- the constant of an enumeration with this number, whose kind is not known yet
+abbrev pub ordinal_of : ℕ → Option ℤ
+ordinal_of i = if nat_lt i (2 ^ 31) then Some (pos i) else None
+
+abbrev pub numbered : Within → ℕ → Entry
+numbered w i = entry w sort.Constant None (ordinal_of i) None None
+
+-- an interaction point or a module variable
+abbrev pub point : Within → Option (List Kind) → Option Side → Entry
+point w dims side = entry w sort.Point None None dims side
+
+abbrev pub module_variable : Within → Option (List Kind) → Entry
+module_variable w dims = entry w sort.ModuleVariable None None dims None
+
+-- a module header, with its attribute
+abbrev pub header : Within → Bool → Entry
+header w system = record {
+  declared = record { sort = sort.Header; body = w.body };
+  kind = None;
+  ordinal = None;
+  dims = None;
+  side = None;
+  closed = false;
+  system = system;
+}
+
+-- the parts of a specification
+abbrev pub outermost : Within
+outermost = record { body = 0; region = 0; header = None; own = 0 ∷ []; around = [] }
+
+-- the regions of a body: its own, and that of its header, where it has one
+abbrev pub body_regions : ℕ → Option ℕ → List ℕ
+body_regions place None = place ∷ []
+body_regions place (Some header) = place ∷ header ∷ []
+
+-- what stands in a body, which has the names of its header too
+abbrev pub in_body : Within → ℕ → Option ℕ → Within
+in_body w place header = record {
+  body = place;
+  region = place;
+  header = header;
+  own = body_regions place header;
+  around = w.own ++ w.around;
+}
+
+-- what stands in a region within the same body
+abbrev pub inner : Within → ℕ → Within
+inner w place = record {
+  body = w.body;
+  region = place;
+  header = None;
+  own = place ∷ w.own;
+  around = w.around;
+}
+
+-- what is declared in another region, and looked up in the same ones
+abbrev pub in_region : Within → ℕ → Within
+in_region w place = record {
+  body = w.body;
+  region = place;
+  header = None;
+  own = w.own;
+  around = w.around;
+}
+
+-- the regions of a transition lie within those of its body
+abbrev pub with_region : Option ℕ → Within → Within
+with_region None w = w
+with_region (Some place) w = record {
+  body = w.body;
+  region = w.region;
+  header = w.header;
+  own = place ∷ w.own;
+  around = w.around;
+}

@@ -1,0 +1,201 @@
+//! What the sections of declarations declare.
+
+ghost use Rattle.std.specs.Prelude.{◌≡◌, OnOk, IfOk};
+ghost use Rattle.est_scope.specs.declared.declaration.Sort.TheVariants as sort;
+ghost use Rattle.est_outline.specs.Entries.{plain};
+ghost use Rattle.est_outline.specs.Declares.{names_declare, const_declares, consts_declare};
+ghost use Rattle.est_outline.specs.Declares.{type_declares, types_declare};
+ghost use Rattle.est_outline.specs.Declares.{var_given, var_declares, vars_declare};
+ghost use Rattle.est_outline.specs.Declares.{states_declare, stateset_declares, statesets_declare};
+ghost use Rattle.est_outline.specs.Declares.{formal_declares, formals_declare};
+
+use crate::entries::{constant, plain};
+use crate::lasts::{names_last, text_last};
+use crate::texts::{kinds_given, text_declares};
+use est_kinds::constants::{constant_last, constant_value};
+use est_kinds::dims::dims_of;
+use est_kinds::names::named_type;
+use est_kinds::texts::{text_place, text_type};
+use est_scope::declaration::{Sort, Within};
+use est_scope::outline::Outline;
+use est_syntax::body::StateSet;
+use est_syntax::constant::ConstDef;
+use est_syntax::header::ModvarDef;
+use est_syntax::kind::Kinds;
+use est_syntax::name::Used;
+use est_syntax::routine::Formal;
+use est_syntax::type_text::{TypeDef, VarDef};
+use std::alloc::{AllocError, Global};
+
+// A constant.
+fn const_declares(within: &Within, item: &ConstDef, outline: &mut Outline) -> Result<(), AllocError>
+    ensures { OnOk result (outline.new ≡ const_declares within.now item.now outline.old) }
+{
+    outline.lie(within, item.name.place)?;
+    let value = constant_value(outline, &item.value)?;
+    outline.declare(
+        within,
+        &item.name,
+        constant_last(&item.value),
+        constant(within, value),
+    )
+}
+
+/// Constants.
+pub fn consts(within: &Within, items: &[ConstDef], outline: &mut Outline) -> Result<(), AllocError>
+    ensures { OnOk result (outline.new ≡ consts_declare within.now items.now outline.old) }
+{
+    for item in items {
+        const_declares(within, item, outline)?;
+    }
+    Ok(())
+}
+
+// A type. Its name is declared before those within its text, and gets its kind after them.
+fn type_declares(
+    alloc: Global,
+    within: &Within,
+    item: &TypeDef,
+    outline: &mut Outline,
+) -> Result<(), AllocError>
+    ensures { OnOk result (outline.new ≡ type_declares within.now item.now outline.old) }
+{
+    outline.lie(within, item.name.place)?;
+    outline.declare(
+        within,
+        &item.name,
+        text_last(&item.text),
+        plain(within, Sort::TypeName),
+    )?;
+    text_declares(alloc, within, &item.text, outline)?;
+    let kind = text_type(alloc, outline, &item.text)?;
+    outline.give_kind(item.name.place, kind);
+    Ok(())
+}
+
+/// Types.
+pub fn types(
+    alloc: Global,
+    within: &Within,
+    items: &[TypeDef],
+    outline: &mut Outline,
+) -> Result<(), AllocError>
+    ensures { OnOk result (outline.new ≡ types_declare within.now items.now outline.old) }
+{
+    for item in items {
+        type_declares(alloc, within, item, outline)?;
+    }
+    Ok(())
+}
+
+// Variables whose kind is not known yet.
+fn variables(
+    within: &Within,
+    names: &[Used],
+    last: u32,
+    outline: &mut Outline,
+) -> Result<(), AllocError>
+    ensures { OnOk result (outline.new ≡
+        names_declare within.now names.now last (plain within.now sort.Variable) outline.old) }
+{
+    for used in names {
+        outline.declare(within, used, last, plain(within, Sort::Variable))?;
+    }
+    Ok(())
+}
+
+// The kind of variables, after what the text of their type declares.
+fn var_given(alloc: Global, item: &VarDef, outline: &mut Outline) -> Result<(), AllocError>
+    ensures { OnOk result (outline.new ≡ var_given item.now outline.old) }
+{
+    let kind = text_type(alloc, outline, &item.text)?;
+    kinds_given(item.names.as_slice(), &kind, outline)
+}
+
+// Variables of one type.
+fn var_declares(
+    alloc: Global,
+    within: &Within,
+    item: &VarDef,
+    outline: &mut Outline,
+) -> Result<(), AllocError>
+    ensures { OnOk result (outline.new ≡ var_declares within.now item.now outline.old) }
+{
+    outline.lie(within, text_place(&item.text))?;
+    variables(
+        within,
+        item.names.as_slice(),
+        text_last(&item.text),
+        outline,
+    )?;
+    text_declares(alloc, within, &item.text, outline)?;
+    var_given(alloc, item, outline)
+}
+
+/// Variables, parameters, exports or `any` variables.
+pub fn vars(
+    alloc: Global,
+    within: &Within,
+    items: &[VarDef],
+    outline: &mut Outline,
+) -> Result<(), AllocError>
+    ensures { OnOk result (outline.new ≡ vars_declare within.now items.now outline.old) }
+{
+    for item in items {
+        var_declares(alloc, within, item, outline)?;
+    }
+    Ok(())
+}
+
+/// States.
+pub fn states(within: &Within, names: &[Used], outline: &mut Outline) -> Result<(), AllocError>
+    ensures { OnOk result (outline.new ≡ states_declare within.now names.now outline.old) }
+{
+    for used in names {
+        outline.declare(within, used, used.place, plain(within, Sort::State))?;
+    }
+    Ok(())
+}
+
+// A state set.
+fn stateset(within: &Within, item: &StateSet, outline: &mut Outline) -> Result<(), AllocError>
+    ensures { OnOk result (outline.new ≡ stateset_declares within.now item.now outline.old) }
+{
+    outline.lie(within, item.name.place)?;
+    let last = names_last(item.states.as_slice(), item.name.place);
+    outline.declare(within, &item.name, last, plain(within, Sort::StateSet))
+}
+
+/// State sets.
+pub fn statesets(
+    within: &Within,
+    items: &[StateSet],
+    outline: &mut Outline,
+) -> Result<(), AllocError>
+    ensures { OnOk result (outline.new ≡ statesets_declare within.now items.now outline.old) }
+{
+    for item in items {
+        stateset(within, item, outline)?;
+    }
+    Ok(())
+}
+
+// Formals of one type.
+fn formal(within: &Within, item: &Formal, outline: &mut Outline) -> Result<(), AllocError>
+    ensures { OnOk result (outline.new ≡ formal_declares within.now item.now outline.old) }
+{
+    outline.lie(within, item.kind.place)?;
+    variables(within, item.names.as_slice(), item.kind.place, outline)?;
+    let kind = named_type(outline, &item.kind)?;
+    kinds_given(item.names.as_slice(), &kind, outline)
+}
+
+/// Formals of a routine.
+pub fn formals(within: &Within, items: &[Formal], outline: &mut Outline) -> Result<(), AllocError>
+    ensures { OnOk result (outline.new ≡ formals_declare within.now items.now outline.old) }
+{
+    for item in items {
+        formal(within, item, outline)?;
+    }
+    Ok(())
+}

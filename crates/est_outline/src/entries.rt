@@ -1,0 +1,143 @@
+//! What is known of each sort of declaration.
+
+ghost use Rattle.std.specs.Prelude.{◌≡◌};
+ghost use Rattle.est_kinds.specs.Texts.{scalar};
+ghost use Rattle.est_outline.specs.Entries.{plain, typed, constant, ordinal_of, numbered, point};
+ghost use Rattle.est_outline.specs.Entries.{module_variable, header};
+
+use est_kinds::value::Valued;
+use est_scope::declaration::{Declared, Entry, Measured, Side, Sort, Within};
+use est_syntax::kind::Kinds;
+
+/// A type or a variable.
+pub fn typed(within: &Within, sort: Sort, kind: Option<Measured>) -> Entry
+    ensures { result ≡ typed within.now sort kind }
+{
+    Entry {
+        declared: Declared {
+            sort,
+            body: within.body,
+        },
+        kind,
+        ordinal: None,
+        dims: None,
+        side: None,
+        closed: false,
+        system: false,
+    }
+}
+
+/// A declaration that has no kind.
+pub fn plain(within: &Within, sort: Sort) -> Entry
+    ensures { result ≡ plain within.now sort }
+{
+    typed(within, sort, None)
+}
+
+/// A constant, by its value.
+pub fn constant(within: &Within, value: Option<Valued>) -> Entry
+    ensures { result ≡ constant within.now value }
+{
+    match value {
+        None => plain(within, Sort::Constant),
+        Some(Valued { host, ordinal }) => Entry {
+            declared: Declared {
+                sort: Sort::Constant,
+                body: within.body,
+            },
+            kind: Some(Measured {
+                kind: host,
+                scalars: 1,
+                levels: 0,
+            }),
+            ordinal: Some(ordinal),
+            dims: None,
+            side: None,
+            closed: false,
+            system: false,
+        },
+    }
+}
+
+// The ordinal of a number.
+fn ordinal_of(number: usize) -> Option<i32>
+    ensures { result ≡ ordinal_of number }
+{
+    if number < 2147483648 {
+        Some(number as i32)
+    } else {
+        None
+    }
+}
+
+/// The constant of an enumeration with this number, whose kind is not known yet.
+pub fn numbered(within: &Within, number: usize) -> Entry
+    ensures { result ≡ numbered within.now number }
+{
+    Entry {
+        declared: Declared {
+            sort: Sort::Constant,
+            body: within.body,
+        },
+        kind: None,
+        ordinal: ordinal_of(number),
+        dims: None,
+        side: None,
+        closed: false,
+        system: false,
+    }
+}
+
+/// An interaction point.
+pub fn point(within: &Within, dims: Option<Kinds>, side: Option<Side>) -> Entry
+    ensures { result ≡ point within.now dims side }
+{
+    Entry {
+        declared: Declared {
+            sort: Sort::Point,
+            body: within.body,
+        },
+        kind: None,
+        ordinal: None,
+        dims,
+        side,
+        closed: false,
+        system: false,
+    }
+}
+
+/// A module variable.
+pub fn module_variable(within: &Within, dims: Option<Kinds>) -> Entry
+    ensures { result ≡ module_variable within.now dims }
+{
+    Entry {
+        declared: Declared {
+            sort: Sort::ModuleVariable,
+            body: within.body,
+        },
+        kind: None,
+        ordinal: None,
+        dims,
+        side: None,
+        closed: false,
+        system: false,
+    }
+}
+
+/// A module header, with its attribute.
+pub fn header(within: &Within, system: bool) -> Entry
+    ensures { result ≡ header within.now system }
+{
+    Entry {
+        declared: Declared {
+            sort: Sort::Header,
+            body: within.body,
+        },
+        kind: None,
+        ordinal: None,
+        dims: None,
+        side: None,
+        closed: false,
+        system,
+    }
+}

@@ -1,0 +1,336 @@
+//! What channels, headers, interaction points and module variables declare.
+
+ghost use Rattle.std.specs.Prelude.{◌≡◌, ◌≤◌, take, drop, length, OnOk, IfOk};
+ghost use Rattle.est_scope.specs.Declaring.{declared};
+ghost use Rattle.est_outline.specs.Entries.{point, module_variable};
+ghost use Rattle.est_outline.specs.Declares.{names_declare, roles_put, interaction_declares};
+ghost use Rattle.est_outline.specs.Declares.{interactions_declare, by_declare, channel_declares};
+ghost use Rattle.est_outline.specs.Declares.{side_with, member_named, side_of, point_declares};
+ghost use Rattle.est_outline.specs.Declares.{points_declare, modvar_declares, modvars_declare};
+ghost use Rattle.est_outline.specs.Declares.{stands_before, before, after, sections_declare};
+ghost use Rattle.est_outline.specs.Declares.{header_named, header_declares};
+
+use crate::declares::vars;
+use crate::dims::copy_dims;
+use crate::entries;
+use crate::entries::{module_variable, plain, point};
+use crate::lasts::{channel_last, header_last};
+use crate::within::in_region;
+use est_kinds::dims::dims_of;
+use est_kinds::texts::text_place;
+use est_scope::declaration::{Member, Side, Sort, Within};
+use est_scope::outline::Outline;
+use est_syntax::channel::{ByPart, Channel, InteractionDef, Role};
+use est_syntax::header::{Header, ModvarDef, Point};
+use est_syntax::kind::Kinds;
+use est_syntax::name::Used;
+use est_syntax::type_text::VarDef;
+use std::alloc::{AllocError, Global};
+
+// The roles of a channel.
+fn roles(
+    region: u32,
+    names: &[Used],
+    mut role: Role,
+    outline: &mut Outline,
+) -> Result<(), AllocError>
+    ensures { OnOk result (outline.new ≡ roles_put region names.now role outline.old) }
+{
+    for used in names {
+        outline.put(region, used, Member::Role(role))?;
+        role = Role::Second;
+    }
+    Ok(())
+}
+
+// An interaction, with a region for its parameters.
+fn interaction(
+    alloc: Global,
+    within: &Within,
+    region: u32,
+    item: &InteractionDef,
+    outline: &mut Outline,
+) -> Result<(), AllocError>
+    ensures { OnOk result
+        (outline.new ≡ interaction_declares within.now region item.now outline.old) }
+{
+    outline.put(region, &item.name, Member::Interaction)?;
+    let inside = in_region(within, item.name.place)?;
+    vars(alloc, &inside, item.params.as_slice(), outline)
+}
+
+// The interactions of a part of a channel.
+fn interactions(
+    alloc: Global,
+    within: &Within,
+    region: u32,
+    items: &[InteractionDef],
+    outline: &mut Outline,
+) -> Result<(), AllocError>
+    ensures { OnOk result
+        (outline.new ≡ interactions_declare within.now region items.now outline.old) }
+{
+    for item in items {
+        interaction(alloc, within, region, item, outline)?;
+    }
+    Ok(())
+}
+
+// The parts of a channel.
+fn by(
+    alloc: Global,
+    within: &Within,
+    region: u32,
+    items: &[ByPart],
+    outline: &mut Outline,
+) -> Result<(), AllocError>
+    ensures { OnOk result (outline.new ≡ by_declare within.now region items.now outline.old) }
+{
+    for item in items {
+        interactions(alloc, within, region, item.interactions.as_slice(), outline)?;
+    }
+    Ok(())
+}
+
+/// A channel, with a region for its roles and interactions.
+pub fn channel(
+    alloc: Global,
+    within: &Within,
+    item: &Channel,
+    outline: &mut Outline,
+) -> Result<(), AllocError>
+    ensures { OnOk result (outline.new ≡ channel_declares within.now item.now outline.old) }
+{
+    let place = item.name.place;
+    outline.lie(within, place)?;
+    outline.declare(
+        within,
+        &item.name,
+        channel_last(item),
+        plain(within, Sort::Channel),
+    )?;
+    roles(place, item.roles.as_slice(), Role::First, outline)?;
+    by(alloc, within, place, item.by.as_slice(), outline)
+}
+
+/// The name of a channel or a record in its region.
+pub fn member_named(outline: &Outline, region: u32, used: &Used) -> Option<Member>
+    ensures { result ≡ member_named outline.now region used.now }
+{
+    match outline.standing(region, &used.name) {
+        None => None,
+        Some(standing) => outline.member(standing.place),
+    }
+}
+
+// The side with a role of a channel, where it is one.
+fn side_with(channel: u32, member: Option<Member>) -> Option<Side>
+    ensures { result ≡ side_with channel member }
+{
+    match member {
+        Some(Member::Role(role)) => Some(Side { channel, role }),
+        _ => None,
+    }
+}
+
+// The side of an interaction point.
+fn side_of(outline: &Outline, item: &Point) -> Option<Side>
+    ensures { result ≡ side_of outline.now item.now }
+{
+    match outline.declaration_of(Sort::Channel, &item.channel) {
+        None => None,
+        Some(channel) => side_with(channel, member_named(outline, channel, &item.role)),
+    }
+}
+
+// An interaction point.
+fn one_point(
+    alloc: Global,
+    within: &Within,
+    used: &Used,
+    last: u32,
+    dims: &Option<Kinds>,
+    side: Option<Side>,
+    outline: &mut Outline,
+) -> Result<(), AllocError>
+    ensures { OnOk result (outline.new ≡
+        declared within.now used.now last (point within.now dims.now side) outline.old) }
+{
+    let dims = copy_dims(alloc, dims)?;
+    outline.declare(within, used, last, point(within, dims, side))
+}
+
+// Interaction points with the same subscripts and side.
+fn point_names(
+    alloc: Global,
+    within: &Within,
+    item: &Point,
+    dims: &Option<Kinds>,
+    side: Option<Side>,
+    outline: &mut Outline,
+) -> Result<(), AllocError>
+    ensures { OnOk result (outline.new ≡ names_declare within.now item.now.names
+        item.now.role.place (point within.now dims.now side) outline.old) }
+{
+    for used in item.names.as_slice() {
+        one_point(alloc, within, used, item.role.place, dims, side, outline)?;
+    }
+    Ok(())
+}
+
+// Interaction points that are declared together.
+fn point_declares(
+    alloc: Global,
+    within: &Within,
+    item: &Point,
+    outline: &mut Outline,
+) -> Result<(), AllocError>
+    ensures { OnOk result (outline.new ≡ point_declares within.now item.now outline.old) }
+{
+    outline.lie(within, item.place)?;
+    let dims = dims_of(alloc, outline, item.dims.as_slice())?;
+    let side = side_of(outline, item);
+    point_names(alloc, within, item, &dims, side, outline)
+}
+
+/// Interaction points.
+pub fn points(
+    alloc: Global,
+    within: &Within,
+    items: &[Point],
+    outline: &mut Outline,
+) -> Result<(), AllocError>
+    ensures { OnOk result (outline.new ≡ points_declare within.now items.now outline.old) }
+{
+    for item in items {
+        point_declares(alloc, within, item, outline)?;
+    }
+    Ok(())
+}
+
+// A module variable.
+fn one_modvar(
+    alloc: Global,
+    within: &Within,
+    used: &Used,
+    last: u32,
+    dims: &Option<Kinds>,
+    outline: &mut Outline,
+) -> Result<(), AllocError>
+    ensures { OnOk result (outline.new ≡
+        declared within.now used.now last (module_variable within.now dims.now) outline.old) }
+{
+    let dims = copy_dims(alloc, dims)?;
+    outline.declare(within, used, last, module_variable(within, dims))
+}
+
+// Module variables with the same subscripts.
+fn modvar_names(
+    alloc: Global,
+    within: &Within,
+    item: &ModvarDef,
+    dims: &Option<Kinds>,
+    outline: &mut Outline,
+) -> Result<(), AllocError>
+    ensures { OnOk result (outline.new ≡ names_declare within.now item.now.names
+        item.now.header.place (module_variable within.now dims.now) outline.old) }
+{
+    for used in item.names.as_slice() {
+        one_modvar(alloc, within, used, item.header.place, dims, outline)?;
+    }
+    Ok(())
+}
+
+// Module variables that are declared together.
+fn modvar(
+    alloc: Global,
+    within: &Within,
+    item: &ModvarDef,
+    outline: &mut Outline,
+) -> Result<(), AllocError>
+    ensures { OnOk result (outline.new ≡ modvar_declares within.now item.now outline.old) }
+{
+    outline.lie(within, item.place)?;
+    let dims = dims_of(alloc, outline, item.dims.as_slice())?;
+    modvar_names(alloc, within, item, &dims, outline)
+}
+
+/// Module variables.
+pub fn modvars(
+    alloc: Global,
+    within: &Within,
+    items: &[ModvarDef],
+    outline: &mut Outline,
+) -> Result<(), AllocError>
+    ensures { OnOk result (outline.new ≡ modvars_declare within.now items.now outline.old) }
+{
+    for item in items {
+        modvar(alloc, within, item, outline)?;
+    }
+    Ok(())
+}
+
+// How many exports stand before a place.
+fn count_before(exports: &[VarDef], place: u32) -> usize
+    ensures before { take result exports.now ≡ before exports.now place }
+    ensures after { drop result exports.now ≡ after exports.now place }
+    ensures bound { result ≤ length exports.now }
+{
+    let mut count = 0;
+    for export in exports {
+        if text_place(&export.text) >= place {
+            return count;
+        }
+        count += 1;
+    }
+    count
+}
+
+// Interaction points and exports, in the order of the text.
+fn sections(
+    alloc: Global,
+    within: &Within,
+    points: &[Point],
+    exports: &[VarDef],
+    outline: &mut Outline,
+) -> Result<(), AllocError>
+    ensures { OnOk result
+        (outline.new ≡ sections_declare within.now points.now exports.now outline.old) }
+{
+    let mut rest = exports;
+    for item in points {
+        let (ahead, behind) = rest.split_at(count_before(rest, item.place));
+        vars(alloc, within, ahead, outline)?;
+        point_declares(alloc, within, item, outline)?;
+        rest = behind;
+    }
+    vars(alloc, within, rest, outline)
+}
+
+/// A header, with a region for its parameters, interaction points and exports.
+pub fn header(
+    alloc: Global,
+    within: &Within,
+    item: &Header,
+    outline: &mut Outline,
+) -> Result<(), AllocError>
+    ensures { OnOk result (outline.new ≡ header_declares within.now item.now outline.old) }
+{
+    let place = item.name.place;
+    outline.lie(within, place)?;
+    outline.declare(
+        within,
+        &item.name,
+        header_last(item),
+        entries::header(within, item.system),
+    )?;
+    let inside = in_region(within, place)?;
+    vars(alloc, &inside, item.params.as_slice(), outline)?;
+    sections(
+        alloc,
+        &inside,
+        item.points.as_slice(),
+        item.exports.as_slice(),
+        outline,
+    )
+}
