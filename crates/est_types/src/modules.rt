@@ -1,0 +1,251 @@
+//! What channels, headers, interaction points and module variables break.
+#![tactic(auto, using(est_scope::proofs::LeastLaws::least_append))]
+
+ghost use Rattle.std.specs.Prelude.{◌≡◌, OnOk};
+ghost use Rattle.est_scope.specs.Least.{least_with};
+ghost use Rattle.est_scope.specs.Outline.{entry_at};
+ghost use Rattle.est_types.specs.Faults.{role_faults, roles_faults, interaction_faults};
+ghost use Rattle.est_types.specs.Faults.{interactions_faults, by_faults, bys_faults};
+ghost use Rattle.est_types.specs.Faults.{channel_faults, side_faults, point_faults};
+ghost use Rattle.est_types.specs.Faults.{points_faults, header_faults, is_system, same_truth};
+ghost use Rattle.est_types.specs.Faults.{attribute_faults, modvar_faults, modvars_faults};
+
+use crate::sections::check_vars;
+use est_kinds::dims::check_dims;
+use est_outline::modules::member_named;
+use est_scope::declaration::{Member, Sort};
+use est_scope::least::Least;
+use est_scope::outline::Outline;
+use est_syntax::channel::{ByPart, Channel, InteractionDef};
+use est_syntax::header::{Header, ModvarDef, Point};
+use est_syntax::name::Used;
+use est_syntax::rule::Rule;
+use std::alloc::{AllocError, Global};
+
+// The use of a role, which is looked up in its channel.
+fn check_role(outline: &Outline, channel: u32, used: &Used, least: &mut Least)
+    ensures { least.new.at ≡ least_with least.old.at (role_faults outline.now channel used.now) }
+{
+    match member_named(outline, channel, used) {
+        None => least.note(used.place, Rule::UnknownName),
+        Some(Member::Role(_)) => (),
+        Some(_) => least.note(used.place, Rule::WrongSort),
+    }
+}
+
+// The roles of a part of a channel.
+fn check_roles(outline: &Outline, channel: u32, names: &[Used], least: &mut Least)
+    ensures { least.new.at
+        ≡ least_with least.old.at (roles_faults outline.now channel names.now) }
+{
+    for used in names {
+        check_role(outline, channel, used, least);
+    }
+}
+
+// An interaction.
+fn check_interaction(
+    alloc: Global,
+    outline: &Outline,
+    item: &InteractionDef,
+    least: &mut Least,
+) -> Result<(), AllocError>
+    ensures { OnOk result
+        (least.new.at ≡ least_with least.old.at (interaction_faults outline.now item.now)) }
+{
+    outline.check_again(&item.name, least);
+    check_vars(alloc, outline, item.params.as_slice(), least)
+}
+
+// Interactions.
+fn check_interactions(
+    alloc: Global,
+    outline: &Outline,
+    items: &[InteractionDef],
+    least: &mut Least,
+) -> Result<(), AllocError>
+    ensures { OnOk result
+        (least.new.at ≡ least_with least.old.at (interactions_faults outline.now items.now)) }
+{
+    for item in items {
+        check_interaction(alloc, outline, item, least)?;
+    }
+    Ok(())
+}
+
+// A part of a channel.
+fn check_by(
+    alloc: Global,
+    outline: &Outline,
+    channel: u32,
+    item: &ByPart,
+    least: &mut Least,
+) -> Result<(), AllocError>
+    ensures { OnOk result
+        (least.new.at ≡ least_with least.old.at (by_faults outline.now channel item.now)) }
+{
+    check_roles(outline, channel, item.roles.as_slice(), least);
+    check_interactions(alloc, outline, item.interactions.as_slice(), least)
+}
+
+// The parts of a channel.
+fn check_bys(
+    alloc: Global,
+    outline: &Outline,
+    channel: u32,
+    items: &[ByPart],
+    least: &mut Least,
+) -> Result<(), AllocError>
+    ensures { OnOk result
+        (least.new.at ≡ least_with least.old.at (bys_faults outline.now channel items.now)) }
+{
+    for item in items {
+        check_by(alloc, outline, channel, item, least)?;
+    }
+    Ok(())
+}
+
+/// A channel.
+pub fn check_channel(
+    alloc: Global,
+    outline: &Outline,
+    item: &Channel,
+    least: &mut Least,
+) -> Result<(), AllocError>
+    ensures { OnOk result
+        (least.new.at ≡ least_with least.old.at (channel_faults outline.now item.now)) }
+{
+    outline.check_twice(&item.name, least);
+    outline.check_agains(item.roles.as_slice(), least);
+    check_bys(alloc, outline, item.name.place, item.by.as_slice(), least)
+}
+
+// The role of an interaction point, which is looked up where its channel is one.
+fn check_side(outline: &Outline, channel: Option<u32>, role: &Used, least: &mut Least)
+    ensures { least.new.at ≡ least_with least.old.at (side_faults outline.now channel role.now) }
+{
+    if let Some(channel) = channel {
+        check_role(outline, channel, role, least);
+    }
+}
+
+// Interaction points that are declared together.
+fn check_point(
+    alloc: Global,
+    outline: &Outline,
+    item: &Point,
+    least: &mut Least,
+) -> Result<(), AllocError>
+    ensures { OnOk result
+        (least.new.at ≡ least_with least.old.at (point_faults outline.now item.now)) }
+{
+    outline.check_twices(item.names.as_slice(), least);
+    drop(check_dims(alloc, outline, item.dims.as_slice(), item.place, least)?);
+    outline.check_use(Sort::Channel, &item.channel, least);
+    let channel = outline.declaration_of(Sort::Channel, &item.channel);
+    check_side(outline, channel, &item.role, least);
+    Ok(())
+}
+
+/// Interaction points.
+pub fn check_points(
+    alloc: Global,
+    outline: &Outline,
+    items: &[Point],
+    least: &mut Least,
+) -> Result<(), AllocError>
+    ensures { OnOk result
+        (least.new.at ≡ least_with least.old.at (points_faults outline.now items.now)) }
+{
+    for item in items {
+        check_point(alloc, outline, item, least)?;
+    }
+    Ok(())
+}
+
+/// A header.
+pub fn check_header(
+    alloc: Global,
+    outline: &Outline,
+    item: &Header,
+    least: &mut Least,
+) -> Result<(), AllocError>
+    ensures { OnOk result
+        (least.new.at ≡ least_with least.old.at (header_faults outline.now item.now)) }
+{
+    outline.check_twice(&item.name, least);
+    check_vars(alloc, outline, item.params.as_slice(), least)?;
+    check_points(alloc, outline, item.points.as_slice(), least)?;
+    check_vars(alloc, outline, item.exports.as_slice(), least)
+}
+
+// Whether the header at a place is that of a system.
+fn is_system(outline: &Outline, place: u32) -> bool
+    ensures { result ≡ is_system (entry_at outline.now place) }
+{
+    match outline.entry(place) {
+        None => false,
+        Some(entry) => entry.system,
+    }
+}
+
+// Whether two answers are one.
+fn same_truth(one: bool, other: bool) -> bool
+    ensures { result ≡ same_truth one other }
+{
+    if one { other } else { !other }
+}
+
+// The attribute of the header of a module variable.
+fn check_attribute(
+    outline: &Outline,
+    outer: bool,
+    header: Option<u32>,
+    place: u32,
+    least: &mut Least,
+)
+    ensures { least.new.at
+        ≡ least_with least.old.at (attribute_faults outline.now outer header place) }
+{
+    if let Some(header) = header {
+        if !same_truth(outer, is_system(outline, header)) {
+            least.note(place, Rule::WrongAttribute);
+        }
+    }
+}
+
+// Module variables that are declared together.
+fn check_modvar(
+    alloc: Global,
+    outline: &Outline,
+    outer: bool,
+    item: &ModvarDef,
+    least: &mut Least,
+) -> Result<(), AllocError>
+    ensures { OnOk result
+        (least.new.at ≡ least_with least.old.at (modvar_faults outline.now outer item.now)) }
+{
+    outline.check_twices(item.names.as_slice(), least);
+    drop(check_dims(alloc, outline, item.dims.as_slice(), item.place, least)?);
+    outline.check_use(Sort::Header, &item.header, least);
+    let header = outline.declaration_of(Sort::Header, &item.header);
+    check_attribute(outline, outer, header, item.header.place, least);
+    Ok(())
+}
+
+/// Module variables: those of the specification are of systems, those of bodies are not.
+pub fn check_modvars(
+    alloc: Global,
+    outline: &Outline,
+    outer: bool,
+    items: &[ModvarDef],
+    least: &mut Least,
+) -> Result<(), AllocError>
+    ensures { OnOk result
+        (least.new.at ≡ least_with least.old.at (modvars_faults outline.now outer items.now)) }
+{
+    for item in items {
+        check_modvar(alloc, outline, outer, item, least)?;
+    }
+    Ok(())
+}

@@ -1,0 +1,206 @@
+//! What sections of constants, types, variables, states and formals break.
+#![tactic(auto, using(est_scope::proofs::LeastLaws::least_append))]
+
+ghost use Rattle.std.specs.Prelude.{◌≡◌, OnOk};
+ghost use Rattle.est_scope.specs.Least.{least_with};
+ghost use Rattle.est_types.specs.Faults.{const_faults, consts_faults, typedef_faults};
+ghost use Rattle.est_types.specs.Faults.{typedefs_faults, var_faults, vars_faults};
+ghost use Rattle.est_types.specs.Faults.{stateset_faults, statesets_faults, word_place};
+ghost use Rattle.est_types.specs.Faults.{formal_faults, formals_faults, result_faults};
+ghost use Rattle.est_types.specs.Faults.{chosen_faults, any_faults, clause_faults, clauses_faults};
+
+use est_kinds::constants::check_constant;
+use est_kinds::names::check_type;
+use est_kinds::texts::check_text;
+use est_scope::declaration::Sort;
+use est_scope::least::Least;
+use est_scope::outline::Outline;
+use est_syntax::body::StateSet;
+use est_syntax::constant::ConstDef;
+use est_syntax::name::Used;
+use est_syntax::routine::Formal;
+use est_syntax::rule::Rule;
+use est_syntax::transition::Clause;
+use est_syntax::type_text::{TypeDef, VarDef};
+use std::alloc::{AllocError, Global};
+
+// A constant.
+fn check_const(outline: &Outline, item: &ConstDef, least: &mut Least) -> Result<(), AllocError>
+    ensures { OnOk result
+        (least.new.at ≡ least_with least.old.at (const_faults outline.now item.now)) }
+{
+    outline.check_twice(&item.name, least);
+    drop(check_constant(outline, &item.value, least)?);
+    Ok(())
+}
+
+/// Constants.
+pub fn check_consts(
+    outline: &Outline,
+    items: &[ConstDef],
+    least: &mut Least,
+) -> Result<(), AllocError>
+    ensures { OnOk result
+        (least.new.at ≡ least_with least.old.at (consts_faults outline.now items.now)) }
+{
+    for item in items {
+        check_const(outline, item, least)?;
+    }
+    Ok(())
+}
+
+// A type.
+fn check_typedef(
+    alloc: Global,
+    outline: &Outline,
+    item: &TypeDef,
+    least: &mut Least,
+) -> Result<(), AllocError>
+    ensures { OnOk result
+        (least.new.at ≡ least_with least.old.at (typedef_faults outline.now item.now)) }
+{
+    outline.check_twice(&item.name, least);
+    drop(check_text(alloc, outline, &item.text, least)?);
+    Ok(())
+}
+
+/// Types.
+pub fn check_typedefs(
+    alloc: Global,
+    outline: &Outline,
+    items: &[TypeDef],
+    least: &mut Least,
+) -> Result<(), AllocError>
+    ensures { OnOk result
+        (least.new.at ≡ least_with least.old.at (typedefs_faults outline.now items.now)) }
+{
+    for item in items {
+        check_typedef(alloc, outline, item, least)?;
+    }
+    Ok(())
+}
+
+// Variables of one type.
+fn check_var(
+    alloc: Global,
+    outline: &Outline,
+    item: &VarDef,
+    least: &mut Least,
+) -> Result<(), AllocError>
+    ensures { OnOk result
+        (least.new.at ≡ least_with least.old.at (var_faults outline.now item.now)) }
+{
+    outline.check_twices(item.names.as_slice(), least);
+    drop(check_text(alloc, outline, &item.text, least)?);
+    Ok(())
+}
+
+/// Variables, parameters or exports.
+pub fn check_vars(
+    alloc: Global,
+    outline: &Outline,
+    items: &[VarDef],
+    least: &mut Least,
+) -> Result<(), AllocError>
+    ensures { OnOk result
+        (least.new.at ≡ least_with least.old.at (vars_faults outline.now items.now)) }
+{
+    for item in items {
+        check_var(alloc, outline, item, least)?;
+    }
+    Ok(())
+}
+
+// A state set.
+fn check_stateset(outline: &Outline, item: &StateSet, least: &mut Least)
+    ensures { least.new.at ≡ least_with least.old.at (stateset_faults outline.now item.now) }
+{
+    outline.check_twice(&item.name, least);
+    outline.check_uses(Sort::State, item.states.as_slice(), least);
+}
+
+/// State sets.
+pub fn check_statesets(outline: &Outline, items: &[StateSet], least: &mut Least)
+    ensures { least.new.at ≡ least_with least.old.at (statesets_faults outline.now items.now) }
+{
+    for item in items {
+        check_stateset(outline, item, least);
+    }
+}
+
+// The place of the word `var` before names.
+fn word_place(names: &[Used]) -> u32
+    ensures { result ≡ word_place names.now }
+{
+    match names.first() {
+        None => 0,
+        Some(used) => used.place.saturating_sub(1),
+    }
+}
+
+// Formals of one type, of a function or a procedure.
+fn check_formal(outline: &Outline, function: bool, item: &Formal, least: &mut Least)
+    ensures { least.new.at
+        ≡ least_with least.old.at (formal_faults outline.now function item.now) }
+{
+    outline.check_twices(item.names.as_slice(), least);
+    check_type(outline, &item.kind, least);
+    least.note_if(
+        function && item.by_place,
+        word_place(item.names.as_slice()),
+        Rule::NotInFunction,
+    );
+}
+
+/// Formals of a function or a procedure.
+pub fn check_formals(outline: &Outline, function: bool, items: &[Formal], least: &mut Least)
+    ensures { least.new.at
+        ≡ least_with least.old.at (formals_faults outline.now function items.now) }
+{
+    for item in items {
+        check_formal(outline, function, item, least);
+    }
+}
+
+/// The result of a function.
+pub fn check_result(outline: &Outline, of: &Option<Used>, least: &mut Least)
+    ensures { least.new.at ≡ least_with least.old.at (result_faults outline.now of.now) }
+{
+    if let Some(used) = of {
+        check_type(outline, used, least);
+    }
+}
+
+// `any` variables of one type.
+fn check_chosen(outline: &Outline, item: &VarDef, least: &mut Least)
+    ensures { least.new.at ≡ least_with least.old.at (chosen_faults outline.now item.now) }
+{
+    outline.check_twices(item.names.as_slice(), least);
+}
+
+// The `any` variables of a transition.
+fn check_any(outline: &Outline, items: &[VarDef], least: &mut Least)
+    ensures { least.new.at ≡ least_with least.old.at (any_faults outline.now items.now) }
+{
+    for item in items {
+        check_chosen(outline, item, least);
+    }
+}
+
+// A clause.
+fn check_clause(outline: &Outline, item: &Clause, least: &mut Least)
+    ensures { least.new.at ≡ least_with least.old.at (clause_faults outline.now item.now) }
+{
+    if let Clause::Any { names, place: _ } = item {
+        check_any(outline, names.as_slice(), least);
+    }
+}
+
+/// The clauses of a transition.
+pub fn check_clauses(outline: &Outline, items: &[Clause], least: &mut Least)
+    ensures { least.new.at ≡ least_with least.old.at (clauses_faults outline.now items.now) }
+{
+    for item in items {
+        check_clause(outline, item, least);
+    }
+}
