@@ -9,13 +9,13 @@ use Rattle.est_syntax.specs.declared.rule.Rule.TheVariants.{DeclaredTwice}
 use Rattle.est_syntax.specs.declared.channel.InteractionDef.{InteractionDef}
 use Rattle.est_syntax.specs.declared.channel.ByPart.{ByPart}
 use Rattle.est_syntax.specs.declared.channel.Channel.{Channel}
-use Rattle.est_check.specs.inside.Least.{least_with}
+use Rattle.est_scope.specs.Least.{least_with}
 use Rattle.est_syntax.specs.Names.{is_name, spelled, Sort, role, interaction, Declaration, Region, declared_in, roles_region, other_roles, interactions_region, by_region, channel_region}
 use Rattle.est_syntax.specs.Names as names
 use Rattle.est_syntax.specs.Environment.{are_roles, has_role, is_known, is_role, channel_environment}
 use Rattle.est_syntax.specs.Environment as environment
 use Rattle.est_syntax.specs.Faults.{names_of, spellings_of, is_among, twice_faults, by_faults, channel_faults, broken_if}
-use Rattle.est_check.proofs.LeastLaws.{least_append}
+use Rattle.est_scope.proofs.LeastLaws.{least_append}
 use Rattle.est_check.specs.declared.names.Entry.{Entry}
 use Rattle.est_check.specs.declared.names.Senders.{Senders}
 use Rattle.est_syntax.specs.declared.channel.Role.{Role}

@@ -14,11 +14,11 @@ use Rattle.est_syntax.specs.declared.header.ModvarDef.{ModvarDef}
 use Rattle.est_syntax.specs.declared.body.Body.{Body, out-Body}
 use Rattle.est_syntax.specs.declared.body.Part.{Part}
 use Rattle.est_syntax.specs.declared.body.Part.TheVariants as part
-use Rattle.est_check.specs.inside.Least.{least_with}
+use Rattle.est_scope.specs.Least.{least_with}
 use Rattle.est_syntax.specs.Names.{spelled, Region, Scope, is_predeclared, declared_in, declared_together, module_variable, modvars_region, part_region, parts_region, states_region, points_region, header_region, header_by, meaning, found, body_region, body_scope}
 use Rattle.est_syntax.specs.Environment.{environment}
 use Rattle.est_syntax.specs.Faults.{names_of, spellings_of, twice_faults, channel_faults, points_faults, header_faults, use_faults, modvars_faults, text_faults, body_faults}
-use Rattle.est_check.proofs.LeastLaws.{least_append}
+use Rattle.est_scope.proofs.LeastLaws.{least_append}
 use Rattle.est_check.specs.declared.names.Entity.TheVariants as entities
 use Rattle.est_check.specs.declared.table.Members.{Members}
 use Rattle.est_check.specs.declared.table.Table.{Table}

@@ -19,14 +19,14 @@ use Rattle.est_syntax.specs.declared.body.Part.{Part}
 use Rattle.est_syntax.specs.declared.body.Part.TheVariants as part
 use Rattle.est_syntax.specs.declared.specification.Spec.{Spec}
 use Rattle.est_syntax.specs.Least.{IsIn, IsLeast}
-use Rattle.est_check.specs.inside.Least.{least_with}
+use Rattle.est_scope.specs.Least.{least_with}
 use Rattle.est_syntax.specs.Names.{Sort, Declaration, Region, Scope, is_predeclared, Meaning, nothing, unseen, predeclared, seen, meaning, meaning_by, in_force, declared_in, spelled, is_name, header_in, header_by, parts_region, spec_scope}
 use Rattle.est_syntax.specs.Names as names
 use Rattle.est_syntax.specs.Environment.{environment}
 use Rattle.est_syntax.specs.Faults.{names_of, twice_faults, statement_faults, part_faults}
 use Rattle.est_syntax.specs.Breaks.{HasPart, outermost, nested, HasStatement, own, of_first_part, of_transition, Breaks, outside, inside, no_system, system_inside, other_header, around_itself, IsLeastFault, IsGood}
 use Rattle.est_syntax.proofs.Members.{in_first, in_second, into_either}
-use Rattle.est_check.proofs.LeastLaws.{least_append, least_is}
+use Rattle.est_scope.proofs.LeastLaws.{least_append, least_is}
 use Rattle.est_check.specs.declared.table.Table.{Table}
 use Rattle.est_check.specs.declared.table.Members.{Members}
 use Rattle.est_check.specs.inside.Entries.{Entries, Declared, enter_all}

@@ -1,7 +1,6 @@
 -- What only the private functions say.
 pub mod Declarations
 pub mod Entries
-pub mod Least
 pub mod LeastFaults
 pub mod Signals
 pub mod SkeletonParts

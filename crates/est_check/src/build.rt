@@ -12,10 +12,10 @@ ghost use Rattle.est_check.specs.inside.LeastFaults.{names_of_headers, tables};
 
 use crate::constructs::{check_by_parts, check_points};
 use crate::declare::{enter_by_parts, enter_parts, enter_roles, enter_together};
-use crate::least::Least;
 use crate::names::{Entity, Entry, Names, PointSide};
 use crate::table::{BodyNames, Members, Table, member_of};
 use est_items::Items;
+use est_scope::least::Least;
 use est_syntax::body::Part;
 use est_syntax::channel::Channel;
 use est_syntax::header::{Header, Point};

@@ -1,9 +1,9 @@
 //! The faults of the parts of a specification.
-#![tactic(auto, using(crate::proofs::LeastLaws::least_append))]
+#![tactic(auto, using(est_scope::proofs::LeastLaws::least_append))]
 
 ghost use Rattle.std.specs.Prelude.{◌≡◌};
 ghost use Rattle.est_syntax.specs.declared.body.Body.{out-Body};
-ghost use Rattle.est_check.specs.inside.Least.{least_with};
+ghost use Rattle.est_scope.specs.Least.{least_with};
 ghost use Rattle.est_syntax.specs.Faults.{by_faults, point_faults, points_faults, modvars_faults};
 ghost use Rattle.est_syntax.specs.Faults.{sendings_faults, statement_faults, statements_faults};
 ghost use Rattle.est_syntax.specs.Faults.{state_faults, clause_faults, clauses_faults};
@@ -11,9 +11,9 @@ ghost use Rattle.est_syntax.specs.Faults.{transition_faults, transitions_faults,
 ghost use Rattle.est_syntax.specs.Faults.{has_states, to_faults, first_faults, text_faults};
 ghost use Rattle.est_check.specs.inside.Tables.{table_environment, members_environment};
 
-use crate::least::Least;
 use crate::table::{BodyNames, Members, Table};
 use crate::uses::{check_interaction, check_point_role, check_roles, check_use, check_uses};
+use est_scope::least::Least;
 use est_syntax::body::{Body, Part};
 use est_syntax::channel::ByPart;
 use est_syntax::header::{ModvarDef, Point};

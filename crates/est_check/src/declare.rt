@@ -12,8 +12,8 @@ ghost use Rattle.est_check.specs.inside.Declarations.{by_entries, variable_entri
 ghost use Rattle.est_check.specs.inside.Declarations.{parts_entries, state_entries};
 ghost use Rattle.est_check.specs.inside.Declarations.{section_entries, body_entries};
 
-use crate::least::Least;
 use crate::names::{Entity, Entry, Names, Senders};
+use est_scope::least::Least;
 use est_syntax::body::Part;
 use est_syntax::channel::{ByPart, Channel, InteractionDef, Role};
 use est_syntax::header::{Header, ModvarDef, Point};

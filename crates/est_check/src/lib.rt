@@ -8,11 +8,10 @@ mod constructs;
 pub mod counts;
 mod declare;
 pub mod error;
-mod least;
 mod names;
 mod pass;
 mod ports;
-mod skeleton;
+pub mod skeleton;
 mod table;
 mod uses;
 

@@ -1,8 +1,8 @@
 //! The least fault of a specification.
-#![tactic(auto, using(crate::proofs::LeastLaws::least_append))]
+#![tactic(auto, using(est_scope::proofs::LeastLaws::least_append))]
 
 ghost use Rattle.std.specs.Prelude.{◌≡◌, [], OnOk, IfOk, None};
-ghost use Rattle.est_check.specs.inside.Least.{least_with};
+ghost use Rattle.est_scope.specs.Least.{least_with};
 ghost use Rattle.est_check.specs.inside.Entries.{enter_all};
 ghost use Rattle.est_check.specs.inside.Declarations.{body_entries};
 ghost use Rattle.est_check.specs.inside.Tables.{look_up};
@@ -12,10 +12,10 @@ ghost use Rattle.est_check.specs.inside.LeastFaults.{least_of_parts, least_of_sp
 
 use crate::constructs::{check_modvars, check_statement, check_text};
 use crate::declare::enter_state_parts;
-use crate::least::Least;
 use crate::names::{Entity, Names};
 use crate::table::{BodyNames, Found, Table};
 use crate::uses::check_use;
+use est_scope::least::Least;
 use est_syntax::body::{Body, Part};
 use est_syntax::name::Used;
 use est_syntax::rule::Fault;

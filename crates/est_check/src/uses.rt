@@ -1,8 +1,8 @@
 //! The uses of names.
-#![tactic(auto, using(crate::proofs::LeastLaws::least_append))]
+#![tactic(auto, using(est_scope::proofs::LeastLaws::least_append))]
 
 ghost use Rattle.std.specs.Prelude.{◌≡◌, Some};
-ghost use Rattle.est_check.specs.inside.Least.{least_with};
+ghost use Rattle.est_scope.specs.Least.{least_with};
 ghost use Rattle.est_syntax.specs.Names.{other_role};
 ghost use Rattle.est_syntax.specs.Faults.{takes, used_as, use_faults, uses_faults};
 ghost use Rattle.est_syntax.specs.Faults.{direction_faults, passage_faults, interaction_faults};
@@ -12,9 +12,9 @@ ghost use Rattle.est_check.specs.inside.Tables.{sort_found, passage_by, passage_
 ghost use Rattle.est_check.specs.inside.Tables.{member_sort_at, table_environment};
 ghost use Rattle.est_check.specs.inside.Tables.{members_environment};
 
-use crate::least::Least;
 use crate::names::{Entity, Entry, PointSide, Senders};
 use crate::table::{BodyNames, Found, Members, Table, entry_found, member_of, name_sort};
+use est_scope::least::Least;
 use est_syntax::channel::Role;
 use est_syntax::name::Used;
 use est_syntax::ports::Direction;

@@ -10,7 +10,7 @@ use Rattle.est_syntax.specs.declared.body.Body.{Body, out-Body}
 use Rattle.est_syntax.specs.declared.body.Part.{Part}
 use Rattle.est_syntax.specs.declared.body.Part.TheVariants as part
 use Rattle.est_syntax.specs.declared.specification.Spec.{Spec}
-use Rattle.est_check.specs.inside.Least.{least_with}
+use Rattle.est_scope.specs.Least.{least_with}
 use Rattle.est_syntax.specs.Names.{spelled}
 use Rattle.est_syntax.specs.Faults.{by_faults, points_faults, use_faults, modvars_faults, text_faults, statement_faults}
 use Rattle.est_syntax.specs.declared.channel.Role.{Role}

@@ -1,9 +1,9 @@
 use Rattle.std.proofs.Common.{refl, ap, ◌∙◌}
 use Rattle.est_syntax.specs.declared.sort.NameSort.TheVariants.{Role}
-use Rattle.est_check.specs.inside.Least.{least_with}
+use Rattle.est_scope.specs.Least.{least_with}
 use Rattle.est_syntax.specs.Faults.{by_faults, uses_faults}
 use Rattle.est_check.specs.inside.Tables.{members_environment}
-use Rattle.est_check.proofs.LeastLaws.{least_loop}
+use Rattle.est_scope.proofs.LeastLaws.{least_loop}
 use Rattle.est_check.proofs.constructs.check_by_parts.Goals as goal
 
 pub loop-item-preserved : goal.loop-item-preserved

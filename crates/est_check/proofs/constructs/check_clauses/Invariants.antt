@@ -1,5 +1,5 @@
 use Rattle.std.proofs.Common.{◌≡◌, drop}
-use Rattle.est_check.specs.inside.Least.{least_with}
+use Rattle.est_scope.specs.Least.{least_with}
 use Rattle.est_syntax.specs.Faults.{clauses_faults}
 use Rattle.est_check.specs.inside.Tables.{table_environment}
 use Rattle.est_check.proofs.constructs.check_clauses.Given as goal

@@ -1,4 +1,4 @@
-use Rattle.est_check.proofs.LeastLaws.{least_append}
+use Rattle.est_scope.proofs.LeastLaws.{least_append}
 use Rattle.est_check.proofs.constructs.check_first.Goals as goal
 
 pub returns-in-Some : goal.returns-in-Some

@@ -1,9 +1,9 @@
 use Rattle.std.proofs.Common.{refl, ap, ◌∙◌}
-use Rattle.est_check.specs.inside.Least.{least_with}
+use Rattle.est_scope.specs.Least.{least_with}
 use Rattle.est_syntax.specs.Faults.{groups_faults, transitions_faults}
 use Rattle.est_check.specs.inside.Tables.{table_environment}
 use Rattle.est_syntax.specs.declared.transition.Group.{out-Group}
-use Rattle.est_check.proofs.LeastLaws.{least_loop}
+use Rattle.est_scope.proofs.LeastLaws.{least_loop}
 use Rattle.est_check.proofs.constructs.check_groups.Goals as goal
 
 pub loop-item-preserved : goal.loop-item-preserved

@@ -1,4 +1,4 @@
-use Rattle.est_check.proofs.LeastLaws.{least_append}
+use Rattle.est_scope.proofs.LeastLaws.{least_append}
 use Rattle.est_check.proofs.constructs.check_point.Goals as goal
 
 pub returns : goal.returns

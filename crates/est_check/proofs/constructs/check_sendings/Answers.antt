@@ -2,7 +2,7 @@ use Rattle.std.proofs.Common.{refl}
 use Rattle.est_syntax.specs.declared.ports.Direction.TheVariants.{Sends}
 use Rattle.est_syntax.specs.Faults.{sendings_faults, interaction_faults}
 use Rattle.est_check.specs.inside.Tables.{table_environment}
-use Rattle.est_check.proofs.LeastLaws.{least_loop}
+use Rattle.est_scope.proofs.LeastLaws.{least_loop}
 use Rattle.est_check.proofs.constructs.check_sendings.Goals as goal
 
 pub loop-item-preserved : goal.loop-item-preserved

@@ -1,7 +1,7 @@
 use Rattle.std.proofs.Common.{refl}
 use Rattle.est_syntax.specs.Faults.{uses_faults, use_faults}
 use Rattle.est_check.specs.inside.Tables.{table_environment}
-use Rattle.est_check.proofs.LeastLaws.{least_loop}
+use Rattle.est_scope.proofs.LeastLaws.{least_loop}
 use Rattle.est_check.proofs.uses.check_uses.Goals as goal
 
 pub loop-used-preserved : goal.loop-used-preserved
