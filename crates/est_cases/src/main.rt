@@ -23,13 +23,14 @@ use std::process::ExitCode;
 use std::str;
 
 // The files of cases, in the order in which they are run. The first has the texts that all share.
-const FILES: [&str; 12] = [
+const FILES: [&str; 13] = [
     "texts.cases",
     "words.cases",
     "tokens.cases",
     "grammar.cases",
     "whole.cases",
     "rules.cases",
+    "declarations.cases",
     "specifications.cases",
     "profile.cases",
     "traces.cases",

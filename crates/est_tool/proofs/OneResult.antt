@@ -7,9 +7,10 @@ use Rattle.est_syntax.specs.declared.rule.Rule.{Rule}
 use Rattle.est_syntax.specs.declared.rule.Rule.TheVariants.{UnknownName, DeclaredTwice, NotSeenHere, WrongSort, NumberTooLarge, WrongBounds, TooLarge, WrongKind, WrongNumber, NotWritable, NotInFunction, WrongDirection, DelayNotAlone, NoFirstState, WrongAttribute, WrongBody, WrongLink, CaseTwice}
 use Rattle.est_syntax.specs.declared.specification.Spec.{Spec}
 use Rattle.est_syntax.specs.Breaks.{IsLeastFault}
-use Rattle.est_syntax.specs.Least.{number}
+use Rattle.est_syntax.specs.declared.rule.Fault.{Fault}
+use Rattle.est_syntax.specs.Least.{number, IsLeast}
 use Rattle.est_syntax.specs.Ports.{ports_of}
-use Rattle.est_check.proofs.LeastLaws.{lex}
+use Rattle.est_scope.proofs.LeastLaws.{lex}
 use Rattle.est_grammar.specs.Answer.{HasOneTree, Says, estelle_in, is_left_out, levels}
 use Rattle.est_language.specs.Answers.{wrong_at, too_deep_at}
 use Rattle.est_language.specs.Grammar.{rule}
@@ -18,7 +19,7 @@ use Rattle.est_productions.specs.Grammar.{specification as specification_rule}
 use Rattle.est_check.specs.Skeleton.{IsSkeleton}
 use Rattle.est_meaning.specs.declared.event.Event.{Event}
 use Rattle.est_meaning.specs.Allowed.{most_events}
-use Rattle.est_specification.specs.Reading.{IsSpecification, IsNoSpecification}
+use Rattle.est_specification.specs.Reading.{IsSpecification, IsNoSpecification, IsBroken, IsLeastOfDeclarations}
 use Rattle.est_specification.specs.declared.error.SpecificationError.{SpecificationError}
 use Rattle.est_specification.specs.declared.error.SpecificationError.TheVariants as specification
 use Rattle.est_specification.proofs.Unique.{same_specification}
@@ -104,6 +105,21 @@ same_fault spec place place' r r' x y =
     let numbered : number r ≡ number r' = same_number place (number r) place' (number r') no_sooner no_later in
     (at, sym (by_number r) ∙ ap (λ n. get_or rules n UnknownName) numbered ∙ by_number r')
 
+-- the same of the least of a set, and of what a tree breaks first
+same_least : (S : Fault → Type 0) (place place' : ℕ) (r r' : Rule) → IsLeast S (Some record { place = place; rule = r }) → IsLeast S (Some record { place = place'; rule = r' }) → (place ≡ place') × (r ≡ r')
+same_least S place place' r r' x y =
+    let no_later : lex place' (number r') place (number r) ≡ false = x.1 record { place = place'; rule = r' } y.0 in
+    let no_sooner : lex place (number r) place' (number r') ≡ false = y.1 record { place = place; rule = r } x.0 in
+    let at : place ≡ place' = same_place place (number r) place' (number r') no_sooner no_later in
+    let numbered : number r ≡ number r' = same_number place (number r) place' (number r') no_sooner no_later in
+    (at, sym (by_number r) ∙ ap (λ n. get_or rules n UnknownName) numbered ∙ by_number r')
+
+same_broken : (spec : Spec) (place place' : ℕ) (r r' : Rule) → IsBroken spec place r → IsBroken spec place' r' → (place ≡ place') × (r ≡ r')
+same_broken spec place place' r r' (inl x) (inl y) = same_fault spec place place' r r' x.1 y.1
+same_broken spec place place' r r' (inr x) (inr y) = same_least _ place place' r r' x.1 y.1
+same_broken spec place place' r r' (inl x) (inr y) = absurd (y.0 x.0)
+same_broken spec place place' r r' (inr x) (inl y) = absurd (x.0 y.0)
+
 -- why a token is refused where the list is wrong, by whether it is left out
 abbrev why_by : Bool → List ℕ
 why_by left_out = if left_out then codes "left out" else codes "bad token"
@@ -120,15 +136,15 @@ why_of tokens place out p = ap why_by (sym p)
 data IsRefusedSpecification (text : List ℕ) (tokens : List Token) (s : Status) (place : Option ℕ) (why : List ℕ) : Type 0 where
   bad : (at : ℕ) → Says text tokens (wrong_at at) → s ≡ BadSpec → place ≡ Some at → why ≡ why_at tokens at → IsRefusedSpecification text tokens s place why
   deep : (at : ℕ) → Says text tokens (too_deep_at at) → s ≡ BadSpec → place ≡ Some at → why ≡ codes "nested too deep" → IsRefusedSpecification text tokens s place why
-  unbuilt : (spec : Spec) → HasOneTree text tokens spec → (IsSkeleton spec → ⊥) → s ≡ NotBuilt → place ≡ None → why ≡ codes "not built yet" → IsRefusedSpecification text tokens s place why
-  broken : (at : ℕ) (spec : Spec) (r : Rule) → HasOneTree text tokens spec → IsSkeleton spec → IsLeastFault spec at r → s ≡ BadSpec → place ≡ Some at → why ≡ rule_text r → IsRefusedSpecification text tokens s place why
+  unbuilt : (spec : Spec) → HasOneTree text tokens spec → (IsSkeleton spec → ⊥) → IsLeastOfDeclarations spec None → s ≡ NotBuilt → place ≡ None → why ≡ codes "not built yet" → IsRefusedSpecification text tokens s place why
+  broken : (at : ℕ) (spec : Spec) (r : Rule) → HasOneTree text tokens spec → IsBroken spec at r → s ≡ BadSpec → place ≡ Some at → why ≡ rule_text r → IsRefusedSpecification text tokens s place why
 
 how_refused : (text : List ℕ) (tokens : List Token) (error : SpecificationError) (s : Status) (place : Option ℕ) (why : List ℕ) → IsNoSpecification text tokens error → SaysOfSpecification error s place why → IsRefusedSpecification text tokens s place why
 how_refused text tokens (specification.BadToken at) s place why is says = bad at is.0 says.0 says.1 (says.2 ∙ why_of tokens at false is.1)
 how_refused text tokens (specification.LeftOut at) s place why is says = bad at is.0 says.0 says.1 (says.2 ∙ why_of tokens at true is.1)
 how_refused text tokens (specification.TooDeep at) s place why is says = deep at is says.0 says.1 says.2
-how_refused text tokens specification.NotBuilt s place why is says = unbuilt is.0 is.1 is.2 says.0 says.1 says.2
-how_refused text tokens (specification.BrokenRule at r) s place why is says = broken at is.0 r is.1 is.2 is.3 says.0 says.1 says.2
+how_refused text tokens specification.NotBuilt s place why is says = unbuilt is.0 is.1 is.2 is.3 says.0 says.1 says.2
+how_refused text tokens (specification.BrokenRule at r) s place why is says = broken at is.0 r is.1 is.2 says.0 says.1 says.2
 how_refused text tokens (specification.Memory error) s place why is says = absurd says
 
 module _ (text : List ℕ) (tokens : List Token) where
@@ -153,10 +169,16 @@ module _ (text : List ℕ) (tokens : List Token) where
   skeleton_only : (spec spec' : Spec) → HasOneTree text tokens spec → IsSkeleton spec → HasOneTree text tokens spec' → (IsSkeleton spec' → ⊥) → ⊥
   skeleton_only spec spec' one is one' not = not (subst IsSkeleton (same_specification text tokens spec spec' one one') is)
 
-  one_fault : (spec spec' : Spec) (at at' : ℕ) (r r' : Rule) → HasOneTree text tokens spec → IsLeastFault spec at r → HasOneTree text tokens spec' → IsLeastFault spec' at' r' → (at ≡ at') × (r ≡ r')
-  one_fault spec spec' at at' r r' one least one' least' =
+  one_fault : (spec spec' : Spec) (at at' : ℕ) (r r' : Rule) → HasOneTree text tokens spec → IsBroken spec at r → HasOneTree text tokens spec' → IsBroken spec' at' r' → (at ≡ at') × (r ≡ r')
+  one_fault spec spec' at at' r r' one is one' is' =
       let same : spec' ≡ spec = same_specification text tokens spec' spec one' one in
-      same_fault spec at at' r r' least (subst (λ z. IsLeastFault z at' r') same least')
+      same_broken spec at at' r r' is (subst (λ z. IsBroken z at' r') same is')
+
+  -- a specification whose declarations break no rule, and that is no skeleton, is none that breaks one
+  not_broken : (spec spec' : Spec) (at : ℕ) (r : Rule) → HasOneTree text tokens spec → (IsSkeleton spec → ⊥) → IsLeastOfDeclarations spec None → HasOneTree text tokens spec' → IsBroken spec' at r → ⊥
+  not_broken spec spec' at r one not none one' (inl x) = skeleton_only spec' spec one' x.0 one not
+  not_broken spec spec' at r one not none one' (inr x) =
+      none record { place = at; rule = r } (subst (λ z. IsLeastOfDeclarations z (Some record { place = at; rule = r })) (same_specification text tokens spec' spec one' one) x.1).0
 
 specifications_alike : (text : List ℕ) (tokens : List Token) (s s' : Status) (place place' : Option ℕ) (why why' : List ℕ) → IsRefusedSpecification text tokens s place why → IsRefusedSpecification text tokens s' place' why' → AreAlike s s' place place' why why'
 specifications_alike text tokens s s' place place' why why' (bad at x e f g) (bad at' y h k l) =
@@ -164,30 +186,31 @@ specifications_alike text tokens s s' place place' why why' (bad at x e f g) (ba
     (e ∙ sym h, f ∙ ap (λ n. Some n) same ∙ sym k, g ∙ ap (λ n. why_at tokens n) same ∙ sym l)
 specifications_alike text tokens s s' place place' why why' (deep at x e f g) (deep at' y h k l) =
     (e ∙ sym h, f ∙ ap (λ n. Some n) (one_place text tokens at at' x.0 y.0) ∙ sym k, g ∙ sym l)
-specifications_alike text tokens s s' place place' why why' (unbuilt spec one not e f g) (unbuilt spec' one' not' h k l) = (e ∙ sym h, f ∙ sym k, g ∙ sym l)
-specifications_alike text tokens s s' place place' why why' (broken at spec r one is least e f g) (broken at' spec' r' one' is' least' h k l) =
-    let fault = one_fault text tokens spec spec' at at' r r' one least one' least' in
+specifications_alike text tokens s s' place place' why why' (unbuilt spec one not none e f g) (unbuilt spec' one' not' none' h k l) = (e ∙ sym h, f ∙ sym k, g ∙ sym l)
+specifications_alike text tokens s s' place place' why why' (broken at spec r one is e f g) (broken at' spec' r' one' is' h k l) =
+    let fault = one_fault text tokens spec spec' at at' r r' one is one' is' in
     (e ∙ sym h, f ∙ ap (λ n. Some n) fault.0 ∙ sym k, g ∙ ap rule_text fault.1 ∙ sym l)
 specifications_alike text tokens s s' place place' why why' (bad at x e f g) (deep at' y h k l) = absurd (wrong_or_deep text tokens at at' x y)
 specifications_alike text tokens s s' place place' why why' (deep at x e f g) (bad at' y h k l) = absurd (wrong_or_deep text tokens at' at y x)
-specifications_alike text tokens s s' place place' why why' (bad at x e f g) (unbuilt spec one not h k l) = absurd (not_wrong text tokens at spec x one)
-specifications_alike text tokens s s' place place' why why' (unbuilt spec one not e f g) (bad at y h k l) = absurd (not_wrong text tokens at spec y one)
-specifications_alike text tokens s s' place place' why why' (deep at x e f g) (unbuilt spec one not h k l) = absurd (not_deep text tokens at spec x one)
-specifications_alike text tokens s s' place place' why why' (unbuilt spec one not e f g) (deep at y h k l) = absurd (not_deep text tokens at spec y one)
-specifications_alike text tokens s s' place place' why why' (bad at x e f g) (broken at' spec r one is least h k l) = absurd (not_wrong text tokens at spec x one)
-specifications_alike text tokens s s' place place' why why' (broken at' spec r one is least e f g) (bad at y h k l) = absurd (not_wrong text tokens at spec y one)
-specifications_alike text tokens s s' place place' why why' (deep at x e f g) (broken at' spec r one is least h k l) = absurd (not_deep text tokens at spec x one)
-specifications_alike text tokens s s' place place' why why' (broken at' spec r one is least e f g) (deep at y h k l) = absurd (not_deep text tokens at spec y one)
-specifications_alike text tokens s s' place place' why why' (unbuilt spec one not e f g) (broken at spec' r one' is least h k l) = absurd (skeleton_only text tokens spec' spec one' is one not)
-specifications_alike text tokens s s' place place' why why' (broken at spec r one is least e f g) (unbuilt spec' one' not h k l) = absurd (skeleton_only text tokens spec spec' one is one' not)
+specifications_alike text tokens s s' place place' why why' (bad at x e f g) (unbuilt spec one not none h k l) = absurd (not_wrong text tokens at spec x one)
+specifications_alike text tokens s s' place place' why why' (unbuilt spec one not none e f g) (bad at y h k l) = absurd (not_wrong text tokens at spec y one)
+specifications_alike text tokens s s' place place' why why' (deep at x e f g) (unbuilt spec one not none h k l) = absurd (not_deep text tokens at spec x one)
+specifications_alike text tokens s s' place place' why why' (unbuilt spec one not none e f g) (deep at y h k l) = absurd (not_deep text tokens at spec y one)
+specifications_alike text tokens s s' place place' why why' (bad at x e f g) (broken at' spec r one is h k l) = absurd (not_wrong text tokens at spec x one)
+specifications_alike text tokens s s' place place' why why' (broken at' spec r one is e f g) (bad at y h k l) = absurd (not_wrong text tokens at spec y one)
+specifications_alike text tokens s s' place place' why why' (deep at x e f g) (broken at' spec r one is h k l) = absurd (not_deep text tokens at spec x one)
+specifications_alike text tokens s s' place place' why why' (broken at' spec r one is e f g) (deep at y h k l) = absurd (not_deep text tokens at spec y one)
+specifications_alike text tokens s s' place place' why why' (unbuilt spec one not none e f g) (broken at spec' r one' is h k l) = absurd (not_broken text tokens spec spec' at r one not none one' is)
+specifications_alike text tokens s s' place place' why why' (broken at spec r one is e f g) (unbuilt spec' one' not none h k l) = absurd (not_broken text tokens spec' spec at r one' not none one is)
 
 good_not_refused : (text : List ℕ) (tokens : List Token) (spec : Spec) (s : Status) (place : Option ℕ) (why : List ℕ) → IsSpecification text tokens spec → IsRefusedSpecification text tokens s place why → ⊥
 good_not_refused text tokens spec s place why is (bad at x e f g) = not_wrong text tokens at spec x is.tree
 good_not_refused text tokens spec s place why is (deep at x e f g) = not_deep text tokens at spec x is.tree
-good_not_refused text tokens spec s place why is (unbuilt spec' one not e f g) = skeleton_only text tokens spec spec' is.tree is.skeleton one not
-good_not_refused text tokens spec s place why is (broken at spec' r one skeleton least e f g) =
+good_not_refused text tokens spec s place why is (unbuilt spec' one not none e f g) = skeleton_only text tokens spec spec' is.tree is.skeleton one not
+good_not_refused text tokens spec s place why is (broken at spec' r one (inl x) e f g) =
     let same : spec' ≡ spec = same_specification text tokens spec' spec one is.tree in
-    is.good at r (subst (λ z. IsLeastFault z at r) same least).0
+    is.good at r (subst (λ z. IsLeastFault z at r) same x.1).0
+good_not_refused text tokens spec s place why is (broken at spec' r one (inr x) e f g) = skeleton_only text tokens spec spec' is.tree is.skeleton one x.0
 
 specifications_decided : IsDecided RefusesSpecification OfSpecification
 specifications_decided = record {

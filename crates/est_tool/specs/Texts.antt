@@ -88,8 +88,8 @@ SaysOfExplanation (explanation.Memory error) status place why = ⊥
 abbrev pub Refusals : Type 1
 Refusals = List ℕ → List Token → Status → Option ℕ → List ℕ → Type 0
 
--- a specification: at its first bad place, as a sentence that is no skeleton, or at its least
--- broken rule
+-- a specification: at its first bad place, at its least broken rule, or as a sentence that is no
+-- skeleton and whose declarations break no rule
 abbrev pub RefusesSpecification : Refusals
 RefusesSpecification text tokens status place why =
     (error : SpecificationError) × IsNoSpecification text tokens error
