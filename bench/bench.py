@@ -4,7 +4,8 @@
 Each row of the first table is the best of some runs of one command on one input, in processor time (user
 and system), so that other work on the machine changes it little, with the most memory that a run held.
 The last column is the time over that of the row above, whose input is half as large: near 2 where the
-work is linear. The second table has a row for each construct of the language alone.
+work is linear. The second table has a row for each kind of declaration that names others, the third
+one for each construct of the language alone.
 """
 
 import ctypes
@@ -16,6 +17,7 @@ import sys
 import tempfile
 
 import constructs
+import declarations
 
 TOP = pathlib.Path(__file__).resolve().parent.parent
 PROGRAM = TOP / "crates" / "hawkopal" / "out" / "hawkopal"
@@ -23,8 +25,9 @@ SEED = 20261127
 RUNS = 5
 KIB, MIB = 1 << 10, 1 << 20
 SIZES = [256 * KIB, 512 * KIB, MIB]
-# The answer to a sentence whose rules are not built yet.
+# The answer to a sentence whose rules are not built yet, and to one whose declarations break a rule.
 SENTENCE = 12
+BROKEN = 2
 
 # A process that has lost its parent comes to this one (PR_SET_CHILD_SUBREAPER).
 ctypes.CDLL(None).prctl(36, 1, 0, 0, 0)
@@ -37,12 +40,13 @@ def started(command, folder):
     return int(subprocess.run(shell, cwd=folder, stdout=subprocess.PIPE, check=True).stdout)
 
 
-def measured(command, folder, status):
-    """The least processor time of some runs, in seconds, and the most memory, in bytes."""
+def measured(command, folder, *statuses):
+    """The least processor time of some runs that end with one of these statuses, in seconds, and the most
+    memory, in bytes."""
     best, most = None, 0
     for _ in range(RUNS):
         _, ended, used = os.wait4(started(command, folder), 0)
-        if os.waitstatus_to_exitcode(ended) != status:
+        if os.waitstatus_to_exitcode(ended) not in statuses:
             sys.exit(f"{command} ended with status {os.waitstatus_to_exitcode(ended)}")
         taken = used.ru_utime + used.ru_stime
         best = taken if best is None else min(best, taken)
@@ -121,18 +125,18 @@ def shares(folder):
     print(f"| check over fpc | | | {told} | | |", flush=True)
 
 
-def constructs_table(folder):
-    """A row for each construct: the times of three sizes, their ratios, and how many bytes of memory a byte
-    of text takes at most, beside what an empty text takes."""
-    print("| construct | " + " | ".join(f"ms, {size // KIB} KiB" for size in SIZES) + " | ratios | bytes a byte |")
+def table(folder, what, names, kind, *statuses):
+    """A row for each name: the times of three sizes, their ratios, and how many bytes of memory a byte of
+    text takes at most, beside what an empty text takes."""
+    print(f"| {what} | " + " | ".join(f"ms, {size // KIB} KiB" for size in SIZES) + " | ratios | bytes a byte |")
     print("|---|---|---|---|---|---|")
     (folder / "empty.est").touch()
-    _, own = measured([PROGRAM, "check", folder / "empty.est"], folder, 2)
-    for number, name in enumerate(constructs.CONSTRUCTS):
+    _, own = measured([PROGRAM, "check", folder / "empty.est"], folder, BROKEN)
+    for number, name in enumerate(names):
         times, most = [], 0
         for size in SIZES:
-            path, length = written(folder, "large.est", "construct", size, number)
-            taken, peak = measured([PROGRAM, "check", path], folder, SENTENCE)
+            path, length = written(folder, "large.est", kind, size, number)
+            taken, peak = measured([PROGRAM, "check", path], folder, *statuses)
             times.append(taken)
             most = max(most, (peak - own) / length)
         told = " | ".join(f"{taken * 1000:.1f}" for taken in times)
@@ -159,7 +163,9 @@ def main():
         silent = replays(folder, "silent_trace", "silent_moves", ["20", "2"])
         rows("silent firings", [1_050_000, 2_100_000, 4_200_000], "moves", silent, 0, folder)
         print()
-        constructs_table(folder)
+        table(folder, "declarations", declarations.DECLARATIONS, "declarations", SENTENCE)
+        print()
+        table(folder, "construct", constructs.CONSTRUCTS, "construct", SENTENCE, BROKEN)
 
 
 main()

@@ -1,13 +1,14 @@
 """Large inputs, made from a seed: the same seed and size give the same bytes.
 
 As a program it writes one of them: `inputs.py NAME NUMBER..`, with the name of a function below or of one
-that stands in `whole` or `constructs`.
+that stands in `whole`, `constructs` or `declarations`.
 """
 
 import random
 import sys
 
 from constructs import construct
+from declarations import declarations
 from whole import whole, whole_pascal
 
 
