@@ -36,7 +36,9 @@ def loaded(path):
                     imports[item.split(" as ")[-1]] = (file, item.split(" as ")[0])
                 imports[found[4]] = (file, None)
             continue
-        if head := HEAD.match(line):
+        if line.startswith("abbrev mutual"):
+            block = []
+        elif head := HEAD.match(line):
             block = blocks[head[1]] = []
         elif part := PART.match(line):
             for name in part[1].split():
