@@ -103,7 +103,8 @@ def named(number):
 def declarations(size, number):
     """The text of at most this size."""
     of, behind = DECLARATIONS[named(number)]
-    parts, length = [], size - len(HEAD) - len(TAIL) - len(behind or "end;" * BODIES)
+    front = "module m activity;end;" if of is variables else ""
+    parts, length = [], size - len(HEAD + front + TAIL) - len(behind or "end;" * BODIES)
     left, open_bodies = length, 0
     for part in of():
         if len(part) > left:
@@ -113,5 +114,4 @@ def declarations(size, number):
         if behind is None:
             open_bodies += part.count("body ") - part.count("end;" * BODIES) * BODIES
     closing = "end;" * open_bodies if behind is None else behind
-    front = "module m activity;end;" if of is variables else ""
     return HEAD + front + "".join(parts) + closing + TAIL
