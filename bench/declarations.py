@@ -10,6 +10,9 @@ TAIL = "initialize begin init a with b end;end.\n"
 LEVELS = 32
 BODIES = 30
 
+# So many variables stand in one body, which may have a few more.
+VARIABLES = 60_000
+
 
 def constants():
     """Each is the one before."""
@@ -69,9 +72,11 @@ def record():
 
 
 def variables():
-    """Of types by name."""
-    yield "type t=1..9;body b for m;var "
+    """Of types by name: a body may have 65,536 scalars."""
+    yield "type t=1..9;"
     for n in itertools.count():
+        if n % VARIABLES == 0:
+            yield ("end;" if n else "") + f"body b{n} for m;var "
         yield f"v{n}:t;"
 
 
