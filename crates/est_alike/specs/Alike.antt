@@ -1,13 +1,11 @@
--- Kinds that are alike, and kinds whose values may be assigned to a variable of another (ISO 7185,
--- 6.4.5 and 6.4.6, by structure in this profile).
-use Rattle.std.specs.Prelude.{ℕ, ℤ, Bool, true, false, ◌&&◌, ◌||◌, nat_eq, List, [], ◌∷◌}
+-- Kinds that are alike (ISO 7185, 6.4.5, by structure in this profile).
+use Rattle.std.specs.Prelude.{ℕ, ℤ, Bool, true, false, ◌&&◌, nat_eq, List, [], ◌∷◌}
 use Rattle.std.specs.Ordering.{int_eq}
 use Rattle.est_syntax.specs.Names.{is_name}
 use Rattle.est_syntax.specs.declared.kind.Kind.{Kind, out-Kind, Row_of-Kind, more_of-Kind, Row_of-FieldKind, end_of-FieldKind, more_of-FieldKind, Row_of-Kind-Fields-0-1, more_of-Kind-Fields-0-1}
 use Rattle.est_syntax.specs.declared.kind.Kind.TheOpen as seen
 use Rattle.est_syntax.specs.declared.kind.Kind.TheVariants as kind
 use Rattle.est_syntax.specs.declared.kind.FieldKind.{FieldKind}
-use Rattle.est_kinds.specs.Texts.{same_host}
 
 -- a layer: the form of a kind, with the kinds that it is made of
 abbrev pub Layer : Type 0
@@ -92,38 +90,3 @@ abbrev pub are_alike : List FieldKind → List FieldKind → Bool
 are_alike [] [] = true
 are_alike (f ∷ fs) (g ∷ gs) = is_alike_field f g && are_alike fs gs
 are_alike _ _ = false
-
--- the host of a part, and any other kind itself
-abbrev pub host_of : Kind → Kind
-host_of k = host k (out-Kind k)
-  where
-    host : Kind → Layer → Kind
-    host k (seen.Part of low high) = of
-    host k _ = k
-
--- whether two kinds are ordinal with the same host
-abbrev pub have_one_host : Kind → Kind → Bool
-have_one_host j k = same_host (host_of j) (host_of k)
-
--- whether they are sets over such kinds
-abbrev pub are_sets_of_one_host : Kind → Kind → Bool
-are_sets_of_one_host j k = sets (out-Kind j) (out-Kind k)
-  where
-    sets : Layer → Layer → Bool
-    sets (seen.SetOf base) (seen.SetOf other) = have_one_host base other
-    sets _ _ = false
-
--- whether a kind is that of arrays or of records
-abbrev pub is_group : Kind → Bool
-is_group k = group (out-Kind k)
-  where
-    group : Layer → Bool
-    group (seen.ArrayOf index of) = true
-    group (seen.Fields fields) = true
-    group _ = false
-
--- whether a value of the second kind may be assigned to a variable of the first one
-abbrev pub is_assignable : Kind → Kind → Bool
-is_assignable target source =
-    have_one_host target source
-    || (are_sets_of_one_host target source || (is_group target && is_alike target source))

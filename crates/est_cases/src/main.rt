@@ -23,7 +23,7 @@ use std::process::ExitCode;
 use std::str;
 
 // The files of cases, in the order in which they are run. The first has the texts that all share.
-const FILES: [&str; 13] = [
+const FILES: [&str; 16] = [
     "texts.cases",
     "words.cases",
     "tokens.cases",
@@ -31,6 +31,9 @@ const FILES: [&str; 13] = [
     "whole.cases",
     "rules.cases",
     "declarations.cases",
+    "expressions.cases",
+    "statements.cases",
+    "modules.cases",
     "specifications.cases",
     "profile.cases",
     "traces.cases",

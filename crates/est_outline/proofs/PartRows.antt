@@ -66,11 +66,12 @@ body_is : (w : Within) (b : Body) (o : Outline) → part_declares w (part.Body b
 body_is w b o =
     let o1 = spec.body_named w (out-Body b).name o in
     let v = spec.inside w (out-Body b).name (out-Body b).header o1 in
+    let o2 = spec.header_given (out-Body b).name (out-Body b).header o1 in
     ap (λ x. part_declares w (part.Body x) o) (is-Body' b)
-    ∙ groups_hidden v (out-Body b).groups (spec.first_declares v (back-Body-first (out-Body b).first) (row_parts v (hidden-the_row-Part-0 (out-Body b).parts) o1))
+    ∙ groups_hidden v (out-Body b).groups (spec.first_declares v (back-Body-first (out-Body b).first) (row_parts v (hidden-the_row-Part-0 (out-Body b).parts) o2))
     ∙ ap (groups_declare v (out-Body b).groups)
-    (first_at v (out-Body b).first (row_parts v (hidden-the_row-Part-0 (out-Body b).parts) o1)
-    ∙ ap (first_declares v (out-Body b).first) (parts_hidden v (out-Body b).parts o1))
+    (first_at v (out-Body b).first (row_parts v (hidden-the_row-Part-0 (out-Body b).parts) o2)
+    ∙ ap (first_declares v (out-Body b).first) (parts_hidden v (out-Body b).parts o2))
 
 pub body_at : (w : Within) (p : Part) (b : Body) (o : Outline) → p ≡ part.Body b → part_declares w p o ≡ body_declares w b o
 body_at w p b o h = ap (λ x. part_declares w x o) h ∙ body_is w b o

@@ -30,11 +30,12 @@ use Rattle.est_scope.specs.declared.declaration.Sort.TheVariants as sort
 use Rattle.est_scope.specs.declared.declaration.Entry.{Entry}
 use Rattle.est_scope.specs.declared.declaration.Member.{Member}
 use Rattle.est_scope.specs.declared.declaration.Member.TheVariants as member
+use Rattle.est_scope.specs.declared.declaration.Section.TheVariants as section
 use Rattle.est_scope.specs.declared.declaration.Side.{Side}
 use Rattle.est_scope.specs.declared.declaration.Standing.{Standing}
 use Rattle.est_scope.specs.declared.declaration.Within.{Within}
 use Rattle.est_scope.specs.Outline.{Outline, standing, entry_at, member_at}
-use Rattle.est_scope.specs.Declaring.{empty, declared, amended, with_kind, with_closed, lying}
+use Rattle.est_scope.specs.Declaring.{empty, declared, amended, with_kind, with_header, with_closed, lying}
 use Rattle.est_scope.specs.Uses.{declaration_of}
 use Rattle.est_kinds.specs.Constants.{constant_place}
 use Rattle.est_kinds.specs.Texts.{text_type, named_type}
@@ -43,7 +44,7 @@ use Rattle.est_outline.specs.declared.context.ClauseKind.{ClauseKind}
 use Rattle.est_outline.specs.declared.context.ClauseKind.TheVariants as clause
 use Rattle.est_outline.specs.declared.context.Given.{Given}
 use Rattle.est_outline.specs.Contexts.{dropped, given, under}
-use Rattle.est_outline.specs.Entries.{plain, typed, module_variable, outermost, in_body, inner, in_region}
+use Rattle.est_outline.specs.Entries.{plain, typed, module_variable, outermost, in_body, inner, in_region, in_section}
 use Rattle.est_outline.specs.Lasts.{text_last}
 use Rattle.est_outline.specs.Declares.{consts_declare, types_declare, vars_declare, channel_declares, header_declares, modvars_declare, points_declare, states_declare, statesets_declare, formals_declare}
 
@@ -75,10 +76,12 @@ over_header o _ = None
 
 abbrev pub all_by : Within → Outline → TypeText → Option ℕ → Entry
 all_by w o over None = typed w sort.Variable (text_type o over)
-all_by w o over (Some header) = module_variable w (Some [])
+all_by w o over (Some header) = module_variable w (Some []) (Some header)
 
 abbrev pub all_named : Within → Used → TypeText → Outline → Outline
-all_named w u over o = declared w u (text_last over) (all_by w o over (over_header o over)) o
+all_named w u over o =
+    declared w u (text_last over)
+    (all_by (in_section section.All w) o over (over_header o over)) o
 
 -- the place of the first token of an expression
 abbrev pub expr_place : Expr → ℕ
@@ -130,7 +133,7 @@ statements_declare w (s ∷ ss) o = statements_declare w ss (statement_declares 
 
 -- the interaction of an interaction point's channel, by the place of its name, where there is one
 abbrev pub interaction_in : Option Member → Standing → Option ℕ
-interaction_in (Some member.Interaction) s = Some s.place
+interaction_in (Some (member.Interaction senders)) s = Some s.place
 interaction_in _ s = None
 
 abbrev pub interaction_by : Outline → Option Standing → Option ℕ
@@ -170,8 +173,11 @@ when_given w at u place (gs, o) =
     awaiting at u (dropped clause.When gs, lying (under w (dropped clause.When gs)) place o)
 
 abbrev pub choosing : Within → List VarDef → ℕ → Clausal → Clausal
-choosing w names place (gs, o) =
-    (gs, vars_declare (in_region (under w gs) place) names (lying (under w gs) place o))
+choosing w names place (gs, o) = (
+  gs,
+  vars_declare (in_region section.Any (under w gs) place) names
+      (lying (under w gs) place o),
+)
 
 abbrev pub any_given : Within → List VarDef → ℕ → Clausal → Clausal
 any_given w names place (gs, o) =
@@ -191,12 +197,18 @@ abbrev pub clauses_declare : Within → List Clause → Clausal → Clausal
 clauses_declare w [] s = s
 clauses_declare w (c ∷ cs) s = clauses_declare w cs (clause_declares w c s)
 
--- a body's name, and what stands in it
+-- a body's name and header, and what stands in it
 abbrev pub body_named : Within → Used → Outline → Outline
 body_named w name o = declared w name name.place (plain w sort.Body) (lying w name.place o)
 
+abbrev pub body_header : Outline → Used → Option ℕ
+body_header o header = declaration_of o sort.Header header
+
+abbrev pub header_given : Used → Used → Outline → Outline
+header_given name header o = amended (with_header (body_header o header)) name.place o
+
 abbrev pub inside : Within → Used → Used → Outline → Within
-inside w name header o = in_body w name.place (declaration_of o sort.Header header)
+inside w name header o = in_body w name.place (body_header o header)
 
 -- the name of a routine
 abbrev pub routine_sort : Option Used → Sort
@@ -242,7 +254,8 @@ abbrev mutual
   part_declares w (part.Header h) o = header_declares w h o
   part_declares w (part.Body (Body' name header a parts f b groups)) o =
       let v = inside w name header (body_named w name o) in
-      row_groups v groups (first_declares v f (row_parts v parts (body_named w name o)))
+      row_groups v groups
+      (first_declares v f (row_parts v parts (header_given name header (body_named w name o))))
   part_declares w (part.Modvars ms) o = modvars_declare w ms o
   part_declares w (part.Points ps) o = points_declare w ps o
   part_declares w (part.Vars vs) o = vars_declare w vs o

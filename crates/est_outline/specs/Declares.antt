@@ -1,6 +1,6 @@
 -- What the parts of a specification declare, in the order of the text: each name is looked up in
 -- what is declared before it (ISO 9074, scope of identifiers; ISO 7185, 6.2.2).
-use Rattle.std.specs.Prelude.{ℕ, suc, Bool, nat_lt, List, [], ◌∷◌, Option, Some, None, if◌then◌else◌}
+use Rattle.std.specs.Prelude.{ℕ, suc, Bool, true, false, nat_lt, List, [], ◌∷◌, Option, Some, None, if◌then◌else◌}
 use Rattle.est_syntax.specs.Names.{spelled}
 use Rattle.est_syntax.specs.declared.name.Used.{Used}
 use Rattle.est_syntax.specs.declared.constant.ConstDef.{ConstDef}
@@ -23,6 +23,9 @@ use Rattle.est_scope.specs.declared.declaration.Entry.{Entry}
 use Rattle.est_scope.specs.declared.declaration.Measured.{Measured}
 use Rattle.est_scope.specs.declared.declaration.Member.{Member}
 use Rattle.est_scope.specs.declared.declaration.Member.TheVariants as member
+use Rattle.est_scope.specs.declared.declaration.Section.{Section}
+use Rattle.est_scope.specs.declared.declaration.Section.TheVariants as section
+use Rattle.est_scope.specs.declared.declaration.Senders.{Senders}
 use Rattle.est_scope.specs.declared.declaration.Standing.{Standing}
 use Rattle.est_scope.specs.declared.declaration.Side.{Side}
 use Rattle.est_scope.specs.declared.declaration.Within.{Within}
@@ -32,7 +35,7 @@ use Rattle.est_scope.specs.Uses.{declaration_of}
 use Rattle.est_kinds.specs.Constants.{constant_value, constant_last}
 use Rattle.est_kinds.specs.Texts.{text_type, text_place, named_type, enumeration}
 use Rattle.est_kinds.specs.Dims.{dims_of}
-use Rattle.est_outline.specs.Entries.{plain, constant, numbered, point, module_variable, header, in_region}
+use Rattle.est_outline.specs.Entries.{plain, constant, numbered, point, module_variable, header, in_region, in_section}
 use Rattle.est_outline.specs.Lasts.{names_last, text_last, channel_last, header_last}
 
 -- names that are declared together
@@ -127,20 +130,47 @@ abbrev pub roles_put : ℕ → List Used → Role → Outline → Outline
 roles_put region [] r o = o
 roles_put region (u ∷ us) r o = roles_put region us Second (put region u (member.Role r) o)
 
--- the interactions of a channel, each with a region for its parameters
-abbrev pub interaction_declares : Within → ℕ → InteractionDef → Outline → Outline
-interaction_declares w region i o =
-    vars_declare (in_region w i.name.place) i.params (put region i.name member.Interaction o)
+-- the interactions of a channel that these roles may send, each with a region for its parameters
+abbrev pub interaction_declares : Within → ℕ → Senders → InteractionDef → Outline → Outline
+interaction_declares w region senders i o =
+    vars_declare (in_region section.Interaction w i.name.place) i.params
+    (put region i.name (member.Interaction senders) o)
 
-abbrev pub interactions_declare : Within → ℕ → List InteractionDef → Outline → Outline
-interactions_declare w region [] o = o
-interactions_declare w region (i ∷ is) o =
-    interactions_declare w region is (interaction_declares w region i o)
+abbrev pub interactions_declare : Within → ℕ → Senders → List InteractionDef → Outline → Outline
+interactions_declare w region senders [] o = o
+interactions_declare w region senders (i ∷ is) o =
+    interactions_declare w region senders is (interaction_declares w region senders i o)
+
+-- what a name of a channel stands for
+abbrev pub member_by : Outline → Option Standing → Option Member
+member_by o None = None
+member_by o (Some s) = member_at o s.place
+
+abbrev pub member_named : Outline → ℕ → Used → Option Member
+member_named o region u = member_by o (standing o region (spelled u))
+
+-- the roles that a `by` names
+abbrev pub sender : Option Member → Senders → Senders
+sender (Some (member.Role First)) s = record { first = true; second = s.second }
+sender (Some (member.Role Second)) s = record { first = s.first; second = true }
+sender _ s = s
+
+abbrev pub with_senders : Outline → ℕ → List Used → Senders → Senders
+with_senders o region [] s = s
+with_senders o region (u ∷ us) s =
+    with_senders o region us (sender (member_named o region u) s)
+
+abbrev pub senders : Outline → ℕ → List Used → Senders
+senders o region us = with_senders o region us record { first = false; second = false }
+
+-- the parts of a channel
+abbrev pub part_declares : Within → ℕ → ByPart → Outline → Outline
+part_declares w region b o =
+    interactions_declare w region (senders o region b.roles) b.interactions o
 
 abbrev pub by_declare : Within → ℕ → List ByPart → Outline → Outline
 by_declare w region [] o = o
-by_declare w region (b ∷ bs) o =
-    by_declare w region bs (interactions_declare w region b.interactions o)
+by_declare w region (b ∷ bs) o = by_declare w region bs (part_declares w region b o)
 
 -- a channel, with a region for its roles and interactions
 abbrev pub channel_declares : Within → Channel → Outline → Outline
@@ -152,13 +182,6 @@ channel_declares w c o =
 abbrev pub side_with : ℕ → Option Member → Option Side
 side_with channel (Some (member.Role r)) = Some record { channel = channel; role = r }
 side_with channel _ = None
-
-abbrev pub member_by : Outline → Option Standing → Option Member
-member_by o None = None
-member_by o (Some s) = member_at o s.place
-
-abbrev pub member_named : Outline → ℕ → Used → Option Member
-member_named o region u = member_by o (standing o region (spelled u))
 
 abbrev pub side_by : Outline → Option ℕ → Used → Option Side
 side_by o None role = None
@@ -182,7 +205,8 @@ points_declare w (p ∷ ps) o = points_declare w ps (point_declares w p o)
 -- module variables
 abbrev pub modvar_named : Within → ModvarDef → Outline → Outline
 modvar_named w m o =
-    names_declare w m.names m.header.place (module_variable w (dims_of o m.dims)) o
+    names_declare w m.names m.header.place
+    (module_variable w (dims_of o m.dims) (declaration_of o sort.Header m.header)) o
 
 abbrev pub modvar_declares : Within → ModvarDef → Outline → Outline
 modvar_declares w m o = modvar_named w m (lying w m.place o)
@@ -210,15 +234,20 @@ sections_declare w (p ∷ ps) vs o =
     sections_declare w ps (after vs p.place)
     (point_declares w p (vars_declare w (before vs p.place) o))
 
+abbrev pub has_exports : List VarDef → Bool
+has_exports [] = false
+has_exports (v ∷ vs) = true
+
 -- a header, with a region for its parameters, interaction points and exports
 abbrev pub header_named : Within → Header → Outline → Outline
 header_named w h o =
-    declared w h.name (header_last h) (header w h.system) (lying w h.name.place o)
+    declared w h.name (header_last h) (header w h.system (has_exports h.exports))
+    (lying w h.name.place o)
 
 abbrev pub header_declares : Within → Header → Outline → Outline
 header_declares w h o =
-    sections_declare (in_region w h.name.place) h.points h.exports
-    (vars_declare (in_region w h.name.place) h.params (header_named w h o))
+    sections_declare (in_region section.Header w h.name.place) h.points h.exports
+    (vars_declare (in_region section.Parameter w h.name.place) h.params (header_named w h o))
 
 -- states
 abbrev pub states_declare : Within → List Used → Outline → Outline
@@ -237,6 +266,9 @@ statesets_declare w [] o = o
 statesets_declare w (s ∷ ss) o = statesets_declare w ss (stateset_declares w s o)
 
 -- formals of a routine
+abbrev pub formal_section : Bool → Section
+formal_section by_place = if by_place then section.Place else section.Value
+
 abbrev pub formal_named : Within → Formal → Outline → Outline
 formal_named w f o = names_declare w f.names f.kind.place (plain w sort.Variable) o
 
@@ -244,7 +276,9 @@ abbrev pub formal_given : Formal → Outline → Outline
 formal_given f o = kinds_given f.names (named_type o f.kind) o
 
 abbrev pub formal_declares : Within → Formal → Outline → Outline
-formal_declares w f o = formal_given f (formal_named w f (lying w f.kind.place o))
+formal_declares w f o =
+    formal_given f
+    (formal_named (in_section (formal_section f.by_place) w) f (lying w f.kind.place o))
 
 abbrev pub formals_declare : Within → List Formal → Outline → Outline
 formals_declare w [] o = o

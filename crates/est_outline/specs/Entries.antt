@@ -3,6 +3,8 @@ use Rattle.std.specs.Prelude.{ℕ, ◌^◌, ℤ, pos, Bool, false, nat_lt, List,
 use Rattle.est_syntax.specs.declared.kind.Kind.{Kind}
 use Rattle.est_scope.specs.declared.declaration.Sort.{Sort}
 use Rattle.est_scope.specs.declared.declaration.Sort.TheVariants as sort
+use Rattle.est_scope.specs.declared.declaration.Section.{Section}
+use Rattle.est_scope.specs.declared.declaration.Section.TheVariants as section
 use Rattle.est_scope.specs.declared.declaration.Entry.{Entry}
 use Rattle.est_scope.specs.declared.declaration.Measured.{Measured}
 use Rattle.est_scope.specs.declared.declaration.Side.{Side}
@@ -15,12 +17,15 @@ abbrev pub entry :
     Within → Sort → Option Measured → Option ℤ → Option (List Kind) → Option Side → Entry
 entry w s k z dims side = record {
   declared = record { sort = s; body = w.body };
+  section = w.section;
   kind = k;
   ordinal = z;
   dims = dims;
   side = side;
+  header = None;
   closed = false;
   system = false;
+  exports = false;
 }
 
 -- a declaration that has none of them
@@ -44,28 +49,50 @@ ordinal_of i = if nat_lt i (2 ^ 31) then Some (pos i) else None
 abbrev pub numbered : Within → ℕ → Entry
 numbered w i = entry w sort.Constant None (ordinal_of i) None None
 
--- an interaction point or a module variable
+-- an interaction point
 abbrev pub point : Within → Option (List Kind) → Option Side → Entry
 point w dims side = entry w sort.Point None None dims side
 
-abbrev pub module_variable : Within → Option (List Kind) → Entry
-module_variable w dims = entry w sort.ModuleVariable None None dims None
+-- a module variable, of a header
+abbrev pub module_variable : Within → Option (List Kind) → Option ℕ → Entry
+module_variable w dims header = record {
+  declared = record { sort = sort.ModuleVariable; body = w.body };
+  section = w.section;
+  kind = None;
+  ordinal = None;
+  dims = dims;
+  side = None;
+  header = header;
+  closed = false;
+  system = false;
+  exports = false;
+}
 
--- a module header, with its attribute
-abbrev pub header : Within → Bool → Entry
-header w system = record {
+-- a module header, with its attribute, and whether it has exports
+abbrev pub header : Within → Bool → Bool → Entry
+header w system exports = record {
   declared = record { sort = sort.Header; body = w.body };
+  section = w.section;
   kind = None;
   ordinal = None;
   dims = None;
   side = None;
+  header = None;
   closed = false;
   system = system;
+  exports = exports;
 }
 
 -- the parts of a specification
 abbrev pub outermost : Within
-outermost = record { body = 0; region = 0; header = None; own = 0 ∷ []; around = [] }
+outermost = record {
+  body = 0;
+  region = 0;
+  section = section.Part;
+  header = None;
+  own = 0 ∷ [];
+  around = [];
+}
 
 -- the regions of a body: its own, and that of its header, where it has one
 abbrev pub body_regions : ℕ → Option ℕ → List ℕ
@@ -77,6 +104,7 @@ abbrev pub in_body : Within → ℕ → Option ℕ → Within
 in_body w place header = record {
   body = place;
   region = place;
+  section = section.Part;
   header = header;
   own = body_regions place header;
   around = w.own ++ w.around;
@@ -87,17 +115,30 @@ abbrev pub inner : Within → ℕ → Within
 inner w place = record {
   body = w.body;
   region = place;
+  section = section.Part;
   header = None;
   own = place ∷ w.own;
   around = w.around;
 }
 
--- what is declared in another region, and looked up in the same ones
-abbrev pub in_region : Within → ℕ → Within
-in_region w place = record {
+-- what a section declares in another region, and is looked up in the same ones
+abbrev pub in_region : Section → Within → ℕ → Within
+in_region s w place = record {
   body = w.body;
   region = place;
+  section = s;
   header = None;
+  own = w.own;
+  around = w.around;
+}
+
+-- what another section declares
+abbrev pub in_section : Section → Within → Within
+in_section s w = record {
+  body = w.body;
+  region = w.region;
+  section = s;
+  header = w.header;
   own = w.own;
   around = w.around;
 }
@@ -108,6 +149,7 @@ with_region None w = w
 with_region (Some place) w = record {
   body = w.body;
   region = w.region;
+  section = w.section;
   header = w.header;
   own = place ∷ w.own;
   around = w.around;

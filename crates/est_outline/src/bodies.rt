@@ -3,7 +3,8 @@
 
 ghost use Rattle.std.specs.Prelude.{◌≡◌, OnOk, IfOk};
 ghost use Rattle.est_scope.specs.declared.declaration.Sort.TheVariants as sort;
-ghost use Rattle.est_outline.specs.Bodies.{body_named, inside, routine_sort, routine_named};
+ghost use Rattle.est_outline.specs.Bodies.{body_named, body_header, header_given, inside};
+ghost use Rattle.est_outline.specs.Bodies.{routine_sort, routine_named};
 ghost use Rattle.est_outline.specs.Bodies.{result_given, head_declares, to_lying, closed_by};
 ghost use Rattle.est_outline.specs.Bodies.{part_declares, parts_declare, outline_of};
 ghost use Rattle.est_outline.specs.inside.Parts.{block_declares, first_declares};
@@ -37,6 +38,21 @@ fn body_named(within: &Within, name: &Used, outline: &mut Outline) -> Result<(),
     outline.declare(within, name, name.place, plain(within, Sort::Body))
 }
 
+// The header of a body.
+fn body_header(outline: &Outline, header: &Used) -> Option<u32>
+    ensures { result ≡ body_header outline.now header.now }
+{
+    outline.declaration_of(Sort::Header, header)
+}
+
+// A body gets its header.
+fn header_given(name: &Used, header: &Used, outline: &mut Outline)
+    ensures { outline.new ≡ header_given name.now header.now outline.old }
+{
+    let header = body_header(outline, header);
+    outline.give_header(name.place, header);
+}
+
 // What stands in a body.
 fn inside(
     alloc: Global,
@@ -48,8 +64,7 @@ fn inside(
     ensures { IfOk result
         (λ inner. inner ≡ inside within.now name.now header.now outline.now) }
 {
-    let header = outline.declaration_of(Sort::Header, header);
-    in_body(alloc, within, name.place, header)
+    in_body(alloc, within, name.place, body_header(outline, header))
 }
 
 // The sort of a routine.
@@ -257,6 +272,7 @@ fn body_declares(
 {
     body_named(within, &body.name, outline)?;
     let inside = inside(alloc, within, &body.name, &body.header, outline)?;
+    header_given(&body.name, &body.header, outline);
     held_declares(alloc, &inside, body, outline)
 }
 

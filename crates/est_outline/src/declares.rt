@@ -7,16 +7,17 @@ ghost use Rattle.est_outline.specs.Declares.{names_declare, const_declares, cons
 ghost use Rattle.est_outline.specs.Declares.{type_declares, types_declare};
 ghost use Rattle.est_outline.specs.Declares.{var_given, var_declares, vars_declare};
 ghost use Rattle.est_outline.specs.Declares.{states_declare, stateset_declares, statesets_declare};
-ghost use Rattle.est_outline.specs.Declares.{formal_declares, formals_declare};
+ghost use Rattle.est_outline.specs.Declares.{formal_section, formal_declares, formals_declare};
 
 use crate::entries::{constant, plain};
 use crate::lasts::{names_last, text_last};
 use crate::texts::{kinds_given, text_declares};
+use crate::within::in_section;
 use est_kinds::constants::{constant_last, constant_value};
 use est_kinds::dims::dims_of;
 use est_kinds::names::named_type;
 use est_kinds::texts::{text_place, text_type};
-use est_scope::declaration::{Sort, Within};
+use est_scope::declaration::{Section, Sort, Within};
 use est_scope::outline::Outline;
 use est_syntax::body::StateSet;
 use est_syntax::constant::ConstDef;
@@ -180,12 +181,24 @@ pub fn statesets(
     Ok(())
 }
 
+// The section of formals.
+fn formal_section(by_place: bool) -> Section
+    ensures { result ≡ formal_section by_place }
+{
+    if by_place {
+        Section::Place
+    } else {
+        Section::Value
+    }
+}
+
 // Formals of one type.
 fn formal(within: &Within, item: &Formal, outline: &mut Outline) -> Result<(), AllocError>
     ensures { OnOk result (outline.new ≡ formal_declares within.now item.now outline.old) }
 {
     outline.lie(within, item.kind.place)?;
-    variables(within, item.names.as_slice(), item.kind.place, outline)?;
+    let inside = in_section(formal_section(item.by_place), within)?;
+    variables(&inside, item.names.as_slice(), item.kind.place, outline)?;
     let kind = named_type(outline, &item.kind)?;
     kinds_given(item.names.as_slice(), &kind, outline)
 }

@@ -18,12 +18,15 @@ pub fn typed(within: &Within, sort: Sort, kind: Option<Measured>) -> Entry
             sort,
             body: within.body,
         },
+        section: within.section,
         kind,
         ordinal: None,
         dims: None,
         side: None,
+        header: None,
         closed: false,
         system: false,
+        exports: false,
     }
 }
 
@@ -45,6 +48,7 @@ pub fn constant(within: &Within, value: Option<Valued>) -> Entry
                 sort: Sort::Constant,
                 body: within.body,
             },
+            section: within.section,
             kind: Some(Measured {
                 kind: host,
                 scalars: 1,
@@ -53,8 +57,10 @@ pub fn constant(within: &Within, value: Option<Valued>) -> Entry
             ordinal: Some(ordinal),
             dims: None,
             side: None,
+            header: None,
             closed: false,
             system: false,
+            exports: false,
         },
     }
 }
@@ -79,12 +85,15 @@ pub fn numbered(within: &Within, number: usize) -> Entry
             sort: Sort::Constant,
             body: within.body,
         },
+        section: within.section,
         kind: None,
         ordinal: ordinal_of(number),
         dims: None,
         side: None,
+        header: None,
         closed: false,
         system: false,
+        exports: false,
     }
 }
 
@@ -97,47 +106,56 @@ pub fn point(within: &Within, dims: Option<Kinds>, side: Option<Side>) -> Entry
             sort: Sort::Point,
             body: within.body,
         },
+        section: within.section,
         kind: None,
         ordinal: None,
         dims,
         side,
+        header: None,
         closed: false,
         system: false,
+        exports: false,
     }
 }
 
-/// A module variable.
-pub fn module_variable(within: &Within, dims: Option<Kinds>) -> Entry
-    ensures { result ≡ module_variable within.now dims }
+/// A module variable, of a header.
+pub fn module_variable(within: &Within, dims: Option<Kinds>, header: Option<u32>) -> Entry
+    ensures { result ≡ module_variable within.now dims header }
 {
     Entry {
         declared: Declared {
             sort: Sort::ModuleVariable,
             body: within.body,
         },
+        section: within.section,
         kind: None,
         ordinal: None,
         dims,
         side: None,
+        header,
         closed: false,
         system: false,
+        exports: false,
     }
 }
 
-/// A module header, with its attribute.
-pub fn header(within: &Within, system: bool) -> Entry
-    ensures { result ≡ header within.now system }
+/// A module header, with its attribute, and whether it has exports.
+pub fn header(within: &Within, system: bool, exports: bool) -> Entry
+    ensures { result ≡ header within.now system exports }
 {
     Entry {
         declared: Declared {
             sort: Sort::Header,
             body: within.body,
         },
+        section: within.section,
         kind: None,
         ordinal: None,
         dims: None,
         side: None,
+        header: None,
         closed: false,
         system,
+        exports,
     }
 }

@@ -4,11 +4,12 @@ ghost use Rattle.std.specs.Prelude.{◌≡◌, ◌≤◌, take, drop, length, On
 ghost use Rattle.est_scope.specs.Declaring.{declared};
 ghost use Rattle.est_outline.specs.Entries.{point, module_variable};
 ghost use Rattle.est_outline.specs.Declares.{names_declare, roles_put, interaction_declares};
-ghost use Rattle.est_outline.specs.Declares.{interactions_declare, by_declare, channel_declares};
+ghost use Rattle.est_outline.specs.Declares.{interactions_declare, sender, senders};
+ghost use Rattle.est_outline.specs.Declares.{part_declares, by_declare, channel_declares};
 ghost use Rattle.est_outline.specs.Declares.{side_with, member_named, side_of, point_declares};
 ghost use Rattle.est_outline.specs.Declares.{points_declare, modvar_declares, modvars_declare};
 ghost use Rattle.est_outline.specs.Declares.{stands_before, before, after, sections_declare};
-ghost use Rattle.est_outline.specs.Declares.{header_named, header_declares};
+ghost use Rattle.est_outline.specs.Declares.{has_exports, header_named, header_declares};
 
 use crate::declares::vars;
 use crate::dims::copy_dims;
@@ -18,7 +19,7 @@ use crate::lasts::{channel_last, header_last};
 use crate::within::in_region;
 use est_kinds::dims::dims_of;
 use est_kinds::texts::text_place;
-use est_scope::declaration::{Member, Side, Sort, Within};
+use est_scope::declaration::{Member, Section, Senders, Side, Sort, Within};
 use est_scope::outline::Outline;
 use est_syntax::channel::{ByPart, Channel, InteractionDef, Role};
 use est_syntax::header::{Header, ModvarDef, Point};
@@ -48,14 +49,15 @@ fn interaction(
     alloc: Global,
     within: &Within,
     region: u32,
+    senders: Senders,
     item: &InteractionDef,
     outline: &mut Outline,
 ) -> Result<(), AllocError>
     ensures { OnOk result
-        (outline.new ≡ interaction_declares within.now region item.now outline.old) }
+        (outline.new ≡ interaction_declares within.now region senders item.now outline.old) }
 {
-    outline.put(region, &item.name, Member::Interaction)?;
-    let inside = in_region(within, item.name.place)?;
+    outline.put(region, &item.name, Member::Interaction(senders))?;
+    let inside = in_region(Section::Interaction, within, item.name.place)?;
     vars(alloc, &inside, item.params.as_slice(), outline)
 }
 
@@ -64,16 +66,79 @@ fn interactions(
     alloc: Global,
     within: &Within,
     region: u32,
+    senders: Senders,
     items: &[InteractionDef],
     outline: &mut Outline,
 ) -> Result<(), AllocError>
     ensures { OnOk result
-        (outline.new ≡ interactions_declare within.now region items.now outline.old) }
+        (outline.new ≡ interactions_declare within.now region senders items.now outline.old) }
 {
     for item in items {
-        interaction(alloc, within, region, item, outline)?;
+        interaction(alloc, within, region, senders, item, outline)?;
     }
     Ok(())
+}
+
+/// The name of a channel or a record in its region.
+pub fn member_named(outline: &Outline, region: u32, used: &Used) -> Option<Member>
+    ensures { result ≡ member_named outline.now region used.now }
+{
+    match outline.standing(region, &used.name) {
+        None => None,
+        Some(standing) => outline.member(standing.place),
+    }
+}
+
+// The senders, with a role more.
+fn sender(member: Option<Member>, senders: Senders) -> Senders
+    ensures { result ≡ sender member senders }
+{
+    match member {
+        Some(Member::Role(Role::First)) => Senders {
+            first: true,
+            second: senders.second,
+        },
+        Some(Member::Role(Role::Second)) => Senders {
+            first: senders.first,
+            second: true,
+        },
+        _ => senders,
+    }
+}
+
+// The roles that a `by` names.
+fn senders(outline: &Outline, region: u32, roles: &[Used]) -> Senders
+    ensures { result ≡ senders outline.now region roles.now }
+{
+    let mut found = Senders {
+        first: false,
+        second: false,
+    };
+    for used in roles {
+        found = sender(member_named(outline, region, used), found);
+    }
+    found
+}
+
+// A part of a channel.
+fn part(
+    alloc: Global,
+    within: &Within,
+    region: u32,
+    item: &ByPart,
+    outline: &mut Outline,
+) -> Result<(), AllocError>
+    ensures { OnOk result (outline.new ≡ part_declares within.now region item.now outline.old) }
+{
+    let found = senders(outline, region, item.roles.as_slice());
+    interactions(
+        alloc,
+        within,
+        region,
+        found,
+        item.interactions.as_slice(),
+        outline,
+    )
 }
 
 // The parts of a channel.
@@ -87,7 +152,7 @@ fn by(
     ensures { OnOk result (outline.new ≡ by_declare within.now region items.now outline.old) }
 {
     for item in items {
-        interactions(alloc, within, region, item.interactions.as_slice(), outline)?;
+        part(alloc, within, region, item, outline)?;
     }
     Ok(())
 }
@@ -111,16 +176,6 @@ pub fn channel(
     )?;
     roles(place, item.roles.as_slice(), Role::First, outline)?;
     by(alloc, within, place, item.by.as_slice(), outline)
-}
-
-/// The name of a channel or a record in its region.
-pub fn member_named(outline: &Outline, region: u32, used: &Used) -> Option<Member>
-    ensures { result ≡ member_named outline.now region used.now }
-{
-    match outline.standing(region, &used.name) {
-        None => None,
-        Some(standing) => outline.member(standing.place),
-    }
 }
 
 // The side with a role of a channel, where it is one.
@@ -215,28 +270,38 @@ fn one_modvar(
     used: &Used,
     last: u32,
     dims: &Option<Kinds>,
+    header: Option<u32>,
     outline: &mut Outline,
 ) -> Result<(), AllocError>
-    ensures { OnOk result (outline.new ≡
-        declared within.now used.now last (module_variable within.now dims.now) outline.old) }
+    ensures { OnOk result (outline.new ≡ declared within.now used.now last
+        (module_variable within.now dims.now header) outline.old) }
 {
     let dims = copy_dims(alloc, dims)?;
-    outline.declare(within, used, last, module_variable(within, dims))
+    outline.declare(within, used, last, module_variable(within, dims, header))
 }
 
-// Module variables with the same subscripts.
+// Module variables with the same subscripts and header.
 fn modvar_names(
     alloc: Global,
     within: &Within,
     item: &ModvarDef,
     dims: &Option<Kinds>,
+    header: Option<u32>,
     outline: &mut Outline,
 ) -> Result<(), AllocError>
     ensures { OnOk result (outline.new ≡ names_declare within.now item.now.names
-        item.now.header.place (module_variable within.now dims.now) outline.old) }
+        item.now.header.place (module_variable within.now dims.now header) outline.old) }
 {
     for used in item.names.as_slice() {
-        one_modvar(alloc, within, used, item.header.place, dims, outline)?;
+        one_modvar(
+            alloc,
+            within,
+            used,
+            item.header.place,
+            dims,
+            header,
+            outline,
+        )?;
     }
     Ok(())
 }
@@ -252,7 +317,8 @@ fn modvar(
 {
     outline.lie(within, item.place)?;
     let dims = dims_of(alloc, outline, item.dims.as_slice())?;
-    modvar_names(alloc, within, item, &dims, outline)
+    let header = outline.declaration_of(Sort::Header, &item.header);
+    modvar_names(alloc, within, item, &dims, header, outline)
 }
 
 /// Module variables.
@@ -307,6 +373,13 @@ fn sections(
     vars(alloc, within, rest, outline)
 }
 
+// Whether there are exports.
+fn has_exports(exports: &[VarDef]) -> bool
+    ensures { result ≡ has_exports exports.now }
+{
+    !exports.is_empty()
+}
+
 /// A header, with a region for its parameters, interaction points and exports.
 pub fn header(
     alloc: Global,
@@ -322,10 +395,11 @@ pub fn header(
         within,
         &item.name,
         header_last(item),
-        entries::header(within, item.system),
+        entries::header(within, item.system, has_exports(item.exports.as_slice())),
     )?;
-    let inside = in_region(within, place)?;
-    vars(alloc, &inside, item.params.as_slice(), outline)?;
+    let params = in_region(Section::Parameter, within, place)?;
+    vars(alloc, &params, item.params.as_slice(), outline)?;
+    let inside = in_region(Section::Header, within, place)?;
     sections(
         alloc,
         &inside,

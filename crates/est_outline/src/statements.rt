@@ -9,11 +9,11 @@ ghost use Rattle.est_outline.specs.inside.Parts.{second_declares, arm_declares, 
 
 use crate::entries::{module_variable, typed};
 use crate::lasts::text_last;
-use crate::within::inner;
+use crate::within::{in_section, inner};
 use est_items::Boxed;
 use est_kinds::constants::constant_place;
 use est_kinds::texts::text_type;
-use est_scope::declaration::{Entry, Sort, Within};
+use est_scope::declaration::{Entry, Section, Sort, Within};
 use est_scope::outline::Outline;
 use est_syntax::constant::Constant;
 use est_syntax::kind::Kinds;
@@ -120,7 +120,10 @@ fn all_by(
         all_by within.now outline.now over.now (over_header outline.now over.now)) }
 {
     match over_header(outline, over) {
-        Some(_) => Ok(module_variable(within, Some(Kinds::new(alloc)))),
+        Some(header) => {
+            let dims = Some(Kinds::new(alloc));
+            Ok(module_variable(within, dims, Some(header)))
+        },
         None => Ok(typed(within, Sort::Variable, text_type(alloc, outline, over)?)),
     }
 }
@@ -135,7 +138,8 @@ fn all_named(
     ensures { OnOk result
         (outline.new ≡ all_named within.now name.now over.now outline.old) }
 {
-    let entry = all_by(alloc, within, outline, over)?;
+    let inside = in_section(Section::All, within)?;
+    let entry = all_by(alloc, &inside, outline, over)?;
     outline.declare(within, name, text_last(over), entry)
 }
 

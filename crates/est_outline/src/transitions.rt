@@ -10,7 +10,7 @@ ghost use Rattle.est_outline.specs.Bodies.{clauses_declare};
 use crate::context::{ClauseKind, Context, give};
 use crate::declares::vars;
 use crate::within::{in_region, under};
-use est_scope::declaration::{Member, Side, Sort, Within};
+use est_scope::declaration::{Member, Section, Side, Sort, Within};
 use est_scope::outline::Outline;
 use est_syntax::name::Used;
 use est_syntax::transition::Clause;
@@ -23,7 +23,7 @@ fn interaction_at(outline: &Outline, side: Option<Side>, used: &Used) -> Option<
 {
     let standing = outline.standing(side?.channel, &used.name)?;
     match outline.member(standing.place) {
-        Some(Member::Interaction) => Some(standing.place),
+        Some(Member::Interaction(_)) => Some(standing.place),
         _ => None,
     }
 }
@@ -105,7 +105,7 @@ fn any(
     give(context, ClauseKind::Any, Some(place))?;
     let inside = under(alloc, within, context.as_slice())?;
     outline.lie(&inside, place)?;
-    let region = in_region(&inside, place)?;
+    let region = in_region(Section::Any, &inside, place)?;
     vars(alloc, &region, names, outline)
 }
 

@@ -2,12 +2,12 @@
 
 ghost use Rattle.std.specs.Prelude.{◌≡◌, ◌∷◌, ◌++◌, [], IfOk};
 ghost use Rattle.est_outline.specs.Entries.{outermost, body_regions, in_body, inner, in_region};
-ghost use Rattle.est_outline.specs.Entries.{with_region};
+ghost use Rattle.est_outline.specs.Entries.{in_section, with_region};
 ghost use Rattle.est_outline.specs.Contexts.{under};
 
 use crate::context::{ClauseKind, Given};
 use est_items::Shared;
-use est_scope::declaration::{Regions, SharedRegions, Within};
+use est_scope::declaration::{Regions, Section, SharedRegions, Within};
 use std::alloc::{AllocError, Global};
 
 // One list after another.
@@ -28,6 +28,7 @@ pub fn outermost(alloc: Global) -> Result<Within, AllocError>
     Ok(Within {
         body: 0,
         region: 0,
+        section: Section::Part,
         header: None,
         own,
         around,
@@ -62,6 +63,7 @@ pub fn in_body(
     Ok(Within {
         body: place,
         region: place,
+        section: Section::Part,
         header,
         own,
         around,
@@ -77,22 +79,40 @@ pub fn inner(alloc: Global, within: &Within, place: u32) -> Result<Within, Alloc
     Ok(Within {
         body: within.body,
         region: place,
+        section: Section::Part,
         header: None,
         own,
         around,
     })
 }
 
-/// What is declared in another region, and looked up in the same ones.
-pub fn in_region(within: &Within, place: u32) -> Result<Within, AllocError>
-    ensures { IfOk result (λ inside. inside ≡ in_region within.now place) }
+/// What a section declares in another region, and is looked up in the same ones.
+pub fn in_region(section: Section, within: &Within, place: u32) -> Result<Within, AllocError>
+    ensures { IfOk result (λ inside. inside ≡ in_region section within.now place) }
 {
     let own = within.own.share()?;
     let around = within.around.share()?;
     Ok(Within {
         body: within.body,
         region: place,
+        section,
         header: None,
+        own,
+        around,
+    })
+}
+
+/// What another section declares.
+pub fn in_section(section: Section, within: &Within) -> Result<Within, AllocError>
+    ensures { IfOk result (λ inside. inside ≡ in_section section within.now) }
+{
+    let own = within.own.share()?;
+    let around = within.around.share()?;
+    Ok(Within {
+        body: within.body,
+        region: within.region,
+        section,
+        header: within.header,
         own,
         around,
     })
@@ -110,6 +130,7 @@ fn with_region(alloc: Global, region: Option<u32>, within: &Within) -> Result<Wi
     Ok(Within {
         body: within.body,
         region: within.region,
+        section: within.section,
         header: within.header,
         own,
         around,

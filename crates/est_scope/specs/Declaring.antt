@@ -77,24 +77,45 @@ amended f place o = amended_by (entry_at o place) f place o
 abbrev pub with_kind : Option Measured → Entry → Entry
 with_kind k e = record {
   declared = e.declared;
+  section = e.section;
   kind = k;
   ordinal = e.ordinal;
   dims = e.dims;
   side = e.side;
+  header = e.header;
   closed = e.closed;
   system = e.system;
+  exports = e.exports;
 }
 
 -- a routine is closed
 abbrev pub with_closed : Bool → Entry → Entry
 with_closed b e = record {
   declared = e.declared;
+  section = e.section;
   kind = e.kind;
   ordinal = e.ordinal;
   dims = e.dims;
   side = e.side;
+  header = e.header;
   closed = b;
   system = e.system;
+  exports = e.exports;
+}
+
+-- a body gets its header
+abbrev pub with_header : Option ℕ → Entry → Entry
+with_header h e = record {
+  declared = e.declared;
+  section = e.section;
+  kind = e.kind;
+  ordinal = e.ordinal;
+  dims = e.dims;
+  side = e.side;
+  header = h;
+  closed = e.closed;
+  system = e.system;
+  exports = e.exports;
 }
 
 -- From a place on, the text lies within these regions. No extent begins before the one before it.

@@ -1,6 +1,7 @@
 -- What a specification declares, and what a name means at a place (ISO 9074, scope of identifiers;
 -- ISO 7185, 6.2.2).
-use Rattle.std.specs.Prelude.{ℕ, Bool, true, false, nat_lt, nat_eq, List, [], ◌∷◌, Option, Some, None, if◌then◌else◌}
+use Rattle.std.specs.Prelude.{ℕ, Bool, true, false, nat_lt, nat_eq, List, [], ◌∷◌, ◌++◌, slice_get, Option, Some, None, if◌then◌else◌}
+use Rattle.std.specs.List.{list_any}
 use Rattle.std.specs.Map.{lookup}
 use Rattle.std.specs.Option.{option_or}
 use Rattle.est_syntax.specs.Names.{is_name, is_predeclared}
@@ -33,6 +34,18 @@ standing_in (Some names) name = lookup (is_name name) names
 
 abbrev pub standing : Outline → ℕ → List ℕ → Option Standing
 standing o region name = standing_in (lookup (nat_eq region) o.regions) name
+
+-- where the name of a region stands that has this number, counted from 0
+abbrev pub place_of : Option (List ℕ × Standing) → Option ℕ
+place_of None = None
+place_of (Some n) = Some n.1.place
+
+abbrev pub nth_in : Option Region → ℕ → Option ℕ
+nth_in None i = None
+nth_in (Some names) i = place_of (slice_get names i)
+
+abbrev pub nth : Outline → ℕ → ℕ → Option ℕ
+nth o region i = nth_in (lookup (nat_eq region) o.regions) i
 
 -- what is declared at a place
 abbrev pub entry_at : Outline → ℕ → Option Entry
@@ -97,3 +110,11 @@ extent_at (e ∷ es) place = option_or (extent_at es place) (from_or_before plac
 -- what a name means at a place
 abbrev pub meant : Outline → List ℕ → ℕ → Meant
 meant o name place = meant_within o (extent_at o.extents place) name place
+
+-- whether a place of the text lies in the region of this owner
+abbrev pub lies_by : Option Extent → ℕ → Bool
+lies_by None region = false
+lies_by (Some e) region = list_any (nat_eq region) (e.own ++ e.around)
+
+abbrev pub lies_in : Outline → ℕ → ℕ → Bool
+lies_in o place region = lies_by (extent_at o.extents place) region

@@ -23,6 +23,27 @@ pub enum Sort {
     Function,
 }
 
+/// What declares a name, beside its sort.
+#[derive(Clone, Copy)]
+pub enum Section {
+    /// A declaration of a specification, a body, a routine or a block.
+    Part,
+    /// The parameters of a header.
+    Parameter,
+    /// The interaction points and the exports of a header.
+    Header,
+    /// The formals of a routine that are given a value.
+    Value,
+    /// The formals of a routine that are given a variable.
+    Place,
+    /// The parameters of an interaction.
+    Interaction,
+    /// An `any` of a transition.
+    Any,
+    /// An `all`.
+    All,
+}
+
 /// A declaration: its sort, and the place of the name of the body that holds it, 0 for the
 /// specification.
 #[derive(Clone, Copy)]
@@ -49,24 +70,35 @@ pub struct Side {
 /// What is known of a declaration. `kind` is that of a constant, a type, a variable or the result
 /// of a function, where it has one, and `ordinal` the value of a constant. `dims` are the kinds of
 /// the subscripts of an interaction point or a module variable, and `side` is that of an
-/// interaction point. `closed` says of a routine that nested bodies see it, and `system` of a header
-/// that it is a `systemactivity`.
+/// interaction point. `header` is the place of the name of the header of a module variable or a
+/// body, where it has one. `closed` says of a routine that nested bodies see it, `system` of a
+/// header that it is a `systemactivity`, and `exports` that it has exported variables.
 #[derive(Drop)]
 pub struct Entry {
     pub declared: Declared,
+    pub section: Section,
     pub kind: Option<Measured>,
     pub ordinal: Option<i32>,
     pub dims: Option<Kinds>,
     pub side: Option<Side>,
+    pub header: Option<u32>,
     pub closed: bool,
     pub system: bool,
+    pub exports: bool,
+}
+
+/// Which roles of a channel may send an interaction.
+#[derive(Clone, Copy)]
+pub struct Senders {
+    pub first: bool,
+    pub second: bool,
 }
 
 /// What a name of a channel or a record stands for.
 #[derive(Clone, Copy)]
 pub enum Member {
     Role(Role),
-    Interaction,
+    Interaction(Senders),
     Field,
 }
 
@@ -92,12 +124,13 @@ pub struct Extent {
     pub around: SharedRegions,
 }
 
-/// Where a part of the text stands: in the body of this place, declaring in this region, which has
-/// the names of that header too, within these regions.
+/// Where a part of the text stands: in the body of this place, declaring in this region by this
+/// section, which has the names of that header too, within these regions.
 #[derive(Drop)]
 pub struct Within {
     pub body: u32,
     pub region: u32,
+    pub section: Section,
     pub header: Option<u32>,
     pub own: SharedRegions,
     pub around: SharedRegions,

@@ -1,8 +1,9 @@
 //! The names of one region, in the order of their declarations.
 
-ghost use Rattle.std.specs.Prelude.{◌≡◌, [], ◌∷◌, ◌++◌, OnOk, None};
+ghost use Rattle.std.specs.Prelude.{◌≡◌, [], ◌∷◌, ◌++◌, slice_get, OnOk, None};
 ghost use Rattle.std.specs.Map.{lookup};
 ghost use Rattle.est_syntax.specs.Names.{is_name};
+ghost use Rattle.est_scope.specs.Outline.{place_of};
 
 use crate::declaration::Standing;
 use est_syntax::name::Name;
@@ -47,6 +48,16 @@ impl Names {
         ensures { result ≡ lookup (is_name name.now.bytes) self.now }
     {
         self.under.get(name.bytes.as_slice()).copied()
+    }
+
+    /// Where the name stands that has this number, counted from 0.
+    pub fn nth(&self, index: usize) -> Option<u32>
+        ensures { result ≡ place_of (slice_get self.now index) }
+    {
+        match self.under.get_index(index) {
+            None => None,
+            Some((_, standing)) => Some(standing.place),
+        }
     }
 
     /// Adds a name that is not there.

@@ -2,9 +2,9 @@
 
 ghost use Rattle.std.specs.Prelude.{◌≡◌, OnOk};
 ghost use Rattle.std.specs.Option.{option_copied};
-ghost use Rattle.est_scope.specs.Outline.{standing, entry_at, member_at, extent_at};
+ghost use Rattle.est_scope.specs.Outline.{standing, nth, entry_at, member_at, extent_at, lies_in};
 ghost use Rattle.est_scope.specs.Declaring.{empty, standing_of, taken, declared, put, lying};
-ghost use Rattle.est_scope.specs.Declaring.{amended, with_kind, with_closed};
+ghost use Rattle.est_scope.specs.Declaring.{amended, with_kind, with_closed, with_header};
 
 use crate::declaration::{Entry, Extent, Measured, Member, Standing, Within};
 use crate::extent::Extents;
@@ -76,6 +76,13 @@ impl Outline {
         self.regions.standing(region, name)
     }
 
+    /// The place of the name of a region that has this number, counted from 0.
+    pub fn nth(&self, region: u32, index: usize) -> Option<u32>
+        ensures { result ≡ nth self.now region index }
+    {
+        self.regions.nth(region, index)
+    }
+
     /// What is declared at a place.
     pub fn entry(&self, place: u32) -> Option<&Entry>
         ensures { option_copied result ≡ entry_at self.now place }
@@ -95,6 +102,19 @@ impl Outline {
         ensures { option_copied result ≡ extent_at self.now.extents place }
     {
         self.extents.at(place)
+    }
+
+    /// Whether a place of the text lies in the region of this owner.
+    pub fn lies_in(&self, place: u32, region: u32) -> bool
+        ensures { result ≡ lies_in self.now place region }
+    {
+        match self.extent(place) {
+            None => false,
+            Some(extent) => {
+                extent.own.get().as_slice().contains(&region)
+                    || extent.around.get().as_slice().contains(&region)
+            },
+        }
     }
 
     // Where a name stands among those of a header.
@@ -173,6 +193,15 @@ impl Outline {
         match self.entries.get_mut(&place) {
             None => drop(kind),
             Some(entry) => entry.kind = kind,
+        }
+    }
+
+    /// Gives a body its header.
+    pub fn give_header(&mut self, place: u32, header: Option<u32>)
+        ensures { self.new ≡ amended (with_header header) place self.old }
+    {
+        if let Some(entry) = self.entries.get_mut(&place) {
+            entry.header = header;
         }
     }
 

@@ -2,7 +2,7 @@
 
 ghost use Rattle.std.specs.Prelude.{◌≡◌, [], None, OnOk, nat_eq};
 ghost use Rattle.std.specs.Map.{lookup};
-ghost use Rattle.est_scope.specs.Outline.{standing_in};
+ghost use Rattle.est_scope.specs.Outline.{standing_in, nth_in};
 ghost use Rattle.est_scope.specs.Declaring.{named_in};
 
 use crate::declaration::Standing;
@@ -50,6 +50,16 @@ impl RegionNames {
         match self.under.get(&region) {
             None => None,
             Some(names) => names.find(name),
+        }
+    }
+
+    /// Where the name of a region stands that has this number, counted from 0.
+    pub fn nth(&self, region: u32, index: usize) -> Option<u32>
+        ensures { result ≡ nth_in (lookup (nat_eq region) self.now) index }
+    {
+        match self.under.get(&region) {
+            None => None,
+            Some(names) => names.nth(index),
         }
     }
 

@@ -1,17 +1,15 @@
 //! Why tokens are no specification.
 
 ghost use Rattle.std.specs.Prelude.{◌≡◌};
-ghost use Rattle.est_specification.specs.Errors.{of_refusal, of_fault};
+ghost use Rattle.est_specification.specs.Errors.{of_refusal};
 
-use est_check::CheckError;
 use est_grammar::ParseError;
 use est_syntax::rule::Rule;
 use std::alloc::AllocError;
 use thiserror::Error;
 
 /// Why tokens are no specification, with the number of the refused token, counted from 0. Only a
-/// sentence breaks a rule, or is not built yet; the place of a broken rule is that of the least
-/// fault.
+/// sentence breaks a rule; the place of a broken rule is that of the least fault.
 #[derive(Debug, Drop, Error)]
 pub enum SpecificationError {
     #[error("bad token {place}")]
@@ -21,9 +19,6 @@ pub enum SpecificationError {
     /// The token opens a level more than may be open.
     #[error("token {place} is nested too deep")]
     TooDeep { place: u32 },
-    /// A sentence with parts whose rules are not checked yet.
-    #[error("not built yet")]
-    NotBuilt,
     #[error("token {place}: {rule:?}")]
     BrokenRule { place: u32, rule: Rule },
     #[error(transparent)]
@@ -39,18 +34,6 @@ impl From<ParseError> for SpecificationError {
             ParseError::LeftOut { place } => SpecificationError::LeftOut { place },
             ParseError::TooDeep { place } => SpecificationError::TooDeep { place },
             ParseError::Memory(error) => SpecificationError::Memory(error),
-        }
-    }
-}
-
-impl From<CheckError> for SpecificationError {
-    ghost from_gives = { λ fault e. e ≡ of_fault fault };
-
-    fn from(fault: CheckError) -> SpecificationError {
-        match fault {
-            CheckError::NotBuilt => SpecificationError::NotBuilt,
-            CheckError::Fault { place, rule } => SpecificationError::BrokenRule { place, rule },
-            CheckError::Memory(error) => SpecificationError::Memory(error),
         }
     }
 }

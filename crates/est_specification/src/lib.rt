@@ -3,7 +3,7 @@
 
 mod error;
 pub mod laws;
-mod read;
+pub mod read;
 
 pub use error::SpecificationError;
-pub use read::read_specification;
+pub use read::{Specification, read_specification};

@@ -19,7 +19,11 @@ use Rattle.est_productions.specs.Grammar.{specification as specification_rule}
 use Rattle.est_check.specs.Skeleton.{IsSkeleton}
 use Rattle.est_meaning.specs.declared.event.Event.{Event}
 use Rattle.est_meaning.specs.Allowed.{most_events}
-use Rattle.est_specification.specs.Reading.{IsSpecification, IsNoSpecification, IsBroken, IsLeastOfDeclarations}
+use Rattle.est_specification.specs.Reading.{IsSpecification, IsGoodText, IsNoSpecification, IsBroken}
+use Rattle.est_specification.specs.declared.read.Specification.{Specification as Read}
+use Rattle.est_specification.specs.declared.read.Specification.TheVariants as found
+use Rattle.est_blocks.specs.Answers.{IsLeastFault as IsLeastOfRules}
+use Rattle.est_blocks.specs.Counts.{counts_of}
 use Rattle.est_specification.specs.declared.error.SpecificationError.{SpecificationError}
 use Rattle.est_specification.specs.declared.error.SpecificationError.TheVariants as specification
 use Rattle.est_specification.proofs.Unique.{same_specification}
@@ -34,15 +38,15 @@ use Rattle.est_replay.proofs.Checks.{answer_one}
 use Rattle.est_tool.specs.declared.file.File.{File}
 use Rattle.est_tool.specs.declared.file.File.TheVariants.{Specification, Trace, Explanation as Explaining}
 use Rattle.est_tool.specs.declared.status.Status.{Status}
-use Rattle.est_tool.specs.declared.status.Status.TheVariants.{BadSpec, NotBuilt}
+use Rattle.est_tool.specs.declared.status.Status.TheVariants.{BadSpec}
 use Rattle.est_tool.specs.Files.{limit_of}
 use Rattle.est_tool.specs.Reports.{replay_line, rule_text}
 use Rattle.est_tool.specs.Statuses.{replay_status}
 use Rattle.est_tool.specs.Texts.{IsText, Holds, OfSpecification, OfTrace, OfExplanation, Refusals, RefusesSpecification, RefusesTrace, RefusesExplanation, SaysOfSpecification, SaysOfTrace, SaysOfExplanation, IsReported, refusal_at}
 use Rattle.est_tool.specs.Words.{check, replay}
 use Rattle.est_tool.specs.Seen.{Seen}
-use Rattle.est_tool.specs.inside.Work.{IsCounted, IsAnswered}
-use Rattle.est_tool.specs.Ends.{End, reported, unread, IsTooLong, EndsAt, longer, refused, failed, CheckEnds, at_its_file, good, ReplayEnds, at_specification, at_trace, at_explanation, replayed}
+use Rattle.est_tool.specs.inside.Work.{IsCounted, IsUnbuilt, IsAnswered}
+use Rattle.est_tool.specs.Ends.{End, reported, unread, IsTooLong, EndsAt, longer, refused, failed, CheckEnds, at_its_file, good, ReplayEnds, at_specification, unbuilt, at_trace, at_explanation, replayed}
 use Rattle.est_tool.specs.Laws.{TellAlike, OneResult}
 
 -- what is said of the tokens of a text, with a value of type A
@@ -131,19 +135,16 @@ why_of : (tokens : List Token) (place : ℕ) (out : Bool) → is_left_out (slice
 unfolding why_at
 why_of tokens place out p = ap why_by (sym p)
 
--- a specification is refused at its first bad place, as a sentence that is no skeleton, or at its
--- least broken rule
+-- a specification is refused at its first bad place, or at its least broken rule
 data IsRefusedSpecification (text : List ℕ) (tokens : List Token) (s : Status) (place : Option ℕ) (why : List ℕ) : Type 0 where
   bad : (at : ℕ) → Says text tokens (wrong_at at) → s ≡ BadSpec → place ≡ Some at → why ≡ why_at tokens at → IsRefusedSpecification text tokens s place why
   deep : (at : ℕ) → Says text tokens (too_deep_at at) → s ≡ BadSpec → place ≡ Some at → why ≡ codes "nested too deep" → IsRefusedSpecification text tokens s place why
-  unbuilt : (spec : Spec) → HasOneTree text tokens spec → (IsSkeleton spec → ⊥) → IsLeastOfDeclarations spec None → s ≡ NotBuilt → place ≡ None → why ≡ codes "not built yet" → IsRefusedSpecification text tokens s place why
   broken : (at : ℕ) (spec : Spec) (r : Rule) → HasOneTree text tokens spec → IsBroken spec at r → s ≡ BadSpec → place ≡ Some at → why ≡ rule_text r → IsRefusedSpecification text tokens s place why
 
 how_refused : (text : List ℕ) (tokens : List Token) (error : SpecificationError) (s : Status) (place : Option ℕ) (why : List ℕ) → IsNoSpecification text tokens error → SaysOfSpecification error s place why → IsRefusedSpecification text tokens s place why
 how_refused text tokens (specification.BadToken at) s place why is says = bad at is.0 says.0 says.1 (says.2 ∙ why_of tokens at false is.1)
 how_refused text tokens (specification.LeftOut at) s place why is says = bad at is.0 says.0 says.1 (says.2 ∙ why_of tokens at true is.1)
 how_refused text tokens (specification.TooDeep at) s place why is says = deep at is says.0 says.1 says.2
-how_refused text tokens specification.NotBuilt s place why is says = unbuilt is.0 is.1 is.2 is.3 says.0 says.1 says.2
 how_refused text tokens (specification.BrokenRule at r) s place why is says = broken at is.0 r is.1 is.2 says.0 says.1 says.2
 how_refused text tokens (specification.Memory error) s place why is says = absurd says
 
@@ -174,11 +175,11 @@ module _ (text : List ℕ) (tokens : List Token) where
       let same : spec' ≡ spec = same_specification text tokens spec' spec one' one in
       same_broken spec at at' r r' is (subst (λ z. IsBroken z at' r') same is')
 
-  -- a specification whose declarations break no rule, and that is no skeleton, is none that breaks one
-  not_broken : (spec spec' : Spec) (at : ℕ) (r : Rule) → HasOneTree text tokens spec → (IsSkeleton spec → ⊥) → IsLeastOfDeclarations spec None → HasOneTree text tokens spec' → IsBroken spec' at r → ⊥
+  -- a specification that is no skeleton and breaks no rule is none that breaks one
+  not_broken : (spec spec' : Spec) (at : ℕ) (r : Rule) → HasOneTree text tokens spec → (IsSkeleton spec → ⊥) → IsLeastOfRules spec None → HasOneTree text tokens spec' → IsBroken spec' at r → ⊥
   not_broken spec spec' at r one not none one' (inl x) = skeleton_only spec' spec one' x.0 one not
   not_broken spec spec' at r one not none one' (inr x) =
-      none record { place = at; rule = r } (subst (λ z. IsLeastOfDeclarations z (Some record { place = at; rule = r })) (same_specification text tokens spec' spec one' one) x.1).0
+      none record { place = at; rule = r } (subst (λ z. IsLeastOfRules z (Some record { place = at; rule = r })) (same_specification text tokens spec' spec one' one) x.1).0
 
 specifications_alike : (text : List ℕ) (tokens : List Token) (s s' : Status) (place place' : Option ℕ) (why why' : List ℕ) → IsRefusedSpecification text tokens s place why → IsRefusedSpecification text tokens s' place' why' → AreAlike s s' place place' why why'
 specifications_alike text tokens s s' place place' why why' (bad at x e f g) (bad at' y h k l) =
@@ -186,37 +187,42 @@ specifications_alike text tokens s s' place place' why why' (bad at x e f g) (ba
     (e ∙ sym h, f ∙ ap (λ n. Some n) same ∙ sym k, g ∙ ap (λ n. why_at tokens n) same ∙ sym l)
 specifications_alike text tokens s s' place place' why why' (deep at x e f g) (deep at' y h k l) =
     (e ∙ sym h, f ∙ ap (λ n. Some n) (one_place text tokens at at' x.0 y.0) ∙ sym k, g ∙ sym l)
-specifications_alike text tokens s s' place place' why why' (unbuilt spec one not none e f g) (unbuilt spec' one' not' none' h k l) = (e ∙ sym h, f ∙ sym k, g ∙ sym l)
 specifications_alike text tokens s s' place place' why why' (broken at spec r one is e f g) (broken at' spec' r' one' is' h k l) =
     let fault = one_fault text tokens spec spec' at at' r r' one is one' is' in
     (e ∙ sym h, f ∙ ap (λ n. Some n) fault.0 ∙ sym k, g ∙ ap rule_text fault.1 ∙ sym l)
 specifications_alike text tokens s s' place place' why why' (bad at x e f g) (deep at' y h k l) = absurd (wrong_or_deep text tokens at at' x y)
 specifications_alike text tokens s s' place place' why why' (deep at x e f g) (bad at' y h k l) = absurd (wrong_or_deep text tokens at' at y x)
-specifications_alike text tokens s s' place place' why why' (bad at x e f g) (unbuilt spec one not none h k l) = absurd (not_wrong text tokens at spec x one)
-specifications_alike text tokens s s' place place' why why' (unbuilt spec one not none e f g) (bad at y h k l) = absurd (not_wrong text tokens at spec y one)
-specifications_alike text tokens s s' place place' why why' (deep at x e f g) (unbuilt spec one not none h k l) = absurd (not_deep text tokens at spec x one)
-specifications_alike text tokens s s' place place' why why' (unbuilt spec one not none e f g) (deep at y h k l) = absurd (not_deep text tokens at spec y one)
 specifications_alike text tokens s s' place place' why why' (bad at x e f g) (broken at' spec r one is h k l) = absurd (not_wrong text tokens at spec x one)
 specifications_alike text tokens s s' place place' why why' (broken at' spec r one is e f g) (bad at y h k l) = absurd (not_wrong text tokens at spec y one)
 specifications_alike text tokens s s' place place' why why' (deep at x e f g) (broken at' spec r one is h k l) = absurd (not_deep text tokens at spec x one)
 specifications_alike text tokens s s' place place' why why' (broken at' spec r one is e f g) (deep at y h k l) = absurd (not_deep text tokens at spec y one)
-specifications_alike text tokens s s' place place' why why' (unbuilt spec one not none e f g) (broken at spec' r one' is h k l) = absurd (not_broken text tokens spec spec' at r one not none one' is)
-specifications_alike text tokens s s' place place' why why' (broken at spec r one is e f g) (unbuilt spec' one' not none h k l) = absurd (not_broken text tokens spec' spec at r one' not none one is)
 
 good_not_refused : (text : List ℕ) (tokens : List Token) (spec : Spec) (s : Status) (place : Option ℕ) (why : List ℕ) → IsSpecification text tokens spec → IsRefusedSpecification text tokens s place why → ⊥
 good_not_refused text tokens spec s place why is (bad at x e f g) = not_wrong text tokens at spec x is.tree
 good_not_refused text tokens spec s place why is (deep at x e f g) = not_deep text tokens at spec x is.tree
-good_not_refused text tokens spec s place why is (unbuilt spec' one not none e f g) = skeleton_only text tokens spec spec' is.tree is.skeleton one not
 good_not_refused text tokens spec s place why is (broken at spec' r one (inl x) e f g) =
     let same : spec' ≡ spec = same_specification text tokens spec' spec one is.tree in
     is.good at r (subst (λ z. IsLeastFault z at r) same x.1).0
 good_not_refused text tokens spec s place why is (broken at spec' r one (inr x) e f g) = skeleton_only text tokens spec spec' is.tree is.skeleton one x.0
 
+read_not_refused : (text : List ℕ) (tokens : List Token) (read : Read) (s : Status) (place : Option ℕ) (why : List ℕ) → IsGoodText text tokens read → IsRefusedSpecification text tokens s place why → ⊥
+read_not_refused text tokens (found.Skeleton spec) s place why is x = good_not_refused text tokens spec s place why is x
+read_not_refused text tokens (found.Whole counts) s place why is (bad at x e f g) = not_wrong text tokens at is.spec x is.tree
+read_not_refused text tokens (found.Whole counts) s place why is (deep at x e f g) = not_deep text tokens at is.spec x is.tree
+read_not_refused text tokens (found.Whole counts) s place why is (broken at spec' r one x e f g) = not_broken text tokens is.spec spec' at r is.tree is.whole is.good one x
+
+one_read : (text : List ℕ) (tokens : List Token) (a b : Read) → IsGoodText text tokens a → IsGoodText text tokens b → a ≡ b
+one_read text tokens (found.Skeleton spec) (found.Skeleton spec') x y = ap (λ z. found.Skeleton z) (same_specification text tokens spec spec' x.tree y.tree)
+one_read text tokens (found.Skeleton spec) (found.Whole counts) x y = absurd (skeleton_only text tokens spec y.spec x.tree x.skeleton y.tree y.whole)
+one_read text tokens (found.Whole counts) (found.Skeleton spec) x y = absurd (skeleton_only text tokens spec x.spec y.tree y.skeleton x.tree x.whole)
+one_read text tokens (found.Whole counts) (found.Whole counts') x y =
+    ap (λ z. found.Whole z) (x.numbers ∙ ap counts_of (same_specification text tokens x.spec y.spec x.tree y.tree) ∙ sym y.numbers)
+
 specifications_decided : IsDecided RefusesSpecification OfSpecification
 specifications_decided = record {
   one_refusal = λ text tokens s s' place place' why why' x y. specifications_alike text tokens s s' place place' why why' (how_refused text tokens x.0 s place why x.1 x.2) (how_refused text tokens y.0 s' place' why' y.1 y.2);
-  not_both = λ spec text tokens s place why is x. good_not_refused text tokens spec s place why is (how_refused text tokens x.0 s place why x.1 x.2);
-  one_value = λ a b text tokens x y. same_specification text tokens a b x.tree y.tree;
+  not_both = λ read text tokens s place why is x. read_not_refused text tokens read s place why is (how_refused text tokens x.0 s place why x.1 x.2);
+  one_value = λ a b text tokens x y. one_read text tokens a b x y;
 }
 
 -- TRACES
@@ -337,7 +343,7 @@ module _ {A : Type 0} (file : File) (name bytes : List ℕ) (Refuses : Refusals)
 -- COMMANDS
 
 -- the stages of a call, with what is reported after the last one
-abbrev AtSpecification : Seen → List ℕ → (Spec → Status → List ℕ → Type 0) → Status → List ℕ → Type 0
+abbrev AtSpecification : Seen → List ℕ → (Read → Status → List ℕ → Type 0) → Status → List ℕ → Type 0
 AtSpecification shelf name Next = Stage shelf Specification name RefusesSpecification OfSpecification Next
 
 abbrev AtTrace : Seen → List ℕ → Spec → (List Event → Status → List ℕ → Type 0) → Status → List ℕ → Type 0
@@ -346,8 +352,8 @@ AtTrace shelf name spec Next = Stage shelf Trace name (RefusesTrace spec) (OfTra
 abbrev AtExplanation : Seen → List ℕ → (Explanation → Status → List ℕ → Type 0) → Status → List ℕ → Type 0
 AtExplanation shelf name Next = Stage shelf Explaining name RefusesExplanation OfExplanation Next
 
-one_counted : (spec : Spec) (s s' : Status) (r r' : List ℕ) → IsCounted spec s r → IsCounted spec s' r' → AreSame s s' r r'
-one_counted spec s s' r r' x y = (x.0 ∙ sym y.0, x.1 ∙ sym y.1)
+one_counted : (read : Read) (s s' : Status) (r r' : List ℕ) → IsCounted read s r → IsCounted read s' r' → AreSame s s' r r'
+one_counted read s s' r r' x y = (x.0 ∙ sym y.0, x.1 ∙ sym y.1)
 
 one_answered : (silent statements : ℕ) (spec : Spec) (events : List Event) (read : Explanation) (s s' : Status) (r r' : List ℕ) → IsAnswered silent statements spec events read s r → IsAnswered silent statements spec events read s' r' → AreSame s s' r r'
 one_answered silent statements spec events read s s' r r' x y =
@@ -357,24 +363,30 @@ one_answered silent statements spec events read s s' r r' x y =
 check_stages : (shelf : Seen) (name : List ℕ) (end : End) → CheckEnds shelf name end → OfReport (AtSpecification shelf name IsCounted) end
 check_stages shelf name _ (at_its_file (reported s r) x) = stops (stopped shelf Specification name RefusesSpecification (reported s r) x)
 check_stages shelf name _ (at_its_file unread x) = tt
-check_stages shelf name _ (good spec holds) = goes_on spec holds (refl, refl)
+check_stages shelf name _ (good read holds) = goes_on read holds (refl, refl)
 
--- the stages of a replay
+-- the stages of a replay: one that is no skeleton ends it
+abbrev Runs : Seen → List ℕ → List ℕ → ℕ → ℕ → Read → Status → List ℕ → Type 0
+Runs shelf trace explanation silent statements (found.Skeleton spec) s r =
+    AtTrace shelf trace spec (λ events. AtExplanation shelf explanation (IsAnswered silent statements spec events)) s r
+Runs shelf trace explanation silent statements (found.Whole counts) s r = IsUnbuilt s r
+
 abbrev Replays : Seen → List ℕ → List ℕ → List ℕ → ℕ → ℕ → Status → List ℕ → Type 0
 Replays shelf specification trace explanation silent statements =
-    AtSpecification shelf specification (λ spec. AtTrace shelf trace spec (λ events. AtExplanation shelf explanation (IsAnswered silent statements spec events)))
+    AtSpecification shelf specification (Runs shelf trace explanation silent statements)
 
 replay_stages : (shelf : Seen) (specification trace explanation : List ℕ) (silent statements : ℕ) (end : End) → ReplayEnds shelf specification trace explanation silent statements end
     → OfReport (Replays shelf specification trace explanation silent statements) end
 replay_stages shelf specification trace explanation silent statements _ (at_specification (reported s r) x) = stops (stopped shelf Specification specification RefusesSpecification (reported s r) x)
-replay_stages shelf specification trace explanation silent statements _ (at_trace spec (reported s r) holds x) = goes_on spec holds (stops (stopped shelf Trace trace (RefusesTrace spec) (reported s r) x))
+replay_stages shelf specification trace explanation silent statements _ (unbuilt counts holds) = goes_on (found.Whole counts) holds (refl, refl)
+replay_stages shelf specification trace explanation silent statements _ (at_trace spec (reported s r) holds x) = goes_on (found.Skeleton spec) holds (stops (stopped shelf Trace trace (RefusesTrace spec) (reported s r) x))
 replay_stages shelf specification trace explanation silent statements _ (at_explanation spec events (reported s r) holds traced x) =
-    goes_on spec holds (goes_on events traced (stops (stopped shelf Explaining explanation RefusesExplanation (reported s r) x)))
+    goes_on (found.Skeleton spec) holds (goes_on events traced (stops (stopped shelf Explaining explanation RefusesExplanation (reported s r) x)))
 replay_stages shelf specification trace explanation silent statements _ (at_specification unread x) = tt
 replay_stages shelf specification trace explanation silent statements _ (at_trace spec unread holds x) = tt
 replay_stages shelf specification trace explanation silent statements _ (at_explanation spec events unread holds traced x) = tt
 replay_stages shelf specification trace explanation silent statements _ (replayed spec events read answer holds traced explained is) =
-    goes_on spec holds (goes_on events traced (goes_on read explained (answer, is, refl, refl)))
+    goes_on (found.Skeleton spec) holds (goes_on events traced (goes_on read explained (answer, is, refl, refl)))
 
 one_check : (shelf shelf' : Seen) (name : List ℕ) (s s' : Status) (r r' : List ℕ) → TellAlike shelf shelf' name
     → AtSpecification shelf name IsCounted s r → AtSpecification shelf' name IsCounted s' r' → AreSame s s' r r'
@@ -385,7 +397,7 @@ one_replay : (shelf shelf' : Seen) (specification trace explanation : List ℕ) 
     → TellAlike shelf shelf' explanation
     → Replays shelf specification trace explanation silent statements s r → Replays shelf' specification trace explanation silent statements s' r' → AreSame s s' r r'
 one_replay shelf shelf' specification trace explanation silent statements s s' r r' told traced explained x y =
-    one_stage Specification specification told.0 RefusesSpecification OfSpecification specifications_decided shelf shelf' told.1 told.2 _ _ at_trace_one s s' r r' x y
+    one_stage Specification specification told.0 RefusesSpecification OfSpecification specifications_decided shelf shelf' told.1 told.2 _ _ runs_one s s' r r' x y
   where
     at_explanation_one : (spec : Spec) (events : List Event) (s s' : Status) (r r' : List ℕ) → AtExplanation shelf explanation (IsAnswered silent statements spec events) s r
         → AtExplanation shelf' explanation (IsAnswered silent statements spec events) s' r' → AreSame s s' r r'
@@ -398,6 +410,10 @@ one_replay shelf shelf' specification trace explanation silent statements s s' r
     at_trace_one spec s s' r r' x y =
         one_stage Trace trace traced.0 (RefusesTrace spec) (OfTrace spec) (traces_decided spec) shelf shelf' traced.1 traced.2 _ _
         (at_explanation_one spec) s s' r r' x y
+
+    runs_one : (read : Read) (s s' : Status) (r r' : List ℕ) → Runs shelf trace explanation silent statements read s r → Runs shelf' trace explanation silent statements read s' r' → AreSame s s' r r'
+    runs_one (found.Skeleton spec) s s' r r' x y = at_trace_one spec s s' r r' x y
+    runs_one (found.Whole counts) s s' r r' x y = (x.0 ∙ sym y.0, x.1 ∙ sym y.1)
 
 pub result_one : OneResult
 result_one shelf shelf' (check specification) s s' r r' told x y =

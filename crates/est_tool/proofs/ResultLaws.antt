@@ -23,7 +23,7 @@ use Rattle.est_tool.specs.Statuses.{replay_status}
 use Rattle.est_tool.specs.Texts.{Holds, Refusals, RefusesSpecification, RefusesTrace, RefusesExplanation, SaysOfSpecification, SaysOfTrace, SaysOfExplanation, IsReported}
 use Rattle.est_tool.specs.Words.{Request, check, replay}
 use Rattle.est_tool.specs.Seen.{Seen, Sent}
-use Rattle.est_tool.specs.Ends.{End, reported, unread, EndsAt, longer, refused, failed, at_its_file, good, at_specification, at_trace, at_explanation, replayed, Ends}
+use Rattle.est_tool.specs.Ends.{End, reported, unread, EndsAt, longer, refused, failed, at_its_file, good, at_specification, unbuilt, at_trace, at_explanation, replayed, Ends}
 use Rattle.est_tool.specs.Result.{Reports, Writes, IsResult}
 use Rattle.est_tool.specs.inside.Steps.{IsQuiet}
 use Rattle.est_tool.specs.inside.Work.{IsMade, IsObeyed}
@@ -40,7 +40,6 @@ of_specification : (error : SpecificationError) (status : Status) (place : Optio
 of_specification (specification.BadToken at) status place why said = subst HasReport (sym said.0) tt
 of_specification (specification.LeftOut at) status place why said = subst HasReport (sym said.0) tt
 of_specification (specification.TooDeep at) status place why said = subst HasReport (sym said.0) tt
-of_specification specification.NotBuilt status place why said = subst HasReport (sym said.0) tt
 of_specification (specification.BrokenRule at rule) status place why said = subst HasReport (sym said.0) tt
 of_specification (specification.Memory error) status place why said = absurd said
 
@@ -71,6 +70,7 @@ pub ends_reportable : (shelf : Seen) (request : Request) (end : End) → Ends sh
 ends_reportable shelf (check name) _ (at_its_file end is) = at_file RefusesSpecification end (λ text tokens status place why refuses. of_specification refuses.0 status place why refuses.2) is
 ends_reportable shelf (check name) _ (good spec holds) = tt
 ends_reportable shelf (replay s t e silent statements) _ (at_specification end is) = at_file RefusesSpecification end (λ text tokens status place why refuses. of_specification refuses.0 status place why refuses.2) is
+ends_reportable shelf (replay s t e silent statements) _ (unbuilt counts holds) = tt
 ends_reportable shelf (replay s t e silent statements) _ (at_trace spec end holds is) = at_file (RefusesTrace spec) end (λ text tokens status place why refuses. of_trace refuses.0 status place why refuses.2) is
 ends_reportable shelf (replay s t e silent statements) _ (at_explanation spec events end holds traced is) = at_file RefusesExplanation end (λ text tokens status place why refuses. of_explanation refuses.0 status place why refuses.2) is
 ends_reportable shelf (replay s t e silent statements) _ (replayed spec events read answer holds traced explained is) = of_answer answer

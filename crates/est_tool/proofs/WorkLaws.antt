@@ -9,21 +9,24 @@ use Rattle.est_edge.proofs.PieceLaws.{SameTold-then}
 use Rattle.est_syntax.specs.declared.specification.Spec.{Spec}
 use Rattle.est_meaning.specs.declared.event.Event.{Event}
 use Rattle.est_replay.specs.declared.explanation.Explanation.{Explanation}
+use Rattle.est_check.specs.declared.counts.Counts.{Counts}
+use Rattle.est_specification.specs.declared.read.Specification.{Specification}
+use Rattle.est_specification.specs.declared.read.Specification.TheVariants as found
 use Rattle.est_tool.specs.declared.report.Report.{Report}
 use Rattle.est_tool.specs.declared.stop.Stop.{Stop}
 use Rattle.est_tool.specs.declared.stop.Stop.TheVariants.{Refused, ReadFault, OutOfMemory}
 use Rattle.est_tool.specs.declared.file.File.{File}
 use Rattle.est_tool.specs.declared.status.Status.{Status}
-use Rattle.est_tool.specs.declared.status.Status.TheVariants.{Fine}
+use Rattle.est_tool.specs.declared.status.Status.TheVariants.{Fine, NotBuilt}
 use Rattle.est_tool.specs.Files.{limit_of}
 use Rattle.est_tool.specs.Statuses.{replay_status}
 use Rattle.est_tool.specs.Seen.{Shelved, Seen, seen}
-use Rattle.est_tool.specs.Texts.{Holds, Refusals, IsReported, OfSpecification, OfTrace, OfExplanation}
+use Rattle.est_tool.specs.Texts.{Holds, Refusals, IsReported, OfSpecification, OfSkeleton, OfTrace, OfExplanation}
 use Rattle.est_tool.specs.Words.{Request, check, replay}
-use Rattle.est_tool.specs.Ends.{End, reported, IsTooLong, EndsAt, longer, refused, failed, HoldsSpecification, HoldsTrace, HoldsExplanation, CheckEnds, at_its_file, good, ReplayEnds, at_specification, at_trace, at_explanation, replayed, Ends}
+use Rattle.est_tool.specs.Ends.{End, reported, IsTooLong, EndsAt, longer, refused, failed, HoldsRead, HoldsSpecification, HoldsTrace, HoldsExplanation, CheckEnds, at_its_file, good, ReplayEnds, at_specification, unbuilt, at_trace, at_explanation, replayed, Ends}
 use Rattle.est_tool.specs.Started.{ReplayStarts, one, two, three, Starts}
 use Rattle.est_tool.specs.inside.Steps.{IsStop, IsQuiet, ReadsFile}
-use Rattle.est_tool.specs.inside.Work.{IsMade, Gives, IsCounted, IsAnswered, IsWork}
+use Rattle.est_tool.specs.inside.Work.{IsMade, Gives, IsCounted, IsUnbuilt, IsAnswered, IsWork}
 use Rattle.est_tool.proofs.ReadLaws.{stop_then, stops_for, quiet_any, quiet_stop}
 
 -- what is held where a shelf tells the same as before was held before
@@ -56,20 +59,21 @@ module _ (before middle after : Shelved) (same : SameTold before.told middle.tol
 
   ends_before : (request : Request) (end : End) → Ends (seen middle after) request end → Ends (seen before after) request end
   ends_before (check s) _ (at_its_file end at) = at_its_file end (file_before end at)
-  ends_before (check s) _ (good spec holds) = good spec (holds_before _ (OfSpecification spec) (same s) holds)
+  ends_before (check s) _ (good read holds) = good read (holds_before _ (OfSpecification read) (same s) holds)
   ends_before (replay s t e n m) _ (at_specification end at) = at_specification end (file_before end at)
-  ends_before (replay s t e n m) _ (at_trace spec end holds at) = at_trace spec end (holds_before _ (OfSpecification spec) (same s) holds) (file_before end at)
+  ends_before (replay s t e n m) _ (unbuilt counts holds) = unbuilt counts (holds_before _ (OfSpecification (found.Whole counts)) (same s) holds)
+  ends_before (replay s t e n m) _ (at_trace spec end holds at) = at_trace spec end (holds_before _ (OfSkeleton spec) (same s) holds) (file_before end at)
   ends_before (replay s t e n m) _ (at_explanation spec events end holds traced at) =
-      at_explanation spec events end (holds_before _ (OfSpecification spec) (same s) holds) (holds_before _ (OfTrace spec events) (same t) traced) (file_before end at)
+      at_explanation spec events end (holds_before _ (OfSkeleton spec) (same s) holds) (holds_before _ (OfTrace spec events) (same t) traced) (file_before end at)
   ends_before (replay s t e n m) _ (replayed spec events read answer holds traced explained is) =
-      replayed spec events read answer (holds_before _ (OfSpecification spec) (same s) holds) (holds_before _ (OfTrace spec events) (same t) traced)
+      replayed spec events read answer (holds_before _ (OfSkeleton spec) (same s) holds) (holds_before _ (OfTrace spec events) (same t) traced)
       (holds_before _ (OfExplanation read) (same e) explained) is
 
   replay_starts_before : (s t e : List ℕ) (names : List (List ℕ)) → ReplayStarts (seen middle after) s t e names → ReplayStarts (seen before after) s t e names
   replay_starts_before s t e _ one = one
-  replay_starts_before s t e _ (two spec holds) = two spec (holds_before _ (OfSpecification spec) (same s) holds)
+  replay_starts_before s t e _ (two spec holds) = two spec (holds_before _ (OfSkeleton spec) (same s) holds)
   replay_starts_before s t e _ (three spec events holds traced) =
-      three spec events (holds_before _ (OfSpecification spec) (same s) holds) (holds_before _ (OfTrace spec events) (same t) traced)
+      three spec events (holds_before _ (OfSkeleton spec) (same s) holds) (holds_before _ (OfTrace spec events) (same t) traced)
 
   starts_before : (request : Request) (names : List (List ℕ)) → Starts (seen middle after) request names → Starts (seen before after) request names
   starts_before (check s) names starts = starts
@@ -133,11 +137,18 @@ module _
 
 -- REPORTS
 
-pub check_reports : (shelf : Seen) (name : List ℕ) (spec : Spec) → HoldsSpecification shelf name spec
-    → (status : Status) (report : List ℕ) → IsCounted spec status report → CheckEnds shelf name (reported status report)
-check_reports shelf name spec holds status report is =
+pub check_reports : (shelf : Seen) (name : List ℕ) (read : Specification) → HoldsRead shelf name read
+    → (status : Status) (report : List ℕ) → IsCounted read status report → CheckEnds shelf name (reported status report)
+check_reports shelf name read holds status report is =
     subst (λ s. CheckEnds shelf name (reported s report)) (sym is.0)
-    (subst (λ r. CheckEnds shelf name (reported Fine r)) (sym is.1) (good spec holds))
+    (subst (λ r. CheckEnds shelf name (reported Fine r)) (sym is.1) (good read holds))
+
+pub unbuilt_reports : (shelf : Seen) (s t e : List ℕ) (silent statements : ℕ) (read : Specification) (counts : Counts) → read ≡ found.Whole counts → HoldsRead shelf s read
+    → (status : Status) (report : List ℕ) → IsUnbuilt status report → ReplayEnds shelf s t e silent statements (reported status report)
+unbuilt_reports shelf s t e silent statements read counts whole holds status report is =
+    subst (λ z. ReplayEnds shelf s t e silent statements (reported z report)) (sym is.0)
+    (subst (λ r. ReplayEnds shelf s t e silent statements (reported NotBuilt r)) (sym is.1)
+    (unbuilt counts (subst (λ z. HoldsRead shelf s z) whole holds)))
 
 pub replay_reports : (shelf : Seen) (s t e : List ℕ) (silent statements : ℕ) (spec : Spec) (events : List Event) (read : Explanation)
     → HoldsSpecification shelf s spec → HoldsTrace shelf t spec events → HoldsExplanation shelf e read

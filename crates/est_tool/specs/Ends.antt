@@ -3,16 +3,19 @@ use Rattle.std.specs.Prelude.{◌≡◌, ℕ, ◌+◌, ◌<◌, List, length, If
 use Rattle.est_edge.specs.Counts.{Rose}
 use Rattle.est_syntax.specs.declared.specification.Spec.{Spec}
 use Rattle.est_check.specs.Checked.{counts_of}
+use Rattle.est_check.specs.declared.counts.Counts.{Counts}
 use Rattle.est_meaning.specs.declared.event.Event.{Event}
 use Rattle.est_replay.specs.Replay.{IsReplay}
 use Rattle.est_replay.specs.declared.explanation.Explanation.{Explanation}
 use Rattle.est_replay.specs.declared.verdict.Replayed.{Replayed}
+use Rattle.est_specification.specs.declared.read.Specification.{Specification as Read}
+use Rattle.est_specification.specs.declared.read.Specification.TheVariants as found
 use Rattle.est_tool.specs.declared.file.File.{File}
 use Rattle.est_tool.specs.declared.file.File.TheVariants.{Specification, Trace, Explanation as Explaining}
 use Rattle.est_tool.specs.declared.status.Status.{Status}
-use Rattle.est_tool.specs.declared.status.Status.TheVariants.{Fine, TooLong}
+use Rattle.est_tool.specs.declared.status.Status.TheVariants.{Fine, TooLong, NotBuilt}
 use Rattle.est_tool.specs.Files.{limit_of}
-use Rattle.est_tool.specs.Reports.{ok_line, too_long_line, replay_line}
+use Rattle.est_tool.specs.Reports.{ok_line, too_long_line, not_built_line, replay_line}
 use Rattle.est_tool.specs.Seen.{Seen}
 use Rattle.est_tool.specs.Statuses.{replay_status}
 use Rattle.est_tool.specs.Texts.{Holds, OfSpecification, OfTrace, OfExplanation, Refusals, RefusesSpecification, RefusesTrace, RefusesExplanation, IsReported}
@@ -45,10 +48,15 @@ pub data EndsAt (shelf : Seen) (file : File) (name : List ℕ) (Refuses : Refusa
   failed : Rose (shelf.before.faults name) (shelf.after.faults name)
       → EndsAt shelf file name Refuses unread
 
--- the file of this name holds the text of a specification: a skeleton that breaks no rule
+-- the file of this name holds the text of a specification that breaks no rule, and this is what is
+-- read of it: the tree of a skeleton, or the numbers of another
+abbrev pub HoldsRead : Seen → List ℕ → Read → Type 0
+HoldsRead shelf name read =
+    Holds Specification (shelf.before.told name) (OfSpecification read)
+
+-- the file holds the text of this skeleton, which breaks no rule
 abbrev pub HoldsSpecification : Seen → List ℕ → Spec → Type 0
-HoldsSpecification shelf name spec =
-    Holds Specification (shelf.before.told name) (OfSpecification spec)
+HoldsSpecification shelf name spec = HoldsRead shelf name (found.Skeleton spec)
 
 -- the file holds the text of this trace of a specification, and of no other
 abbrev pub HoldsTrace : Seen → List ℕ → Spec → List Event → Type 0
@@ -64,20 +72,29 @@ HoldsExplanation shelf name explanation =
 
 -- COMMANDS
 
+-- the numbers of a specification
+abbrev pub numbers_of : Read → Counts
+numbers_of (found.Skeleton spec) = counts_of spec
+numbers_of (found.Whole counts) = counts
+
 -- `check` ends at its file, or tells the numbers of a good specification
 pub data CheckEnds (shelf : Seen) (name : List ℕ) : End → Type 0 where
   at_its_file : (end : End) → EndsAt shelf Specification name RefusesSpecification end
       → CheckEnds shelf name end
-  good : (spec : Spec) → HoldsSpecification shelf name spec
-      → CheckEnds shelf name (reported Fine (ok_line (counts_of spec)))
+  good : (read : Read) → HoldsRead shelf name read
+      → CheckEnds shelf name (reported Fine (ok_line (numbers_of read)))
 
--- `replay` ends at the first of its files that is refused, or tells the answer
+-- `replay` ends at the first of its files that is refused, or at a good specification that is no
+-- skeleton, which cannot be run yet, or tells the answer
 pub data ReplayEnds
     (shelf : Seen) (specification trace explanation : List ℕ) (silent statements : ℕ)
     : End → Type 0 where
   at_specification : (end : End)
       → EndsAt shelf Specification specification RefusesSpecification end
       → ReplayEnds shelf specification trace explanation silent statements end
+  unbuilt : (counts : Counts) → HoldsRead shelf specification (found.Whole counts)
+      → ReplayEnds shelf specification trace explanation silent statements
+      (reported NotBuilt not_built_line)
   at_trace : (spec : Spec) (end : End)
       → HoldsSpecification shelf specification spec
       → EndsAt shelf Trace trace (RefusesTrace spec) end

@@ -34,6 +34,10 @@ refusal_line file line column why =
     word_of file ++ codes ":" ++ decimal line ++ codes ":" ++ decimal column ++ codes ": " ++ why
     ++ line_feed
 
+-- a good specification that cannot be run yet
+abbrev pub not_built_line : List ℕ
+not_built_line = line_of (codes "not built yet")
+
 -- a file that is longer than its limit
 abbrev pub too_long_line : File → List ℕ
 too_long_line file = word_of file ++ codes ": too long" ++ line_feed

@@ -8,7 +8,9 @@ use Rattle.est_syntax.specs.declared.specification.Spec.{Spec}
 use Rattle.est_syntax.specs.Ports.{ports_of}
 use Rattle.est_meaning.specs.declared.event.Event.{Event}
 use Rattle.est_replay.specs.declared.explanation.Explanation.{Explanation}
-use Rattle.est_specification.specs.Reading.{IsSpecification, IsNoSpecification}
+use Rattle.est_specification.specs.Reading.{IsGoodText, IsNoSpecification}
+use Rattle.est_specification.specs.declared.read.Specification.{Specification}
+use Rattle.est_specification.specs.declared.read.Specification.TheVariants as found
 use Rattle.est_specification.specs.declared.error.SpecificationError.{SpecificationError}
 use Rattle.est_specification.specs.declared.error.SpecificationError.TheVariants as specification
 use Rattle.est_trace.specs.Reading.{IsOnlyTraceText, IsTraceRefusal}
@@ -19,7 +21,7 @@ use Rattle.est_replay.specs.declared.error.ExplanationError.{ExplanationError}
 use Rattle.est_replay.specs.declared.error.ExplanationError.TheVariants as explanation
 use Rattle.est_tool.specs.declared.file.File.{File}
 use Rattle.est_tool.specs.declared.status.Status.{Status}
-use Rattle.est_tool.specs.declared.status.Status.TheVariants.{BadSpec, BadTrace, BadExplanation, NotBuilt}
+use Rattle.est_tool.specs.declared.status.Status.TheVariants.{BadSpec, BadTrace, BadExplanation}
 use Rattle.est_tool.specs.Files.{limit_of}
 use Rattle.est_tool.specs.Reports.{line_of, refusal_line, rule_text}
 
@@ -41,9 +43,13 @@ SomeText None P = (text : List ℕ) × P text
 abbrev pub Holds : File → Option (List ℕ) → (List ℕ → List Token → Type 0) → Type 0
 Holds file told Is = SomeText told (λ text. IsText file text Is)
 
--- the tokens of the text are this specification, a skeleton that breaks no rule
-abbrev pub OfSpecification : Spec → List ℕ → List Token → Type 0
-OfSpecification spec text tokens = IsSpecification text tokens spec
+-- the tokens of the text are this specification, which breaks no rule
+abbrev pub OfSpecification : Specification → List ℕ → List Token → Type 0
+OfSpecification read text tokens = IsGoodText text tokens read
+
+-- and this one is a skeleton
+abbrev pub OfSkeleton : Spec → List ℕ → List Token → Type 0
+OfSkeleton spec = OfSpecification (found.Skeleton spec)
 
 -- the tokens are a text of this trace of the specification, and of no other
 abbrev pub OfTrace : Spec → List Event → List ℕ → List Token → Type 0
@@ -63,8 +69,6 @@ SaysOfSpecification (specification.LeftOut at) status place why =
     (status ≡ BadSpec) × (place ≡ Some at) × (why ≡ codes "left out")
 SaysOfSpecification (specification.TooDeep at) status place why =
     (status ≡ BadSpec) × (place ≡ Some at) × (why ≡ codes "nested too deep")
-SaysOfSpecification specification.NotBuilt status place why =
-    (status ≡ NotBuilt) × (place ≡ None) × (why ≡ codes "not built yet")
 SaysOfSpecification (specification.BrokenRule at rule) status place why =
     (status ≡ BadSpec) × (place ≡ Some at) × (why ≡ rule_text rule)
 SaysOfSpecification (specification.Memory error) status place why = ⊥
@@ -88,8 +92,7 @@ SaysOfExplanation (explanation.Memory error) status place why = ⊥
 abbrev pub Refusals : Type 1
 Refusals = List ℕ → List Token → Status → Option ℕ → List ℕ → Type 0
 
--- a specification: at its first bad place, at its least broken rule, or as a sentence that is no
--- skeleton and whose declarations break no rule
+-- a specification: at its first bad place, or at its least broken rule
 abbrev pub RefusesSpecification : Refusals
 RefusesSpecification text tokens status place why =
     (error : SpecificationError) × IsNoSpecification text tokens error

@@ -3,12 +3,13 @@ ghost use Rattle.std.specs.Prelude.{◌-◌, ◌<◌, ◌^◌, [], ◌∷◌, le
 ghost use Rattle.est_meaning.specs.Allowed.{IsAllowedTrace};
 ghost use Rattle.est_tool.specs.declared.file.File.TheVariants.{Specification as Specifying, Trace as Tracing};
 ghost use Rattle.est_tool.specs.Seen.{seen, shelved};
-ghost use Rattle.est_tool.specs.Texts.{Holds, OfSpecification, OfTrace};
+ghost use Rattle.est_tool.specs.Texts.{Holds, OfSkeleton, OfTrace};
 ghost use Rattle.est_tool.specs.Words.{check, replay};
-ghost use Rattle.est_tool.specs.inside.Work.{IsWork, Gives, IsCounted, IsAnswered};
+ghost use Rattle.est_tool.specs.inside.Work.{IsWork, Gives, IsCounted, IsUnbuilt};
+ghost use Rattle.est_tool.specs.inside.Work.{IsAnswered};
 
 use crate::explanation::explanation_in;
-use crate::report::{Report, ok_report, replay_report, replay_status};
+use crate::report::{Report, line_report, ok_report, replay_report, replay_status};
 use crate::specification::specification_in;
 use crate::status::Status;
 use crate::stop::Stop;
@@ -19,6 +20,7 @@ use est_meaning::event::Trace;
 use est_meaning::run::Limits;
 use est_replay::checked::replay;
 use est_replay::explanation::Explanation;
+use est_specification::Specification;
 use std::alloc::Global;
 
 /// The names of the files of a replay.
@@ -36,15 +38,19 @@ pub(crate) fn check_file<S: Shelf>(alloc: Global, shelf: &mut S, name: &str) -> 
         (shelved (S.told shelf.new) (S.faults shelf.new) (S.started shelf.new) (S.taken shelf.new)))
         result }
 {
-    let checked = specification_in(alloc, shelf, name)?;
-    counted(alloc, &checked)
+    let read = specification_in(alloc, shelf, name)?;
+    counted(alloc, &read)
 }
 
 // The report of a good specification.
-fn counted(alloc: Global, checked: &Checked) -> Result<Report, Stop>
-    ensures { Gives (IsCounted checked.now) result }
+fn counted(alloc: Global, read: &Specification) -> Result<Report, Stop>
+    ensures { Gives (IsCounted read.now) result }
 {
-    let text = ok_report(alloc, checked.counts())?;
+    let counts = match read {
+        Specification::Skeleton(checked) => checked.counts(),
+        Specification::Whole(counts) => *counts,
+    };
+    let text = ok_report(alloc, counts)?;
     Ok(Report {
         status: Status::Fine,
         text,
@@ -66,8 +72,21 @@ pub(crate) fn replay_files<S: Shelf>(
         (shelved (S.told shelf.new) (S.faults shelf.new) (S.started shelf.new) (S.taken shelf.new)))
         result }
 {
-    let checked = specification_in(alloc, shelf, files.specification)?;
-    replay_trace(alloc, shelf, files, limits, &checked)
+    match specification_in(alloc, shelf, files.specification)? {
+        Specification::Skeleton(checked) => replay_trace(alloc, shelf, files, limits, &checked),
+        Specification::Whole(_) => unbuilt(alloc),
+    }
+}
+
+// The report of a good specification that cannot be run yet.
+fn unbuilt(alloc: Global) -> Result<Report, Stop>
+    ensures { Gives IsUnbuilt result }
+{
+    let text = line_report(alloc, "not built yet")?;
+    Ok(Report {
+        status: Status::NotBuilt,
+        text,
+    })
 }
 
 // What is left of a replay once the specification was read.
@@ -79,7 +98,7 @@ fn replay_trace<S: Shelf>(
     checked: &Checked,
 ) -> Result<Report, Stop>
     requires { Holds Specifying (S.told shelf.old files.now.specification.now)
-        (OfSpecification checked.now) }
+        (OfSkeleton checked.now) }
     ensures { IsWork (files.now.specification.now ∷ [])
         (replay files.now.specification.now files.now.trace.now files.now.explanation.now
         limits.now.silent limits.now.statements)
@@ -103,7 +122,7 @@ fn replay_explanation<S: Shelf>(
 ) -> Result<Report, Stop>
     requires allowed { IsAllowedTrace checked.now trace.now }
     requires checked { Holds Specifying (S.told shelf.old files.now.specification.now)
-        (OfSpecification checked.now) }
+        (OfSkeleton checked.now) }
     requires traced { Holds Tracing (S.told shelf.old files.now.trace.now)
         (OfTrace checked.now trace.now) }
     ensures { IsWork (files.now.specification.now ∷ files.now.trace.now ∷ [])

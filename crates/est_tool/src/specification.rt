@@ -12,25 +12,17 @@ use crate::refusal::{Refusal, refuse};
 use crate::report::rule_text;
 use crate::status::Status;
 use crate::stop::Stop;
-use est_check::Checked;
 use est_edge::Shelf;
 use est_lexer::lex::lex;
-use est_specification::{SpecificationError, read_specification};
+use est_specification::{Specification, SpecificationError, read_specification};
 use std::alloc::Global;
-
-// What is said of a sentence that is no skeleton.
-const NOT_BUILT: Refusal = Refusal {
-    status: Status::NotBuilt,
-    place: None,
-    why: "not built yet",
-};
 
 /// The specification in the file of this name.
 pub(crate) fn specification_in<S: Shelf>(
     alloc: Global,
     shelf: &mut S,
     name: &str,
-) -> Result<Checked, Stop>
+) -> Result<Specification, Stop>
     ensures { ReadsFile Specifying name.now OfSpecification RefusesSpecification (seen
         (shelved (S.told shelf.old) (S.faults shelf.old) (S.started shelf.old) (S.taken shelf.old))
         (shelved (S.told shelf.new) (S.faults shelf.new) (S.started shelf.new) (S.taken shelf.new)))
@@ -41,13 +33,13 @@ pub(crate) fn specification_in<S: Shelf>(
 }
 
 // The specification that a text within its limit is.
-fn specification_of(alloc: Global, text: &[u8]) -> Result<Checked, Stop>
+fn specification_of(alloc: Global, text: &[u8]) -> Result<Specification, Stop>
     requires { length text.now ≤ limit_of Specifying }
     ensures { ReadsText Specifying OfSpecification RefusesSpecification text.now result }
 {
     let tokens = lex(alloc, text)?;
     match read_specification(alloc, &tokens) {
-        Ok(checked) => Ok(checked),
+        Ok(read) => Ok(read),
         Err(error) => Err(refuse(alloc, File::Specification, &tokens, said_of(error))),
     }
 }
@@ -62,7 +54,6 @@ fn said_of(error: SpecificationError) -> Option<Refusal>
         SpecificationError::LeftOut { place } => (place, "left out"),
         SpecificationError::TooDeep { place } => (place, "nested too deep"),
         SpecificationError::BrokenRule { place, rule } => (place, rule_text(rule)),
-        SpecificationError::NotBuilt => return Some(NOT_BUILT),
         SpecificationError::Memory(_) => return None,
     };
     Some(Refusal {

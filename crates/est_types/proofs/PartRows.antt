@@ -24,7 +24,7 @@ parts_hidden o outer ps = parts_row o outer _ (hidden-the_row-Part-0 ps) ∙ ap 
 parts_shown : (o : Outline) (outer : Bool) (a : _) (row : Row_of-Part _) → row_faults o outer row ≡ parts_faults o outer (shown-the_row-Part-0 a row)
 parts_shown o outer a row = parts_row o outer _ row ∙ ap (parts_faults o outer) (sym (items_shown-the_row-Part-0 a row))
 
-scalars_row : (o : Outline) (sum : ℕ) (n : _) (row : Row_of-Part n) → row_scalars o sum row ≡ parts_scalars o sum (items-the_row-Part n row)
+pub scalars_row : (o : Outline) (sum : ℕ) (n : _) (row : Row_of-Part n) → row_scalars o sum row ≡ parts_scalars o sum (items-the_row-Part n row)
 scalars_row o sum n end_of-Part = refl
 scalars_row o sum n (more_of-Part (part.Consts x) rest) = scalars_row o sum _ rest
 scalars_row o sum n (more_of-Part (part.Types x) rest) = scalars_row o sum _ rest
@@ -38,8 +38,11 @@ scalars_row o sum n (more_of-Part (part.States x) rest) = scalars_row o sum _ re
 scalars_row o sum n (more_of-Part (part.StateSets x) rest) = scalars_row o sum _ rest
 scalars_row o sum n (more_of-Part (part.Routine' a b c d e f g) rest) = scalars_row o sum _ rest
 
-scalars_hidden : (o : Outline) (ps : List Part) → row_scalars o 0 (hidden-the_row-Part-0 ps) ≡ parts_scalars o 0 ps
+pub scalars_hidden : (o : Outline) (ps : List Part) → row_scalars o 0 (hidden-the_row-Part-0 ps) ≡ parts_scalars o 0 ps
 scalars_hidden o ps = scalars_row o 0 _ (hidden-the_row-Part-0 ps) ∙ ap (parts_scalars o 0) (items_hidden-the_row-Part-0 ps)
+
+pub scalars_shown : (o : Outline) (a : _) (row : Row_of-Part _) → row_scalars o 0 row ≡ parts_scalars o 0 (shown-the_row-Part-0 a row)
+scalars_shown o a row = scalars_row o 0 _ row ∙ ap (parts_scalars o 0) (sym (items_shown-the_row-Part-0 a row))
 
 states_row : (n : _) (row : Row_of-Part n) → row_has_states row ≡ have_states (items-the_row-Part n row)
 states_row n end_of-Part = refl

@@ -24,8 +24,8 @@ use est_syntax::rule::Rule;
 use est_syntax::transition::{Group, Transition};
 use std::alloc::{AllocError, Global};
 
-// Variables of a body or a routine that have too many scalars.
-fn check_scalars(scalars: u64, place: u32, least: &mut Least)
+/// Variables of a body or a routine that have too many scalars.
+pub fn check_scalars(scalars: u64, place: u32, least: &mut Least)
     ensures { least.new.at ≡ least_with least.old.at (scalars_faults scalars place) }
 {
     least.note_if(scalars > 65536, place, Rule::TooLarge);

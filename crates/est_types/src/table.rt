@@ -64,6 +64,13 @@ impl Table {
         self.kept.get().outline.meant(name, place)
     }
 
+    /// All that the specification declares.
+    pub fn outline(&self) -> &Outline
+        ensures { result.now ≡ self.now.outline }
+    {
+        &self.kept.get().outline
+    }
+
     /// The sort and the body of the name that is declared at a place.
     pub fn declaration(&self, place: u32) -> Option<&Declared>
         ensures { option_copied result ≡ declaration self.now.outline place }
@@ -142,6 +149,8 @@ fn least_fault(alloc: Global, outline: &Outline, spec: &Spec) -> Result<Option<F
 /// The table of a specification.
 pub fn declare(alloc: Global, spec: &Spec) -> Result<Table, AllocError>
     ensures outline { IfOk result (λ table. table.outline ≡ outline_of spec.now) }
+    ensures least { IfOk result
+        (λ table. table.fault ≡ least_with None (declaration_faults spec.now)) }
     ensures fault { IfOk result
         (λ table. IsLeast (λ f. IsIn f (declaration_faults spec.now)) table.fault) }
 {

@@ -12,7 +12,7 @@ use Rattle.est_scope.specs.declared.declaration.Within.{Within}
 use Rattle.est_scope.specs.Outline.{Outline}
 use Rattle.est_outline.specs.Contexts.{under}
 use Rattle.est_outline.specs.Entries.{inner}
-use Rattle.est_outline.specs.Bodies.{Clausal, statement_declares, statements_declare, arm_lying, clauses_declare, parts_declare, body_named, inside, to_lying, routine_named, head_declares}
+use Rattle.est_outline.specs.Bodies.{Clausal, statement_declares, statements_declare, arm_lying, clauses_declare, parts_declare, body_named, header_given, inside, to_lying, routine_named, head_declares}
 
 -- the other statement of an `if`, where there is one
 abbrev pub second_declares : Within → Option Statement → Outline → Outline
@@ -57,7 +57,8 @@ held_declares w b o =
 abbrev pub body_declares : Within → Body → Outline → Outline
 body_declares w b o =
     let o1 = body_named w (out-Body b).name o in
-    held_declares (inside w (out-Body b).name (out-Body b).header o1) b o1
+    held_declares (inside w (out-Body b).name (out-Body b).header o1) b
+    (header_given (out-Body b).name (out-Body b).header o1)
 
 abbrev pub head_of : Within → Routine → Outline → Outline
 head_of w r o =

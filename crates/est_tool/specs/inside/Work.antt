@@ -6,17 +6,17 @@ use Rattle.est_tool.specs.declared.report.Report.{Report}
 use Rattle.est_tool.specs.declared.stop.Stop.{Stop}
 use Rattle.est_tool.specs.declared.stop.Stop.TheVariants.{OutOfMemory}
 use Rattle.est_tool.specs.declared.status.Status.{Status}
-use Rattle.est_tool.specs.declared.status.Status.TheVariants.{Fine}
+use Rattle.est_tool.specs.declared.status.Status.TheVariants.{Fine, NotBuilt}
 use Rattle.est_syntax.specs.declared.specification.Spec.{Spec}
-use Rattle.est_check.specs.Checked.{counts_of}
+use Rattle.est_specification.specs.declared.read.Specification.{Specification}
 use Rattle.est_meaning.specs.declared.event.Event.{Event}
 use Rattle.est_replay.specs.Replay.{IsReplay}
 use Rattle.est_replay.specs.declared.explanation.Explanation.{Explanation}
 use Rattle.est_replay.specs.declared.verdict.Replayed.{Replayed}
-use Rattle.est_tool.specs.Reports.{ok_line, replay_line}
+use Rattle.est_tool.specs.Reports.{ok_line, not_built_line, replay_line}
 use Rattle.est_tool.specs.Statuses.{replay_status}
 use Rattle.est_tool.specs.Seen.{Seen}
-use Rattle.est_tool.specs.Ends.{End, reported, Ends}
+use Rattle.est_tool.specs.Ends.{End, reported, numbers_of, Ends}
 use Rattle.est_tool.specs.Started.{Starts}
 use Rattle.est_tool.specs.Words.{Request, Asks, bytes_of}
 use Rattle.est_tool.specs.inside.Steps.{IsStop, IsQuiet}
@@ -32,8 +32,12 @@ Gives P (Ok report) = P report.status (string_bytes report.text)
 Gives P (Err stop) = stop ≡ OutOfMemory
 
 -- the report of a good specification
-abbrev pub IsCounted : Spec → Status → List ℕ → Type 0
-IsCounted spec status report = (status ≡ Fine) × (report ≡ ok_line (counts_of spec))
+abbrev pub IsCounted : Specification → Status → List ℕ → Type 0
+IsCounted read status report = (status ≡ Fine) × (report ≡ ok_line (numbers_of read))
+
+-- the report of one that cannot be run yet
+abbrev pub IsUnbuilt : Status → List ℕ → Type 0
+IsUnbuilt status report = (status ≡ NotBuilt) × (report ≡ not_built_line)
 
 -- the report of a replay within limits, by the one answer
 abbrev pub IsAnswered : ℕ → ℕ → Spec → List Event → Explanation → Status → List ℕ → Type 0

@@ -1,0 +1,79 @@
+-- What expressions yield, and what may be assigned to a variable (ISO 7185, 6.4.6 and 6.7.1).
+use Rattle.std.specs.Prelude.{Bool, true, false, nat_eq, Option, Some, None}
+use Rattle.est_syntax.specs.declared.kind.Kind.{Kind, out-Kind}
+use Rattle.est_syntax.specs.declared.kind.Kind.TheOpen as seen
+use Rattle.est_syntax.specs.declared.kind.FieldKind.{FieldKind}
+use Rattle.est_alike.specs.declared.types.Host.{Host}
+use Rattle.est_alike.specs.declared.types.Host.TheVariants as host
+use Rattle.est_alike.specs.declared.types.ValueType.{ValueType}
+use Rattle.est_alike.specs.declared.types.ValueType.TheVariants as code
+use Rattle.est_alike.specs.Alike.{is_alike}
+
+-- What an expression yields: an ordinal of a host, a set of members of a host, or of any for `[ ]`,
+-- or an array or a record.
+pub data Yielded : Type 0 where
+  Ordinal : Host → Yielded
+  Set : Option Host → Yielded
+  Group : Kind → Yielded
+
+-- what the program keeps says so
+abbrev pub yields : ValueType → Yielded
+yields (code.Ordinal h) = Ordinal h
+yields (code.Set h) = Set h
+yields (code.Group k) = Group k.now
+
+abbrev pub yielded : Option ValueType → Option Yielded
+yielded None = None
+yielded (Some t) = Some (yields t)
+
+-- whether two hosts are one
+abbrev pub is_host : Host → Host → Bool
+is_host host.Integer host.Integer = true
+is_host host.Boolean host.Boolean = true
+is_host host.Char host.Char = true
+is_host (host.Enumeration p) (host.Enumeration q) = nat_eq p q
+is_host _ _ = false
+
+-- the host that a kind is
+abbrev pub host_in : Kind → Option Host
+host_in k = held (out-Kind k)
+  where
+    held : seen.Kind-F Kind FieldKind → Option Host
+    held seen.Integer = Some host.Integer
+    held seen.Boolean = Some host.Boolean
+    held seen.Char = Some host.Char
+    held (seen.Enumeration place names) = Some (host.Enumeration place)
+    held _ = None
+
+-- the host of the members of a set over this base
+abbrev pub set_host : Kind → Option Host
+set_host k = held (out-Kind k)
+  where
+    held : seen.Kind-F Kind FieldKind → Option Host
+    held (seen.Part from low high) = host_in from
+    held _ = host_in k
+
+-- what a variable of a kind yields
+abbrev pub type_by : Option Host → Kind → Yielded
+type_by None k = Group k
+type_by (Some h) k = Ordinal h
+
+abbrev pub type_of : Kind → Yielded
+type_of k = held (out-Kind k)
+  where
+    held : seen.Kind-F Kind FieldKind → Yielded
+    held (seen.Part from low high) = type_by (host_in from) k
+    held (seen.SetOf base) = Set (set_host base)
+    held _ = type_by (host_in k) k
+
+-- whether sets have members of one host, as `[ ]` has with each
+abbrev pub are_hosts_one : Option Host → Option Host → Bool
+are_hosts_one (Some h) (Some g) = is_host h g
+are_hosts_one _ _ = true
+
+-- whether a value of the second type may be assigned to a variable of the first one
+abbrev pub is_assignable : Yielded → Yielded → Bool
+is_assignable (Ordinal h) (Ordinal g) = is_host h g
+is_assignable (Set h) (Set g) = are_hosts_one h g
+is_assignable (Group j) (Group k) = is_alike j k
+is_assignable _ _ = false

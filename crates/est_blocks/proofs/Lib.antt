@@ -1,0 +1,3 @@
+pub mod CountRows
+pub mod PartRows
+pub mod Turns

@@ -1,0 +1,168 @@
+-- The rules that the clauses of transitions break (ISO 9074, transition-group and clauses).
+use Rattle.std.specs.Prelude.{ℕ, pos, int_lt, Bool, true, false, ◌&&◌, ◌||◌, not, nat_lt, List, [], ◌∷◌, ◌++◌, Option, Some, None, if◌then◌else◌}
+use Rattle.est_syntax.specs.Faults.{broken, broken_if}
+use Rattle.est_syntax.specs.Kinds.{is_ordinal}
+use Rattle.est_syntax.specs.declared.name.Used.{Used}
+use Rattle.est_syntax.specs.declared.ports.Direction.TheVariants.{Receives}
+use Rattle.est_syntax.specs.declared.rule.Fault.{Fault}
+use Rattle.est_syntax.specs.declared.rule.Rule.TheVariants.{UnknownName, NotSeenHere, WrongSort, TooLarge, WrongKind, DelayNotAlone}
+use Rattle.est_syntax.specs.declared.transition.Clause.{Clause}
+use Rattle.est_syntax.specs.declared.transition.Clause.TheVariants as clause
+use Rattle.est_syntax.specs.declared.transition.Most.{Most}
+use Rattle.est_syntax.specs.declared.transition.Most.TheVariants as most
+use Rattle.est_syntax.specs.declared.type_text.VarDef.{VarDef}
+use Rattle.est_scope.specs.declared.declaration.Entry.{Entry}
+use Rattle.est_scope.specs.declared.declaration.Measured.{Measured}
+use Rattle.est_scope.specs.declared.declaration.Meant.{Meant}
+use Rattle.est_scope.specs.declared.declaration.Meant.TheVariants.{Nothing, Predeclared, Unseen, Seen}
+use Rattle.est_scope.specs.declared.declaration.Sort.{Sort}
+use Rattle.est_scope.specs.declared.declaration.Sort.TheVariants as sort
+use Rattle.est_scope.specs.Outline.{Outline, entry_at}
+use Rattle.est_scope.specs.Uses.{meaning, use_faults}
+use Rattle.est_kinds.specs.declared.value.Valued.{Valued}
+use Rattle.est_kinds.specs.Constants.{is_integer, constant_value, constant_faults, constant_place}
+use Rattle.est_kinds.specs.Texts.{text_type, count, multiplied, is_declared}
+use Rattle.est_kinds.specs.Dims.{dim_faults}
+use Rattle.est_outline.specs.declared.context.ClauseKind.{ClauseKind}
+use Rattle.est_outline.specs.declared.context.ClauseKind.TheVariants as given
+use Rattle.est_outline.specs.declared.context.Given.{Given}
+use Rattle.est_outline.specs.Contexts.{dropped, given as with_given, region_of}
+use Rattle.est_expressions.specs.declared.operators.Wanted.TheVariants as wanted
+use Rattle.est_statements.specs.Signals.{signal_faults}
+use Rattle.est_statements.specs.Statements.{wanted_faults}
+
+-- a name where a state or a state set is wanted
+abbrev pub is_state_sort : Option Entry → Bool
+is_state_sort None = false
+is_state_sort (Some e) = held e.declared.sort
+  where
+    held : Sort → Bool
+    held sort.State = true
+    held sort.StateSet = true
+    held _ = false
+
+abbrev pub state_used : Outline → ℕ → Meant → List Fault
+state_used o place Nothing = broken place UnknownName
+state_used o place Predeclared = broken place WrongSort
+state_used o place (Unseen p) = broken place NotSeenHere
+state_used o place (Seen p) = if is_state_sort (entry_at o p) then [] else broken place WrongSort
+
+abbrev pub state_faults : Outline → Used → List Fault
+state_faults o u = state_used o u.place (meaning o u)
+
+abbrev pub states_faults : Outline → List Used → List Fault
+states_faults o [] = []
+states_faults o (u ∷ us) = state_faults o u ++ states_faults o us
+
+-- the next state, or the first one
+abbrev pub next_faults : Outline → Option Used → List Fault
+next_faults o None = []
+next_faults o (Some u) = use_faults o sort.State u
+
+-- the greatest number of choices of an `any`
+abbrev pub most_tuples : ℕ
+most_tuples = 1024
+
+-- How many choices the variables of an `any` have, of those whose type is ordinal, each name once.
+abbrev pub choices_by : Option Measured → ℕ
+choices_by None = 1
+choices_by (Some m) = if is_ordinal m.kind then count m.kind else 1
+
+abbrev pub name_choices : Outline → ℕ → ℕ → Used → ℕ
+name_choices o choices n u = if is_declared (entry_at o u.place) then multiplied n choices else n
+
+abbrev pub names_choices : Outline → ℕ → ℕ → List Used → ℕ
+names_choices o choices n [] = n
+names_choices o choices n (u ∷ us) = names_choices o choices (name_choices o choices n u) us
+
+abbrev pub tuples : Outline → ℕ → List VarDef → ℕ
+tuples o n [] = n
+tuples o n (v ∷ vs) =
+    tuples o (names_choices o (choices_by (text_type o v.text)) n v.names) vs
+
+-- what an `any` breaks
+abbrev pub domain_faults : Outline → VarDef → List Fault
+domain_faults o v = dim_faults o v.text
+
+abbrev pub domains_faults : Outline → List VarDef → List Fault
+domains_faults o [] = []
+domains_faults o (v ∷ vs) = domain_faults o v ++ domains_faults o vs
+
+abbrev pub any_faults : Outline → List VarDef → ℕ → List Fault
+any_faults o vs place =
+    domains_faults o vs ++ broken_if (nat_lt most_tuples (tuples o 1 vs)) place TooLarge
+
+-- a priority is an integer that is not negative
+abbrev pub is_priority : Valued → Bool
+is_priority v = is_integer v.host && not (int_lt v.ordinal (pos 0))
+
+abbrev pub priority_faults : Option Valued → ℕ → List Fault
+priority_faults None place = []
+priority_faults (Some v) place = if is_priority v then [] else broken place WrongKind
+
+-- the bounds of a delay are integers
+abbrev pub most_faults : Outline → Most → List Fault
+most_faults o (most.Value e) = wanted_faults o wanted.Integer e
+most_faults o _ = []
+
+-- what a clause breaks
+abbrev pub clause_faults : Outline → Clause → List Fault
+clause_faults o (clause.From states place) = states_faults o states
+clause_faults o (clause.To state place) = next_faults o state
+clause_faults o (clause.When at signal place) = signal_faults o Receives at signal
+clause_faults o (clause.Provided condition place) = wanted_faults o wanted.Boolean condition
+clause_faults o (clause.Otherwise place) = []
+clause_faults o (clause.Any names place) = any_faults o names place
+clause_faults o (clause.Priority value place) =
+    constant_faults o value ++ priority_faults (constant_value o value) (constant_place value)
+clause_faults o (clause.Delay least most place) =
+    wanted_faults o wanted.Integer least ++ most_faults o most
+
+abbrev pub clauses_faults : Outline → List Clause → List Fault
+clauses_faults o [] = []
+clauses_faults o (c ∷ cs) = clause_faults o c ++ clauses_faults o cs
+
+-- The clauses of a transition, each with the place of its first token: a clause takes the place of
+-- that of its kind, and of all that were given after that one.
+abbrev pub kind_of : Clause → ClauseKind
+kind_of (clause.From states place) = given.From
+kind_of (clause.To state place) = given.To
+kind_of (clause.When at signal place) = given.When
+kind_of (clause.Provided condition place) = given.Provided
+kind_of (clause.Otherwise place) = given.Provided
+kind_of (clause.Any names place) = given.Any
+kind_of (clause.Priority value place) = given.Priority
+kind_of (clause.Delay least most place) = given.Delay
+
+abbrev pub clause_place : Clause → ℕ
+clause_place (clause.From states place) = place
+clause_place (clause.To state place) = place
+clause_place (clause.When at signal place) = place
+clause_place (clause.Provided condition place) = place
+clause_place (clause.Otherwise place) = place
+clause_place (clause.Any names place) = place
+clause_place (clause.Priority value place) = place
+clause_place (clause.Delay least most place) = place
+
+abbrev pub with_clause : List Given → Clause → List Given
+with_clause gs c = with_given (kind_of c) (Some (clause_place c)) (dropped (kind_of c) gs)
+
+abbrev pub with_clauses : List Given → List Clause → List Given
+with_clauses gs [] = gs
+with_clauses gs (c ∷ cs) = with_clauses (with_clause gs c) cs
+
+-- whether a transition has a clause of a kind
+abbrev pub is_there : Option ℕ → Bool
+is_there None = false
+is_there (Some place) = true
+
+abbrev pub has : ClauseKind → List Given → Bool
+has k gs = is_there (region_of k gs)
+
+-- a delay stands without a `when` and without an `any`
+abbrev pub delay_by : Option ℕ → List Given → List Fault
+delay_by None gs = []
+delay_by (Some place) gs = broken_if (has given.When gs || has given.Any gs) place DelayNotAlone
+
+abbrev pub delay_faults : List Given → List Fault
+delay_faults gs = delay_by (region_of given.Delay gs) gs

@@ -1,0 +1,105 @@
+-- How many bodies, transitions and ports a specification has (ISO 9074, module-body-definition,
+-- transition and interaction-point).
+use Rattle.std.specs.Prelude.{ℕ, suc, ◌-◌, ◌^◌, min, nat_eq, List, [], ◌∷◌, length, Option, Some, None, if◌then◌else◌}
+use Rattle.est_syntax.specs.declared.body.Part.{Part, Row_of-Part, end_of-Part, more_of-Part}
+use Rattle.est_syntax.specs.declared.body.Part.TheVariants as part
+use Rattle.est_syntax.specs.declared.body.Body.{Body', Row_of-Group, end_of-Group, more_of-Group}
+use Rattle.est_syntax.specs.declared.header.Point.{Point}
+use Rattle.est_syntax.specs.declared.kind.Kind.{Kind}
+use Rattle.est_syntax.specs.declared.specification.Spec.{Spec}
+use Rattle.est_syntax.specs.declared.statement.Statement.{Statement}
+use Rattle.est_syntax.specs.declared.statement.Statement.TheVariants as statement
+use Rattle.est_syntax.specs.declared.transition.Group.{Group', Row_of-Transition, end_of-Transition, more_of-Transition}
+use Rattle.est_scope.specs.declared.declaration.Sort.TheVariants as sort
+use Rattle.est_scope.specs.Outline.{Outline}
+use Rattle.est_scope.specs.Uses.{declaration_of}
+use Rattle.est_kinds.specs.Dims.{dims_of, elements}
+use Rattle.est_kinds.specs.Texts.{added, multiplied}
+use Rattle.est_outline.specs.Bodies.{outline_of}
+use Rattle.est_check.specs.declared.counts.Counts.{Counts}
+use Rattle.est_statements.specs.Modules.{header_at}
+
+-- the bodies that parts declare, those within bodies too
+abbrev mutual
+  pub part_bodies : Part → ℕ
+  part_bodies (part.Body (Body' name header a parts f b groups)) = added 1 (row_bodies parts)
+  part_bodies _ = 0
+
+  pub row_bodies : {n : _} → Row_of-Part n → ℕ
+  row_bodies end_of-Part = 0
+  row_bodies (more_of-Part p rest) = added (part_bodies p) (row_bodies rest)
+
+abbrev pub bodies : List Part → ℕ
+bodies [] = 0
+bodies (p ∷ ps) = added (part_bodies p) (bodies ps)
+
+-- the transitions of all bodies that parts declare
+abbrev mutual
+  pub part_transitions : Part → ℕ
+  part_transitions (part.Body (Body' name header a parts f b groups)) =
+      added (row_groups groups) (row_parts parts)
+  part_transitions _ = 0
+
+  pub row_parts : {n : _} → Row_of-Part n → ℕ
+  row_parts end_of-Part = 0
+  row_parts (more_of-Part p rest) = added (part_transitions p) (row_parts rest)
+
+  pub row_groups : {n : _} → Row_of-Group n → ℕ
+  row_groups end_of-Group = 0
+  row_groups (more_of-Group (Group' a transitions) rest) =
+      added (row_transitions transitions) (row_groups rest)
+
+  pub row_transitions : {n : _} → Row_of-Transition n → ℕ
+  row_transitions end_of-Transition = 0
+  row_transitions (more_of-Transition cs name a parts statements place rest) =
+      suc (row_transitions rest)
+
+abbrev pub transitions : List Part → ℕ
+transitions [] = 0
+transitions (p ∷ ps) = added (part_transitions p) (transitions ps)
+
+-- the elements of interaction points
+abbrev pub dims_elements : Option (List Kind) → ℕ
+dims_elements None = 0
+dims_elements (Some ks) = elements ks
+
+abbrev pub point_elements : Outline → Point → ℕ
+point_elements o p = multiplied (length p.names) (dims_elements (dims_of o p.dims))
+
+abbrev pub points_elements : Outline → List Point → ℕ
+points_elements o [] = 0
+points_elements o (p ∷ ps) = added (point_elements o p) (points_elements o ps)
+
+-- those of the header at a place, among parts
+abbrev pub header_elements : Outline → ℕ → List Part → ℕ
+header_elements o place [] = 0
+header_elements o place (part.Header h ∷ ps) =
+    if nat_eq place h.name.place then points_elements o h.points else header_elements o place ps
+header_elements o place (_ ∷ ps) = header_elements o place ps
+
+-- the header of the module that a specification starts, and its ports
+abbrev pub started_header : Outline → Statement → Option ℕ
+started_header o (statement.Init target body arguments place) =
+    header_at o (declaration_of o sort.ModuleVariable target.name)
+started_header o _ = None
+
+abbrev pub header_ports : Outline → Option ℕ → List Part → ℕ
+header_ports o None parts = 0
+header_ports o (Some header) parts = header_elements o header parts
+
+abbrev pub ports : Outline → Spec → ℕ
+ports o s = header_ports o (started_header o s.first) s.parts
+
+-- These numbers, as far as 32 bits go, which no text of a specification comes near.
+abbrev pub counted : ℕ → ℕ
+counted n = min n (2 ^ 32 - 1)
+
+abbrev pub counts_by : Outline → Spec → Counts
+counts_by o s = record {
+  bodies = counted (bodies s.parts);
+  transitions = counted (transitions s.parts);
+  ports = counted (ports o s);
+}
+
+abbrev pub counts_of : Spec → Counts
+counts_of s = counts_by (outline_of s) s

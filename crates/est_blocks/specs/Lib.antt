@@ -1,0 +1,5 @@
+pub mod Answers
+pub mod Blocks
+pub mod Clauses
+pub mod Counts
+pub mod inside

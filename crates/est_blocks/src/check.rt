@@ -1,0 +1,62 @@
+//! All rules, over a whole specification.
+#![tactic(auto, using(est_scope::proofs::LeastLaws::least_append))]
+
+ghost use Rattle.std.specs.Prelude.{◌≡◌, ◌++◌, IfOk, None, []};
+ghost use Rattle.est_scope.specs.Least.{least_with};
+ghost use Rattle.est_outline.specs.Bodies.{outline_of};
+ghost use Rattle.est_types.specs.Faults.{declaration_faults};
+ghost use Rattle.est_blocks.specs.Blocks.{specification_faults};
+ghost use Rattle.est_blocks.specs.Answers.{IsAnswered};
+
+use crate::blocks::check_parts;
+use crate::counts::counts;
+use est_check::Counts;
+use est_scope::least::Least;
+use est_statements::statements::check_statement;
+use est_syntax::rule::Fault;
+use est_syntax::specification::Spec;
+use est_types::table::{Table, declare};
+use std::alloc::{AllocError, Global};
+
+/// What is found of a specification: the least rule that it breaks, by place and then by its
+/// number, or its numbers where it breaks none.
+#[derive(Clone, Copy)]
+pub enum Answer {
+    Broken(Fault),
+    Good(Counts),
+}
+
+// The least rule that a specification with this table breaks.
+fn least_fault(alloc: Global, table: &Table, spec: &Spec) -> Result<Option<Fault>, AllocError>
+    requires outline { table.now.outline ≡ outline_of spec.now }
+    requires fault { table.now.fault ≡ least_with None (declaration_faults spec.now) }
+    ensures { IfOk result (λ fault. fault ≡ least_with None (specification_faults spec.now)) }
+{
+    let mut least = Least {
+        at: table.first_fault(),
+    };
+    let outline = table.outline();
+    check_parts(alloc, outline, spec.parts.as_slice(), &mut least)?;
+    check_statement(alloc, outline, None, &[], &spec.first, &mut least)?;
+    Ok(least.at)
+}
+
+// What is found of a specification with this table.
+fn judge(alloc: Global, table: &Table, spec: &Spec) -> Result<Answer, AllocError>
+    requires outline { table.now.outline ≡ outline_of spec.now }
+    requires fault { table.now.fault ≡ least_with None (declaration_faults spec.now) }
+    ensures { IfOk result (IsAnswered spec.now) }
+{
+    match least_fault(alloc, table, spec)? {
+        Some(fault) => Ok(Answer::Broken(fault)),
+        None => Ok(Answer::Good(counts(alloc, table.outline(), spec)?)),
+    }
+}
+
+/// What is found of a specification.
+pub fn check_rules(alloc: Global, spec: &Spec) -> Result<Answer, AllocError>
+    ensures { IfOk result (IsAnswered spec.now) }
+{
+    let table = declare(alloc, spec)?;
+    judge(alloc, &table, spec)
+}

@@ -1,0 +1,20 @@
+-- The name of an interaction point or of a module variable with its subscripts (ISO 9074).
+use Rattle.std.specs.Prelude.{ℕ, List, ◌++◌, Option, Some, None}
+use Rattle.est_syntax.specs.declared.expression.Access.{Access}
+use Rattle.est_syntax.specs.declared.rule.Fault.{Fault}
+use Rattle.est_scope.specs.declared.declaration.Sort.{Sort}
+use Rattle.est_scope.specs.Outline.{Outline}
+use Rattle.est_scope.specs.Uses.{use_faults, declaration_of}
+use Rattle.est_expressions.specs.declared.receivers.Receiver.{Receiver}
+use Rattle.est_expressions.specs.declared.receivers.Receiver.TheVariants as receiver
+use Rattle.est_expressions.specs.Expressions.{are_taken_faults}
+
+-- what takes the subscripts
+abbrev pub subscripts_at : Option ℕ → Option Receiver
+subscripts_at None = None
+subscripts_at (Some p) = Some (receiver.Subscripts p)
+
+abbrev pub access_faults : Outline → Sort → Access → List Fault
+access_faults o s a =
+    use_faults o s a.name
+    ++ are_taken_faults o (subscripts_at (declaration_of o s a.name)) 0 a.name.place a.index

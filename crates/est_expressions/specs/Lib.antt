@@ -1,0 +1,9 @@
+pub mod Accesses
+pub mod Calls
+pub mod Expressions
+pub mod Laws
+pub mod Names
+pub mod Operators
+pub mod Places
+pub mod Receivers
+pub mod Variables

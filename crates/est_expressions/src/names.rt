@@ -1,0 +1,341 @@
+//! What a name in an expression stands for (ISO 7185, 6.5 and 6.7.1).
+#![tactic(auto, using(est_scope::proofs::LeastLaws::least_append))]
+
+ghost use Rattle.std.specs.Prelude.{◌≡◌};
+ghost use Rattle.std.specs.Option.{option_copied};
+ghost use Rattle.est_scope.specs.Least.{least_with};
+ghost use Rattle.est_scope.specs.Outline.{entry_at};
+ghost use Rattle.est_kinds.specs.Constants.{predeclared_constant};
+ghost use Rattle.est_alike.specs.Types.{yields, yielded};
+ghost use Rattle.est_expressions.specs.Names.{selects, type_in, is_parameter, parameter_at};
+ghost use Rattle.est_expressions.specs.Names.{parameter, has_before, takes_so_many};
+ghost use Rattle.est_expressions.specs.Names.{parameter_type, integer_function};
+ghost use Rattle.est_expressions.specs.Names.{required_function, argument_of};
+ghost use Rattle.est_expressions.specs.Names.{value_of, predeclared_head, value_head};
+ghost use Rattle.est_expressions.specs.Names.{variable_head, module_head, function_head, head_by};
+ghost use Rattle.est_expressions.specs.Names.{head_in, head, predeclared_faults, function_faults};
+ghost use Rattle.est_expressions.specs.Names.{sort_faults, entry_faults, head_faults};
+
+use crate::operators::Wanted;
+use est_alike::types::{Host, ValueType, type_of};
+use est_scope::declaration::{Entry, Meant, Measured, Section, Sort};
+use est_scope::least::Least;
+use est_scope::outline::Outline;
+use est_syntax::kind::{Kind, Kinds};
+use est_syntax::name::{Name, Used};
+use est_syntax::rule::Rule;
+
+/// A function that is predeclared (ISO 7185, 6.6.6).
+#[derive(Clone, Copy)]
+pub enum Required {
+    Ord,
+    Chr,
+    Succ,
+    Pred,
+    Abs,
+    Odd,
+    Sqr,
+}
+
+/// What a name with some selectors stands for: nothing, where it breaks a rule; a value; a variable
+/// of a kind; the module variables that are declared at a place, before their subscripts; one of
+/// them; or one of which it is not known which, since a subscript breaks a rule.
+#[derive(Clone, Copy)]
+pub enum Selected<'o> {
+    Broken,
+    Value(ValueType<'o>),
+    Component(&'o Kind),
+    Modules(u32),
+    Module(u32),
+    SomeModule,
+}
+
+/// The type of a declaration, where it has a kind.
+pub fn type_in(kind: &Option<Measured>) -> Option<ValueType<'_>>
+    ensures { yielded result ≡ type_in kind.now }
+{
+    match kind {
+        None => None,
+        Some(measured) => Some(type_of(&measured.kind)),
+    }
+}
+
+// Whether a call, an `init` or an `output` gives a value or a variable to what this section
+// declares.
+fn is_parameter(section: Section) -> bool
+    ensures { result ≡ is_parameter section }
+{
+    match section {
+        Section::Parameter => true,
+        Section::Value => true,
+        Section::Place => true,
+        Section::Interaction => true,
+        _ => false,
+    }
+}
+
+// The parameter at a place, if one is declared there.
+fn parameter_at(outline: &Outline, place: Option<u32>) -> Option<&Entry>
+    ensures { option_copied result ≡ parameter_at outline.now place }
+{
+    match place {
+        None => None,
+        Some(place) => match outline.entry(place) {
+            None => None,
+            Some(entry) => if is_parameter(entry.section) {
+                Some(entry)
+            } else {
+                None
+            },
+        },
+    }
+}
+
+/// The parameter that has this number, counted from 0, of what is declared at a place.
+pub fn parameter(outline: &Outline, place: u32, number: usize) -> Option<&Entry>
+    ensures { option_copied result ≡ parameter outline.now place number }
+{
+    parameter_at(outline, outline.nth(place, number))
+}
+
+// Whether there is a parameter for each argument.
+fn has_before(outline: &Outline, place: u32, number: usize) -> bool
+    ensures { result ≡ has_before outline.now place number }
+{
+    number == 0 || parameter(outline, place, number - 1).is_some()
+}
+
+/// Whether there are as many parameters as this.
+pub fn takes_so_many(outline: &Outline, place: u32, number: usize) -> bool
+    ensures { result ≡ takes_so_many outline.now place number }
+{
+    has_before(outline, place, number) && parameter(outline, place, number).is_none()
+}
+
+/// The type of a parameter.
+pub fn parameter_type(outline: &Outline, place: u32, number: usize) -> Option<ValueType<'_>>
+    ensures { yielded result ≡ parameter_type (parameter outline.now place number) }
+{
+    match parameter(outline, place, number) {
+        None => None,
+        Some(entry) => type_in(&entry.kind),
+    }
+}
+
+// The function of integers that is predeclared under a name.
+fn integer_function(name: &Name) -> Option<Required>
+    ensures { result ≡ integer_function name.now.bytes }
+{
+    let bytes = name.bytes.as_slice();
+    if bytes == b"abs".as_slice() {
+        Some(Required::Abs)
+    } else if bytes == b"odd".as_slice() {
+        Some(Required::Odd)
+    } else if bytes == b"sqr".as_slice() {
+        Some(Required::Sqr)
+    } else {
+        None
+    }
+}
+
+/// The function that is predeclared under a name.
+pub fn required_function(name: &Name) -> Option<Required>
+    ensures { result ≡ required_function name.now.bytes }
+{
+    let bytes = name.bytes.as_slice();
+    if bytes == b"ord".as_slice() {
+        Some(Required::Ord)
+    } else if bytes == b"chr".as_slice() {
+        Some(Required::Chr)
+    } else if bytes == b"succ".as_slice() {
+        Some(Required::Succ)
+    } else if bytes == b"pred".as_slice() {
+        Some(Required::Pred)
+    } else {
+        integer_function(name)
+    }
+}
+
+impl Required {
+    /// What the function takes.
+    pub fn argument(self) -> Wanted
+        ensures { result ≡ argument_of self }
+    {
+        match self {
+            Required::Ord => Wanted::Ordinal,
+            Required::Succ => Wanted::Ordinal,
+            Required::Pred => Wanted::Ordinal,
+            _ => Wanted::Integer,
+        }
+    }
+
+    /// What the function gives for an argument of a type.
+    pub fn value(self, kind: ValueType<'_>) -> ValueType<'_>
+        ensures { yields result ≡ value_of self (yields kind.entry) }
+    {
+        match self {
+            Required::Chr => ValueType::Ordinal(Host::Char),
+            Required::Odd => ValueType::Ordinal(Host::Boolean),
+            Required::Succ => kind,
+            Required::Pred => kind,
+            _ => ValueType::Ordinal(Host::Integer),
+        }
+    }
+}
+
+// What a constant is that is predeclared, if this is one.
+fn predeclared_head<'o>(name: &Name) -> Selected<'o>
+    ensures { selects result ≡ predeclared_head (predeclared_constant name.now.bytes) }
+{
+    let bytes = name.bytes.as_slice();
+    if bytes == b"false".as_slice() {
+        Selected::Value(ValueType::Ordinal(Host::Boolean))
+    } else if bytes == b"true".as_slice() {
+        Selected::Value(ValueType::Ordinal(Host::Boolean))
+    } else if bytes == b"maxint".as_slice() {
+        Selected::Value(ValueType::Ordinal(Host::Integer))
+    } else {
+        Selected::Broken
+    }
+}
+
+/// A constant or the result of a function, where its kind is known.
+pub fn value_head(kind: &Option<Measured>) -> Selected<'_>
+    ensures { selects result ≡ value_head kind.now }
+{
+    match kind {
+        None => Selected::Broken,
+        Some(measured) => Selected::Value(type_of(&measured.kind)),
+    }
+}
+
+/// A variable, where its kind is known.
+pub fn variable_head(kind: &Option<Measured>) -> Selected<'_>
+    ensures { selects result ≡ variable_head kind.now }
+{
+    match kind {
+        None => Selected::Broken,
+        Some(measured) => Selected::Component(&measured.kind),
+    }
+}
+
+/// A module variable, or several.
+pub fn module_head<'o>(dims: &'o Option<Kinds>, place: u32) -> Selected<'o>
+    ensures { selects result ≡ module_head dims.now place }
+{
+    match dims {
+        None => Selected::Broken,
+        Some(kinds) => if kinds.as_slice().is_empty() {
+            Selected::Module(place)
+        } else {
+            Selected::Modules(place)
+        },
+    }
+}
+
+// What a declaration is in an expression.
+fn head_by<'o>(outline: &'o Outline, place: u32, entry: &'o Entry) -> Selected<'o>
+    ensures { selects result ≡ head_by outline.now place entry.now entry.now.declared.sort }
+{
+    match entry.declared.sort {
+        Sort::Constant => value_head(&entry.kind),
+        Sort::Variable => variable_head(&entry.kind),
+        Sort::ModuleVariable => module_head(&entry.dims, place),
+        Sort::Function => if takes_so_many(outline, place, 0) {
+            value_head(&entry.kind)
+        } else {
+            Selected::Broken
+        },
+        _ => Selected::Broken,
+    }
+}
+
+// What is declared at a place is in an expression.
+fn head_in(outline: &Outline, place: u32) -> Selected<'_>
+    ensures { selects result ≡ head_in outline.now place (entry_at outline.now place) }
+{
+    match outline.entry(place) {
+        None => Selected::Broken,
+        Some(entry) => head_by(outline, place, entry),
+    }
+}
+
+/// What a name is in an expression.
+pub fn head<'o>(outline: &'o Outline, used: &Used) -> Selected<'o>
+    ensures { selects result ≡ head outline.now used.now }
+{
+    match outline.meaning(used) {
+        Meant::Predeclared => predeclared_head(&used.name),
+        Meant::Seen(place) => head_in(outline, place),
+        _ => Selected::Broken,
+    }
+}
+
+// Notes the name of a function that is predeclared, without arguments, or of another such thing.
+fn check_function(used: &Used, least: &mut Least)
+    ensures { least.new.at ≡ least_with least.old.at
+        (function_faults (required_function used.now.name.bytes) used.now.place) }
+{
+    match required_function(&used.name) {
+        None => least.note(used.place, Rule::WrongSort),
+        Some(_) => least.note(used.place, Rule::WrongNumber),
+    }
+}
+
+// Notes the name of something predeclared that is no constant.
+fn check_predeclared(used: &Used, least: &mut Least)
+    ensures { least.new.at ≡ least_with least.old.at (predeclared_faults
+        (predeclared_constant used.now.name.bytes) used.now.name.bytes used.now.place) }
+{
+    let bytes = used.name.bytes.as_slice();
+    if bytes == b"false".as_slice() {
+        return;
+    }
+    if bytes == b"true".as_slice() {
+        return;
+    }
+    if bytes == b"maxint".as_slice() {
+        return;
+    }
+    check_function(used, least);
+}
+
+// Notes the name of a declaration of a sort that stands in no expression, or a function without
+// arguments that wants some.
+fn check_sort(outline: &Outline, declared: u32, sort: Sort, place: u32, least: &mut Least)
+    ensures { least.new.at
+        ≡ least_with least.old.at (sort_faults outline.now declared sort place) }
+{
+    match sort {
+        Sort::Constant => (),
+        Sort::Variable => (),
+        Sort::ModuleVariable => (),
+        Sort::Function => if !takes_so_many(outline, declared, 0) {
+            least.note(place, Rule::WrongNumber);
+        },
+        _ => least.note(place, Rule::WrongSort),
+    }
+}
+
+// The same of what is declared at a place.
+fn check_entry(outline: &Outline, declared: u32, place: u32, least: &mut Least)
+    ensures { least.new.at ≡ least_with least.old.at
+        (entry_faults outline.now declared (entry_at outline.now declared) place) }
+{
+    match outline.entry(declared) {
+        None => least.note(place, Rule::WrongSort),
+        Some(entry) => check_sort(outline, declared, entry.declared.sort, place, least),
+    }
+}
+
+/// Notes a name that cannot stand in an expression.
+pub fn check_head(outline: &Outline, used: &Used, least: &mut Least)
+    ensures { least.new.at ≡ least_with least.old.at (head_faults outline.now used.now) }
+{
+    match outline.meaning(used) {
+        Meant::Nothing => least.note(used.place, Rule::UnknownName),
+        Meant::Predeclared => check_predeclared(used, least),
+        Meant::Unseen(_) => least.note(used.place, Rule::NotSeenHere),
+        Meant::Seen(place) => check_entry(outline, place, used.place, least),
+    }
+}

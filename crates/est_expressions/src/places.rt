@@ -1,0 +1,70 @@
+//! The places of expressions, and numbers in them (ISO 7185, 6.7.1).
+#![tactic(auto, using(est_scope::proofs::LeastLaws::least_append, crate::proofs::Rows::places))]
+
+ghost use Rattle.std.specs.Prelude.{◌≡◌};
+ghost use Rattle.est_scope.specs.Least.{least_with};
+ghost use Rattle.est_alike.specs.Types.{yielded};
+ghost use Rattle.est_expressions.specs.Places.{factor_place, term_place, sign_place, simple_place};
+ghost use Rattle.est_expressions.specs.Places.{number_type, too_large_faults};
+
+use est_alike::types::{Host, ValueType};
+use est_scope::least::Least;
+use est_syntax::expression::{Factor, Simple, Term};
+use est_syntax::rule::Rule;
+
+/// The place of the first token of an operand.
+pub fn factor_place(factor: &Factor) -> u32
+    ensures { result ≡ factor_place factor.now }
+{
+    match factor {
+        Factor::Number { number: _, place } => *place,
+        Factor::Character { code: _, place } => *place,
+        Factor::Group { of: _, place } => *place,
+        Factor::Not { of: _, place } => *place,
+        Factor::Set { members: _, place } => *place,
+        Factor::Variable {
+            name: _,
+            path: _,
+            place,
+        } => *place,
+        Factor::Call {
+            name: _,
+            arguments: _,
+            place,
+        } => *place,
+    }
+}
+
+/// The place of the first token of a product.
+pub fn term_place(term: &Term) -> u32
+    ensures { result ≡ term_place term.now }
+{
+    factor_place(&term.first)
+}
+
+/// The place of the sign before an operand, where one was written, else of the operand.
+pub fn sign_place(sign: bool, place: u32) -> u32
+    ensures { result ≡ sign_place sign place }
+{
+    if sign { place.saturating_sub(1) } else { place }
+}
+
+/// The place of the first token of a sum.
+pub fn simple_place(simple: &Simple) -> u32
+    ensures { result ≡ simple_place simple.now }
+{
+    sign_place(simple.sign, term_place(&simple.first))
+}
+
+/// What a number yields. Notes one that exceeds the greatest integer.
+pub fn check_number<'k>(number: u64, place: u32, least: &mut Least) -> Option<ValueType<'k>>
+    ensures kind { yielded result ≡ number_type number }
+    ensures faults { least.new.at ≡ least_with least.old.at (too_large_faults number place) }
+{
+    if number < 2147483648 {
+        Some(ValueType::Ordinal(Host::Integer))
+    } else {
+        least.note(place, Rule::NumberTooLarge);
+        None
+    }
+}
