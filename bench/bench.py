@@ -25,8 +25,8 @@ SEED = 20261127
 RUNS = 5
 KIB, MIB = 1 << 10, 1 << 20
 SIZES = [256 * KIB, 512 * KIB, MIB]
-# The answer to a sentence whose rules are not built yet, and to one whose declarations break a rule.
-SENTENCE = 12
+# The answer to a sentence that breaks no rule, and to any other text.
+GOOD = 0
 BROKEN = 2
 
 # A process that has lost its parent comes to this one (PR_SET_CHILD_SUBREAPER).
@@ -117,7 +117,7 @@ def reads_explanation(folder):
 
 def shares(folder):
     """Rows of whole texts and of Pascal programs of the same content, and the share of their times."""
-    ours = rows("check of whole texts", SIZES, "bytes", checks(folder, "whole"), SENTENCE, folder)
+    ours = rows("check of whole texts", SIZES, "bytes", checks(folder, "whole"), GOOD, folder)
     if not shutil.which("fpc"):
         return
     others = rows("fpc -Cn of the same in Pascal", SIZES, "bytes", compiles(folder, "whole_pascal"), 0, folder)
@@ -163,9 +163,9 @@ def main():
         silent = replays(folder, "silent_trace", "silent_moves", ["20", "2"])
         rows("silent firings", [1_050_000, 2_100_000, 4_200_000], "moves", silent, 0, folder)
         print()
-        table(folder, "declarations", declarations.DECLARATIONS, "declarations", SENTENCE)
+        table(folder, "declarations", declarations.DECLARATIONS, "declarations", GOOD)
         print()
-        table(folder, "construct", constructs.CONSTRUCTS, "construct", SENTENCE, BROKEN)
+        table(folder, "construct", constructs.CONSTRUCTS, "construct", GOOD, BROKEN)
 
 
 main()

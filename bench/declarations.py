@@ -3,8 +3,8 @@ up, and to find its kind. Names are of some letters and a number, so that all of
 
 import itertools
 
-HEAD = "specification L;"
-TAIL = "initialize begin init a with b end;end.\n"
+HEAD = "specification L;module zm systemactivity;end;body zb for zm;end;modvar zx:zm;"
+TAIL = "initialize begin init zx with zb end;end.\n"
 
 # So many levels of arrays and records may lie within one another, and so many bodies.
 LEVELS = 32
@@ -51,7 +51,7 @@ def routines():
     """Each has a parameter and a local of the type before, and calls the routine before."""
     yield "type t=1..9;procedure p0;begin end;"
     for n in itertools.count(1):
-        yield f"procedure p{n}(a:t);var b:t;begin p{n - 1} end;"
+        yield f"procedure p{n}(a:t);var b:t;begin p{n - 1}{'(a)' if n > 1 else ''} end;"
 
 
 def enumeration():

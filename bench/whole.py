@@ -156,11 +156,12 @@ ESTELLE_HEAD = (
     "specification Large;\ntimescale seconds;\n"
     "channel C(A, B);\n  by A: Go(n: integer);\n  by B: Left(n, m: integer); Right;\n"
     "module M systemactivity;\n  ip P: C(B) individual queue;\nend;\nbody MB for M;\n"
+    "var\n  count, size: integer;\n"
 )
 ESTELLE_MIDDLE = "state " + ", ".join(STATES) + ";\ninitialize to S0 begin end;\n"
 ESTELLE_TAIL = "end;\nmodvar X: M;\ninitialize begin init X with MB end;\nend.\n"
 PASCAL_HEAD = (
-    "program large;\ntype states = (" + ", ".join(STATES) + ");\nvar state: states;\n"
+    "program large;\ntype states = (" + ", ".join(STATES) + ");\nvar state: states;\n  count, size: integer;\n"
     "procedure left(n, m: integer); begin end;\nprocedure right; begin end;\n"
     "procedure priority(n: integer); begin end;\nprocedure delay(n, m: integer); begin end;\n"
 )
