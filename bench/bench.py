@@ -28,6 +28,8 @@ SIZES = [256 * KIB, 512 * KIB, MIB]
 # The answer to a sentence that breaks no rule, and to any other text.
 GOOD = 0
 BROKEN = 2
+# The answer to an explanation that is no sentence.
+UNREADABLE = 4
 
 # A process that has lost its parent comes to this one (PR_SET_CHILD_SUBREAPER).
 ctypes.CDLL(None).prctl(36, 1, 0, 0, 0)
@@ -115,6 +117,28 @@ def reads_explanation(folder):
     return made
 
 
+def reads_dense_explanation(folder):
+    def made(size):
+        specification, _ = written(folder, "echo.est", "echo")
+        trace, _ = written(folder, "short.trace", "echo_trace", 0)
+        explanation, length = written(folder, "long.explanation", "dense_explanation", size)
+        return [PROGRAM, "replay", specification, trace, explanation], length
+
+    return made
+
+
+def fires_the_last(folder):
+    """Replays of 4,000 moves, each second one a firing of the last of so many transitions."""
+
+    def made(transitions):
+        specification, _ = written(folder, "crowded.est", "crowded", transitions)
+        trace, _ = written(folder, "long.trace", "echo_trace", 4000)
+        explanation, _ = written(folder, "long.explanation", "crowded_moves", 4000, transitions)
+        return [PROGRAM, "replay", specification, trace, explanation], transitions
+
+    return made
+
+
 def shares(folder):
     """Rows of whole texts and of Pascal programs of the same content, and the share of their times."""
     ours = rows("check of whole texts", SIZES, "bytes", checks(folder, "whole"), GOOD, folder)
@@ -158,10 +182,13 @@ def main():
         many = [50_000, 100_000, 200_000]
         rows("a trace is read", many, "events", replays(folder, "echo_trace", "no_moves"), 0, folder)
         rows("an explanation is read", [32 * MIB, 64 * MIB, 128 * MIB], "bytes", reads_explanation(folder), 1, folder)
+        dense = reads_dense_explanation(folder)
+        rows("an explanation of one token a byte", [32 * MIB, 64 * MIB, 128 * MIB], "bytes", dense, UNREADABLE, folder)
         rows("takes and firings", many, "moves", replays(folder, "echo_trace", "echo_moves"), 0, folder)
         rows("arrivals alone", many, "moves", replays(folder, "arrivals_trace", "arrivals_moves"), 0, folder)
         silent = replays(folder, "silent_trace", "silent_moves", ["20", "2"])
         rows("silent firings", [1_050_000, 2_100_000, 4_200_000], "moves", silent, 0, folder)
+        rows("2,000 firings of the last", [5_000, 10_000, 20_000], "transitions", fires_the_last(folder), 0, folder)
         print()
         table(folder, "declarations", declarations.DECLARATIONS, "declarations", GOOD)
         print()

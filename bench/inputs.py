@@ -73,8 +73,15 @@ def explanation(size, seed):
     return head + block * ((size - len(head) - len(tail)) // len(block)) + tail
 
 
-# A skeleton that answers each Go with Left, and can fire without an outside event at any time.
-ECHO = """specification Echo;
+def dense_explanation(size):
+    """A text of `size` bytes, each of them behind the head a token of its own, and the first one a bad one."""
+    head = "explanation 1\n"
+    return head + ";" * (size - len(head))
+
+
+ANSWER = "  trans from S to same when P.Go begin output P.Left end;\n"
+SILENT = "  trans from S to same begin end;\n"
+ECHO_HEAD = """specification Echo;
 channel C(A, B);
   by A: Go;
   by B: Left;
@@ -82,9 +89,8 @@ module M systemactivity; ip P: C(B); end;
 body MB for M;
   state S;
   initialize to S begin end;
-  trans from S to same when P.Go begin output P.Left end;
-  trans from S to same begin end;
-end;
+"""
+ECHO_TAIL = """end;
 modvar X: M;
 initialize begin init X with MB end;
 end.
@@ -92,7 +98,18 @@ end.
 
 
 def echo():
-    return ECHO
+    """A skeleton that answers each Go with Left, and can fire without an outside event at any time."""
+    return ECHO_HEAD + ANSWER + SILENT + ECHO_TAIL
+
+
+def crowded(transitions):
+    """The same with so many transitions, of which the last one answers."""
+    return ECHO_HEAD + SILENT * (transitions - 1) + ANSWER + ECHO_TAIL
+
+
+def crowded_moves(moves, transitions):
+    """The explanation of `echo_trace` by the last one of so many transitions."""
+    return "explanation 1\n" + f"take\nfire 1 {transitions} 1\n" * (moves // 2) + f"yields {moves + 1}\n"
 
 
 def echo_trace(events):
