@@ -79,8 +79,8 @@ fn set_host(kind: &Kind) -> Option<Host>
     }
 }
 
-// Whether two sets have members of one host.
-fn are_hosts_one(one: Option<Host>, other: Option<Host>) -> bool
+/// Whether two sets have members of one host.
+pub fn are_hosts_one(one: Option<Host>, other: Option<Host>) -> bool
     ensures { result ≡ are_hosts_one one other }
 {
     match (one, other) {

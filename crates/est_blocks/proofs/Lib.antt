@@ -1,3 +1,4 @@
 pub mod CountRows
+pub mod NameSteps
 pub mod PartRows
 pub mod Turns

@@ -9,10 +9,14 @@ use Rattle.est_blocks.specs.declared.check.Answer.{Answer}
 use Rattle.est_blocks.specs.declared.check.Answer.TheVariants as answer
 
 -- this is the least fault of a specification, or it breaks no rule
-abbrev pub IsLeastFault : Spec → Option Fault → Type 0
+unfoldable pub IsLeastFault : Spec → Option Fault → Type 0
 IsLeastFault spec fault = IsLeast (λ f. IsIn f (specification_faults spec)) fault
+
+-- a good specification breaks no rule
+abbrev pub IsGood : Spec → Type 0
+IsGood spec = IsLeastFault spec None
 
 -- the least fault, or the numbers where there is none
 abbrev pub IsAnswered : Spec → Answer → Type 0
 IsAnswered spec (answer.Broken fault) = IsLeastFault spec (Some fault)
-IsAnswered spec (answer.Good counts) = IsLeastFault spec None × (counts ≡ counts_of spec)
+IsAnswered spec (answer.Good counts) = IsGood spec × (counts ≡ counts_of spec)

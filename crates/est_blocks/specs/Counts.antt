@@ -1,22 +1,22 @@
 -- How many bodies, transitions and ports a specification has (ISO 9074, module-body-definition,
 -- transition and interaction-point).
-use Rattle.std.specs.Prelude.{ℕ, suc, ◌-◌, ◌^◌, min, nat_eq, List, [], ◌∷◌, length, Option, Some, None, if◌then◌else◌}
+use Rattle.std.specs.Prelude.{ℕ, suc, ◌-◌, ◌^◌, min, List, [], ◌∷◌, Option, Some, None, if◌then◌else◌}
 use Rattle.est_syntax.specs.declared.body.Part.{Part, Row_of-Part, end_of-Part, more_of-Part}
 use Rattle.est_syntax.specs.declared.body.Part.TheVariants as part
 use Rattle.est_syntax.specs.declared.body.Body.{Body', Row_of-Group, end_of-Group, more_of-Group}
-use Rattle.est_syntax.specs.declared.header.Point.{Point}
 use Rattle.est_syntax.specs.declared.kind.Kind.{Kind}
 use Rattle.est_syntax.specs.declared.specification.Spec.{Spec}
 use Rattle.est_syntax.specs.declared.statement.Statement.{Statement}
 use Rattle.est_syntax.specs.declared.statement.Statement.TheVariants as statement
 use Rattle.est_syntax.specs.declared.transition.Group.{Group', Row_of-Transition, end_of-Transition, more_of-Transition}
 use Rattle.est_scope.specs.declared.declaration.Sort.TheVariants as sort
-use Rattle.est_scope.specs.Outline.{Outline}
-use Rattle.est_scope.specs.Uses.{declaration_of}
-use Rattle.est_kinds.specs.Dims.{dims_of, elements}
-use Rattle.est_kinds.specs.Texts.{added, multiplied}
+use Rattle.est_scope.specs.declared.declaration.Entry.{Entry}
+use Rattle.est_scope.specs.Outline.{Outline, Region, names_of, entry_at}
+use Rattle.est_scope.specs.Uses.{same_sort, declaration_of}
+use Rattle.est_kinds.specs.Dims.{elements}
+use Rattle.est_kinds.specs.Texts.{added}
 use Rattle.est_outline.specs.Bodies.{outline_of}
-use Rattle.est_check.specs.declared.counts.Counts.{Counts}
+use Rattle.est_blocks.specs.declared.counts.Counts.{Counts}
 use Rattle.est_statements.specs.Modules.{header_at}
 
 -- the bodies that parts declare, those within bodies too
@@ -58,24 +58,21 @@ abbrev pub transitions : List Part → ℕ
 transitions [] = 0
 transitions (p ∷ ps) = added (part_transitions p) (transitions ps)
 
--- the elements of interaction points
+-- the elements of an interaction point, by its subscripts
 abbrev pub dims_elements : Option (List Kind) → ℕ
 dims_elements None = 0
 dims_elements (Some ks) = elements ks
 
-abbrev pub point_elements : Outline → Point → ℕ
-point_elements o p = multiplied (length p.names) (dims_elements (dims_of o p.dims))
+abbrev pub declared_elements : Option Entry → ℕ
+declared_elements None = 0
+declared_elements (Some e) =
+    if same_sort sort.Point e.declared.sort then dims_elements e.dims else 0
 
-abbrev pub points_elements : Outline → List Point → ℕ
-points_elements o [] = 0
-points_elements o (p ∷ ps) = added (point_elements o p) (points_elements o ps)
-
--- those of the header at a place, among parts
-abbrev pub header_elements : Outline → ℕ → List Part → ℕ
-header_elements o place [] = 0
-header_elements o place (part.Header h ∷ ps) =
-    if nat_eq place h.name.place then points_elements o h.points else header_elements o place ps
-header_elements o place (_ ∷ ps) = header_elements o place ps
+-- those of the interaction points among the names of a region
+abbrev pub names_elements : Outline → Region → ℕ
+names_elements o [] = 0
+names_elements o ((name, s) ∷ names) =
+    added (declared_elements (entry_at o s.place)) (names_elements o names)
 
 -- the header of the module that a specification starts, and its ports
 abbrev pub started_header : Outline → Statement → Option ℕ
@@ -83,12 +80,12 @@ started_header o (statement.Init target body arguments place) =
     header_at o (declaration_of o sort.ModuleVariable target.name)
 started_header o _ = None
 
-abbrev pub header_ports : Outline → Option ℕ → List Part → ℕ
-header_ports o None parts = 0
-header_ports o (Some header) parts = header_elements o header parts
+abbrev pub header_elements : Outline → Option ℕ → ℕ
+header_elements o None = 0
+header_elements o (Some header) = names_elements o (names_of o header)
 
 abbrev pub ports : Outline → Spec → ℕ
-ports o s = header_ports o (started_header o s.first) s.parts
+ports o s = header_elements o (started_header o s.first)
 
 -- These numbers, as far as 32 bits go, which no text of a specification comes near.
 abbrev pub counted : ℕ → ℕ
@@ -101,5 +98,5 @@ counts_by o s = record {
   ports = counted (ports o s);
 }
 
-abbrev pub counts_of : Spec → Counts
+unfoldable pub counts_of : Spec → Counts
 counts_of s = counts_by (outline_of s) s

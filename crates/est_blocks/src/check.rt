@@ -9,13 +9,12 @@ ghost use Rattle.est_blocks.specs.Blocks.{specification_faults};
 ghost use Rattle.est_blocks.specs.Answers.{IsAnswered};
 
 use crate::blocks::check_parts;
-use crate::counts::counts;
-use est_check::Counts;
+use crate::counts::{Counts, numbers};
 use est_scope::least::Least;
 use est_statements::statements::check_statement;
 use est_syntax::rule::Fault;
 use est_syntax::specification::Spec;
-use est_types::table::{Table, declare};
+use est_types::table::Table;
 use std::alloc::{AllocError, Global};
 
 /// What is found of a specification: the least rule that it breaks, by place and then by its
@@ -41,22 +40,14 @@ fn least_fault(alloc: Global, table: &Table, spec: &Spec) -> Result<Option<Fault
     Ok(least.at)
 }
 
-// What is found of a specification with this table.
-fn judge(alloc: Global, table: &Table, spec: &Spec) -> Result<Answer, AllocError>
+/// What is found of a specification with this table.
+pub fn judge(alloc: Global, table: &Table, spec: &Spec) -> Result<Answer, AllocError>
     requires outline { table.now.outline ≡ outline_of spec.now }
     requires fault { table.now.fault ≡ least_with None (declaration_faults spec.now) }
     ensures { IfOk result (IsAnswered spec.now) }
 {
     match least_fault(alloc, table, spec)? {
         Some(fault) => Ok(Answer::Broken(fault)),
-        None => Ok(Answer::Good(counts(alloc, table.outline(), spec)?)),
+        None => Ok(Answer::Good(numbers(table.outline(), spec))),
     }
-}
-
-/// What is found of a specification.
-pub fn check_rules(alloc: Global, spec: &Spec) -> Result<Answer, AllocError>
-    ensures { IfOk result (IsAnswered spec.now) }
-{
-    let table = declare(alloc, spec)?;
-    judge(alloc, &table, spec)
 }

@@ -5,7 +5,6 @@ ghost use Rattle.std.specs.Prelude.{◌≡◌, ◌++◌, IfOk, OnOk};
 ghost use Rattle.est_scope.specs.Least.{least_with};
 ghost use Rattle.est_scope.specs.Outline.{entry_at};
 ghost use Rattle.est_kinds.specs.Constants.{constant_value, constant_faults, constant_place};
-ghost use Rattle.est_kinds.specs.Dims.{ordinal_faults};
 ghost use Rattle.est_kinds.specs.Texts.{text_type};
 ghost use Rattle.est_blocks.specs.Clauses.{is_state_sort, state_faults, states_faults, next_faults};
 ghost use Rattle.est_blocks.specs.Clauses.{choices_by, name_choices, names_choices, tuples};
@@ -16,6 +15,7 @@ ghost use Rattle.est_blocks.specs.Clauses.{clauses_faults};
 
 use est_expressions::operators::Wanted;
 use est_kinds::constants::{check_constant, constant_place};
+use est_kinds::dims::check_ordinal;
 use est_kinds::hosts::{count, is_integer, is_ordinal};
 use est_kinds::texts::{check_text, text_place};
 use est_kinds::value::Valued;
@@ -115,18 +115,6 @@ fn names_choices(outline: &Outline, choices: u64, number: u64, names: &[Used]) -
         product = name_choices(outline, choices, product, used);
     }
     product
-}
-
-// Notes a domain that begins at a place and is not ordinal.
-fn check_ordinal(kind: &Option<Measured>, place: u32, least: &mut Least)
-    ensures { least.new.at ≡ least_with least.old.at (ordinal_faults kind.now place) }
-{
-    match kind {
-        None => (),
-        Some(measured) => if !is_ordinal(&measured.kind) {
-            least.note(place, Rule::WrongKind);
-        },
-    }
 }
 
 // Variables of an `any` with one type, after so many choices.

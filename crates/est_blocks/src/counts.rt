@@ -1,28 +1,32 @@
 //! How many bodies, transitions and ports a specification has.
 #![tactic(auto, using(crate::proofs::CountRows::bodies_at, crate::proofs::CountRows::transitions_at))]
 
-ghost use Rattle.std.specs.Prelude.{◌≡◌, IfOk};
-ghost use Rattle.est_kinds.specs.Dims.{elements};
+ghost use Rattle.std.specs.Prelude.{◌≡◌};
+ghost use Rattle.est_scope.specs.Outline.{entry_at};
 ghost use Rattle.est_blocks.specs.Counts.{part_bodies, bodies, part_transitions, transitions};
-ghost use Rattle.est_blocks.specs.Counts.{dims_elements, point_elements, points_elements};
-ghost use Rattle.est_blocks.specs.Counts.{header_elements, started_header, header_ports, ports};
-ghost use Rattle.est_blocks.specs.Counts.{counted, counts_by};
+ghost use Rattle.est_blocks.specs.Counts.{dims_elements, declared_elements, names_elements};
+ghost use Rattle.est_blocks.specs.Counts.{started_header, header_elements, counted, counts_by};
 ghost use Rattle.est_blocks.specs.inside.Counted.{body_bodies, group_count, group_counts};
 ghost use Rattle.est_blocks.specs.inside.Counted.{body_transitions};
 
-use est_check::Counts;
-use est_kinds::dims::dims_of;
-use est_kinds::hosts::count;
+use est_kinds::dims::elements;
 use est_scope::declaration::Sort;
+use est_scope::names::Names;
 use est_scope::outline::Outline;
 use est_statements::modules::header_at;
 use est_syntax::body::{Body, Part};
-use est_syntax::header::Point;
-use est_syntax::kind::{Kind, Kinds};
+use est_syntax::kind::Kinds;
 use est_syntax::specification::Spec;
 use est_syntax::statement::Statement;
 use est_syntax::transition::Group;
-use std::alloc::{AllocError, Global};
+
+/// The numbers of declared bodies, of transitions and of ports.
+#[derive(Clone, Copy)]
+pub struct Counts {
+    pub bodies: u32,
+    pub transitions: u32,
+    pub ports: u32,
+}
 
 #[cycle(bodies)]
 fn body_bodies(body: &Body) -> u64
@@ -93,17 +97,6 @@ fn transitions(parts: &[Part]) -> u64
     sum
 }
 
-// The elements of an array with these subscripts.
-fn elements(kinds: &[Kind]) -> u64
-    ensures { result ≡ elements kinds.now }
-{
-    let mut product: u64 = 1;
-    for i in (0..kinds.len()).rev() {
-        product = count(&kinds[i]).saturating_mul(product);
-    }
-    product
-}
-
 // The elements of interaction points with these subscripts.
 fn dims_elements(dims: &Option<Kinds>) -> u64
     ensures { result ≡ dims_elements dims.now }
@@ -114,48 +107,35 @@ fn dims_elements(dims: &Option<Kinds>) -> u64
     }
 }
 
-// The elements of interaction points that are declared together.
-fn point_elements(alloc: Global, outline: &Outline, point: &Point) -> Result<u64, AllocError>
-    ensures { IfOk result (λ n. n ≡ point_elements outline.now point.now) }
+// The elements of the interaction point that is declared at a place, if one is.
+fn declared_elements(outline: &Outline, place: u32) -> u64
+    ensures { result ≡ declared_elements (entry_at outline.now place) }
 {
-    let dims = dims_of(alloc, outline, point.dims.as_slice())?;
-    let number = dims_elements(&dims);
-    drop(dims);
-    Ok((point.names.len() as u64).saturating_mul(number))
-}
-
-// The elements of interaction points.
-fn points_elements(alloc: Global, outline: &Outline, points: &[Point]) -> Result<u64, AllocError>
-    ensures { IfOk result (λ n. n ≡ points_elements outline.now points.now) }
-{
-    let mut sum: u64 = 0;
-    for i in (0..points.len()).rev() {
-        sum = point_elements(alloc, outline, &points[i])?.saturating_add(sum);
-    }
-    Ok(sum)
-}
-
-// The elements of the interaction points of the header at a place.
-fn header_elements(
-    alloc: Global,
-    outline: &Outline,
-    place: u32,
-    parts: &[Part],
-) -> Result<u64, AllocError>
-    ensures { IfOk result (λ n. n ≡ header_elements outline.now place parts.now) }
-{
-    for part in parts {
-        if let Part::Header(header) = part {
-            if header.name.place == place {
-                return points_elements(alloc, outline, header.points.as_slice());
+    match outline.entry(place) {
+        None => 0,
+        Some(entry) => {
+            if Sort::Point.same(entry.declared.sort) {
+                dims_elements(&entry.dims)
+            } else {
+                0
             }
         }
     }
-    Ok(0)
 }
 
-// The header of the module that a specification starts.
-fn started_header(outline: &Outline, first: &Statement) -> Option<u32>
+// The elements of the interaction points among these names.
+fn names_elements(outline: &Outline, names: &Names) -> u64
+    ensures { result ≡ names_elements outline.now names.now }
+{
+    let mut sum: u64 = 0;
+    for i in (0..names.len()).rev() {
+        sum = declared_elements(outline, names.entry(i).1.place).saturating_add(sum);
+    }
+    sum
+}
+
+/// The header of the module that a specification starts, by the place of its name.
+pub fn started_header(outline: &Outline, first: &Statement) -> Option<u32>
     ensures { result ≡ started_header outline.now first.now }
 {
     match first {
@@ -169,13 +149,16 @@ fn started_header(outline: &Outline, first: &Statement) -> Option<u32>
     }
 }
 
-// The ports of a specification.
-fn ports(alloc: Global, outline: &Outline, spec: &Spec) -> Result<u64, AllocError>
-    ensures { IfOk result (λ n. n ≡ ports outline.now spec.now) }
+// The elements of the interaction points of a header.
+fn header_elements(outline: &Outline, header: Option<u32>) -> u64
+    ensures { result ≡ header_elements outline.now header }
 {
-    match started_header(outline, &spec.first) {
-        None => Ok(0),
-        Some(header) => header_elements(alloc, outline, header, spec.parts.as_slice()),
+    match header {
+        None => 0,
+        Some(header) => match outline.names(header) {
+            None => 0,
+            Some(names) => names_elements(outline, names),
+        },
     }
 }
 
@@ -191,13 +174,13 @@ fn counted(number: u64) -> u32
 }
 
 /// The numbers of a specification, whose outline this is.
-pub fn counts(alloc: Global, outline: &Outline, spec: &Spec) -> Result<Counts, AllocError>
-    ensures { IfOk result (λ counts. counts ≡ counts_by outline.now spec.now) }
+pub fn numbers(outline: &Outline, spec: &Spec) -> Counts
+    ensures { result ≡ counts_by outline.now spec.now }
 {
-    let ports = ports(alloc, outline, spec)?;
-    Ok(Counts {
+    let header = started_header(outline, &spec.first);
+    Counts {
         bodies: counted(bodies(spec.parts.as_slice())),
         transitions: counted(transitions(spec.parts.as_slice())),
-        ports: counted(ports),
-    })
+        ports: counted(header_elements(outline, header)),
+    }
 }

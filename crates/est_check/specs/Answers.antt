@@ -1,13 +1,20 @@
--- What a refusal says.
+-- What is found of a specification.
+use Rattle.std.specs.Prelude.{◌≡◌, Some}
 use Rattle.est_syntax.specs.declared.specification.Spec.{Spec}
-use Rattle.est_syntax.specs.Breaks.{IsLeastFault}
+use Rattle.est_blocks.specs.Answers.{IsGood, IsLeastFault}
+use Rattle.est_blocks.specs.Counts.{counts_of}
+use Rattle.est_skeleton.specs.Skeleton.{IsSkeleton}
 use Rattle.est_check.specs.declared.error.CheckError.{CheckError}
-use Rattle.est_check.specs.declared.error.CheckError.TheVariants.{NotBuilt, Fault, Memory}
-use Rattle.est_check.specs.Skeleton.{IsSkeleton}
+use Rattle.est_check.specs.declared.error.CheckError.TheVariants as errors
+use Rattle.est_check.specs.declared.checked.Specification.{Specification}
+use Rattle.est_check.specs.declared.checked.Specification.TheVariants as found
 
--- what is not built is no skeleton; a fault that is reported is the least of a skeleton; that
--- memory ran out says nothing of the specification
+-- it is a skeleton that breaks no rule, or another specification that breaks none, with its numbers
+abbrev pub IsFound : Spec → Specification → Type 0
+IsFound s (found.Skeleton checked) = (checked ≡ s) × IsSkeleton s × IsGood s
+IsFound s (found.Whole counts) = (IsSkeleton s → ⊥) × IsGood s × (counts ≡ counts_of s)
+
+-- it breaks this rule first; want of memory says nothing of it
 abbrev pub IsRefused : Spec → CheckError → Type 0
-IsRefused s NotBuilt = IsSkeleton s → ⊥
-IsRefused s (Fault place rule) = IsSkeleton s × IsLeastFault s place rule
-IsRefused s (Memory error) = Unit {0}
+IsRefused s (errors.Fault place rule) = IsLeastFault s (Some record { place = place; rule = rule })
+IsRefused s (errors.Memory error) = Unit {0}

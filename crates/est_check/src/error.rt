@@ -4,12 +4,9 @@ use est_syntax::rule::Rule;
 use std::alloc::AllocError;
 use thiserror::Error;
 
-/// Why a specification is not checked, or which is its least fault.
+/// Which is the least fault of a specification, or why it is not checked.
 #[derive(Debug, Drop, Error)]
 pub enum CheckError {
-    /// The specification has parts that skeletons do not have, and whose rules are not checked yet.
-    #[error("not built yet")]
-    NotBuilt,
     /// The least fault by place: the number of a token, counted from 0, and the rule that is broken
     /// there.
     #[error("token {place}: {rule:?}")]

@@ -1,20 +1,11 @@
-//! The rules that a specification must keep beyond its grammar (ISO 9074), and checked
-//! specifications.
+//! Checked specifications (ISO 9074, constraints).
 #![tactic(auto)]
 
-mod build;
 pub mod checked;
-mod constructs;
-pub mod counts;
-mod declare;
 pub mod error;
-mod names;
-mod pass;
-mod ports;
-pub mod skeleton;
-mod table;
-mod uses;
+pub mod judging;
 
-pub use checked::{Checked, check};
-pub use counts::Counts;
+pub use checked::{Checked, Specification};
 pub use error::CheckError;
+pub use est_blocks::counts::Counts;
+pub use judging::check;

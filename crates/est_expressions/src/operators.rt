@@ -11,7 +11,7 @@ ghost use Rattle.est_expressions.specs.Operators.{matched, operated, disagrees, 
 ghost use Rattle.est_expressions.specs.Operators.{signed, sign_faults, with_host, with_member};
 ghost use Rattle.est_expressions.specs.Operators.{member_disagrees, spanned, span_faults};
 
-use est_alike::types::{Host, ValueType, is_assignable};
+use est_alike::types::{Host, ValueType, are_hosts_one, is_assignable};
 use est_scope::least::Least;
 use est_syntax::expression::Operator;
 use est_syntax::rule::Rule;
@@ -142,16 +142,6 @@ pub fn left_of(operator: Operator) -> Wanted
         Operator::Div => Wanted::Integer,
         Operator::Mod => Wanted::Integer,
         Operator::And => Wanted::Boolean,
-    }
-}
-
-// Whether two sets have members of one host.
-fn are_hosts_one(one: Option<Host>, other: Option<Host>) -> bool
-    ensures { result ≡ are_hosts_one one other }
-{
-    match (one, other) {
-        (Some(one), Some(other)) => one.is(other),
-        _ => true,
     }
 }
 

@@ -20,8 +20,8 @@ use std::alloc::{AllocError, Global};
 // The greatest number of elements of an array of interaction points or module variables.
 const MOST_ELEMENTS: u64 = 256;
 
-// Notes a dim that begins at a place and is not ordinal.
-fn check_ordinal(dim: &Option<Measured>, place: u32, least: &mut Least)
+/// Notes a dim that begins at a place and is not ordinal.
+pub fn check_ordinal(dim: &Option<Measured>, place: u32, least: &mut Least)
     ensures { least.new.at ≡ least_with least.old.at (ordinal_faults dim.now place) }
 {
     match dim {
@@ -88,8 +88,8 @@ fn check_each(
     Ok(kinds)
 }
 
-// How many elements an array with these subscripts has.
-fn elements(kinds: &[Kind]) -> u64
+/// How many elements an array with these subscripts has.
+pub fn elements(kinds: &[Kind]) -> u64
     ensures { result ≡ elements kinds.now }
 {
     let mut all: u64 = 1;

@@ -11,7 +11,7 @@ use Rattle.est_meaning.specs.declared.event.Event.{Event}
 use Rattle.est_meaning.specs.declared.run.Firing.{Firing}
 use Rattle.est_meaning.specs.declared.run.BlockFault.{BlockFault}
 use Rattle.est_meaning.specs.declared.run.BlockFault.TheVariants.{NoModule}
-use Rattle.est_meaning.specs.Text.{when_of, to_of, root_in, root_of}
+use Rattle.est_meaning.specs.Text.{when_of, to_of, root_of}
 use Rattle.est_meaning.specs.Situation.{Situation}
 use Rattle.est_meaning.specs.Choices.{Choice, choice_of, is_enabled_choice, IsPossible}
 use Rattle.est_meaning.specs.Blocks.{Outcome, Done, Fault, Limit, block_meaning, all_sent, sendings_of}
@@ -56,14 +56,13 @@ initialized_ends limit spec left s (Some part) = completed_ends limit spec None 
 made_ends : (limit : ℕ) (spec : Spec) (left : ℕ) (o : Option Body) (body : Body) → o ≡ Some body → IsNoFault (made limit spec left o)
 made_ends limit spec left o body e = subst (λ x. IsNoFault (made limit spec left x)) (sym e) (initialized_ends limit spec left (born body) (out-Body body).first)
 
-begun_ends : (limit : ℕ) (spec : Spec) (left : ℕ) (first : Statement) (body : Body) → root_in spec first ≡ Some body → IsNoFault (begun limit spec left first)
-begun_ends limit spec zero first body e = tt
-begun_ends limit spec (suc left) first body e =
-    made_ends limit spec left (root_in spec first) body e
+begun_ends : (limit : ℕ) (spec : Spec) (left : ℕ) (body : Body) → root_of spec ≡ Some body → IsNoFault (begun limit spec left)
+begun_ends limit spec zero body e = tt
+begun_ends limit spec (suc left) body e = made_ends limit spec left (root_of spec) body e
 
 start_ends : (limit : ℕ) (spec : Spec) (body : Body) → root_of spec ≡ Some body → IsNoFault (start_of limit spec)
 unfolding start_of
-start_ends limit spec body e = begun_ends limit spec limit spec.first body e
+start_ends limit spec body e = begun_ends limit spec limit body e
 
 pub no_faults : BlocksDoNotFault
 no_faults = record {

@@ -12,14 +12,14 @@ use Rattle.est_syntax.specs.declared.body.Body.{Body, out-Body}
 use Rattle.est_syntax.specs.declared.specification.Spec.{Spec}
 use Rattle.est_syntax.specs.declared.ports.Port.{Port}
 use Rattle.est_syntax.specs.declared.ports.Signal.{Signal}
-use Rattle.est_syntax.specs.Ports.{ports_of}
+use Rattle.est_skeleton.specs.Ports.{ports_of}
 use Rattle.est_meaning.specs.declared.event.Interaction.{Interaction}
 use Rattle.est_meaning.specs.declared.event.Event.{Event}
 use Rattle.est_meaning.specs.declared.event.Event.TheVariants as event
 use Rattle.est_meaning.specs.declared.run.Firing.{Firing}
 use Rattle.est_meaning.specs.declared.run.Move.TheVariants.{Take, Fire}
 use Rattle.est_meaning.specs.declared.run.BlockFault.TheVariants.{NoModule}
-use Rattle.est_meaning.specs.Text.{Awaited, root_in, when_of, to_of}
+use Rattle.est_meaning.specs.Text.{Awaited, root_of, when_of, to_of}
 use Rattle.est_meaning.specs.Situation.{InteractionPoint, Row, Situation, row_changed, in_state}
 use Rattle.est_meaning.specs.Links.{Route, Within, Outside, Lost, routed, port_point}
 use Rattle.est_meaning.specs.Choices.{Choice, choice_of}
@@ -138,14 +138,13 @@ made_ordered : (limit : ℕ) (spec : Spec) (left : ℕ) (t : Situation) (body : 
 made_ordered limit spec left t None outs e = absurd (fault_done NoModule t outs e)
 made_ordered limit spec left t (Some body) outs e = initialized_ordered limit spec left (born body) t (out-Body body).first outs (born_ordered body) e
 
-begun_ordered : (limit : ℕ) (spec : Spec) (left : ℕ) (first : Statement) (t : Situation) (outs : List Event) → begun limit spec left first ≡ Done t outs → Ordered t
-begun_ordered limit spec zero first t outs e = absurd (limit_done t outs e)
-begun_ordered limit spec (suc left) first t outs e =
-    made_ordered limit spec left t (root_in spec first) outs e
+begun_ordered : (limit : ℕ) (spec : Spec) (left : ℕ) (t : Situation) (outs : List Event) → begun limit spec left ≡ Done t outs → Ordered t
+begun_ordered limit spec zero t outs e = absurd (limit_done t outs e)
+begun_ordered limit spec (suc left) t outs e = made_ordered limit spec left t (root_of spec) outs e
 
 start_ordered : (limit : ℕ) (spec : Spec) (t : Situation) (outs : List Event) → start_of limit spec ≡ Done t outs → Ordered t
 unfolding start_of
-start_ordered limit spec t outs e = begun_ordered limit spec limit spec.first t outs e
+start_ordered limit spec t outs e = begun_ordered limit spec limit t outs e
 
 -- RUNS
 

@@ -17,8 +17,8 @@ use Rattle.est_meaning.specs.declared.run.BlockFault.{BlockFault}
 use Rattle.est_meaning.specs.declared.run.BlockFault.TheVariants.{NoModule}
 use Rattle.est_syntax.specs.declared.ports.Port.{Port}
 use Rattle.est_syntax.specs.declared.ports.Signal.{Signal}
-use Rattle.est_syntax.specs.Ports.{ports_of}
-use Rattle.est_meaning.specs.Text.{Awaited, root_in, when_of, to_of}
+use Rattle.est_skeleton.specs.Ports.{ports_of}
+use Rattle.est_meaning.specs.Text.{Awaited, root_of, when_of, to_of}
 use Rattle.est_meaning.specs.Situation.{InteractionPoint, Situation}
 use Rattle.est_meaning.specs.Links.{Route, Within, Outside, Lost, routed, port_point}
 use Rattle.est_meaning.specs.Choices.{Choice, choice_of, IsSettled, IsPossible}
@@ -129,12 +129,11 @@ made_clock : (limit : ℕ) (spec : Spec) (left : ℕ) (t : Situation) (body : Op
 made_clock limit spec left t None outs e = absurd (fault_done NoModule t outs e)
 made_clock limit spec left t (Some body) outs e = initialized_clock limit spec left (born body) t (out-Body body).first outs e
 
-begun_clock : (limit : ℕ) (spec : Spec) (left : ℕ) (first : Statement) (t : Situation) (outs : List Event) → begun limit spec left first ≡ Done t outs → t.clock ≡ 0
-begun_clock limit spec zero first t outs e = absurd (limit_done t outs e)
-begun_clock limit spec (suc left) first t outs e =
-    made_clock limit spec left t (root_in spec first) outs e
+begun_clock : (limit : ℕ) (spec : Spec) (left : ℕ) (t : Situation) (outs : List Event) → begun limit spec left ≡ Done t outs → t.clock ≡ 0
+begun_clock limit spec zero t outs e = absurd (limit_done t outs e)
+begun_clock limit spec (suc left) t outs e = made_clock limit spec left t (root_of spec) outs e
 
 -- the clock begins at 0
 pub start_clock : (limit : ℕ) (spec : Spec) (t : Situation) (outs : List Event) → start_of limit spec ≡ Done t outs → t.clock ≡ 0
 unfolding start_of
-start_clock limit spec t outs e = begun_clock limit spec limit spec.first t outs e
+start_clock limit spec t outs e = begun_clock limit spec limit t outs e

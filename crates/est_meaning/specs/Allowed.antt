@@ -4,7 +4,7 @@ use Rattle.est_syntax.specs.declared.kind.Value.{Value}
 use Rattle.est_syntax.specs.declared.kind.Kind.{Kind}
 use Rattle.est_syntax.specs.declared.ports.Port.{Port}
 use Rattle.est_syntax.specs.declared.ports.Signal.{Signal}
-use Rattle.est_syntax.specs.Ports.{ports_of}
+use Rattle.est_skeleton.specs.Ports.{ports_of}
 use Rattle.est_syntax.specs.declared.specification.Spec.{Spec}
 use Rattle.est_meaning.specs.declared.event.Interaction.{Interaction}
 use Rattle.est_meaning.specs.declared.event.Event.{Event}

@@ -12,7 +12,7 @@ use Rattle.est_meaning.specs.declared.event.Event.TheVariants as event
 use Rattle.est_meaning.specs.declared.run.BlockFault.{BlockFault}
 use Rattle.est_syntax.specs.declared.ports.Port.{Port}
 use Rattle.est_syntax.specs.declared.ports.Signal.{Signal}
-use Rattle.est_syntax.specs.Ports.{ports_of}
+use Rattle.est_skeleton.specs.Ports.{ports_of}
 use Rattle.est_meaning.specs.Text.{is_name}
 use Rattle.est_meaning.specs.Situation.{InteractionPoint, Situation}
 use Rattle.est_meaning.specs.Links.{Route, Within, Outside, Lost, routed, put}

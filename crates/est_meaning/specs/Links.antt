@@ -6,7 +6,7 @@ use Rattle.est_syntax.specs.declared.header.Queue.{Queue}
 use Rattle.est_syntax.specs.declared.header.Queue.TheVariants.{Individual, Common}
 use Rattle.est_syntax.specs.declared.specification.Spec.{Spec}
 use Rattle.est_syntax.specs.declared.ports.Port.{Port}
-use Rattle.est_syntax.specs.Ports.{ports_of}
+use Rattle.est_skeleton.specs.Ports.{ports_of}
 use Rattle.est_meaning.specs.Text.{Declared, points_in, is_declared, discipline, header_of}
 use Rattle.est_meaning.specs.Situation.{InteractionPoint, is_point, QueueName, Own, Shared, Item, Row, Situation, row_of, with_queue}
 

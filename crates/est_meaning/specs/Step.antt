@@ -3,7 +3,6 @@ use Rattle.std.specs.Prelude.{◌≡◌, ◌+◌, ℕ, zero, suc, List, [], ◌�
 use Rattle.std.specs.Option.{option_map_or}
 use Rattle.est_syntax.specs.declared.name.Used.{Used}
 use Rattle.est_syntax.specs.declared.kind.Value.{Value}
-use Rattle.est_syntax.specs.declared.statement.Statement.{Statement}
 use Rattle.est_syntax.specs.declared.body.FirstPart.{FirstPart}
 use Rattle.est_syntax.specs.declared.body.Body.{Body, out-Body}
 use Rattle.est_syntax.specs.declared.specification.Spec.{Spec}
@@ -14,8 +13,8 @@ use Rattle.est_meaning.specs.declared.run.Firing.{Firing}
 use Rattle.est_meaning.specs.declared.run.BlockFault.TheVariants.{NoModule}
 use Rattle.est_syntax.specs.declared.ports.Port.{Port}
 use Rattle.est_syntax.specs.declared.ports.Signal.{Signal}
-use Rattle.est_syntax.specs.Ports.{ports_of}
-use Rattle.est_meaning.specs.Text.{Awaited, root_in, when_of, to_of}
+use Rattle.est_skeleton.specs.Ports.{ports_of}
+use Rattle.est_meaning.specs.Text.{Awaited, root_of, when_of, to_of}
 use Rattle.est_meaning.specs.Situation.{nothing, InteractionPoint, Row, Situation, empty_situation, with_row, in_state}
 use Rattle.est_meaning.specs.Links.{port_point, bottom, put, taken}
 use Rattle.est_meaning.specs.Choices.{Choice, choice_of, awaited_at, restamped, IsPossible}
@@ -91,14 +90,14 @@ made limit spec left None = Fault NoModule
 made limit spec left (Some body) = initialized limit spec left (born body) (out-Body body).first
 
 -- the `init` counts one statement
-abbrev pub begun : ℕ → Spec → ℕ → Statement → Outcome
-begun limit spec zero first = Limit
-begun limit spec (suc left) first = made limit spec left (root_in spec first)
+abbrev pub begun : ℕ → Spec → ℕ → Outcome
+begun limit spec zero = Limit
+begun limit spec (suc left) = made limit spec left (root_of spec)
 
 -- what comes of the specification's initialize part, under one limit (ISO 9074, 5, initial
 -- situation)
 unfoldable pub start_of : ℕ → Spec → Outcome
-start_of limit spec = begun limit spec limit spec.first
+start_of limit spec = begun limit spec limit
 
 -- THE OUTSIDE
 

@@ -2,7 +2,7 @@
 --
 -- These definitions serve skeletons: no interaction point has subscripts, and each `trans` holds
 -- one transition.
-use Rattle.std.specs.Prelude.{ℕ, zero, suc, Bool, false, List, [], ◌∷◌, map, find, Option, Some, None, unwrap_or, option_and_then, slice_get}
+use Rattle.std.specs.Prelude.{ℕ, zero, suc, Bool, false, nat_eq, List, [], ◌∷◌, map, find, Option, Some, None, unwrap_or, option_and_then, slice_get}
 use Rattle.std.specs.List.{filter_map, flat_map}
 use Rattle.std.specs.Option.{option_or}
 use Rattle.est_syntax.specs.Names as names
@@ -13,8 +13,6 @@ use Rattle.est_syntax.specs.declared.header.Queue.{Queue}
 use Rattle.est_syntax.specs.declared.header.Queue.TheVariants.{Individual}
 use Rattle.est_syntax.specs.declared.header.Point.{Point}
 use Rattle.est_syntax.specs.declared.header.Header.{Header}
-use Rattle.est_syntax.specs.declared.statement.Statement.{Statement}
-use Rattle.est_syntax.specs.declared.statement.Statement.TheVariants as statement
 use Rattle.est_syntax.specs.declared.transition.Clause.{Clause}
 use Rattle.est_syntax.specs.declared.transition.Clause.TheVariants as clause
 use Rattle.est_syntax.specs.declared.transition.Transition.{Transition}
@@ -23,6 +21,7 @@ use Rattle.est_syntax.specs.declared.body.Body.{Body, out-Body}
 use Rattle.est_syntax.specs.declared.body.Part.{Part}
 use Rattle.est_syntax.specs.declared.body.Part.TheVariants as part
 use Rattle.est_syntax.specs.declared.specification.Spec.{Spec}
+use Rattle.est_skeleton.specs.Ports.{body_started, header_meant}
 
 -- names are compared byte by byte, in lower case
 abbrev pub is_name : Name → Name → Bool
@@ -49,19 +48,20 @@ abbrev pub body_in : Part → Option Body
 body_in (part.Body b) = Some b
 body_in _ = None
 
--- the module header of a name (ISO 9074, 7, module header definition)
-abbrev pub header_named : Spec → Name → Option Header
-header_named spec name =
-    find (λ (h : Header). uses_name name h.name) (filter_map header_in spec.parts)
+-- the module header whose name stands at a place (ISO 9074, 7, module header definition)
+abbrev pub header_at : Spec → ℕ → Option Header
+header_at spec place =
+    find (λ (h : Header). nat_eq place h.name.place) (filter_map header_in spec.parts)
 
--- the module body of a name (ISO 9074, 7, module body definition)
-abbrev pub body_named : Spec → Name → Option Body
-body_named spec name =
-    find (λ (b : Body). uses_name name (out-Body b).name) (filter_map body_in spec.parts)
+-- the module body whose name stands at a place (ISO 9074, 7, module body definition)
+abbrev pub body_at : Spec → ℕ → Option Body
+body_at spec place =
+    find (λ (b : Body). nat_eq place (out-Body b).name.place) (filter_map body_in spec.parts)
 
 -- the header that a body is for
 abbrev pub header_of : Spec → Body → Option Header
-header_of spec body = header_named spec (out-Body body).header.name
+header_of spec body =
+    option_and_then (header_at spec) (header_meant spec (Some (out-Body body).name.place))
 
 -- INTERACTION POINTS
 
@@ -93,18 +93,9 @@ is_declared name declared = is_name name declared.name
 abbrev pub discipline : Spec → Declared → Queue
 discipline spec declared = unwrap_or (option_or declared.point.queue spec.queue) Individual
 
--- the name of the body with which a statement starts a module, where it is an `init`
-abbrev pub started_by : Statement → Option Used
-started_by (statement.Init target body arguments place) = Some body
-started_by _ = None
-
 -- the root instance's body, that of the specification's one `init` (ISO 9074, 7, specification)
-abbrev pub root_in : Spec → Statement → Option Body
-root_in spec st = option_and_then (λ (u : Used). body_named spec u.name) (started_by st)
-
--- the body of the root instance
 abbrev pub root_of : Spec → Option Body
-root_of spec = root_in spec spec.first
+root_of spec = option_and_then (body_at spec) (body_started spec)
 
 -- TRANSITIONS
 

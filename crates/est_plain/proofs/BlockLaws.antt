@@ -9,7 +9,6 @@ use Rattle.std.proofs.lemmas.Bool.Decides.{nat_tests, Decides-int_eq}
 use Rattle.std.proofs.lemmas.List.{append-nil, map-append}
 use Rattle.std.proofs.lemmas.List.Elements.{filter-append}
 use Rattle.est_syntax.specs.declared.name.Name.{Name}
-use Rattle.est_syntax.specs.declared.name.Used.{Used}
 use Rattle.est_syntax.specs.declared.statement.Sending.{Sending}
 use Rattle.est_syntax.specs.declared.statement.Statement.{Statement}
 use Rattle.est_syntax.specs.declared.body.Body.{Body}
@@ -18,10 +17,8 @@ use Rattle.est_meaning.specs.declared.event.Event.{Event}
 use Rattle.est_meaning.specs.declared.event.Interaction.{Interaction}
 use Rattle.est_syntax.specs.declared.ports.Port.{Port}
 use Rattle.est_syntax.specs.declared.ports.Signal.{Signal}
-use Rattle.est_syntax.specs.declared.header.Point.{Point}
-use Rattle.est_syntax.specs.declared.header.Header.{Header}
-use Rattle.est_syntax.specs.Names.{Scope, side_of, spec_scope}
-use Rattle.est_syntax.specs.Ports.{ports_of, header_ports, header_started, point_ports, named_ports, signals_of}
+use Rattle.est_skeleton.specs.Ports.{ports_of}
+use Rattle.est_skeleton.proofs.PortLaws.{ports_bare}
 use Rattle.est_meaning.specs.Text.{Awaited, is_name}
 use Rattle.est_meaning.specs.Situation.{InteractionPoint, is_point, QueueName, Own, Shared, is_queue, Item, Situation, with_queue}
 use Rattle.est_meaning.specs.Links.{port_point, port_number, outside, rest_of, put}
@@ -92,39 +89,9 @@ module _ (spec : Spec) (body : Body) where
 
 -- PORTS
 
--- no port of a skeleton has subscripts
-AllBare : List Port → Type 0
-AllBare [] = Unit {0}
-AllBare (p ∷ ps) = (p.index ≡ []) × AllBare ps
-
-bare_append : (ps qs : List Port) → AllBare ps → AllBare qs → AllBare (ps ++ qs)
-unfolding AllBare
-bare_append [] qs a b = b
-bare_append (p ∷ ps) qs a b = (a.0, bare_append ps qs a.1 b)
-
-bare_named : (signals : List Signal) (us : List Used) → AllBare (named_ports signals us)
-unfolding AllBare
-bare_named signals [] = tt
-bare_named signals (u ∷ us) = (refl, bare_named signals us)
-
-bare_points : (scope : Scope) (ps : List Point) → AllBare (point_ports scope ps)
-unfolding AllBare
-bare_points scope [] = tt
-bare_points scope (p ∷ ps) = bare_append (named_ports (signals_of (side_of scope p)) p.names) (point_ports scope ps) (bare_named (signals_of (side_of scope p)) p.names) (bare_points scope ps)
-
-bare_header : (scope : Scope) (h : Option Header) → AllBare (header_ports scope h)
-unfolding AllBare
-bare_header scope None = tt
-bare_header scope (Some h) = bare_points scope h.points
-
-bare_at : (ps : List Port) (k : ℕ) (port : Port) → AllBare ps → slice_get ps k ≡ Some port → port.index ≡ []
-unfolding AllBare
-bare_at [] k port a e = absurd (cc)
-bare_at (p ∷ ps) zero port a e = (let q : p ≡ port = cc in subst (λ (w : Port). w.index ≡ []) q a.0)
-bare_at (p ∷ ps) (suc k) port a e = bare_at ps k port a.1 e
-
+-- no port has subscripts
 port_bare : (spec : Spec) (k : ℕ) (port : Port) → slice_get (ports_of spec) k ≡ Some port → port.index ≡ []
-port_bare spec k port e = bare_at (ports_of spec) k port (bare_header (spec_scope spec) (header_started (spec_scope spec) spec.first)) e
+port_bare spec k port e = (ports_bare spec k port e).1
 
 -- QUEUE NAMES
 

@@ -26,7 +26,7 @@ use Rattle.est_syntax.specs.Least.{IsIn}
 use Rattle.est_meaning.specs.Stack.{Stack, pushed, OffersAre, FiredAs}
 use Rattle.est_plain.specs.declared.situation.PointQueue.{PointQueue}
 use Rattle.est_syntax.specs.declared.ports.Port.{Port}
-use Rattle.est_syntax.specs.Ports.{ports_of}
+use Rattle.est_skeleton.specs.Ports.{ports_of}
 use Rattle.est_plain.specs.declared.situation.Waiting.{Waiting}
 use Rattle.est_plain.specs.PlainSituation.{Held, EndsAs, referred, queues_for, queued, bare, situation_of, is_enabled_in, choice_in, block_in, taken_in, next_in, stepped, joined, begun_with, arrival_as, arrival_at, arrival_in, FirstIs, firing_at, ListsFirst}
 use Rattle.est_plain.specs.Trail.{Trail, onto, only, stack_of}
@@ -195,13 +195,13 @@ arrival_some own ports i are r none =
 
 pub start_limit : (limit : ℕ) (spec : Spec) → limit ≡ 0 → start_of limit spec ≡ Limit
 unfolding start_of
-start_limit limit spec e = ap (λ n. begun limit spec n spec.first) e
+start_limit limit spec e = ap (begun limit spec) e
 
 start_made : (limit : ℕ) (spec : Spec) (left : ℕ) (o : Option Body) → limit ≡ left + 1 → root_of spec ≡ o → start_of limit spec ≡ made limit spec left o
 unfolding start_of
 start_made limit spec left o e root =
     let f : limit ≡ suc left = omega arith in
-    ap (λ n. begun limit spec n spec.first) f ∙ ap (made limit spec left) root
+    ap (begun limit spec) f ∙ ap (made limit spec left) root
 
 pub start_none : (limit : ℕ) (spec : Spec) → 1 ≤ limit → None ≡ root_of spec → start_of limit spec ≡ Fault NoModule
 start_none limit spec le root = start_made limit spec (limit - 1) None (omega arith) (sym root)

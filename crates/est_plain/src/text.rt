@@ -1,17 +1,17 @@
 //! What the text of a specification declares, looked up by names.
 
-ghost use Rattle.std.specs.Prelude.{◌≡◌, find};
+ghost use Rattle.std.specs.Prelude.{◌≡◌, find, Some};
 ghost use Rattle.std.specs.List.{filter_map, position_from};
 ghost use Rattle.std.specs.Option.{option_copied};
 ghost use Rattle.est_syntax.specs.declared.header.Header.{Header};
 ghost use Rattle.est_syntax.specs.declared.body.Body.{Body, out-Body};
-ghost use Rattle.est_meaning.specs.Text.{is_name, uses_name, header_named, header_of, body_named, root_of};
+ghost use Rattle.est_skeleton.specs.Ports.{body_started, header_meant};
+ghost use Rattle.est_meaning.specs.Text.{is_name, header_at, header_of, body_at, root_of};
 
 use est_syntax::body::{Body, Part};
 use est_syntax::header::Header;
 use est_syntax::name::Name;
 use est_syntax::specification::Spec;
-use est_syntax::statement::Statement;
 
 /// Whether two names are spelled alike.
 pub fn same_name(a: &Name, b: &Name) -> bool
@@ -20,13 +20,13 @@ pub fn same_name(a: &Name, b: &Name) -> bool
     a.bytes.as_slice() == b.bytes.as_slice()
 }
 
-/// The module header of a name.
-fn header_named<'c>(spec: &'c Spec, name: &Name) -> Option<&'c Header>
-    ensures { option_copied result ≡ header_named spec.now name.now }
+/// The module header whose name stands at a place.
+fn header_at(spec: &Spec, place: u32) -> Option<&Header>
+    ensures { option_copied result ≡ header_at spec.now place }
 {
     for part in spec.parts.as_slice() {
         if let Part::Header(header) = part {
-            if same_name(name, &header.name.name) {
+            if place == header.name.place {
                 return Some(header);
             }
         }
@@ -34,13 +34,13 @@ fn header_named<'c>(spec: &'c Spec, name: &Name) -> Option<&'c Header>
     None
 }
 
-/// The module body of a name.
-fn body_named<'c>(spec: &'c Spec, name: &Name) -> Option<&'c Body>
-    ensures { option_copied result ≡ body_named spec.now name.now }
+/// The module body whose name stands at a place.
+fn body_at(spec: &Spec, place: u32) -> Option<&Body>
+    ensures { option_copied result ≡ body_at spec.now place }
 {
     for part in spec.parts.as_slice() {
         if let Part::Body(body) = part {
-            if same_name(name, &body.name.name) {
+            if place == body.name.place {
                 return Some(body);
             }
         }
@@ -48,19 +48,18 @@ fn body_named<'c>(spec: &'c Spec, name: &Name) -> Option<&'c Body>
     None
 }
 
-/// The header that a body is for.
-pub fn header_of<'c>(spec: &'c Spec, body: &Body) -> Option<&'c Header>
+/// The header that a body is for, whose name stands at this place.
+pub fn header_of<'c>(spec: &'c Spec, body: &Body, header: Option<u32>) -> Option<&'c Header>
+    requires { header ≡ header_meant spec.now (Some (out-Body body.now).name.place) }
     ensures { option_copied result ≡ header_of spec.now body.now }
 {
-    header_named(spec, &body.header.name)
+    header_at(spec, header?)
 }
 
-/// The body of the root instance.
-pub fn root_of(spec: &Spec) -> Option<&Body>
+/// The body of the root instance, whose name stands at this place.
+pub fn root_of(spec: &Spec, body: Option<u32>) -> Option<&Body>
+    requires { body ≡ body_started spec.now }
     ensures { option_copied result ≡ root_of spec.now }
 {
-    match &spec.first {
-        Statement::Init { body, .. } => body_named(spec, &body.name),
-        _ => None,
-    }
+    body_at(spec, body?)
 }

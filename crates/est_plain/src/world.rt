@@ -1,8 +1,10 @@
 //! A world of one instance whose moves change one situation, and are undone there.
 
 ghost use Rattle.std.specs.Prelude.{◌≡◌, ◌<◌, ◌^◌, ◌+◌, refl, length, Some, IfOk};
-ghost use Rattle.est_syntax.specs.Ports.{ports_of};
-ghost use Rattle.est_check.specs.Small.{IsSmall};
+ghost use Rattle.est_skeleton.specs.Ports.{ports_of, body_started, header_meant};
+ghost use Rattle.est_syntax.specs.declared.body.Body.{out-Body};
+ghost use Rattle.est_skeleton.specs.Skeleton.{IsSkeleton};
+ghost use Rattle.est_skeleton.specs.Small.{IsSmall};
 ghost use Rattle.est_meaning.specs.Text.{root_of, transitions_of};
 ghost use Rattle.est_meaning.specs.Stack.{StartedAs};
 ghost use Rattle.est_plain.specs.PlainSituation.{queues_for, referred, HasFew};
@@ -130,11 +132,18 @@ impl<'c> World for PlainWorld<'c> {
     }
 }
 
-/// How the text queues what comes through the external interaction points of a root.
-fn queues_for(alloc: Global, spec: &Spec, root: &Body) -> Result<Vec<PointQueue>, AllocError>
+/// How the text queues what comes through the external interaction points of a root, for which
+/// this is the header.
+fn queues_for(
+    alloc: Global,
+    spec: &Spec,
+    root: &Body,
+    header: Option<u32>,
+) -> Result<Vec<PointQueue>, AllocError>
+    requires { header ≡ header_meant spec.now (Some (out-Body root.now).name.place) }
     ensures { IfOk result (λ queues. queues.items ≡ queues_for spec.now root.now) }
 {
-    match header_of(spec, root) {
+    match header_of(spec, root, header) {
         None => Ok(Vec::new(alloc)),
         Some(header) => queues_of(alloc, spec, header),
     }
@@ -147,10 +156,12 @@ impl<'c> PlainWorld<'c> {
         spec: &'c Spec,
         ports: &'c Ports,
         root: &'c Body,
+        header: Option<u32>,
         left: u32,
     ) -> Result<Started<PlainWorld<'c>>, AllocError>
         requires ports { ports.now ≡ ports_of spec.now }
         requires root { root_of spec.now ≡ Some root.now }
+        requires header { header ≡ header_meant spec.now (body_started spec.now) }
         requires left { left + 1 < 2 ^ 32 }
         requires few { HasFew ports.now }
         requires few_transitions { length (transitions_of root.now) < 2 ^ 32 }
@@ -159,7 +170,7 @@ impl<'c> PlainWorld<'c> {
             ⟦<PlainWorld<'c> as World>⟧.stack ⟦<PlainWorld<'c> as World>⟧.limit
             ⟦<PlainWorld<'c> as World>⟧.fired (left + 1) spec.now started) }
     {
-        let points = queues_for(alloc, spec, root)?;
+        let points = queues_for(alloc, spec, root, header)?;
         let transitions = transitions_of(alloc, root)?;
         let mut outs = Vec::new(alloc);
         match run_first(alloc, ports.as_slice(), left, &root.first, &mut outs)? {
@@ -191,17 +202,30 @@ impl<'c> PlainWorld<'c> {
             ⟦<PlainWorld<'c> as World>⟧.stack ⟦<PlainWorld<'c> as World>⟧.limit
             ⟦<PlainWorld<'c> as World>⟧.fired statements checked.now started) }
     {
-        PlainWorld::of_spec(alloc, checked.spec(), checked.ports(), statements)
+        PlainWorld::of_spec(
+            alloc,
+            checked.spec(),
+            checked.ports(),
+            checked.body(),
+            checked.header(),
+            statements,
+        )
     }
 
-    /// The world after the start of a specification with these ports.
+    /// The world after the start of a specification with these ports, which starts this body of
+    /// this header.
     fn of_spec(
         alloc: Global,
         spec: &'c Spec,
         ports: &'c Ports,
+        body: Option<u32>,
+        header: Option<u32>,
         statements: u32,
     ) -> Result<Started<PlainWorld<'c>>, AllocError>
         requires ports { ports.now ≡ ports_of spec.now }
+        requires body { body ≡ body_started spec.now }
+        requires header { header ≡ header_meant spec.now (body_started spec.now) }
+        requires skeleton { IsSkeleton spec.now }
         requires small { IsSmall spec.now }
         ensures { IfOk result
             (λ started. StartedAs ⟦<PlainWorld<'c> as World>⟧.speaks
@@ -211,9 +235,9 @@ impl<'c> PlainWorld<'c> {
         if statements == 0 {
             return Ok(Started::Limit);
         }
-        match root_of(spec) {
+        match root_of(spec, body) {
             None => Ok(Started::Fault(BlockFault::NoModule)),
-            Some(root) => PlainWorld::begin(alloc, spec, ports, root, statements - 1),
+            Some(root) => PlainWorld::begin(alloc, spec, ports, root, header, statements - 1),
         }
     }
 }

@@ -1,8 +1,8 @@
 -- No replay of a skeleton answers a fault.
 use Rattle.std.proofs.Common.{◌≡◌, ℕ, List, inl, inr, refl, sym, subst}
 use Rattle.est_syntax.specs.declared.specification.Spec.{Spec}
-use Rattle.est_syntax.specs.Breaks.{IsGood}
-use Rattle.est_check.specs.Skeleton.{IsSkeleton}
+use Rattle.est_blocks.specs.Answers.{IsGood}
+use Rattle.est_skeleton.specs.Skeleton.{IsSkeleton}
 use Rattle.est_meaning.specs.declared.event.Event.{Event}
 use Rattle.est_meaning.specs.declared.run.BlockFault.{BlockFault}
 use Rattle.est_meaning.specs.declared.run.Move.{Move}

@@ -4,8 +4,8 @@
 -- `reverse moves` is the run of these moves.
 use Rattle.std.specs.Prelude.{◌≡◌, ◌≢◌, ℕ, ◌+◌, ◌<◌, ◌⊎◌, List, [], ◌∷◌, ◌++◌, length, take, reverse}
 use Rattle.est_syntax.specs.declared.specification.Spec.{Spec}
-use Rattle.est_syntax.specs.Breaks.{IsGood}
-use Rattle.est_check.specs.Skeleton.{IsSkeleton}
+use Rattle.est_blocks.specs.Answers.{IsGood}
+use Rattle.est_skeleton.specs.Skeleton.{IsSkeleton}
 use Rattle.est_meaning.specs.declared.event.Event.{Event}
 use Rattle.est_meaning.specs.declared.run.BlockFault.{BlockFault}
 use Rattle.est_meaning.specs.declared.run.Firing.{Firing}

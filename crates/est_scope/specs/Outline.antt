@@ -27,6 +27,14 @@ pub record Outline : Type 0 where
   pub regions : List (ℕ × Region)
   pub extents : List Extent
 
+-- the names of a region, in the order of the text
+abbrev pub names_by : Option Region → Region
+names_by None = []
+names_by (Some names) = names
+
+abbrev pub names_of : Outline → ℕ → Region
+names_of o region = names_by (lookup (nat_eq region) o.regions)
+
 -- where a name stands in a region, if it does
 abbrev pub standing_in : Option Region → List ℕ → Option Standing
 standing_in None name = None

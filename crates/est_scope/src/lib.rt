@@ -6,7 +6,7 @@ pub mod declaration;
 pub mod extent;
 pub mod least;
 pub mod meaning;
-mod names;
+pub mod names;
 pub mod outline;
 mod regions;
 pub mod uses;

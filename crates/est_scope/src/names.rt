@@ -1,6 +1,6 @@
 //! The names of one region, in the order of their declarations.
 
-ghost use Rattle.std.specs.Prelude.{◌≡◌, [], ◌∷◌, ◌++◌, slice_get, OnOk, None};
+ghost use Rattle.std.specs.Prelude.{◌≡◌, ◌<◌, [], ◌∷◌, ◌++◌, length, slice_get, OnOk, None, Some};
 ghost use Rattle.std.specs.Map.{lookup};
 ghost use Rattle.est_syntax.specs.Names.{is_name};
 ghost use Rattle.est_scope.specs.Outline.{place_of};
@@ -57,6 +57,24 @@ impl Names {
         match self.under.get_index(index) {
             None => None,
             Some((_, standing)) => Some(standing.place),
+        }
+    }
+
+    /// How many names there are.
+    pub fn len(&self) -> usize
+        ensures { result ≡ length self.now }
+    {
+        self.under.len()
+    }
+
+    /// The name that has this number, counted from 0, and where it stands.
+    pub fn entry(&self, index: usize) -> (&[u8], Standing)
+        requires { index < length self.now }
+        ensures { slice_get self.now index ≡ Some (result.0.now, result.1) }
+    {
+        match self.under.get_index(index) {
+            None => unreachable!(),
+            Some((name, standing)) => (name.as_slice(), *standing),
         }
     }
 

@@ -1,6 +1,7 @@
 //! What a specification declares, and where its regions lie.
 
-ghost use Rattle.std.specs.Prelude.{◌≡◌, OnOk};
+ghost use Rattle.std.specs.Prelude.{◌≡◌, OnOk, nat_eq};
+ghost use Rattle.std.specs.Map.{lookup};
 ghost use Rattle.std.specs.Option.{option_copied};
 ghost use Rattle.est_scope.specs.Outline.{standing, nth, entry_at, member_at, extent_at, lies_in};
 ghost use Rattle.est_scope.specs.Declaring.{empty, standing_of, taken, declared, put, lying};
@@ -8,6 +9,7 @@ ghost use Rattle.est_scope.specs.Declaring.{amended, with_kind, with_closed, wit
 
 use crate::declaration::{Entry, Extent, Measured, Member, Standing, Within};
 use crate::extent::Extents;
+use crate::names::Names;
 use crate::regions::RegionNames;
 use est_syntax::name::{Name, Used};
 use indexmap::IndexMap;
@@ -74,6 +76,13 @@ impl Outline {
         ensures { result ≡ standing self.now region name.now.bytes }
     {
         self.regions.standing(region, name)
+    }
+
+    /// The names of a region, in the order of their declarations, if there is such a region.
+    pub fn names(&self, region: u32) -> Option<&Names>
+        ensures { option_copied result ≡ lookup (nat_eq region) self.now.regions }
+    {
+        self.regions.names(region)
     }
 
     /// The place of the name of a region that has this number, counted from 0.

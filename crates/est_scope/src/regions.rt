@@ -2,6 +2,7 @@
 
 ghost use Rattle.std.specs.Prelude.{◌≡◌, [], None, OnOk, nat_eq};
 ghost use Rattle.std.specs.Map.{lookup};
+ghost use Rattle.std.specs.Option.{option_copied};
 ghost use Rattle.est_scope.specs.Outline.{standing_in, nth_in};
 ghost use Rattle.est_scope.specs.Declaring.{named_in};
 
@@ -51,6 +52,13 @@ impl RegionNames {
             None => None,
             Some(names) => names.find(name),
         }
+    }
+
+    /// The names of a region, if there is one.
+    pub fn names(&self, region: u32) -> Option<&Names>
+        ensures { option_copied result ≡ lookup (nat_eq region) self.now }
+    {
+        self.under.get(&region)
     }
 
     /// Where the name of a region stands that has this number, counted from 0.

@@ -1,30 +1,28 @@
--- Why a tree is refused, and its tokens.
-use Rattle.std.proofs.Common.{sym, subst, ℕ, List}
-use Rattle.std.specs.Prelude.{Result, Ok, Err, IfOk, IfErr}
+-- What is read of a sentence, by what the check finds of its tree.
+use Rattle.std.proofs.Common.{◌≡◌, sym, subst, ℕ, List, Result, Ok, Err}
+use Rattle.std.specs.Result.{IsErr, IsErrAnd}
 use Rattle.est_lexer.specs.declared.kind.Token.{Token}
 use Rattle.est_syntax.specs.declared.specification.Spec.{Spec}
 use Rattle.est_grammar.specs.Answer.{HasOneTree}
+use Rattle.est_check.specs.Answers.{IsFound, IsRefused}
+use Rattle.est_check.specs.declared.checked.Specification.{Specification}
+use Rattle.est_check.specs.declared.checked.Specification.TheVariants as found
+use Rattle.est_check.specs.declared.error.CheckError.{CheckError}
+use Rattle.est_check.specs.declared.error.CheckError.TheVariants as faults
 use Rattle.est_specification.specs.declared.error.SpecificationError.{SpecificationError}
-use Rattle.est_specification.specs.declared.error.SpecificationError.TheVariants as errors
-use Rattle.est_specification.specs.declared.read.Specification.{Specification}
-use Rattle.est_specification.specs.declared.read.Specification.TheVariants as found
+use Rattle.est_specification.specs.Errors.{of_fault}
 use Rattle.est_specification.specs.Reading.{IsSpecification, IsGoodText, IsNoSpecification, ReadsSpecification}
-use Rattle.est_specification.specs.inside.Judged.{IsFound, IsJudged}
 
 -- a sentence, by its tree
-refused : (text : List ℕ) (tokens : List Token) (spec : Spec) (e : SpecificationError) → HasOneTree text tokens spec → IsJudged spec e → IsNoSpecification text tokens e
-refused text tokens spec (errors.BadToken place) tree f = absurd f
-refused text tokens spec (errors.LeftOut place) tree f = absurd f
-refused text tokens spec (errors.TooDeep place) tree f = absurd f
-refused text tokens spec (errors.BrokenRule place r) tree f = (spec, tree, f)
-refused text tokens spec (errors.Memory e) tree f = tt
-
-good : (text : List ℕ) (tokens : List Token) (spec : Spec) (r : Specification) → HasOneTree text tokens spec → IsFound spec r → IsGoodText text tokens r
+pub good : (text : List ℕ) (tokens : List Token) (spec : Spec) (r : Specification) → HasOneTree text tokens spec → IsFound spec r → IsGoodText text tokens r
 good text tokens spec (found.Skeleton c) tree f = subst (IsSpecification text tokens) (sym f.0) record { tree = tree; skeleton = f.1; good = f.2 }
 good text tokens spec (found.Whole counts) tree f = record { spec = spec; tree = tree; whole = f.0; good = f.1; numbers = f.2 }
 
--- what the reader answers, by what it judges of the tree
-pub reads : (text : List ℕ) (tokens : List Token) (spec : Spec) (r : Result Specification SpecificationError) → HasOneTree text tokens spec
-    → IfOk r (IsFound spec) → IfErr r (IsJudged spec) → ReadsSpecification text tokens r
-reads text tokens spec (Ok r) tree is fault = good text tokens spec r tree is
-reads text tokens spec (Err e) tree is fault = refused text tokens spec e tree fault
+refused_by : (text : List ℕ) (tokens : List Token) (spec : Spec) (e : CheckError) → HasOneTree text tokens spec → IsRefused spec e → IsNoSpecification text tokens (of_fault e)
+refused_by text tokens spec (faults.Fault place r) tree f = (spec, tree, f)
+refused_by text tokens spec (faults.Memory e) tree f = tt
+
+pub refused : (text : List ℕ) (tokens : List Token) (spec : Spec) (fault : CheckError) (r : Result Specification SpecificationError) → HasOneTree text tokens spec → IsRefused spec fault
+    → IsErr r × IsErrAnd r (λ e. e ≡ of_fault fault) → ReadsSpecification text tokens r
+refused text tokens spec fault (Ok x) tree f (never, is) = cc
+refused text tokens spec fault (Err e) tree f is = subst (IsNoSpecification text tokens) (sym is.1) (refused_by text tokens spec fault tree f)

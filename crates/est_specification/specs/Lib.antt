@@ -1,5 +1,4 @@
 pub mod Errors
 pub mod Reading
-pub mod SentenceRules
+pub mod Sizes
 pub mod Unique
-pub mod inside

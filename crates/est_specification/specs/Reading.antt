@@ -1,19 +1,17 @@
 -- Which tokens are a specification, and what its reader answers.
-use Rattle.std.specs.Prelude.{◌≡◌, ℕ, List, Some, None, Result, Ok, Err, ◌⊎◌}
+use Rattle.std.specs.Prelude.{◌≡◌, ℕ, List, Some, Result, Ok, Err}
 use Rattle.est_lexer.specs.declared.kind.Token.{Token}
 use Rattle.est_syntax.specs.declared.specification.Spec.{Spec}
-use Rattle.est_syntax.specs.declared.rule.Rule.{Rule}
-use Rattle.est_syntax.specs.Breaks.{IsGood, IsLeastFault}
-use Rattle.est_check.specs.Skeleton.{IsSkeleton}
-use Rattle.est_check.specs.declared.counts.Counts.{Counts}
-use Rattle.est_blocks.specs.Answers.{IsLeastFault as IsLeastOfRules}
+use Rattle.est_skeleton.specs.Skeleton.{IsSkeleton}
+use Rattle.est_blocks.specs.Answers.{IsGood, IsLeastFault}
 use Rattle.est_blocks.specs.Counts.{counts_of}
+use Rattle.est_blocks.specs.declared.counts.Counts.{Counts}
+use Rattle.est_check.specs.declared.checked.Specification.{Specification}
+use Rattle.est_check.specs.declared.checked.Specification.TheVariants as found
 use Rattle.est_grammar.specs.Answer.{HasOneTree, IsRefusal}
 use Rattle.est_grammar.specs.declared.error.ParseError.TheVariants as refusals
 use Rattle.est_specification.specs.declared.error.SpecificationError.{SpecificationError}
 use Rattle.est_specification.specs.declared.error.SpecificationError.TheVariants as errors
-use Rattle.est_specification.specs.declared.read.Specification.{Specification}
-use Rattle.est_specification.specs.declared.read.Specification.TheVariants as found
 
 -- The tokens have the tree of this specification and no other, and it is a skeleton that breaks no
 -- rule.
@@ -27,19 +25,13 @@ pub record HasNumbers (text : List ℕ) (tokens : List Token) (counts : Counts) 
   pub spec : Spec
   pub tree : HasOneTree text tokens spec
   pub whole : IsSkeleton spec → ⊥
-  pub good : IsLeastOfRules spec None
+  pub good : IsGood spec
   pub numbers : counts ≡ counts_of spec
 
 -- what the tokens are: a skeleton, or another specification
 abbrev pub IsGoodText : List ℕ → List Token → Specification → Type 0
 IsGoodText text tokens (found.Skeleton spec) = IsSpecification text tokens spec
 IsGoodText text tokens (found.Whole counts) = HasNumbers text tokens counts
-
--- The least rule that a tree breaks: of a skeleton by the rules of skeletons, and else by all.
-abbrev pub IsBroken : Spec → ℕ → Rule → Type 0
-IsBroken spec place rule = (IsSkeleton spec × IsLeastFault spec place rule)
-    ⊎ ((IsSkeleton spec → ⊥)
-    × IsLeastOfRules spec (Some record { place = place; rule = rule }))
 
 -- The tokens are refused by the grammar at this place, or have one tree, which breaks this rule
 -- first; want of memory says nothing of them.
@@ -51,7 +43,8 @@ IsNoSpecification text tokens (errors.LeftOut place) =
 IsNoSpecification text tokens (errors.TooDeep place) =
     IsRefusal text tokens (refusals.TooDeep place)
 IsNoSpecification text tokens (errors.BrokenRule place rule) = (spec : Spec)
-    × HasOneTree text tokens spec × IsBroken spec place rule
+    × HasOneTree text tokens spec
+    × IsLeastFault spec (Some record { place = place; rule = rule })
 IsNoSpecification text tokens (errors.Memory error) = Unit {0}
 
 -- what read_specification answers: the specification that the tokens are, or why they are none

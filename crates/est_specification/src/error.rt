@@ -1,8 +1,9 @@
 //! Why tokens are no specification.
 
 ghost use Rattle.std.specs.Prelude.{◌≡◌};
-ghost use Rattle.est_specification.specs.Errors.{of_refusal};
+ghost use Rattle.est_specification.specs.Errors.{of_refusal, of_fault};
 
+use est_check::CheckError;
 use est_grammar::ParseError;
 use est_syntax::rule::Rule;
 use std::alloc::AllocError;
@@ -34,6 +35,17 @@ impl From<ParseError> for SpecificationError {
             ParseError::LeftOut { place } => SpecificationError::LeftOut { place },
             ParseError::TooDeep { place } => SpecificationError::TooDeep { place },
             ParseError::Memory(error) => SpecificationError::Memory(error),
+        }
+    }
+}
+
+impl From<CheckError> for SpecificationError {
+    ghost from_gives = { λ fault e. e ≡ of_fault fault };
+
+    fn from(fault: CheckError) -> SpecificationError {
+        match fault {
+            CheckError::Fault { place, rule } => SpecificationError::BrokenRule { place, rule },
+            CheckError::Memory(error) => SpecificationError::Memory(error),
         }
     }
 }

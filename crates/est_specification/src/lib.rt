@@ -6,4 +6,5 @@ pub mod laws;
 pub mod read;
 
 pub use error::SpecificationError;
-pub use read::{Specification, read_specification};
+pub use est_check::Specification;
+pub use read::read_specification;

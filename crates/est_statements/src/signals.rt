@@ -42,8 +42,8 @@ pub fn point_side(outline: &Outline, at: &Used) -> Option<Side>
     side_at(outline, outline.declaration_of(Sort::Point, at))
 }
 
-// Whether a role of a channel sends or receives an interaction that these roles may send.
-fn may_pass(direction: Direction, role: Role, senders: Senders) -> bool
+/// Whether a role of a channel sends or receives an interaction that these roles may send.
+pub fn may_pass(direction: Direction, role: Role, senders: Senders) -> bool
     ensures { result ≡ may_pass direction role senders }
 {
     match (direction, role) {

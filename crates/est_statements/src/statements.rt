@@ -3,7 +3,7 @@
 
 ghost use Rattle.std.specs.Prelude.{◌≡◌, ◌++◌, [], IfOk, OnOk};
 ghost use Rattle.est_scope.specs.Least.{least_with};
-ghost use Rattle.est_kinds.specs.Dims.{dim_faults, ordinal_faults};
+ghost use Rattle.est_kinds.specs.Dims.{dim_faults};
 ghost use Rattle.est_alike.specs.Types.{yielded};
 ghost use Rattle.est_expressions.specs.Operators.{kept};
 ghost use Rattle.est_expressions.specs.Expressions.{expr_type};
@@ -29,9 +29,9 @@ use est_expressions::operators::{Wanted, gives, kept, wants};
 use est_expressions::receivers::{Receiver, check_number};
 use est_expressions::variables::selected_type;
 use est_items::{Boxed, Items};
-use est_kinds::hosts::is_ordinal;
+use est_kinds::dims::check_ordinal;
 use est_kinds::texts::{check_text, text_place};
-use est_scope::declaration::{Meant, Measured, Section, Sort};
+use est_scope::declaration::{Meant, Section, Sort};
 use est_scope::least::Least;
 use est_scope::outline::Outline;
 use est_syntax::expression::Expr;
@@ -211,18 +211,6 @@ fn within_loop(
         _ => Ok(Items {
             items: Vec::from_slice(alloc, loops)?,
         }),
-    }
-}
-
-// Notes a type that begins at a place and is not ordinal.
-fn check_ordinal(kind: &Option<Measured>, place: u32, least: &mut Least)
-    ensures { least.new.at ≡ least_with least.old.at (ordinal_faults kind.now place) }
-{
-    match kind {
-        None => (),
-        Some(measured) => if !is_ordinal(&measured.kind) {
-            least.note(place, Rule::WrongKind);
-        },
     }
 }
 

@@ -1,8 +1,5 @@
 //! Channels (ISO 9074, channel-definition).
 
-ghost use Rattle.std.specs.Prelude.{◌≡◌};
-ghost use Rattle.est_syntax.specs.Names.{other_role};
-
 use crate::name::{Used, UsedNames};
 use crate::type_text::VarDefs;
 use est_items::Items;
@@ -12,18 +9,6 @@ use est_items::Items;
 pub enum Role {
     First,
     Second,
-}
-
-impl Role {
-    /// The other role of the channel.
-    pub fn other(self) -> Role
-        ensures { result ≡ other_role self }
-    {
-        match self {
-            Role::First => Role::Second,
-            Role::Second => Role::First,
-        }
-    }
 }
 
 /// An interaction of a channel, with its parameters (ISO 9074, interaction-definition).

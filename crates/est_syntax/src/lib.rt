@@ -12,7 +12,6 @@ pub mod name;
 pub mod ports;
 pub mod routine;
 pub mod rule;
-pub mod sort;
 pub mod specification;
 pub mod statement;
 pub mod transition;

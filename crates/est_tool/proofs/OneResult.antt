@@ -1,28 +1,27 @@
 -- What is told of its files determines what a call reports.
-use Rattle.std.proofs.Common.{◌≡◌, ◌∙◌, ◌⊎◌, inl, inr, ℕ, ◌+◌, ◌<◌, Bool, true, false, List, [], ◌∷◌, length, codes, get_or, Option, Some, None, IfSome, if◌then◌else◌, slice_get, sym, subst, ap, refl, arith}
+use Rattle.std.proofs.Common.{◌≡◌, ◌∙◌, ◌⊎◌, inl, inr, ℕ, ◌+◌, ◌<◌, Bool, true, false, List, [], ◌∷◌, length, codes, get_or, Option, Some, IfSome, if◌then◌else◌, slice_get, sym, subst, ap, refl, arith}
 use Rattle.est_lexer.specs.declared.kind.Token.{Token}
 use Rattle.est_lexer.proofs.Unique.{tokens_unique}
 use Rattle.est_language.proofs.Fronts.{at_most_one_bad_place}
 use Rattle.est_syntax.specs.declared.rule.Rule.{Rule}
 use Rattle.est_syntax.specs.declared.rule.Rule.TheVariants.{UnknownName, DeclaredTwice, NotSeenHere, WrongSort, NumberTooLarge, WrongBounds, TooLarge, WrongKind, WrongNumber, NotWritable, NotInFunction, WrongDirection, DelayNotAlone, NoFirstState, WrongAttribute, WrongBody, WrongLink, CaseTwice}
 use Rattle.est_syntax.specs.declared.specification.Spec.{Spec}
-use Rattle.est_syntax.specs.Breaks.{IsLeastFault}
 use Rattle.est_syntax.specs.declared.rule.Fault.{Fault}
 use Rattle.est_syntax.specs.Least.{number, IsLeast}
-use Rattle.est_syntax.specs.Ports.{ports_of}
 use Rattle.est_scope.proofs.LeastLaws.{lex}
 use Rattle.est_grammar.specs.Answer.{HasOneTree, Says, estelle_in, is_left_out, levels}
 use Rattle.est_language.specs.Answers.{wrong_at, too_deep_at}
 use Rattle.est_language.specs.Grammar.{rule}
 use Rattle.est_language.specs.Places.{HasPartial, IsFirstBadPlace}
 use Rattle.est_productions.specs.Grammar.{specification as specification_rule}
-use Rattle.est_check.specs.Skeleton.{IsSkeleton}
+use Rattle.est_skeleton.specs.Ports.{ports_of}
+use Rattle.est_skeleton.specs.Skeleton.{IsSkeleton}
+use Rattle.est_check.specs.declared.checked.Specification.{Specification as Read}
+use Rattle.est_check.specs.declared.checked.Specification.TheVariants as found
 use Rattle.est_meaning.specs.declared.event.Event.{Event}
 use Rattle.est_meaning.specs.Allowed.{most_events}
-use Rattle.est_specification.specs.Reading.{IsSpecification, IsGoodText, IsNoSpecification, IsBroken}
-use Rattle.est_specification.specs.declared.read.Specification.{Specification as Read}
-use Rattle.est_specification.specs.declared.read.Specification.TheVariants as found
-use Rattle.est_blocks.specs.Answers.{IsLeastFault as IsLeastOfRules}
+use Rattle.est_specification.specs.Reading.{IsGoodText, IsNoSpecification}
+use Rattle.est_blocks.specs.Answers.{IsGood, IsLeastFault}
 use Rattle.est_blocks.specs.Counts.{counts_of}
 use Rattle.est_specification.specs.declared.error.SpecificationError.{SpecificationError}
 use Rattle.est_specification.specs.declared.error.SpecificationError.TheVariants as specification
@@ -101,15 +100,7 @@ same_place a x b y h k = grind arith
 same_number : (a x b y : ℕ) → lex a x b y ≡ false → lex b y a x ≡ false → x ≡ y
 same_number a x b y h k = grind arith
 
-same_fault : (spec : Spec) (place place' : ℕ) (r r' : Rule) → IsLeastFault spec place r → IsLeastFault spec place' r' → (place ≡ place') × (r ≡ r')
-same_fault spec place place' r r' x y =
-    let no_later : lex place' (number r') place (number r) ≡ false = x.1 place' r' y.0 in
-    let no_sooner : lex place (number r) place' (number r') ≡ false = y.1 place r x.0 in
-    let at : place ≡ place' = same_place place (number r) place' (number r') no_sooner no_later in
-    let numbered : number r ≡ number r' = same_number place (number r) place' (number r') no_sooner no_later in
-    (at, sym (by_number r) ∙ ap (λ n. get_or rules n UnknownName) numbered ∙ by_number r')
-
--- the same of the least of a set, and of what a tree breaks first
+-- a set of faults has one least fault
 same_least : (S : Fault → Type 0) (place place' : ℕ) (r r' : Rule) → IsLeast S (Some record { place = place; rule = r }) → IsLeast S (Some record { place = place'; rule = r' }) → (place ≡ place') × (r ≡ r')
 same_least S place place' r r' x y =
     let no_later : lex place' (number r') place (number r) ≡ false = x.1 record { place = place'; rule = r' } y.0 in
@@ -118,11 +109,9 @@ same_least S place place' r r' x y =
     let numbered : number r ≡ number r' = same_number place (number r) place' (number r') no_sooner no_later in
     (at, sym (by_number r) ∙ ap (λ n. get_or rules n UnknownName) numbered ∙ by_number r')
 
-same_broken : (spec : Spec) (place place' : ℕ) (r r' : Rule) → IsBroken spec place r → IsBroken spec place' r' → (place ≡ place') × (r ≡ r')
-same_broken spec place place' r r' (inl x) (inl y) = same_fault spec place place' r r' x.1 y.1
-same_broken spec place place' r r' (inr x) (inr y) = same_least _ place place' r r' x.1 y.1
-same_broken spec place place' r r' (inl x) (inr y) = absurd (y.0 x.0)
-same_broken spec place place' r r' (inr x) (inl y) = absurd (x.0 y.0)
+-- a specification breaks this rule at this place, and none before
+abbrev BreaksFirst : Spec → ℕ → Rule → Type 0
+BreaksFirst spec place r = IsLeastFault spec (Some record { place = place; rule = r })
 
 -- why a token is refused where the list is wrong, by whether it is left out
 abbrev why_by : Bool → List ℕ
@@ -139,7 +128,7 @@ why_of tokens place out p = ap why_by (sym p)
 data IsRefusedSpecification (text : List ℕ) (tokens : List Token) (s : Status) (place : Option ℕ) (why : List ℕ) : Type 0 where
   bad : (at : ℕ) → Says text tokens (wrong_at at) → s ≡ BadSpec → place ≡ Some at → why ≡ why_at tokens at → IsRefusedSpecification text tokens s place why
   deep : (at : ℕ) → Says text tokens (too_deep_at at) → s ≡ BadSpec → place ≡ Some at → why ≡ codes "nested too deep" → IsRefusedSpecification text tokens s place why
-  broken : (at : ℕ) (spec : Spec) (r : Rule) → HasOneTree text tokens spec → IsBroken spec at r → s ≡ BadSpec → place ≡ Some at → why ≡ rule_text r → IsRefusedSpecification text tokens s place why
+  broken : (at : ℕ) (spec : Spec) (r : Rule) → HasOneTree text tokens spec → BreaksFirst spec at r → s ≡ BadSpec → place ≡ Some at → why ≡ rule_text r → IsRefusedSpecification text tokens s place why
 
 how_refused : (text : List ℕ) (tokens : List Token) (error : SpecificationError) (s : Status) (place : Option ℕ) (why : List ℕ) → IsNoSpecification text tokens error → SaysOfSpecification error s place why → IsRefusedSpecification text tokens s place why
 how_refused text tokens (specification.BadToken at) s place why is says = bad at is.0 says.0 says.1 (says.2 ∙ why_of tokens at false is.1)
@@ -170,16 +159,17 @@ module _ (text : List ℕ) (tokens : List Token) where
   skeleton_only : (spec spec' : Spec) → HasOneTree text tokens spec → IsSkeleton spec → HasOneTree text tokens spec' → (IsSkeleton spec' → ⊥) → ⊥
   skeleton_only spec spec' one is one' not = not (subst IsSkeleton (same_specification text tokens spec spec' one one') is)
 
-  one_fault : (spec spec' : Spec) (at at' : ℕ) (r r' : Rule) → HasOneTree text tokens spec → IsBroken spec at r → HasOneTree text tokens spec' → IsBroken spec' at' r' → (at ≡ at') × (r ≡ r')
+  one_fault : (spec spec' : Spec) (at at' : ℕ) (r r' : Rule) → HasOneTree text tokens spec → BreaksFirst spec at r → HasOneTree text tokens spec' → BreaksFirst spec' at' r' → (at ≡ at') × (r ≡ r')
+  unfolding IsLeastFault
   one_fault spec spec' at at' r r' one is one' is' =
       let same : spec' ≡ spec = same_specification text tokens spec' spec one' one in
-      same_broken spec at at' r r' is (subst (λ z. IsBroken z at' r') same is')
+      same_least _ at at' r r' is (subst (λ z. BreaksFirst z at' r') same is')
 
-  -- a specification that is no skeleton and breaks no rule is none that breaks one
-  not_broken : (spec spec' : Spec) (at : ℕ) (r : Rule) → HasOneTree text tokens spec → (IsSkeleton spec → ⊥) → IsLeastOfRules spec None → HasOneTree text tokens spec' → IsBroken spec' at r → ⊥
-  not_broken spec spec' at r one not none one' (inl x) = skeleton_only spec' spec one' x.0 one not
-  not_broken spec spec' at r one not none one' (inr x) =
-      none record { place = at; rule = r } (subst (λ z. IsLeastOfRules z (Some record { place = at; rule = r })) (same_specification text tokens spec' spec one' one) x.1).0
+  -- a specification that breaks no rule is none that breaks one
+  not_broken : (spec spec' : Spec) (at : ℕ) (r : Rule) → HasOneTree text tokens spec → IsGood spec → HasOneTree text tokens spec' → BreaksFirst spec' at r → ⊥
+  unfolding IsLeastFault
+  not_broken spec spec' at r one none one' x =
+      none record { place = at; rule = r } (subst (λ z. BreaksFirst z at r) (same_specification text tokens spec' spec one' one) x).0
 
 specifications_alike : (text : List ℕ) (tokens : List Token) (s s' : Status) (place place' : Option ℕ) (why why' : List ℕ) → IsRefusedSpecification text tokens s place why → IsRefusedSpecification text tokens s' place' why' → AreAlike s s' place place' why why'
 specifications_alike text tokens s s' place place' why why' (bad at x e f g) (bad at' y h k l) =
@@ -197,19 +187,14 @@ specifications_alike text tokens s s' place place' why why' (broken at' spec r o
 specifications_alike text tokens s s' place place' why why' (deep at x e f g) (broken at' spec r one is h k l) = absurd (not_deep text tokens at spec x one)
 specifications_alike text tokens s s' place place' why why' (broken at' spec r one is e f g) (deep at y h k l) = absurd (not_deep text tokens at spec y one)
 
-good_not_refused : (text : List ℕ) (tokens : List Token) (spec : Spec) (s : Status) (place : Option ℕ) (why : List ℕ) → IsSpecification text tokens spec → IsRefusedSpecification text tokens s place why → ⊥
-good_not_refused text tokens spec s place why is (bad at x e f g) = not_wrong text tokens at spec x is.tree
-good_not_refused text tokens spec s place why is (deep at x e f g) = not_deep text tokens at spec x is.tree
-good_not_refused text tokens spec s place why is (broken at spec' r one (inl x) e f g) =
-    let same : spec' ≡ spec = same_specification text tokens spec' spec one is.tree in
-    is.good at r (subst (λ z. IsLeastFault z at r) same x.1).0
-good_not_refused text tokens spec s place why is (broken at spec' r one (inr x) e f g) = skeleton_only text tokens spec spec' is.tree is.skeleton one x.0
+good_not_refused : (text : List ℕ) (tokens : List Token) (spec : Spec) (s : Status) (place : Option ℕ) (why : List ℕ) → HasOneTree text tokens spec → IsGood spec → IsRefusedSpecification text tokens s place why → ⊥
+good_not_refused text tokens spec s place why one none (bad at x e f g) = not_wrong text tokens at spec x one
+good_not_refused text tokens spec s place why one none (deep at x e f g) = not_deep text tokens at spec x one
+good_not_refused text tokens spec s place why one none (broken at spec' r one' x e f g) = not_broken text tokens spec spec' at r one none one' x
 
 read_not_refused : (text : List ℕ) (tokens : List Token) (read : Read) (s : Status) (place : Option ℕ) (why : List ℕ) → IsGoodText text tokens read → IsRefusedSpecification text tokens s place why → ⊥
-read_not_refused text tokens (found.Skeleton spec) s place why is x = good_not_refused text tokens spec s place why is x
-read_not_refused text tokens (found.Whole counts) s place why is (bad at x e f g) = not_wrong text tokens at is.spec x is.tree
-read_not_refused text tokens (found.Whole counts) s place why is (deep at x e f g) = not_deep text tokens at is.spec x is.tree
-read_not_refused text tokens (found.Whole counts) s place why is (broken at spec' r one x e f g) = not_broken text tokens is.spec spec' at r is.tree is.whole is.good one x
+read_not_refused text tokens (found.Skeleton spec) s place why is x = good_not_refused text tokens spec s place why is.tree is.good x
+read_not_refused text tokens (found.Whole counts) s place why is x = good_not_refused text tokens is.spec s place why is.tree is.good x
 
 one_read : (text : List ℕ) (tokens : List Token) (a b : Read) → IsGoodText text tokens a → IsGoodText text tokens b → a ≡ b
 one_read text tokens (found.Skeleton spec) (found.Skeleton spec') x y = ap (λ z. found.Skeleton z) (same_specification text tokens spec spec' x.tree y.tree)

@@ -9,9 +9,9 @@ use Rattle.est_edge.proofs.PieceLaws.{SameTold-then}
 use Rattle.est_syntax.specs.declared.specification.Spec.{Spec}
 use Rattle.est_meaning.specs.declared.event.Event.{Event}
 use Rattle.est_replay.specs.declared.explanation.Explanation.{Explanation}
-use Rattle.est_check.specs.declared.counts.Counts.{Counts}
-use Rattle.est_specification.specs.declared.read.Specification.{Specification}
-use Rattle.est_specification.specs.declared.read.Specification.TheVariants as found
+use Rattle.est_blocks.specs.declared.counts.Counts.{Counts}
+use Rattle.est_check.specs.declared.checked.Specification.{Specification}
+use Rattle.est_check.specs.declared.checked.Specification.TheVariants as found
 use Rattle.est_tool.specs.declared.report.Report.{Report}
 use Rattle.est_tool.specs.declared.stop.Stop.{Stop}
 use Rattle.est_tool.specs.declared.stop.Stop.TheVariants.{Refused, ReadFault, OutOfMemory}

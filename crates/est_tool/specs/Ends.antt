@@ -2,14 +2,14 @@
 use Rattle.std.specs.Prelude.{◌≡◌, ℕ, ◌+◌, ◌<◌, List, length, IfSome}
 use Rattle.est_edge.specs.Counts.{Rose}
 use Rattle.est_syntax.specs.declared.specification.Spec.{Spec}
-use Rattle.est_check.specs.Checked.{counts_of}
-use Rattle.est_check.specs.declared.counts.Counts.{Counts}
+use Rattle.est_blocks.specs.Counts.{counts_of}
+use Rattle.est_blocks.specs.declared.counts.Counts.{Counts}
+use Rattle.est_check.specs.declared.checked.Specification.{Specification as Read}
+use Rattle.est_check.specs.declared.checked.Specification.TheVariants as found
 use Rattle.est_meaning.specs.declared.event.Event.{Event}
 use Rattle.est_replay.specs.Replay.{IsReplay}
 use Rattle.est_replay.specs.declared.explanation.Explanation.{Explanation}
 use Rattle.est_replay.specs.declared.verdict.Replayed.{Replayed}
-use Rattle.est_specification.specs.declared.read.Specification.{Specification as Read}
-use Rattle.est_specification.specs.declared.read.Specification.TheVariants as found
 use Rattle.est_tool.specs.declared.file.File.{File}
 use Rattle.est_tool.specs.declared.file.File.TheVariants.{Specification, Trace, Explanation as Explaining}
 use Rattle.est_tool.specs.declared.status.Status.{Status}

@@ -1,7 +1,7 @@
 -- The lines that reports are made of.
 use Rattle.std.specs.Prelude.{ℕ, List, [], ◌∷◌, ◌++◌, codes, if◌then◌else◌, nat_le}
 use Rattle.std.specs.Fmt.{decimal}
-use Rattle.est_check.specs.declared.counts.Counts.{Counts}
+use Rattle.est_blocks.specs.declared.counts.Counts.{Counts}
 use Rattle.est_meaning.specs.declared.run.BlockFault.{BlockFault}
 use Rattle.est_meaning.specs.declared.run.BlockFault.TheVariants.{Range, Divide, Undefined, NoCase, NoModule, LinkTaken, SelfLink, TooMany}
 use Rattle.est_replay.specs.declared.verdict.Replayed.{Replayed}

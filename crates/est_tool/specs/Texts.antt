@@ -5,12 +5,12 @@ use Rattle.est_lexer.specs.Lines.{line_at, column_at}
 use Rattle.est_lexer.specs.Places.{offset_at}
 use Rattle.est_lexer.specs.TokenList.{IsTokenList}
 use Rattle.est_syntax.specs.declared.specification.Spec.{Spec}
-use Rattle.est_syntax.specs.Ports.{ports_of}
+use Rattle.est_skeleton.specs.Ports.{ports_of}
+use Rattle.est_check.specs.declared.checked.Specification.{Specification}
+use Rattle.est_check.specs.declared.checked.Specification.TheVariants as found
 use Rattle.est_meaning.specs.declared.event.Event.{Event}
 use Rattle.est_replay.specs.declared.explanation.Explanation.{Explanation}
 use Rattle.est_specification.specs.Reading.{IsGoodText, IsNoSpecification}
-use Rattle.est_specification.specs.declared.read.Specification.{Specification}
-use Rattle.est_specification.specs.declared.read.Specification.TheVariants as found
 use Rattle.est_specification.specs.declared.error.SpecificationError.{SpecificationError}
 use Rattle.est_specification.specs.declared.error.SpecificationError.TheVariants as specification
 use Rattle.est_trace.specs.Reading.{IsOnlyTraceText, IsTraceRefusal}

@@ -25,7 +25,7 @@ pub enum Status {
     WriteFault = 9,
     /// Out of memory.
     OutOfMemory = 10,
-    /// The specification is a sentence that is no skeleton: its rules are not built yet.
+    /// The specification is good and no skeleton: its runs are not built yet.
     NotBuilt = 12,
 }
 

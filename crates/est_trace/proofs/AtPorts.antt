@@ -3,7 +3,7 @@ use Rattle.std.proofs.Common.{◌≡◌, ◌≤◌, List, length, get_or, subst}
 use Rattle.std.specs.Prelude.{Result, Ok, Err, IfOk}
 use Rattle.est_syntax.specs.declared.ports.Port.{Port}
 use Rattle.est_syntax.specs.declared.specification.Spec.{Spec}
-use Rattle.est_syntax.specs.Ports.{ports_of}
+use Rattle.est_skeleton.specs.Ports.{ports_of}
 use Rattle.est_meaning.specs.declared.event.Event.{Event}
 use Rattle.est_meaning.specs.declared.event.Event.TheVariants.{Arrives, Leaves, Passes}
 use Rattle.est_meaning.specs.Allowed.{IsReceivable, IsSendable, IsAllowed, most_events, IsAllowedTrace}

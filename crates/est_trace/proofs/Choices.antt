@@ -14,7 +14,7 @@ use Rattle.est_reader.specs.Tests.{named, holds, stands}
 use Rattle.est_reader.specs.Moving.{IsNamedAt}
 use Rattle.est_trace.specs.Grammar.{Rule, marks}
 use Rattle.est_trace.specs.Reading.{traces}
-use Rattle.est_trace.specs.Skeletons.{HaveDifferentNames}
+use Rattle.est_skeleton.specs.Differing.{HaveDifferentNames}
 use Rattle.est_trace.specs.Tables.{IsNumberOf}
 use Rattle.est_trace.specs.Lookups.{IsChosen}
 use Rattle.est_trace.proofs.Lists.{some_same, image_at}

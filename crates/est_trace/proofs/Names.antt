@@ -12,7 +12,8 @@ use Rattle.est_reader.proofs.Apart.{one_name}
 use Rattle.est_trace.specs.declared.direction.Direction.{Direction}
 use Rattle.est_trace.specs.Grammar.{Rule, passes, some_pass, signal, dot_signal, port, marks}
 use Rattle.est_trace.specs.Reading.{traces}
-use Rattle.est_trace.specs.Skeletons.{HaveDifferentNames, ArePlain}
+use Rattle.est_skeleton.specs.Differing.{HaveDifferentNames}
+use Rattle.est_trace.specs.Skeletons.{ArePlain}
 use Rattle.est_trace.specs.Directories.{signal_name}
 
 -- a token that meets one of a single test

@@ -20,7 +20,8 @@ use Rattle.est_reader.proofs.Going.{from}
 use Rattle.est_trace.specs.declared.direction.Direction.{Direction}
 use Rattle.est_trace.specs.Grammar.{Rule, passes, some_pass, signal, dot_signal, port, marks}
 use Rattle.est_trace.specs.Nodes.{View, numbered, layer, tracing}
-use Rattle.est_trace.specs.Skeletons.{HaveDifferentNames, ArePlain}
+use Rattle.est_skeleton.specs.Differing.{HaveDifferentNames}
+use Rattle.est_trace.specs.Skeletons.{ArePlain}
 use Rattle.est_trace.specs.Directories.{signal_name}
 use Rattle.est_trace.specs.Lookups.{Begins, IsChosen, Chooses, signals_of}
 use Rattle.est_trace.specs.Reading.{traces}

@@ -2,13 +2,8 @@
 use Rattle.std.specs.Prelude.{◌≡◌, ℕ, ◌≤◌, List, [], length, Some, slice_get}
 use Rattle.est_syntax.specs.declared.ports.Signal.{Signal}
 use Rattle.est_syntax.specs.declared.ports.Port.{Port}
-use Rattle.est_check.specs.Small.{most_parts}
-
--- no two items have one name
-abbrev pub HaveDifferentNames : {A : Type 0} → (A → List ℕ) → List A → Type 0
-HaveDifferentNames {A} name xs =
-    (i j : ℕ) (x y : A) → slice_get xs i ≡ Some x → slice_get xs j ≡ Some y → name x ≡ name y
-    → i ≡ j
+use Rattle.est_skeleton.specs.Differing.{HaveDifferentNames}
+use Rattle.est_skeleton.specs.Small.{most_parts}
 
 -- a port that is no element of an array, with few signals, without parameters, whose names differ
 pub record IsPlainPort (p : Port) : Type 0 where

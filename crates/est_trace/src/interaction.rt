@@ -3,11 +3,11 @@
 ghost use Rattle.std.specs.Prelude.{◌≤◌, length};
 ghost use Rattle.est_language.specs.Grammar.{one_of};
 ghost use Rattle.est_language.specs.Shown.{node};
-ghost use Rattle.est_check.specs.Small.{most_parts};
+ghost use Rattle.est_skeleton.specs.Small.{most_parts};
 ghost use Rattle.est_reader.specs.Going.{Goes};
 ghost use Rattle.est_trace.specs.Grammar.{signal as a_signal, port as a_port};
 ghost use Rattle.est_trace.specs.Nodes.{an_interaction, tracing};
-ghost use Rattle.est_trace.specs.Skeletons.{HaveDifferentNames};
+ghost use Rattle.est_skeleton.specs.Differing.{HaveDifferentNames};
 ghost use Rattle.est_trace.specs.Directories.{signal_name, IsDirectory};
 ghost use Rattle.est_trace.specs.Lookups.{Chooses};
 

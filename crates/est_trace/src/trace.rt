@@ -4,7 +4,7 @@ ghost use Rattle.std.specs.Prelude.{◌≡◌, ◌≤◌, [], length, IfOk, Err}
 ghost use Rattle.est_lexer.specs.Places.{text_of, tokens_of};
 ghost use Rattle.est_language.specs.Grammar.{rule};
 ghost use Rattle.est_language.specs.Shown.{node};
-ghost use Rattle.est_syntax.specs.Ports.{ports_of};
+ghost use Rattle.est_skeleton.specs.Ports.{ports_of};
 ghost use Rattle.est_meaning.specs.Allowed.{IsAllowedTrace};
 ghost use Rattle.est_reader.specs.Moving.{SeesOne};
 ghost use Rattle.est_reader.specs.Going.{Goes};

@@ -8,7 +8,7 @@ use Rattle.est_tool.specs.declared.stop.Stop.TheVariants.{OutOfMemory}
 use Rattle.est_tool.specs.declared.status.Status.{Status}
 use Rattle.est_tool.specs.declared.status.Status.TheVariants.{Fine, NotBuilt}
 use Rattle.est_syntax.specs.declared.specification.Spec.{Spec}
-use Rattle.est_specification.specs.declared.read.Specification.{Specification}
+use Rattle.est_check.specs.declared.checked.Specification.{Specification}
 use Rattle.est_meaning.specs.declared.event.Event.{Event}
 use Rattle.est_replay.specs.Replay.{IsReplay}
 use Rattle.est_replay.specs.declared.explanation.Explanation.{Explanation}

@@ -1,12 +1,17 @@
 use Rattle.est_lexer.specs.Places.{text_of, tokens_of}
-use Rattle.est_specification.proofs.Refused.{reads}
+use Rattle.est_specification.proofs.Refused.{good, refused}
 use Rattle.est_specification.proofs.Small.{sentence_is_small}
 use Rattle.est_specification.proofs.read.read_specification.Goals as goal
 
-pub judge-requires : goal.judge-requires
-judge-requires c = sentence_is_small _ _ c.in_ok-spec.spec c.in_ok-spec.ensures.tree c.requires.few
+pub check-requires : goal.check-requires
+check-requires c = sentence_is_small _ _ c.in_ok-tree.tree c.in_ok-tree.ensures.tree c.requires.few
+
+pub returns-in_err-check : goal.returns-in_err-check
+returns-in_err-check c =
+    refused (text_of c.args.tokens.now) (tokens_of c.args.tokens.now) c.in_ok-tree.tree c.in_err-check.field-0.0 _ c.in_ok-tree.ensures.tree
+    c.in_err-check.ensures.fault c.from_residual-in_err-check.ensures
 
 pub returns : goal.returns
 returns c =
-    reads (text_of c.args.tokens.now) (tokens_of c.args.tokens.now) c.in_ok-spec.spec c.judge.result c.in_ok-spec.ensures.tree
-    c.judge.ensures.good c.judge.ensures.fault
+    good (text_of c.args.tokens.now) (tokens_of c.args.tokens.now) c.in_ok-tree.tree c.in_ok-check.field-0 c.in_ok-tree.ensures.tree
+    c.in_ok-check.ensures.good

@@ -1,6 +1,7 @@
 use Rattle.std.proofs.Common.{refl, ap}
 use Rattle.est_plain.specs.Trail.{stack_of}
 use Rattle.est_plain.proofs.WorldLaws.{started_limit, started_done}
+use Rattle.est_plain.proofs.RootLaws.{root_header}
 use Rattle.est_plain.proofs.world.PlainWorld.begin.Goals as goal
 
 pub returns-in-None : goal.returns-in-None
@@ -17,3 +18,6 @@ returns c = (
     bottom = λ spec h. ap (λ t. (stack_of c.in_ok-points.points.items c.args.root.now t).below) c.new.ensures;
   },
 )
+
+pub queues_for-requires : goal.queues_for-requires
+queues_for-requires c = root_header c.args.spec.now c.args.root.now c.args.header c.requires.root c.requires.header

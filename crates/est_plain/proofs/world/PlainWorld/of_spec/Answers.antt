@@ -11,7 +11,7 @@ pub returns-in-None : goal.returns-in-None
 returns-in-None c = start_none c.args.statements c.args.spec.now (omega arith) c.in-None.ensures
 
 pub begin-requires-clause-few : goal.begin-requires-clause-few
-begin-requires-clause-few c = subst HasFew (sym c.requires.ports) (few_ports c.args.spec.now c.requires.small)
+begin-requires-clause-few c = subst HasFew (sym c.requires.ports) (few_ports c.args.spec.now c.requires.skeleton c.requires.small)
 
 pub begin-requires-clause-few_transitions : goal.begin-requires-clause-few_transitions
 begin-requires-clause-few_transitions c = few_transitions c.args.spec.now c.requires.small c.in-Some.root.now (sym c.in-Some.ensures)

@@ -1,7 +1,0 @@
-use Rattle.std.proofs.Common.{◌≡◌, drop}
-use Rattle.est_check.specs.inside.Entries.{enter_all}
-use Rattle.est_check.specs.inside.Declarations.{by_entries}
-use Rattle.est_check.proofs.declare.enter_by_parts.Given as goal
-
-abbrev pub invariant-loop-item : goal.invariant-loop-item
-invariant-loop-item l = enter_all l.roles (l.names, l.least.at) (by_entries l.roles (drop l.item-index l.list)) ≡ enter_all l.roles (l.fn.names, l.fn.least.at) (by_entries l.roles l.list)

@@ -1,8 +1,0 @@
-use Rattle.std.proofs.Common.{◌≡◌, find, drop}
-use Rattle.std.specs.List.{filter_map}
-use Rattle.est_syntax.specs.declared.body.Body.{Body, out-Body}
-use Rattle.est_meaning.specs.Text.{uses_name, body_in}
-use Rattle.est_plain.proofs.text.body_named.Given as goal
-
-abbrev pub invariant-loop-part : goal.invariant-loop-part
-invariant-loop-part l = find (λ (b : Body). uses_name l.name (out-Body b).name) (filter_map body_in l.spec.parts) ≡ find (λ (b : Body). uses_name l.name (out-Body b).name) (filter_map body_in (drop l.part-index l.part-items))

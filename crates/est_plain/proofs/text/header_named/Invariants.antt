@@ -1,8 +1,0 @@
-use Rattle.std.proofs.Common.{◌≡◌, find, drop}
-use Rattle.std.specs.List.{filter_map}
-use Rattle.est_syntax.specs.declared.header.Header.{Header}
-use Rattle.est_meaning.specs.Text.{uses_name, header_in}
-use Rattle.est_plain.proofs.text.header_named.Given as goal
-
-abbrev pub invariant-loop-part : goal.invariant-loop-part
-invariant-loop-part l = find (λ (h : Header). uses_name l.name h.name) (filter_map header_in l.spec.parts) ≡ find (λ (h : Header). uses_name l.name h.name) (filter_map header_in (drop l.part-index l.part-items))

@@ -1,0 +1,12 @@
+use Rattle.std.proofs.Common.{arith}
+use Rattle.std.proofs.lemmas.Grind.{common_steps}
+use Rattle.est_skeleton.proofs.skeleton.are_clauses.Goals as goal
+
+pub returns-in_default : goal.returns-in_default
+returns-in_default c = grind (arith, common_steps)
+
+pub returns-then-len-gt0 : goal.returns-then-len-gt0
+returns-then-len-gt0 c = grind (arith, common_steps)
+
+pub returns-else-len-gt0 : goal.returns-else-len-gt0
+returns-else-len-gt0 c = grind (arith, common_steps)

@@ -1,0 +1,18 @@
+//! What holds of the ports of skeletons, and of the body that they start.
+ghost use Rattle.est_skeleton.specs.Laws.{PortsDiffer, PortsAreFew, BodiesAreStarted};
+
+/// No two ports of a skeleton have one name, and no two signals of a port, whatever rules it
+/// breaks.
+pub fn ports_differ()
+    ensures { PortsDiffer }
+{}
+
+/// A small skeleton has few ports, and each has few signals.
+pub fn ports_are_few()
+    ensures { PortsAreFew }
+{}
+
+/// A skeleton that breaks no rule starts the one body that it has.
+pub fn bodies_are_started()
+    ensures { BodiesAreStarted }
+{}
