@@ -10,12 +10,11 @@ ghost use Rattle.est_blocks.specs.inside.Counted.{body_bodies, group_count, grou
 ghost use Rattle.est_blocks.specs.inside.Counted.{body_transitions};
 
 use est_kinds::dims::elements;
-use est_scope::declaration::Sort;
+use est_scope::declaration::{SharedKinds, Sort};
 use est_scope::names::Names;
 use est_scope::outline::Outline;
 use est_statements::modules::header_at;
 use est_syntax::body::{Body, Part};
-use est_syntax::kind::Kinds;
 use est_syntax::specification::Spec;
 use est_syntax::statement::Statement;
 use est_syntax::transition::Group;
@@ -98,12 +97,12 @@ fn transitions(parts: &[Part]) -> u64
 }
 
 // The elements of interaction points with these subscripts.
-fn dims_elements(dims: &Option<Kinds>) -> u64
+fn dims_elements(dims: &Option<SharedKinds>) -> u64
     ensures { result ≡ dims_elements dims.now }
 {
     match dims {
         None => 0,
-        Some(kinds) => elements(kinds.as_slice()),
+        Some(kinds) => elements(kinds.get().as_slice()),
     }
 }
 

@@ -18,10 +18,10 @@ ghost use Rattle.est_expressions.specs.Names.{sort_faults, entry_faults, head_fa
 
 use crate::operators::Wanted;
 use est_alike::types::{Host, ValueType, type_of};
-use est_scope::declaration::{Entry, Meant, Measured, Section, Sort};
+use est_scope::declaration::{Entry, Meant, Measured, Section, SharedKinds, Sort};
 use est_scope::least::Least;
 use est_scope::outline::Outline;
-use est_syntax::kind::{Kind, Kinds};
+use est_syntax::kind::Kind;
 use est_syntax::name::{Name, Used};
 use est_syntax::rule::Rule;
 
@@ -220,12 +220,12 @@ pub fn variable_head(kind: &Option<Measured>) -> Selected<'_>
 }
 
 /// A module variable, or several.
-pub fn module_head<'o>(dims: &'o Option<Kinds>, place: u32) -> Selected<'o>
+pub fn module_head<'o>(dims: &'o Option<SharedKinds>, place: u32) -> Selected<'o>
     ensures { selects result ≡ module_head dims.now place }
 {
     match dims {
         None => Selected::Broken,
-        Some(kinds) => if kinds.as_slice().is_empty() {
+        Some(kinds) => if kinds.get().as_slice().is_empty() {
             Selected::Module(place)
         } else {
             Selected::Modules(place)

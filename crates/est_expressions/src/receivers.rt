@@ -15,9 +15,9 @@ ghost use Rattle.est_expressions.specs.Receivers.{number_faults};
 use crate::names::{Required, parameter_type, takes_so_many};
 use crate::operators::{gives, is_given, is_taken, wants};
 use est_alike::types::{ValueType, type_of};
+use est_scope::declaration::SharedKinds;
 use est_scope::least::Least;
 use est_scope::outline::Outline;
-use est_syntax::kind::Kinds;
 use est_syntax::rule::Rule;
 
 /// What takes subscripts or arguments: the interaction points or the module variables that are
@@ -30,12 +30,12 @@ pub enum Receiver {
 }
 
 // The type of the subscript with this number, of those of these kinds.
-fn subscript_in(dims: &Option<Kinds>, number: usize) -> Option<ValueType<'_>>
+fn subscript_in(dims: &Option<SharedKinds>, number: usize) -> Option<ValueType<'_>>
     ensures { yielded result ≡ subscript_in dims.now number }
 {
     match dims {
         None => None,
-        Some(kinds) => match kinds.as_slice().get(number) {
+        Some(kinds) => match kinds.get().as_slice().get(number) {
             None => None,
             Some(kind) => Some(type_of(kind)),
         },
@@ -95,12 +95,12 @@ pub fn check_received(
 }
 
 // Whether there are so many subscripts of these kinds.
-fn are_so_many(dims: &Option<Kinds>, number: usize) -> bool
+fn are_so_many(dims: &Option<SharedKinds>, number: usize) -> bool
     ensures { result ≡ are_so_many dims.now number }
 {
     match dims {
         None => true,
-        Some(kinds) => kinds.len() == number,
+        Some(kinds) => kinds.get().len() == number,
     }
 }
 

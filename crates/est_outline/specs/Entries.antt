@@ -55,33 +55,13 @@ point w dims side = entry w sort.Point None None dims side
 
 -- a module variable, of a header
 abbrev pub module_variable : Within → Option (List Kind) → Option ℕ → Entry
-module_variable w dims header = record {
-  declared = record { sort = sort.ModuleVariable; body = w.body };
-  section = w.section;
-  kind = None;
-  ordinal = None;
-  dims = dims;
-  side = None;
-  header = header;
-  closed = false;
-  system = false;
-  exports = false;
-}
+module_variable w dims header =
+    record (plain w sort.ModuleVariable) { dims = dims; header = header }
 
 -- a module header, with its attribute, and whether it has exports
 abbrev pub header : Within → Bool → Bool → Entry
-header w system exports = record {
-  declared = record { sort = sort.Header; body = w.body };
-  section = w.section;
-  kind = None;
-  ordinal = None;
-  dims = None;
-  side = None;
-  header = None;
-  closed = false;
-  system = system;
-  exports = exports;
-}
+header w system exports =
+    record (plain w sort.Header) { system = system; exports = exports }
 
 -- the parts of a specification
 abbrev pub outermost : Within
@@ -112,45 +92,22 @@ in_body w place header = record {
 
 -- what stands in a region within the same body
 abbrev pub inner : Within → ℕ → Within
-inner w place = record {
-  body = w.body;
+inner w place = record w {
   region = place;
   section = section.Part;
   header = None;
   own = place ∷ w.own;
-  around = w.around;
 }
 
 -- what a section declares in another region, and is looked up in the same ones
 abbrev pub in_region : Section → Within → ℕ → Within
-in_region s w place = record {
-  body = w.body;
-  region = place;
-  section = s;
-  header = None;
-  own = w.own;
-  around = w.around;
-}
+in_region s w place = record w { region = place; section = s; header = None }
 
 -- what another section declares
 abbrev pub in_section : Section → Within → Within
-in_section s w = record {
-  body = w.body;
-  region = w.region;
-  section = s;
-  header = w.header;
-  own = w.own;
-  around = w.around;
-}
+in_section s w = record w { section = s }
 
 -- the regions of a transition lie within those of its body
 abbrev pub with_region : Option ℕ → Within → Within
 with_region None w = w
-with_region (Some place) w = record {
-  body = w.body;
-  region = w.region;
-  section = w.section;
-  header = w.header;
-  own = place ∷ w.own;
-  around = w.around;
-}
+with_region (Some place) w = record w { own = place ∷ w.own }

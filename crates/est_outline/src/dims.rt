@@ -1,27 +1,28 @@
-//! Equal copies of the kinds of subscripts.
+//! The kinds of subscripts, which the names of one declaration share.
 
 ghost use Rattle.std.specs.Prelude.{◌≡◌, IfOk};
 
-use est_syntax::kind::{Kind, Kinds};
+use est_items::Shared;
+use est_scope::declaration::SharedKinds;
+use est_syntax::kind::Kinds;
 use std::alloc::{AllocError, Global};
 
-// Equal kinds in the same order.
-fn copy_kinds(alloc: Global, kinds: &[Kind]) -> Result<Kinds, AllocError>
-    ensures { IfOk result (λ copies. copies ≡ kinds.now) }
-{
-    let mut items = Vec::new(alloc);
-    for kind in kinds {
-        items.push(kind.copy()?)?;
-    }
-    Ok(Kinds { items })
-}
-
-/// Equal kinds, where there are such.
-pub fn copy_dims(alloc: Global, dims: &Option<Kinds>) -> Result<Option<Kinds>, AllocError>
-    ensures { IfOk result (λ copy. copy ≡ dims.now) }
+/// These kinds, where there are such, as the first of their owners has them.
+pub fn shared_dims(alloc: Global, dims: Option<Kinds>) -> Result<Option<SharedKinds>, AllocError>
+    ensures { IfOk result (λ shared. shared ≡ dims) }
 {
     match dims {
         None => Ok(None),
-        Some(kinds) => Ok(Some(copy_kinds(alloc, kinds.as_slice())?)),
+        Some(kinds) => Ok(Some(Shared::new(alloc, kinds)?)),
+    }
+}
+
+/// The same kinds, as another owner has them.
+pub fn share_dims(dims: &Option<SharedKinds>) -> Result<Option<SharedKinds>, AllocError>
+    ensures { IfOk result (λ shared. shared ≡ dims.now) }
+{
+    match dims {
+        None => Ok(None),
+        Some(kinds) => Ok(Some(kinds.share()?)),
     }
 }

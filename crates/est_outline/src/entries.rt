@@ -6,8 +6,7 @@ ghost use Rattle.est_outline.specs.Entries.{plain, typed, constant, ordinal_of, 
 ghost use Rattle.est_outline.specs.Entries.{module_variable, header};
 
 use est_kinds::value::Valued;
-use est_scope::declaration::{Declared, Entry, Measured, Side, Sort, Within};
-use est_syntax::kind::Kinds;
+use est_scope::declaration::{Declared, Entry, Measured, SharedKinds, Side, Sort, Within};
 
 /// A type or a variable.
 pub fn typed(within: &Within, sort: Sort, kind: Option<Measured>) -> Entry
@@ -98,7 +97,7 @@ pub fn numbered(within: &Within, number: usize) -> Entry
 }
 
 /// An interaction point.
-pub fn point(within: &Within, dims: Option<Kinds>, side: Option<Side>) -> Entry
+pub fn point(within: &Within, dims: Option<SharedKinds>, side: Option<Side>) -> Entry
     ensures { result ≡ point within.now dims side }
 {
     Entry {
@@ -119,7 +118,7 @@ pub fn point(within: &Within, dims: Option<Kinds>, side: Option<Side>) -> Entry
 }
 
 /// A module variable, of a header.
-pub fn module_variable(within: &Within, dims: Option<Kinds>, header: Option<u32>) -> Entry
+pub fn module_variable(within: &Within, dims: Option<SharedKinds>, header: Option<u32>) -> Entry
     ensures { result ≡ module_variable within.now dims header }
 {
     Entry {

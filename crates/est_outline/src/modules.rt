@@ -12,18 +12,17 @@ ghost use Rattle.est_outline.specs.Declares.{stands_before, before, after, secti
 ghost use Rattle.est_outline.specs.Declares.{has_exports, header_named, header_declares};
 
 use crate::declares::vars;
-use crate::dims::copy_dims;
+use crate::dims::{share_dims, shared_dims};
 use crate::entries;
 use crate::entries::{module_variable, plain, point};
 use crate::lasts::{channel_last, header_last};
 use crate::within::in_region;
 use est_kinds::dims::dims_of;
 use est_kinds::texts::text_place;
-use est_scope::declaration::{Member, Section, Senders, Side, Sort, Within};
+use est_scope::declaration::{Member, Section, Senders, SharedKinds, Side, Sort, Within};
 use est_scope::outline::Outline;
 use est_syntax::channel::{ByPart, Channel, InteractionDef, Role};
 use est_syntax::header::{Header, ModvarDef, Point};
-use est_syntax::kind::Kinds;
 use est_syntax::name::Used;
 use est_syntax::type_text::VarDef;
 use std::alloc::{AllocError, Global};
@@ -200,27 +199,25 @@ fn side_of(outline: &Outline, item: &Point) -> Option<Side>
 
 // An interaction point.
 fn one_point(
-    alloc: Global,
     within: &Within,
     used: &Used,
     last: u32,
-    dims: &Option<Kinds>,
+    dims: &Option<SharedKinds>,
     side: Option<Side>,
     outline: &mut Outline,
 ) -> Result<(), AllocError>
     ensures { OnOk result (outline.new ≡
         declared within.now used.now last (point within.now dims.now side) outline.old) }
 {
-    let dims = copy_dims(alloc, dims)?;
+    let dims = share_dims(dims)?;
     outline.declare(within, used, last, point(within, dims, side))
 }
 
 // Interaction points with the same subscripts and side.
 fn point_names(
-    alloc: Global,
     within: &Within,
     item: &Point,
-    dims: &Option<Kinds>,
+    dims: &Option<SharedKinds>,
     side: Option<Side>,
     outline: &mut Outline,
 ) -> Result<(), AllocError>
@@ -228,7 +225,7 @@ fn point_names(
         item.now.role.place (point within.now dims.now side) outline.old) }
 {
     for used in item.names.as_slice() {
-        one_point(alloc, within, used, item.role.place, dims, side, outline)?;
+        one_point(within, used, item.role.place, dims, side, outline)?;
     }
     Ok(())
 }
@@ -243,9 +240,9 @@ fn point_declares(
     ensures { OnOk result (outline.new ≡ point_declares within.now item.now outline.old) }
 {
     outline.lie(within, item.place)?;
-    let dims = dims_of(alloc, outline, item.dims.as_slice())?;
+    let dims = shared_dims(alloc, dims_of(alloc, outline, item.dims.as_slice())?)?;
     let side = side_of(outline, item);
-    point_names(alloc, within, item, &dims, side, outline)
+    point_names(within, item, &dims, side, outline)
 }
 
 /// Interaction points.
@@ -265,27 +262,25 @@ pub fn points(
 
 // A module variable.
 fn one_modvar(
-    alloc: Global,
     within: &Within,
     used: &Used,
     last: u32,
-    dims: &Option<Kinds>,
+    dims: &Option<SharedKinds>,
     header: Option<u32>,
     outline: &mut Outline,
 ) -> Result<(), AllocError>
     ensures { OnOk result (outline.new ≡ declared within.now used.now last
         (module_variable within.now dims.now header) outline.old) }
 {
-    let dims = copy_dims(alloc, dims)?;
+    let dims = share_dims(dims)?;
     outline.declare(within, used, last, module_variable(within, dims, header))
 }
 
 // Module variables with the same subscripts and header.
 fn modvar_names(
-    alloc: Global,
     within: &Within,
     item: &ModvarDef,
-    dims: &Option<Kinds>,
+    dims: &Option<SharedKinds>,
     header: Option<u32>,
     outline: &mut Outline,
 ) -> Result<(), AllocError>
@@ -293,15 +288,7 @@ fn modvar_names(
         item.now.header.place (module_variable within.now dims.now header) outline.old) }
 {
     for used in item.names.as_slice() {
-        one_modvar(
-            alloc,
-            within,
-            used,
-            item.header.place,
-            dims,
-            header,
-            outline,
-        )?;
+        one_modvar(within, used, item.header.place, dims, header, outline)?;
     }
     Ok(())
 }
@@ -316,9 +303,9 @@ fn modvar(
     ensures { OnOk result (outline.new ≡ modvar_declares within.now item.now outline.old) }
 {
     outline.lie(within, item.place)?;
-    let dims = dims_of(alloc, outline, item.dims.as_slice())?;
+    let dims = shared_dims(alloc, dims_of(alloc, outline, item.dims.as_slice())?)?;
     let header = outline.declaration_of(Sort::Header, &item.header);
-    modvar_names(alloc, within, item, &dims, header, outline)
+    modvar_names(within, item, &dims, header, outline)
 }
 
 /// Module variables.

@@ -7,6 +7,7 @@ ghost use Rattle.est_outline.specs.Bodies.{expr_place, arm_lying, within_declare
 ghost use Rattle.est_outline.specs.Bodies.{statement_declares, statements_declare};
 ghost use Rattle.est_outline.specs.inside.Parts.{second_declares, arm_declares, arms_declare};
 
+use crate::dims::shared_dims;
 use crate::entries::{module_variable, typed};
 use crate::lasts::text_last;
 use crate::within::{in_section, inner};
@@ -121,7 +122,7 @@ fn all_by(
 {
     match over_header(outline, over) {
         Some(header) => {
-            let dims = Some(Kinds::new(alloc));
+            let dims = shared_dims(alloc, Some(Kinds::new(alloc)))?;
             Ok(module_variable(within, dims, Some(header)))
         },
         None => Ok(typed(within, Sort::Variable, text_type(alloc, outline, over)?)),

@@ -37,11 +37,9 @@ taken o w name = option_or (standing o w.region name) (standing_of o w.header na
 -- not declared again.
 abbrev pub declared_by : Option Standing → Within → Used → ℕ → Entry → Outline → Outline
 declared_by (Some s) w u last e o = o
-declared_by None w u last e o = record {
+declared_by None w u last e o = record o {
   entries = insert_entry nat_eq o.entries u.place e;
-  members = o.members;
   regions = named o w.region (spelled u) record { place = u.place; last = last };
-  extents = o.extents;
 }
 
 abbrev pub declared : Within → Used → ℕ → Entry → Outline → Outline
@@ -50,11 +48,9 @@ declared w u last e o = declared_by (taken o w (spelled u)) w u last e o
 -- a name of a channel or a record is put under it, once
 abbrev pub put_by : Option Standing → ℕ → Used → Member → Outline → Outline
 put_by (Some s) region u m o = o
-put_by None region u m o = record {
-  entries = o.entries;
+put_by None region u m o = record o {
   members = insert_entry nat_eq o.members u.place m;
   regions = named o region (spelled u) record { place = u.place; last = u.place };
-  extents = o.extents;
 }
 
 abbrev pub put : ℕ → Used → Member → Outline → Outline
@@ -63,60 +59,22 @@ put region u m o = put_by (standing o region (spelled u)) region u m o
 -- what is known of the declaration at a place, where there is one, becomes this
 abbrev pub amended_by : Option Entry → (Entry → Entry) → ℕ → Outline → Outline
 amended_by None f place o = o
-amended_by (Some e) f place o = record {
-  entries = set_value (nat_eq place) o.entries (f e);
-  members = o.members;
-  regions = o.regions;
-  extents = o.extents;
-}
+amended_by (Some e) f place o = record o { entries = set_value (nat_eq place) o.entries (f e) }
 
 abbrev pub amended : (Entry → Entry) → ℕ → Outline → Outline
 amended f place o = amended_by (entry_at o place) f place o
 
 -- a declaration gets its kind, and its value where it is a constant
 abbrev pub with_kind : Option Measured → Entry → Entry
-with_kind k e = record {
-  declared = e.declared;
-  section = e.section;
-  kind = k;
-  ordinal = e.ordinal;
-  dims = e.dims;
-  side = e.side;
-  header = e.header;
-  closed = e.closed;
-  system = e.system;
-  exports = e.exports;
-}
+with_kind k e = record e { kind = k }
 
 -- a routine is closed
 abbrev pub with_closed : Bool → Entry → Entry
-with_closed b e = record {
-  declared = e.declared;
-  section = e.section;
-  kind = e.kind;
-  ordinal = e.ordinal;
-  dims = e.dims;
-  side = e.side;
-  header = e.header;
-  closed = b;
-  system = e.system;
-  exports = e.exports;
-}
+with_closed b e = record e { closed = b }
 
 -- a body gets its header
 abbrev pub with_header : Option ℕ → Entry → Entry
-with_header h e = record {
-  declared = e.declared;
-  section = e.section;
-  kind = e.kind;
-  ordinal = e.ordinal;
-  dims = e.dims;
-  side = e.side;
-  header = h;
-  closed = e.closed;
-  system = e.system;
-  exports = e.exports;
-}
+with_header h e = record e { header = h }
 
 -- From a place on, the text lies within these regions. No extent begins before the one before it.
 abbrev pub last_from : List Extent → ℕ → ℕ
@@ -131,9 +89,4 @@ extended w place es =
     es ++ record { from = later (last_from es 0) place; own = w.own; around = w.around } ∷ []
 
 abbrev pub lying : Within → ℕ → Outline → Outline
-lying w place o = record {
-  entries = o.entries;
-  members = o.members;
-  regions = o.regions;
-  extents = extended w place o.extents;
-}
+lying w place o = record o { extents = extended w place o.extents }

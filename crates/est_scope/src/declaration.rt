@@ -67,6 +67,9 @@ pub struct Side {
     pub role: Role,
 }
 
+/// The kinds of subscripts, which all names of one declaration share.
+pub type SharedKinds = Shared<Kinds>;
+
 /// What is known of a declaration. `kind` is that of a constant, a type, a variable or the result
 /// of a function, where it has one, and `ordinal` the value of a constant. `dims` are the kinds of
 /// the subscripts of an interaction point or a module variable, and `side` is that of an
@@ -79,7 +82,7 @@ pub struct Entry {
     pub section: Section,
     pub kind: Option<Measured>,
     pub ordinal: Option<i32>,
-    pub dims: Option<Kinds>,
+    pub dims: Option<SharedKinds>,
     pub side: Option<Side>,
     pub header: Option<u32>,
     pub closed: bool,

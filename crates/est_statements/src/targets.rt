@@ -26,11 +26,11 @@ use est_expressions::expressions::{check_expr, check_selectors};
 use est_expressions::names::{Selected, module_head, required_function, value_head, variable_head};
 use est_expressions::operators::gives;
 use est_expressions::variables::selected_type;
-use est_scope::declaration::{Entry, Meant, Measured, Section, Sort};
+use est_scope::declaration::{Entry, Meant, Measured, Section, SharedKinds, Sort};
 use est_scope::least::Least;
 use est_scope::outline::Outline;
 use est_syntax::expression::{Expr, Factor, Selector, Simple, Term};
-use est_syntax::kind::{Kind, Kinds};
+use est_syntax::kind::Kind;
 use est_syntax::name::Used;
 use est_syntax::rule::Rule;
 
@@ -199,13 +199,13 @@ fn are_subscripts(kinds: &[Kind], path: &[Selector]) -> bool
 }
 
 // Notes too few or too many subscripts.
-fn check_subscripts(dims: &Option<Kinds>, path: &[Selector], place: u32, least: &mut Least)
+fn check_subscripts(dims: &Option<SharedKinds>, path: &[Selector], place: u32, least: &mut Least)
     ensures { least.new.at ≡ least_with least.old.at
         (subscripts_faults dims.now path.now place) }
 {
     match dims {
         None => (),
-        Some(kinds) => if !are_subscripts(kinds.as_slice(), path) {
+        Some(kinds) => if !are_subscripts(kinds.get().as_slice(), path) {
             least.note(place, Rule::WrongNumber);
         },
     }

@@ -111,7 +111,10 @@ impl Table {
     {
         match self.kept.get().outline.entry(place) {
             None => None,
-            Some(entry) => entry.dims.as_ref(),
+            Some(entry) => match &entry.dims {
+                None => None,
+                Some(kinds) => Some(kinds.get()),
+            },
         }
     }
 
