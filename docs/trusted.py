@@ -1,13 +1,17 @@
 #!/usr/bin/env python3
 """Counts the lines that a reader must read to trust `run` and the status of the program.
 
-They are those of each definition that the contracts of `run` and of `Status::code` reach, without comments,
+    python3 docs/trusted.py [NAME..]
+
+Definitions of these names are not followed: without `ReplayEnds` and `HoldsTrace` what is left is read to trust
+`check` alone. The lines are those of each definition that the contracts of `run` and of `Status::code` reach, without comments,
 blank lines and imports. Types of `src` are not counted. A variable with the name of a definition counts as that
 definition, so the true number is a little smaller.
 """
 
 import pathlib
 import re
+import sys
 
 CRATES = pathlib.Path(__file__).resolve().parent.parent / "crates"
 STARTS = [
@@ -57,7 +61,7 @@ while todo:
         files[path] = loaded(path)
     blocks, imports = files[path]
     block = blocks.get(name)
-    if block is None or id(block) in reached:
+    if block is None or id(block) in reached or name in sys.argv[1:]:
         continue
     reached[id(block)] = (path, len(block))
     for word in NAME.findall("\n".join(block)):

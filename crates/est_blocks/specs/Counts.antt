@@ -1,10 +1,9 @@
 -- How many bodies, transitions and ports a specification has (ISO 9074, module-body-definition,
 -- transition and interaction-point).
-use Rattle.std.specs.Prelude.{ℕ, suc, ◌-◌, ◌^◌, min, List, [], ◌∷◌, Option, Some, None, if◌then◌else◌}
+use Rattle.std.specs.Prelude.{ℕ, suc, ◌-◌, ◌^◌, min, List, [], ◌∷◌, Option, Some, None}
 use Rattle.est_syntax.specs.declared.body.Part.{Part, Row_of-Part, end_of-Part, more_of-Part}
 use Rattle.est_syntax.specs.declared.body.Part.TheVariants as part
 use Rattle.est_syntax.specs.declared.body.Body.{Body', Row_of-Group, end_of-Group, more_of-Group}
-use Rattle.est_syntax.specs.declared.kind.Kind.{Kind}
 use Rattle.est_syntax.specs.declared.specification.Spec.{Spec}
 use Rattle.est_syntax.specs.declared.statement.Statement.{Statement}
 use Rattle.est_syntax.specs.declared.statement.Statement.TheVariants as statement
@@ -12,8 +11,7 @@ use Rattle.est_syntax.specs.declared.transition.Group.{Group', Row_of-Transition
 use Rattle.est_scope.specs.declared.declaration.Sort.TheVariants as sort
 use Rattle.est_scope.specs.declared.declaration.Entry.{Entry}
 use Rattle.est_scope.specs.Outline.{Outline, Region, names_of, entry_at}
-use Rattle.est_scope.specs.Uses.{same_sort, declaration_of}
-use Rattle.est_kinds.specs.Dims.{elements}
+use Rattle.est_scope.specs.Uses.{declaration_of}
 use Rattle.est_kinds.specs.Texts.{added}
 use Rattle.est_outline.specs.Bodies.{outline_of}
 use Rattle.est_blocks.specs.declared.counts.Counts.{Counts}
@@ -58,15 +56,10 @@ abbrev pub transitions : List Part → ℕ
 transitions [] = 0
 transitions (p ∷ ps) = added (part_transitions p) (transitions ps)
 
--- the elements of an interaction point, by its subscripts
-abbrev pub dims_elements : Option (List Kind) → ℕ
-dims_elements None = 0
-dims_elements (Some ks) = elements ks
-
+-- the elements of the interaction point that is declared at a place, if one is
 abbrev pub declared_elements : Option Entry → ℕ
 declared_elements None = 0
-declared_elements (Some e) =
-    if same_sort sort.Point e.declared.sort then dims_elements e.dims else 0
+declared_elements (Some e) = e.elements
 
 -- those of the interaction points among the names of a region
 abbrev pub names_elements : Outline → Region → ℕ

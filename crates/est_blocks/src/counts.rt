@@ -4,13 +4,12 @@
 ghost use Rattle.std.specs.Prelude.{◌≡◌};
 ghost use Rattle.est_scope.specs.Outline.{entry_at};
 ghost use Rattle.est_blocks.specs.Counts.{part_bodies, bodies, part_transitions, transitions};
-ghost use Rattle.est_blocks.specs.Counts.{dims_elements, declared_elements, names_elements};
+ghost use Rattle.est_blocks.specs.Counts.{declared_elements, names_elements};
 ghost use Rattle.est_blocks.specs.Counts.{started_header, header_elements, counted, counts_by};
 ghost use Rattle.est_blocks.specs.inside.Counted.{body_bodies, group_count, group_counts};
 ghost use Rattle.est_blocks.specs.inside.Counted.{body_transitions};
 
-use est_kinds::dims::elements;
-use est_scope::declaration::{SharedKinds, Sort};
+use est_scope::declaration::Sort;
 use est_scope::names::Names;
 use est_scope::outline::Outline;
 use est_statements::modules::header_at;
@@ -96,29 +95,13 @@ fn transitions(parts: &[Part]) -> u64
     sum
 }
 
-// The elements of interaction points with these subscripts.
-fn dims_elements(dims: &Option<SharedKinds>) -> u64
-    ensures { result ≡ dims_elements dims.now }
-{
-    match dims {
-        None => 0,
-        Some(kinds) => elements(kinds.get().as_slice()),
-    }
-}
-
 // The elements of the interaction point that is declared at a place, if one is.
 fn declared_elements(outline: &Outline, place: u32) -> u64
     ensures { result ≡ declared_elements (entry_at outline.now place) }
 {
     match outline.entry(place) {
         None => 0,
-        Some(entry) => {
-            if Sort::Point.same(entry.declared.sort) {
-                dims_elements(&entry.dims)
-            } else {
-                0
-            }
-        }
+        Some(entry) => entry.elements,
     }
 }
 

@@ -30,6 +30,11 @@ abbrev pub elements : List Kind → ℕ
 elements [] = 1
 elements (k ∷ ks) = multiplied (count k) (elements ks)
 
+-- those of what is declared with these dims
+abbrev pub dims_elements : Option (List Kind) → ℕ
+dims_elements None = 0
+dims_elements (Some ks) = elements ks
+
 -- what one of the dims breaks
 abbrev pub ordinal_faults : Option Measured → ℕ → List Fault
 ordinal_faults None place = []

@@ -4,8 +4,8 @@
 ghost use Rattle.std.specs.Prelude.{◌≡◌, ◌++◌, [], Some, IfOk, OnOk};
 ghost use Rattle.est_scope.specs.Least.{least_with};
 ghost use Rattle.est_kinds.specs.Texts.{text_type};
-ghost use Rattle.est_kinds.specs.Dims.{with_dim, dims_of, elements, ordinal_faults, dim_faults};
-ghost use Rattle.est_kinds.specs.Dims.{each_dim_faults, elements_faults, dims_faults};
+ghost use Rattle.est_kinds.specs.Dims.{with_dim, dims_of, elements, dims_elements, ordinal_faults};
+ghost use Rattle.est_kinds.specs.Dims.{dim_faults, each_dim_faults, elements_faults, dims_faults};
 
 use crate::hosts::{count, is_ordinal};
 use crate::texts::{check_text, text_place};
@@ -88,8 +88,8 @@ fn check_each(
     Ok(kinds)
 }
 
-/// How many elements an array with these subscripts has.
-pub fn elements(kinds: &[Kind]) -> u64
+// How many elements an array with these subscripts has.
+fn elements(kinds: &[Kind]) -> u64
     ensures { result ≡ elements kinds.now }
 {
     let mut all: u64 = 1;
@@ -97,6 +97,16 @@ pub fn elements(kinds: &[Kind]) -> u64
         all = count(&kinds[i]).saturating_mul(all);
     }
     all
+}
+
+/// The elements of what has these subscripts.
+pub fn dims_elements(dims: &Option<Kinds>) -> u64
+    ensures { result ≡ dims_elements dims.now }
+{
+    match dims {
+        None => 0,
+        Some(kinds) => elements(kinds.as_slice()),
+    }
 }
 
 // Notes an array of too many elements.

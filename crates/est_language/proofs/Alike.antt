@@ -1,15 +1,14 @@
 -- Where two views of one sort show one shape, they are the same. A layer, or a part of it, that shows no shape at all is of any sort.
 use Rattle.std.proofs.Common.{◌≡◌, ℕ, List, [], ◌∷◌, ◌++◌, Option, Some, refl, sym, ◌∙◌, ap, subst}
 use Rattle.est_language.specs.Grammar.{Shape}
-use Rattle.est_language.specs.Shown.{View, Shows, empty, kept, at, pair, first, second, given, node, alone, perhaps, nodes, runs, sections, s_empty, s_kept, s_at, s_pair, s_first, s_second, s_given, s_node, s_alone, s_without, s_with, s_none, s_more, s_no_run, s_run, s_no_section, s_first_section, s_second_section}
+use Rattle.est_language.specs.Shown.{View, Shows, empty, kept, at, pair, first, second, given, node, nowhere, nodes, sections, s_empty, s_kept, s_at, s_pair, s_first, s_second, s_given, s_node, s_none, s_more, s_no_section, s_first_section, s_second_section}
 
 -- What a view at one position of a grammar looks like, over tags G of parts.
 pub data Sort (V N G : Type 0) : Type 0 where
   of_nothing of_kept : Sort V N G
   of_at of_option : Sort V N G → Sort V N G
   of_pair of_choice : Sort V N G → Sort V N G → Sort V N G
-  of_part of_alone of_perhaps of_parts : G → Sort V N G
-  of_runs : (List N → View V N) → Sort V N G → G → Sort V N G
+  of_part of_parts : G → Sort V N G
   of_sections : (f g : List N → View V N) → (s r : Sort V N G) → (h k : G) → Sort V N G
 
 -- each part has this tag
@@ -24,7 +23,7 @@ all_tagged {N = N} tag g (m ∷ ms) ls a = let r = all_tagged {N = N} tag g ms l
 module _ {V N G : Type 0} (tag : N → G) where
   -- a view is of a sort
   pub data IsOf : Sort V N G → View V N → Type 0 where
-    f_nowhere : {s : Sort V N G} → IsOf s (alone [])
+    f_nowhere : {s : Sort V N G} → IsOf s nowhere
     f_empty : IsOf of_nothing empty
     f_kept : (v : V) → IsOf of_kept (kept v)
     f_at : {s : Sort V N G} {w : View V N} (p : ℕ) → IsOf s w → IsOf (of_at s) (at p w)
@@ -34,10 +33,7 @@ module _ {V N G : Type 0} (tag : N → G) where
     f_out : {s : Sort V N G} → IsOf (of_option s) empty
     f_in : {s : Sort V N G} {w : View V N} → IsOf s w → IsOf (of_option s) (given w)
     f_part : {g : G} (n : N) → tag n ≡ g → IsOf (of_part g) (node n)
-    f_alone : {g : G} (ns : List N) → All tag g ns → IsOf (of_alone g) (alone ns)
-    f_perhaps : {g : G} (ns : List N) → All tag g ns → IsOf (of_perhaps g) (perhaps ns)
     f_parts : {g : G} (ns : List N) → All tag g ns → IsOf (of_parts g) (nodes ns)
-    f_runs : {f : List N → View V N} {s : Sort V N G} {g : G} (ns : List N) → ((ms : List N) → All tag g ms → IsOf s (f ms)) → ((ms ls : List N) → f ms ≡ f ls → ms ≡ ls) → All tag g ns → IsOf (of_runs f s g) (runs f ns)
     f_sections : {f f' : List N → View V N} {s r : Sort V N G} {h k : G} (ns ms : List N)
         → ((ls : List N) → All tag h ls → IsOf s (f ls)) → ((ks ls : List N) → f ks ≡ f ls → ks ≡ ls)
         → ((ls : List N) → All tag k ls → IsOf r (f' ls)) → ((ks ls : List N) → f' ks ≡ f' ls → ks ≡ ls)
@@ -58,11 +54,6 @@ module _ {V N G : Type 0} (tag : N → G) (layer : N → View V N) (sort_of : G 
   abbrev push : N → View V N → View V N
   push n (nodes ns) = nodes (n ∷ ns)
   push n v = v
-
-  -- one more run first
-  abbrev join : List N → View V N → View V N
-  join ms (runs f ns) = runs f (ms ++ ns)
-  join ms v = v
 
   -- one more section first
   abbrev join_first : List N → View V N → View V N
@@ -89,24 +80,11 @@ module _ {V N G : Type 0} (tag : N → G) (layer : N → View V N) (sort_of : G 
   same_view (s_given d) (f_in h) f_out e = elim e [ ]
   same_view (s_given d) (f_in h) (f_in k) (s_given e) = ap given (same_view d h k e)
   same_view (s_node d) (f_part {g} n p) (f_part m q) (s_node e) = ap node (layer_one n m d e (p ∙ sym q) (same_view d (layer_of n g p) (layer_of m g q) e))
-  same_view (s_alone (s_node d)) (f_alone {g} (n ∷ []) p) (f_alone (m ∷ []) q) (s_alone (s_node e)) = ap (λ v. alone (v ∷ [])) (layer_one n m d e (p.0 ∙ sym q.0) (same_view d (layer_of n g p.0) (layer_of m g q.0) e))
-  same_view (s_alone d) (f_alone (n ∷ []) p) (f_alone [] q) e = elim e [ ]
-  same_view (s_alone d) (f_alone (n ∷ []) p) (f_alone (m ∷ l ∷ ls) q) e = elim e [ ]
-  same_view d (f_perhaps {g} [] p) (f_perhaps [] q) e = refl
-  same_view s_without (f_perhaps {g} [] p) (f_perhaps (m ∷ []) q) e = elim e [ ]
-  same_view (s_with d) (f_perhaps {g} (n ∷ []) p) (f_perhaps [] q) e = elim e [ ]
-  same_view (s_with (s_node d)) (f_perhaps {g} (n ∷ []) p) (f_perhaps (m ∷ []) q) (s_with (s_node e)) = ap (λ v. perhaps (v ∷ [])) (layer_one n m d e (p.0 ∙ sym q.0) (same_view d (layer_of n g p.0) (layer_of m g q.0) e))
-  same_view s_without (f_perhaps [] p) (f_perhaps (m ∷ l ∷ ls) q) e = elim e [ ]
-  same_view (s_with d) (f_perhaps (n ∷ []) p) (f_perhaps (m ∷ l ∷ ls) q) e = elim e [ ]
   same_view d (f_parts [] p) (f_parts [] q) e = refl
   same_view s_none (f_parts [] p) (f_parts (m ∷ ms) q) e = elim e [ ]
   same_view (s_more d d') (f_parts (n ∷ ns) p) (f_parts [] q) e = elim e [ ]
   same_view (s_more (s_node d) d') (f_parts {g} (n ∷ ns) p) (f_parts (m ∷ ms) q) (s_more (s_node e) e') =
       ap (λ v. nodes (v ∷ ns)) (layer_one n m d e (p.0 ∙ sym q.0) (same_view d (layer_of n g p.0) (layer_of m g q.0) e)) ∙ ap (push m) (same_view d' (f_parts {g = g} ns p.1) (f_parts ms q.1) e')
-  same_view s_no_run (f_runs ns h i p) (f_runs ms k j q) s_no_run = refl
-  same_view (s_run ks {ns = bs} d d') (f_runs {f} {s} {g} ns h i p) (f_runs ms k j q) (s_run cs {ns = ds} e e') =
-      let a = all_tagged {N = N} tag g ks bs p in let b = all_tagged {N = N} tag g cs ds q in
-      ap (λ v. runs f (v ++ bs)) (i ks cs (same_view d (h ks a.0) (h cs b.0) e)) ∙ ap (join cs) (same_view d' (f_runs {s = s} bs h i a.1) (f_runs ds k j b.1) e')
   same_view s_no_section (f_sections ns ms h i h' i' p p') (f_sections os qs k j k' j' q q') s_no_section = refl
   same_view (s_first_section ks {ns = bs} d d') (f_sections {f} {f'} {s} {r} {h = g} {k = g'} ns ms h i h' i' p p') (f_sections os qs k j k' j' q q') (s_first_section cs {ns = ds} e e') =
       let a = all_tagged {N = N} tag g ks bs p in let b = all_tagged {N = N} tag g cs ds q in

@@ -10,3 +10,4 @@ pub mod OneTree
 pub mod Alike
 pub mod Extents
 pub mod Sums
+pub mod SameTokens

@@ -1,5 +1,5 @@
 -- Grammars as data, which lists of tokens have a tree by a grammar, and which have a partial tree.
-use Rattle.std.specs.Prelude.{◌≡◌, ℕ, zero, suc, ◌<◌, Bool, true, false, List, [], ◌∷◌, ◌++◌, Option, Some, None, slice_get}
+use Rattle.std.specs.Prelude.{◌≡◌, ℕ, zero, suc, ◌<◌, Bool, true, false, List, [], ◌∷◌, Option, Some, None, slice_get}
 
 -- The right side of a production, over tests T of one token and names P of productions.
 pub data Grammar (T P : Type 0) : Type 0 where
@@ -42,23 +42,6 @@ when false g = none
 abbrev pub one_of : {A T P : Type 0} → (A → Grammar T P) → List A → Grammar T P
 one_of f [] = none
 one_of f (x ∷ xs) = alt (f x) (one_of f xs)
-
--- the tests of tokens that stand in a right side
-abbrev pub tests_of : {T P : Type 0} → Grammar T P → List T
-tests_of done = []
-tests_of none = []
-tests_of (word k g) = k ∷ tests_of g
-tests_of (token k) = k ∷ []
-tests_of (here g) = tests_of g
-tests_of (skip g) = tests_of g
-tests_of (seq g h) = tests_of g ++ tests_of h
-tests_of (alt g h) = tests_of g ++ tests_of h
-tests_of (opt g) = tests_of g
-tests_of (rep g) = tests_of g
-tests_of (nearest k g) = k ∷ tests_of g
-tests_of (ended k g) = k ∷ tests_of g
-tests_of (deeper g) = tests_of g
-tests_of (rule p) = []
 
 -- A language: when a token meets a test, what a tree keeps of a token, and the productions.
 pub record Language (Token V T P : Type 0) : Type 0 where

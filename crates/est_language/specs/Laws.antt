@@ -1,11 +1,13 @@
 -- Laws of trees, partial trees and first bad places, as they stand on functions of this crate.
-use Rattle.std.specs.Prelude.{◌≡◌, ℕ, ◌+◌, ◌<◌, ◌≤◌, false, List, length}
+use Rattle.std.specs.Prelude.{◌≡◌, ℕ, suc, ◌+◌, ◌<◌, ◌≤◌, false, List, length}
 use Rattle.est_language.specs.Grammar.{Grammar, rep, Language, Shape, nothing, chain, Tree}
 use Rattle.est_language.specs.Marks.{Marks, Fits, can_be_empty}
 use Rattle.est_language.specs.Extents.{IsPlacedWithin, leaves}
 use Rattle.est_language.specs.Opening.{OpensOneMore}
 use Rattle.est_language.specs.Lookahead.{OneTokenDecides}
 use Rattle.est_language.specs.Places.{HasTree, HasPartial, IsFirstBadPlace}
+use Rattle.est_language.specs.Answers.{Cause, wrong_at, too_deep_at, SaysWhy}
+use Rattle.est_language.specs.SameTokens.{AreSeenAlike}
 
 -- a list of tokens has at most one first bad place by a grammar
 abbrev pub AtMostOneBadPlace : Type 0 → Type 0 → Type 0 → Type 0 → Type 0
@@ -57,3 +59,23 @@ abbrev pub OpenersAreTold : Type 0 → Type 0 → Type 0 → Type 0 → Type 0
 OpenersAreTold Token V T P = (L : Language Token V T P) (g : Grammar T P) (d : ℕ) (s : List Token)
     (i : ℕ) → OpensOneMore L s i g d 0
     → HasPartial L g d s i × HasPartial L g (d + 1) s (i + 1)
+
+-- where two lists of one length are seen alike, what is a tree of the one is a tree of the other
+abbrev pub SameTrees : Type 0 → Type 0 → Type 0 → Type 0 → Type 0
+SameTrees Token V T P = (L M : Language Token V T P) (g : Grammar T P) (d : ℕ) (s r : List Token)
+    (t : Shape V) → length s ≡ length r → AreSeenAlike L M s r (length s) → HasTree L g d s t
+    → HasTree M g d r t
+
+-- and what is said of the one is true of the other
+abbrev pub SameCauses : Type 0 → Type 0 → Type 0 → Type 0 → Type 0
+SameCauses Token V T P = (L M : Language Token V T P) (g : Grammar T P) (d : ℕ) (s r : List Token)
+    (c : Cause) → length s ≡ length r → AreSeenAlike L M s r (length s) → SaysWhy L g d s c
+    → SaysWhy M g d r c
+
+-- a list that goes wrong at a token does so there whatever stands after it, and so does one for
+-- which the token opens a level too many
+abbrev pub RefusalsStay : Type 0 → Type 0 → Type 0 → Type 0 → Type 0
+RefusalsStay Token V T P = (L M : Language Token V T P) (g : Grammar T P) (d : ℕ) (s r : List Token)
+    (i : ℕ) → i < length s → i < length r → AreSeenAlike L M s r (suc i)
+    → (SaysWhy L g d s (wrong_at i) → SaysWhy M g d r (wrong_at i))
+    × (SaysWhy L g d s (too_deep_at i) → SaysWhy M g d r (too_deep_at i))

@@ -5,6 +5,7 @@ pub mod Lookahead
 pub mod Reading
 pub mod Places
 pub mod Answers
+pub mod SameTokens
 pub mod Laws
 pub mod Shown
 pub mod Extents

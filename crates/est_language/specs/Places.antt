@@ -7,11 +7,6 @@ abbrev pub HasTree : {Token V T P : Type 0} → Language Token V T P → Grammar
     → Shape V → Type 0
 HasTree L g d s t = Tree L s (length s) g d 0 (length s) t
 
--- a sentence is a list of tokens that has a tree
-abbrev pub IsSentence : {Token V T P : Type 0} → Language Token V T P → Grammar T P → ℕ → List Token
-    → Type 0
-IsSentence {V = V} L g d s = (t : Shape V) × HasTree L g d s t
-
 -- the first n tokens have a partial tree by g, with d levels to open
 abbrev pub HasPartial : {Token V T P : Type 0} → Language Token V T P → Grammar T P → ℕ → List Token
     → ℕ → Type 0

@@ -18,14 +18,10 @@ pub data View (V N : Type 0) : Type 0 where
   given : View V N → View V N
   -- a part
   node : N → View V N
-  -- the one part of a list
-  alone : List N → View V N
-  -- the one part of a list, which may be left out
-  perhaps : List N → View V N
+  -- what no text has
+  nowhere : View V N
   -- parts, one after the other
   nodes : List N → View V N
-  -- parts, one after the other, in any runs, of which each is shown so
-  runs : (List N → View V N) → List N → View V N
   -- parts of two sorts, in any runs of either sort, of which each is shown so
   sections : (List N → View V N) → (List N → View V N) → List N → List N → View V N
 
@@ -40,15 +36,9 @@ module _ {V N : Type 0} (layer : N → View V N) where
     s_second : {w : View V N} {t : Shape V} → Shows w t → Shows (second w) (right t)
     s_given : {w : View V N} {t : Shape V} → Shows w t → Shows (given w) (some t)
     s_node : {n : N} {t : Shape V} → Shows (layer n) t → Shows (node n) t
-    s_alone : {n : N} {t : Shape V} → Shows (node n) t → Shows (alone (n ∷ [])) t
-    s_without : Shows (perhaps []) nothing
-    s_with : {n : N} {t : Shape V} → Shows (node n) t → Shows (perhaps (n ∷ [])) (some t)
     s_none : Shows (nodes []) nothing
     s_more : {n : N} {ns : List N} {t u : Shape V} → Shows (node n) t → Shows (nodes ns) u
         → Shows (nodes (n ∷ ns)) (both t u)
-    s_no_run : {f : List N → View V N} → Shows (runs f []) nothing
-    s_run : {f : List N → View V N} (ms : List N) {ns : List N} {t u : Shape V} → Shows (f ms) t
-        → Shows (runs f ns) u → Shows (runs f (ms ++ ns)) (both t u)
     s_no_section : {f g : List N → View V N} → Shows (sections f g [] []) nothing
     s_first_section : {f g : List N → View V N} (ks : List N) {ns ms : List N} {t u : Shape V}
         → Shows (f ks) t → Shows (sections f g ns ms) u

@@ -1,7 +1,10 @@
 // Grammars in general: trees, partial trees, first bad places, and their laws.
 #![tactic(auto)]
 
-ghost use Rattle.est_language.specs.Laws.{AtMostOneBadPlace, AtMostOneTree, FrontsOfTree, FrontsOfPartial, PlacesLieWithin, LeavesAreTokens, OpenersAreTold, TreesTakeTokens, TurnsTakeTokens};
+ghost use Rattle.est_language.specs.Laws.{AtMostOneBadPlace, AtMostOneTree, FrontsOfTree};
+ghost use Rattle.est_language.specs.Laws.{FrontsOfPartial, PlacesLieWithin, LeavesAreTokens};
+ghost use Rattle.est_language.specs.Laws.{OpenersAreTold, TreesTakeTokens, TurnsTakeTokens};
+ghost use Rattle.est_language.specs.Laws.{SameTrees, SameCauses, RefusalsStay};
 
 /// A list of tokens has at most one first bad place.
 pub fn one_bad_place<Token, Value, Test, Production>()
@@ -39,4 +42,12 @@ pub fn trees_take_tokens<Token, Value, Test, Production>()
 /// and ends one with one level more.
 pub fn openers_are_told<Token, Value, Test, Production>()
     ensures { OpenersAreTold Token Value Test Production }
+{}
+
+/// Trees and first bad places depend on nothing but what tests and trees tell of the tokens; and a
+/// token that is refused is so whatever stands after it.
+pub fn same_tokens<Token, Value, Test, Production>()
+    ensures trees { SameTrees Token Value Test Production }
+    ensures causes { SameCauses Token Value Test Production }
+    ensures stay { RefusalsStay Token Value Test Production }
 {}

@@ -34,7 +34,7 @@ use Rattle.est_scope.specs.Declaring.{declared, put, amended, with_kind, lying}
 use Rattle.est_scope.specs.Uses.{declaration_of}
 use Rattle.est_kinds.specs.Constants.{constant_value, constant_last}
 use Rattle.est_kinds.specs.Texts.{text_type, text_place, named_type, enumeration}
-use Rattle.est_kinds.specs.Dims.{dims_of}
+use Rattle.est_kinds.specs.Dims.{dims_of, dims_elements}
 use Rattle.est_outline.specs.Entries.{plain, constant, numbered, point, module_variable, header, in_region, in_section}
 use Rattle.est_outline.specs.Lasts.{names_last, text_last, channel_last, header_last}
 
@@ -193,7 +193,8 @@ side_of o p = side_by o (declaration_of o sort.Channel p.channel) p.role
 -- interaction points
 abbrev pub point_named : Within → Point → Outline → Outline
 point_named w p o =
-    names_declare w p.names p.role.place (point w (dims_of o p.dims) (side_of o p)) o
+    names_declare w p.names p.role.place
+    (point w (dims_of o p.dims) (dims_elements (dims_of o p.dims)) (side_of o p)) o
 
 abbrev pub point_declares : Within → Point → Outline → Outline
 point_declares w p o = point_named w p (lying w p.place o)

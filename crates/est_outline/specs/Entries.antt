@@ -21,6 +21,7 @@ entry w s k z dims side = record {
   kind = k;
   ordinal = z;
   dims = dims;
+  elements = 0;
   side = side;
   header = None;
   closed = false;
@@ -49,9 +50,9 @@ ordinal_of i = if nat_lt i (2 ^ 31) then Some (pos i) else None
 abbrev pub numbered : Within → ℕ → Entry
 numbered w i = entry w sort.Constant None (ordinal_of i) None None
 
--- an interaction point
-abbrev pub point : Within → Option (List Kind) → Option Side → Entry
-point w dims side = entry w sort.Point None None dims side
+-- an interaction point, of so many elements
+abbrev pub point : Within → Option (List Kind) → ℕ → Option Side → Entry
+point w dims n side = record (entry w sort.Point None None dims side) { elements = n }
 
 -- a module variable, of a header
 abbrev pub module_variable : Within → Option (List Kind) → Option ℕ → Entry

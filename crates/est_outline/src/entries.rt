@@ -21,6 +21,7 @@ pub fn typed(within: &Within, sort: Sort, kind: Option<Measured>) -> Entry
         kind,
         ordinal: None,
         dims: None,
+        elements: 0,
         side: None,
         header: None,
         closed: false,
@@ -55,6 +56,7 @@ pub fn constant(within: &Within, value: Option<Valued>) -> Entry
             }),
             ordinal: Some(ordinal),
             dims: None,
+            elements: 0,
             side: None,
             header: None,
             closed: false,
@@ -88,6 +90,7 @@ pub fn numbered(within: &Within, number: usize) -> Entry
         kind: None,
         ordinal: ordinal_of(number),
         dims: None,
+        elements: 0,
         side: None,
         header: None,
         closed: false,
@@ -96,9 +99,9 @@ pub fn numbered(within: &Within, number: usize) -> Entry
     }
 }
 
-/// An interaction point.
-pub fn point(within: &Within, dims: Option<SharedKinds>, side: Option<Side>) -> Entry
-    ensures { result ≡ point within.now dims side }
+/// An interaction point, of so many elements.
+pub fn point(within: &Within, dims: Option<SharedKinds>, elements: u64, side: Option<Side>) -> Entry
+    ensures { result ≡ point within.now dims elements side }
 {
     Entry {
         declared: Declared {
@@ -109,6 +112,7 @@ pub fn point(within: &Within, dims: Option<SharedKinds>, side: Option<Side>) -> 
         kind: None,
         ordinal: None,
         dims,
+        elements,
         side,
         header: None,
         closed: false,
@@ -130,6 +134,7 @@ pub fn module_variable(within: &Within, dims: Option<SharedKinds>, header: Optio
         kind: None,
         ordinal: None,
         dims,
+        elements: 0,
         side: None,
         header,
         closed: false,
@@ -151,6 +156,7 @@ pub fn header(within: &Within, system: bool, exports: bool) -> Entry
         kind: None,
         ordinal: None,
         dims: None,
+        elements: 0,
         side: None,
         header: None,
         closed: false,

@@ -17,7 +17,7 @@ use crate::entries;
 use crate::entries::{module_variable, plain, point};
 use crate::lasts::{channel_last, header_last};
 use crate::within::in_region;
-use est_kinds::dims::dims_of;
+use est_kinds::dims::{dims_elements, dims_of};
 use est_kinds::texts::text_place;
 use est_scope::declaration::{Member, Section, Senders, SharedKinds, Side, Sort, Within};
 use est_scope::outline::Outline;
@@ -203,14 +203,15 @@ fn one_point(
     used: &Used,
     last: u32,
     dims: &Option<SharedKinds>,
+    elements: u64,
     side: Option<Side>,
     outline: &mut Outline,
 ) -> Result<(), AllocError>
     ensures { OnOk result (outline.new ≡
-        declared within.now used.now last (point within.now dims.now side) outline.old) }
+        declared within.now used.now last (point within.now dims.now elements side) outline.old) }
 {
     let dims = share_dims(dims)?;
-    outline.declare(within, used, last, point(within, dims, side))
+    outline.declare(within, used, last, point(within, dims, elements, side))
 }
 
 // Interaction points with the same subscripts and side.
@@ -218,14 +219,15 @@ fn point_names(
     within: &Within,
     item: &Point,
     dims: &Option<SharedKinds>,
+    elements: u64,
     side: Option<Side>,
     outline: &mut Outline,
 ) -> Result<(), AllocError>
     ensures { OnOk result (outline.new ≡ names_declare within.now item.now.names
-        item.now.role.place (point within.now dims.now side) outline.old) }
+        item.now.role.place (point within.now dims.now elements side) outline.old) }
 {
     for used in item.names.as_slice() {
-        one_point(within, used, item.role.place, dims, side, outline)?;
+        one_point(within, used, item.role.place, dims, elements, side, outline)?;
     }
     Ok(())
 }
@@ -240,9 +242,11 @@ fn point_declares(
     ensures { OnOk result (outline.new ≡ point_declares within.now item.now outline.old) }
 {
     outline.lie(within, item.place)?;
-    let dims = shared_dims(alloc, dims_of(alloc, outline, item.dims.as_slice())?)?;
+    let dims = dims_of(alloc, outline, item.dims.as_slice())?;
+    let elements = dims_elements(&dims);
+    let dims = shared_dims(alloc, dims)?;
     let side = side_of(outline, item);
-    point_names(within, item, &dims, side, outline)
+    point_names(within, item, &dims, elements, side, outline)
 }
 
 /// Interaction points.

@@ -35,7 +35,7 @@ use Rattle.est_syntax.specs.declared.expression.Access.{Access}
 use Rattle.est_syntax.specs.declared.statement.Arm.{Arm}
 use Rattle.est_syntax.specs.declared.statement.Sending.{Sending}
 use Rattle.est_syntax.specs.declared.statement.Statement.{Statement}
-use Rattle.est_language.specs.Shown.{Shows, empty, kept, at, pair, first, second, given, node, alone, nodes, s_pair, s_first, s_given}
+use Rattle.est_language.specs.Shown.{Shows, empty, kept, at, pair, first, second, given, node, nowhere, nodes, s_pair, s_first, s_given}
 use Rattle.est_reader.specs.Tests as kinds
 use Rattle.est_reader.specs.Going.{Shape, used}
 use Rattle.est_productions.specs.Nodes as shown
@@ -561,7 +561,7 @@ relation_back (Some r) (s_given (s_pair d e)) =
 -- the sign before a sum: "-" alone is told by what no tree shows
 abbrev pub minus_in : View → Bool
 minus_in (given v) = is_second v
-minus_in (alone ns) = true
+minus_in nowhere = true
 minus_in v = false
 
 pub minus_back : (minus sign : Bool) → minus_in (shown.sign minus sign) ≡ minus

@@ -2,7 +2,8 @@
 -- definition for each production, below the production as it is written.
 --
 -- Where two alternatives begin with the same token, what they share stands before the choice, so
--- that the next token alone decides. A token after `deeper` opens a level.
+-- that the next token alone decides. A token after `deeper` opens a level. Where alternatives are
+-- many, a line in brackets tells their numbers, by which the views of trees name them.
 use Rattle.est_lexer.specs.declared.kind.ReservedWord.{ReservedWord}
 use Rattle.est_lexer.specs.declared.kind.ReservedWord.TheVariants as words
 use Rattle.est_lexer.specs.declared.kind.Symbol.{Symbol}
@@ -348,6 +349,7 @@ detach_statement = said words.Detach (rule end_point)
 -- Expressions (ISO 7185, 6.7).
 
 -- "=" | "<>" | "<" | "<=" | ">" | ">=" | "in"
+-- (by number: = 0, <> 1, < 2, <= 3, > 4, >= 5, in 6)
 abbrev pub relational_operator : Rule
 relational_operator = alt (mark symbols.Equal) (alt (mark symbols.Unequal)
     (alt (mark symbols.Below) (alt (mark symbols.AtMost)
@@ -431,9 +433,11 @@ abbrev pub production : Production → Rule
 production specification = said words.Specification (seq identifier (symbol symbols.Semicolon
     (seq default_queue (seq time_scale (seq (rep (rule common)) initialization)))))
 -- common = consts | types | channel | header | body | routine | "modvar" modvar { modvar } .
+-- (by number: consts 0, types 1, channel 2, header 3, body 4, routine 5, modvar 6)
 production common = alt (rule consts) (alt (rule types) (alt (rule channel)
     (alt (rule header) (alt (rule body) (alt (rule routine) modvars)))))
 -- own = "ip" point { point } | vars | "state" idents ";" | "stateset" stateset { stateset } .
+-- (by number: ip 0, vars 1, state 2, stateset 3)
 production own = alt points (alt (rule vars) (alt states statesets))
 -- consts = "const" constdef { constdef } .
 production consts = said words.Const (several (rule constdef))
@@ -516,8 +520,9 @@ production transpart = said words.Trans (several (rule transition))
 production transition = seq (rep (rule clause)) (seq transition_name
     (seq (rule block) (mark symbols.Semicolon)))
 -- clause = "from" idents | "to" ( ident | "same" ) | "when" access "." ident
---     | "provided" ( "otherwise" | expr ) | "any" params "do" | "priority" constant
+--     | "provided" ( expr | "otherwise" ) | "any" params "do" | "priority" constant
 --     | "delay" "(" expr [ "," ( expr | "*" ) ] ")" .
+-- (by number: from 0, to 1, when 2, provided 3, any 4, priority 5, delay 6)
 production clause = here (alt from_clause (alt to_clause (alt when_clause (alt provided_clause
     (alt any_clause (alt priority_clause delay_clause))))))
 -- access = ident [ "[" exprs "]" ] .
@@ -525,6 +530,8 @@ production access = seq identifier (opt subscripts)
 -- statement = [ "begin" .. | ident .. | "if" .. | "case" .. | "while" .. | "repeat" .. | "for" ..
 --     | "all" .. | "output" .. | init | "release" .. | "connect" .. | "disconnect" ..
 --     | "attach" .. | "detach" .. ] .
+-- (by number: begin 0, ident 1, if 2, case 3, while 4, repeat 5, for 6, all 7, output 8, init 9,
+-- release 10, connect 11, disconnect 12, attach 13, detach 14)
 production statement = here (opt (alt compound (alt assignment_or_call (alt if_statement
     (alt case_statement (alt while_statement (alt repeat_statement (alt for_statement
     (alt all_statement (alt output_statement (alt (rule init) (alt release_statement
@@ -547,6 +554,7 @@ production simple = seq (opt plus_or_minus) (seq (rule term) (rep sum_step))
 production term = seq (rule factor) (rep product_step)
 -- factor = number | character | "(" expr ")" | "not" factor
 --     | "[" [ member { "," member } ] "]" | ident ( "(" exprs ")" | { selector } ) .
+-- (by number: number 0, character 1, ( 2, not 3, [ 4, ident 5)
 production factor = here (alt number (alt character (alt group (alt negation
     (alt set variable_or_call)))))
 -- selector = "." ident | "[" exprs "]" .

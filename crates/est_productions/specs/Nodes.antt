@@ -51,7 +51,7 @@ use Rattle.est_syntax.specs.declared.statement.Sending.{Sending}
 use Rattle.est_syntax.specs.declared.statement.Statement.{Statement, out-Statement}
 use Rattle.est_syntax.specs.declared.statement.Statement.TheOpen as statements
 use Rattle.est_syntax.specs.declared.specification.Spec.{Spec}
-use Rattle.est_language.specs.Shown.{empty, kept, at, pair, first, second, given, node, alone, nodes, sections}
+use Rattle.est_language.specs.Shown.{empty, kept, at, pair, first, second, given, node, nowhere, nodes, sections}
 use Rattle.est_reader.specs.Tests as kinds
 use Rattle.est_reader.specs.Going as going
 use Rattle.est_reader.specs.Going.{used}
@@ -98,11 +98,7 @@ pub data Node : Type 0 where
 abbrev pub View : Type 0
 View = going.View Node
 
--- what no tree shows: the one part of a list that has none
-abbrev pub nowhere : View
-nowhere = alone []
-
--- the alternative with this number, which is not the last
+-- the alternative with this number, counted from 0, which is not the last
 abbrev pub choice : ℕ → View → View
 choice zero v = first v
 choice (suc i) v = second (choice i v)

@@ -6,7 +6,7 @@ use Rattle.est_lexer.specs.Places.{text_of, tokens_of}
 use Rattle.est_language.specs.Grammar.{done, none, word, token, here, skip, seq, alt, opt, rep, nearest, ended, deeper, rule, nothing, placed, both, left, right, some, Language, Tree, t_seq}
 use Rattle.est_language.specs.Marks.{MeetsOne, can_begin, can_go_on, can_be_empty, disjoint, covered, implies_one}
 use Rattle.est_language.specs.Reading.{Found}
-use Rattle.est_language.specs.Shown.{Shows, empty, at, pair, first, second, given, node, alone, perhaps, nodes, s_alone, s_without, s_with, s_empty, s_at, s_pair, s_first, s_second, s_given, s_node}
+use Rattle.est_language.specs.Shown.{Shows, empty, at, pair, first, second, given, node, nodes, s_empty, s_at, s_pair, s_first, s_second, s_given, s_node}
 use Rattle.est_language.proofs.Laws as laws
 use Rattle.est_language.proofs.Members.{among, and_left, and_right}
 use Rattle.est_reader.specs.declared.reader.Reader.{Reader}
@@ -55,10 +55,6 @@ module _ {P N : Type 0} {X : Syntax P N} where
   -- a part whose last items are put in when all of it is read
   pub part_still : {n : N} {g : Rule P} {A B C : Reader} {v : View N} → Goes X g A v B → Still B C → (C.outcome ≡ Well → X.layer n ≡ v) → Goes X g A (node n) C
   part_still x s q = part refl (goes_still x s (λ e. sym (q e)))
-
-  -- one part, alone in a list, and one that may be left out
-  pub alone_goes : {g : Rule P} {A B C : Reader} {n : N} {ns : List N} → Goes X g A (node n) B → Still B C → (C.outcome ≡ Well → n ∷ [] ≡ ns) → Goes X g A (alone ns) C
-  alone_goes {n = n} x s q = goes_still (goes_onto (λ w r. (r.0, r.1, s_alone r.2)) (λ w z r. r) x) s (λ w. ap alone (q w))
 
   pub went_well : {g : Rule P} {A B : Reader} {v : View N} → Goes X g A v B → B.outcome ≡ Well → A.outcome ≡ Well
   went_well {g} {A} {B} {v} x e = was_well (Finds X A.tokens.now g A.levels A.at v) (Fails X A.tokens.now g A.levels A.at) A.at B.at A.outcome B.outcome x.moves e
@@ -242,19 +238,6 @@ module _ {P N : Type 0} (K : Known P N) where
           sticky = subst (λ o. bit D.outcome ≤ bit o) (sym (sees_well s)) (bit_small D.outcome);
         };
       }
-
-  pub with_goes : {k : Test} {g : Rule P} {A B C D : Reader} {n : N} {ns : List N} → Sees A k true → Takes k A B → Goes K.syntax g B (node n) C → Still C D → (D.outcome ≡ Well → n ∷ [] ≡ ns) → Goes K.syntax (nearest k g) A (perhaps ns) D
-  with_goes {k} {g} {A} {B} {C} {D} {n} {ns} e x y s q =
-      goes_still (goes_onto (λ w r. one_given r) (λ w z r. r) (nearest_in e x y)) s (λ w. ap perhaps (q w))
-    where
-      one_given : {a b : ℕ} → Finds K.syntax A.tokens.now (nearest k g) A.levels a (given (node n)) b → Finds K.syntax A.tokens.now (nearest k g) A.levels a (perhaps (n ∷ [])) b
-      one_given (t, f, s_given h) = (t, f, s_with h)
-
-  pub without_goes : {k : Test} {g : Rule P} {A : Reader} → Sees A k false → Goes K.syntax (nearest k g) A (perhaps []) A
-  without_goes {k} {g} {A} e = goes_onto (λ w r. left_out r) (λ w z r. r) (nearest_out e)
-    where
-      left_out : {a b : ℕ} → Finds K.syntax A.tokens.now (nearest k g) A.levels a empty b → Finds K.syntax A.tokens.now (nearest k g) A.levels a (perhaps []) b
-      left_out (t, f, s_empty) = (t, f, s_without)
 
   -- the alternative with this number
   abbrev pub alternative : Rule P → ℕ → Rule P

@@ -7,3 +7,4 @@ pub mod Seen
 pub mod Turns
 pub mod Single
 pub mod Whole
+pub mod SameTokens

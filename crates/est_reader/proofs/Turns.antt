@@ -6,7 +6,7 @@ use Rattle.est_lexer.specs.Places.{text_of, tokens_of}
 use Rattle.est_language.specs.Grammar.{seq, alt, rep, ended, nothing, leaf, placed, both, left, right, some, chain}
 use Rattle.est_language.specs.Marks.{MeetsOne, can_begin, can_go_on, can_be_empty, disjoint, covered, implies_one}
 use Rattle.est_language.specs.Reading.{Found}
-use Rattle.est_language.specs.Shown.{Shows, first, second, node, nodes, runs, sections, s_first, s_second, s_no_section, s_first_section, s_second_section, s_no_run, s_run, s_none, s_more}
+use Rattle.est_language.specs.Shown.{Shows, first, second, node, nodes, sections, s_first, s_second, s_no_section, s_first_section, s_second_section, s_none, s_more}
 use Rattle.est_language.proofs.Laws as laws
 use Rattle.est_language.proofs.Members.{and_left, and_right}
 use Rattle.est_reader.specs.declared.reader.Reader.{Reader}
@@ -142,32 +142,6 @@ module _ {P N : Type 0} (K : Known P N) where
       subst (λ ts. (length (tokens_of ts) - D.at) * 2 + bit D.outcome < left_of B) (sym (s.same.tokens ∙ x.same.tokens))
       (less B.tokens.now h v (length (tokens_of B.tokens.now)) B.levels B.at C.at D.at B.outcome C.outcome D.outcome f (sees_well z) x.moves s.same.sticky s.place x.same.onward
       (subst (λ ts. C.at ≤ length (tokens_of ts)) x.same.tokens C.inside))
-
-  -- parts in runs
-  abbrev pub Runs : (List N → View N) → List N → List Shape → Type 0
-  Runs f ns [] = ns ≡ []
-  Runs f ns (t ∷ ts) = (ms : List N) × (ls : List N) × (ns ≡ ms ++ ls) × Shows K.syntax.layer (f ms) t × Runs f ls ts
-
-  runs_more : (f : List N → View N) (ns ms : List N) (ts : List Shape) (t : Shape) → Runs f ns ts → Shows K.syntax.layer (f ms) t → Runs f (ns ++ ms) (ts ++ t ∷ [])
-  runs_more f ns ms [] t e s = (ms, [], subst (λ l. l ++ ms ≡ ms ++ []) (sym e) (sym (append-nil ms)), s, refl)
-  runs_more f ns ms (u ∷ ts) t e s = (e.0, e.1 ++ ms, ap (λ l. l ++ ms) e.2 ∙ append_assoc e.0 e.1 ms, e.3, runs_more f e.1 ms ts t e.4 s)
-
-  runs_chain : (f : List N → View N) (ns : List N) (ts : List Shape) → Runs f ns ts → Shows K.syntax.layer (runs f ns) (chain ts nothing)
-  runs_chain f ns [] e = subst (λ l. Shows K.syntax.layer (runs f l) nothing) (sym e) s_no_run
-  runs_chain f ns (t ∷ ts) e = subst (λ l. Shows K.syntax.layer (runs f l) (both t (chain ts nothing))) (sym e.2) (s_run e.0 e.3 (runs_chain f e.1 ts e.4))
-
-  pub no_run : {g : Rule P} {A : Reader} {f : List N → View N} → Turning g g A (Runs f []) A
-  no_run {f = f} = no_turn (Runs f []) refl
-
-  -- one more run of items, each a part of the value
-  pub more_runs : {I : Type 0} {part : I → N} {whole h : Rule P} {A B C : Reader} {f : List N → View N} (items : List I) {items' : List I} (k : Test) → implies_one implies k (can_begin K.syntax.marks h) ≡ true → disjoint apart (can_go_on K.syntax.marks h) (can_begin K.syntax.marks h) ≡ true → can_be_empty K.syntax.marks h ≡ false
-      → Sees B k true → Turning whole (rep h) A (Runs f (map part items)) B → Adds K.syntax h f part B items items' C → Turning whole (rep h) A (Runs f (map part items')) C
-  more_runs {part = part} {f = f} items k i j e s x y =
-      turning_on (λ w ts r. subst (λ l. Runs f l ts) (sym (ap (map part) (y.added w) ∙ map-append part items y.run)) r)
-      (one_more (Runs f (map part items)) (Runs f (map part items ++ map part y.run)) k i j e s (λ ts t q m. runs_more f (map part items) (map part y.run) ts t q m) x y.goes)
-
-  pub all_runs : {whole h : Rule P} {A B : Reader} {f : List N → View N} {ns : List N} (ks : List Test) → covered implies (can_begin K.syntax.marks h) ks ≡ true → can_be_empty K.syntax.marks h ≡ false → NoneSeen B ks → Turning whole (rep h) A (Runs f ns) B → Goes K.syntax whole A (runs f ns) B
-  all_runs {f = f} {ns} ks i e n x = no_more (Runs f ns) ks i e n (λ ts r. runs_chain f ns ts r) x
 
   -- Sections of two sorts, in any order: `while .. { if .. { reads g } else { reads h } }`. The
   -- loop's invariant is `Turning K (rep (alt g h)) (rep (alt g h)) start (Sections K e f

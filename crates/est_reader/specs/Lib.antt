@@ -1,4 +1,5 @@
 pub mod Tests
 pub mod Moving
+pub mod SameTokens
 pub mod Going
 pub mod Whole

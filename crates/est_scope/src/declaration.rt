@@ -72,9 +72,9 @@ pub type SharedKinds = Shared<Kinds>;
 
 /// What is known of a declaration. `kind` is that of a constant, a type, a variable or the result
 /// of a function, where it has one, and `ordinal` the value of a constant. `dims` are the kinds of
-/// the subscripts of an interaction point or a module variable, and `side` is that of an
-/// interaction point. `header` is the place of the name of the header of a module variable or a
-/// body, where it has one. `closed` says of a routine that nested bodies see it, `system` of a
+/// the subscripts of an interaction point or a module variable; an interaction point has so many
+/// `elements`, and the `side`. `header` is the place of the name of the header of a module variable
+/// or a body, where it has one. `closed` says of a routine that nested bodies see it, `system` of a
 /// header that it is a `systemactivity`, and `exports` that it has exported variables.
 #[derive(Drop)]
 pub struct Entry {
@@ -83,6 +83,7 @@ pub struct Entry {
     pub kind: Option<Measured>,
     pub ordinal: Option<i32>,
     pub dims: Option<SharedKinds>,
+    pub elements: u64,
     pub side: Option<Side>,
     pub header: Option<u32>,
     pub closed: bool,

@@ -35,7 +35,7 @@ use Rattle.est_scope.specs.declared.declaration.Within.{Within}
 use Rattle.est_scope.specs.Outline.{Outline}
 use Rattle.est_scope.specs.Declaring.{empty, declared, put, amended, with_header, lying}
 use Rattle.est_scope.specs.Uses.{same_sort, declaration_of}
-use Rattle.est_kinds.specs.Dims.{dims_of}
+use Rattle.est_kinds.specs.Dims.{dims_of, dims_elements}
 use Rattle.est_outline.specs.declared.context.ClauseKind.TheVariants as kind
 use Rattle.est_outline.specs.Contexts.{dropped, under}
 use Rattle.est_outline.specs.Entries.{plain, point, module_variable, header, outermost, inner, in_region}
@@ -112,7 +112,7 @@ module _ (body : Used) (P : ℕ → Outline → Type 0) (kept : IsKept body P) w
   point_kept : (w : Within) (q : Point) (n : ℕ) (o : Outline) → P n o → P (n + length q.names) (point_declares w q o)
   point_kept w q n o p =
       let o1 = lying w q.place o in
-      names_kept w q.names q.role.place (point w (dims_of o1 q.dims) (side_of o1 q)) refl n (n + length q.names) o1 (omega arith) (kept.lies n o w q.place p)
+      names_kept w q.names q.role.place (point w (dims_of o1 q.dims) (dims_elements (dims_of o1 q.dims)) (side_of o1 q)) refl n (n + length q.names) o1 (omega arith) (kept.lies n o w q.place p)
 
   points_kept : (w : Within) (qs : List Point) (n m : ℕ) (o : Outline) → n + sum_by point_names qs ≤ m → P n o → P m (sections_declare w qs [] o)
   points_kept w [] n m o l p = kept.more n m o (omega (arith, l)) p

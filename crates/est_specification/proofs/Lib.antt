@@ -2,3 +2,4 @@ pub mod Sizes
 pub mod Small
 pub mod Unique
 pub mod Refused
+pub mod SameAnswer

@@ -16,7 +16,7 @@ use Rattle.est_specification.specs.Reading.{IsSpecification, IsGoodText, IsNoSpe
 -- a sentence, by its tree
 pub good : (text : List ℕ) (tokens : List Token) (spec : Spec) (r : Specification) → HasOneTree text tokens spec → IsFound spec r → IsGoodText text tokens r
 good text tokens spec (found.Skeleton c) tree f = subst (IsSpecification text tokens) (sym f.0) record { tree = tree; skeleton = f.1; good = f.2 }
-good text tokens spec (found.Whole counts) tree f = record { spec = spec; tree = tree; whole = f.0; good = f.1; numbers = f.2 }
+good text tokens spec (found.Whole counts) tree f = record { spec = spec; tree = tree; no_skeleton = f.0; good = f.1; numbers = f.2 }
 
 refused_by : (text : List ℕ) (tokens : List Token) (spec : Spec) (e : CheckError) → HasOneTree text tokens spec → IsRefused spec e → IsNoSpecification text tokens (of_fault e)
 refused_by text tokens spec (faults.Fault place r) tree f = (spec, tree, f)

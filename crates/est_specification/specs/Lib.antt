@@ -1,4 +1,5 @@
 pub mod Errors
 pub mod Reading
+pub mod Layout
 pub mod Sizes
 pub mod Unique

@@ -24,7 +24,7 @@ pub record IsSpecification (text : List ℕ) (tokens : List Token) (spec : Spec)
 pub record HasNumbers (text : List ℕ) (tokens : List Token) (counts : Counts) : Type 0 where
   pub spec : Spec
   pub tree : HasOneTree text tokens spec
-  pub whole : IsSkeleton spec → ⊥
+  pub no_skeleton : IsSkeleton spec → ⊥
   pub good : IsGood spec
   pub numbers : counts ≡ counts_of spec
 

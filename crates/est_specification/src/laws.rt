@@ -1,4 +1,5 @@
-//! What holds of sentences: each is of one specification, and small where its tokens are few.
+//! What holds of texts: which specification they are, how large, and what it does not depend on.
+ghost use Rattle.est_specification.specs.Layout.{LayoutMeansNothing, RefusalsStay};
 ghost use Rattle.est_specification.specs.Sizes.{SentencesAreSmall};
 ghost use Rattle.est_specification.specs.Unique.{SpecificationsAreUnique};
 
@@ -11,4 +12,12 @@ pub fn specifications_are_unique()
 /// A sentence of at most 1,048,576 tokens declares no more names, and has no more transitions.
 pub fn sentences_are_small()
     ensures { SentencesAreSmall }
+{}
+
+/// Texts of the same tokens, but for layout, comments and letter case, have the same answer, each
+/// place told by the number of its token. And a token that the grammar refuses is refused whatever
+/// stands after it.
+pub fn layout_means_nothing()
+    ensures layout { LayoutMeansNothing }
+    ensures rest { RefusalsStay }
 {}

@@ -198,8 +198,8 @@ read_not_refused text tokens (found.Whole counts) s place why is x = good_not_re
 
 one_read : (text : List ℕ) (tokens : List Token) (a b : Read) → IsGoodText text tokens a → IsGoodText text tokens b → a ≡ b
 one_read text tokens (found.Skeleton spec) (found.Skeleton spec') x y = ap (λ z. found.Skeleton z) (same_specification text tokens spec spec' x.tree y.tree)
-one_read text tokens (found.Skeleton spec) (found.Whole counts) x y = absurd (skeleton_only text tokens spec y.spec x.tree x.skeleton y.tree y.whole)
-one_read text tokens (found.Whole counts) (found.Skeleton spec) x y = absurd (skeleton_only text tokens spec x.spec y.tree y.skeleton x.tree x.whole)
+one_read text tokens (found.Skeleton spec) (found.Whole counts) x y = absurd (skeleton_only text tokens spec y.spec x.tree x.skeleton y.tree y.no_skeleton)
+one_read text tokens (found.Whole counts) (found.Skeleton spec) x y = absurd (skeleton_only text tokens spec x.spec y.tree y.skeleton x.tree x.no_skeleton)
 one_read text tokens (found.Whole counts) (found.Whole counts') x y =
     ap (λ z. found.Whole z) (x.numbers ∙ ap counts_of (same_specification text tokens x.spec y.spec x.tree y.tree) ∙ sym y.numbers)
 

@@ -1,6 +1,6 @@
 -- What traces show of their texts, a layer at a time.
 use Rattle.std.specs.Prelude.{ℕ, zero, suc, List, [], ◌∷◌}
-use Rattle.est_language.specs.Shown.{empty, kept, pair, first, second, given, node, alone}
+use Rattle.est_language.specs.Shown.{empty, kept, pair, first, second, given, node, nowhere}
 use Rattle.est_syntax.specs.declared.kind.Value.{Value}
 use Rattle.est_syntax.specs.declared.ports.Port.{Port}
 use Rattle.est_meaning.specs.declared.event.Interaction.{Interaction}
@@ -30,7 +30,7 @@ numbered (suc i) v = second (numbered i v)
 -- no values; where there are values, no shape is shown
 abbrev pub values_view : List Value → View
 values_view [] = empty
-values_view (x ∷ xs) = alone []
+values_view (x ∷ xs) = nowhere
 
 -- which of the three events, and what it shows
 abbrev pub event_layer : Event → View
