@@ -2,7 +2,10 @@
 use Rattle.std.specs.Prelude.{ℕ, ℤ, Bool, true, false, ◌&&◌, nat_eq, List, [], ◌∷◌}
 use Rattle.std.specs.Ordering.{int_eq}
 use Rattle.est_syntax.specs.Names.{is_name}
-use Rattle.est_syntax.specs.declared.kind.Kind.{Kind, out-Kind, Row_of-Kind, more_of-Kind, Row_of-FieldKind, end_of-FieldKind, more_of-FieldKind, Row_of-Kind-Fields-0-1, more_of-Kind-Fields-0-1}
+use Rattle.est_syntax.specs.declared.kind.Kind.{Kind, out-Kind, Row_of-Kind, more_of-Kind}
+use Rattle.est_syntax.specs.declared.kind.Kind.{Row_of-FieldKind, end_of-FieldKind}
+use Rattle.est_syntax.specs.declared.kind.Kind.{more_of-FieldKind, Row_of-Kind-Fields-0-1}
+use Rattle.est_syntax.specs.declared.kind.Kind.{more_of-Kind-Fields-0-1}
 use Rattle.est_syntax.specs.declared.kind.Kind.TheOpen as seen
 use Rattle.est_syntax.specs.declared.kind.Kind.TheVariants as kind
 use Rattle.est_syntax.specs.declared.kind.FieldKind.{FieldKind}
@@ -70,8 +73,7 @@ abbrev mutual
 
   -- whether it is a record of alike fields
   pub is_record : {n : _} → Row_of-Kind-Fields-0-1 n → Layer → Bool
-  is_record (more_of-Kind-Fields-0-1 a fields rest) (seen.Fields others) =
-      row_fields fields others
+  is_record (more_of-Kind-Fields-0-1 a fields rest) (seen.Fields others) = row_fields fields others
   is_record fields _ = false
 
   -- whether fields have the same names, in order, with alike kinds

@@ -1,5 +1,5 @@
 //! What being alike keeps.
-ghost use Rattle.est_alike.specs.Laws.{KindsAreAlikeToThemselves};
+ghost use Rattle.est_alike.specs.AlikeLaws.{KindsAreAlikeToThemselves};
 
 /// Each kind is alike to itself.
 #[tactic(auto, using(crate::proofs::Itself::alike_to_itself))]

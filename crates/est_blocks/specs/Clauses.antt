@@ -1,11 +1,13 @@
 -- The rules that the clauses of transitions break (ISO 9074, transition-group and clauses).
-use Rattle.std.specs.Prelude.{ℕ, pos, int_lt, Bool, true, false, ◌&&◌, ◌||◌, not, nat_lt, List, [], ◌∷◌, ◌++◌, Option, Some, None, if◌then◌else◌}
+use Rattle.std.specs.Prelude.{ℕ, pos, int_lt, Bool, true, false, ◌&&◌, ◌||◌, not, nat_lt}
+use Rattle.std.specs.Prelude.{List, [], ◌∷◌, ◌++◌, Option, Some, None, if◌then◌else◌}
 use Rattle.est_syntax.specs.Faults.{broken, broken_if}
 use Rattle.est_syntax.specs.Kinds.{is_ordinal}
 use Rattle.est_syntax.specs.declared.name.Used.{Used}
 use Rattle.est_syntax.specs.declared.ports.Direction.TheVariants.{Receives}
 use Rattle.est_syntax.specs.declared.rule.Fault.{Fault}
-use Rattle.est_syntax.specs.declared.rule.Rule.TheVariants.{UnknownName, NotSeenHere, WrongSort, TooLarge, WrongKind, DelayNotAlone}
+use Rattle.est_syntax.specs.declared.rule.Rule.TheVariants.{UnknownName, NotSeenHere, WrongSort}
+use Rattle.est_syntax.specs.declared.rule.Rule.TheVariants.{TooLarge, WrongKind, DelayNotAlone}
 use Rattle.est_syntax.specs.declared.transition.Clause.{Clause}
 use Rattle.est_syntax.specs.declared.transition.Clause.TheVariants as clause
 use Rattle.est_syntax.specs.declared.transition.Most.{Most}
@@ -14,14 +16,15 @@ use Rattle.est_syntax.specs.declared.type_text.VarDef.{VarDef}
 use Rattle.est_scope.specs.declared.declaration.Entry.{Entry}
 use Rattle.est_scope.specs.declared.declaration.Measured.{Measured}
 use Rattle.est_scope.specs.declared.declaration.Meant.{Meant}
-use Rattle.est_scope.specs.declared.declaration.Meant.TheVariants.{Nothing, Predeclared, Unseen, Seen}
+use Rattle.est_scope.specs.declared.declaration.Meant.TheVariants.{Nothing, Predeclared}
+use Rattle.est_scope.specs.declared.declaration.Meant.TheVariants.{Unseen, Seen}
 use Rattle.est_scope.specs.declared.declaration.Sort.{Sort}
 use Rattle.est_scope.specs.declared.declaration.Sort.TheVariants as sort
 use Rattle.est_scope.specs.Outline.{Outline, entry_at}
 use Rattle.est_scope.specs.Uses.{meaning, use_faults}
 use Rattle.est_kinds.specs.declared.value.Valued.{Valued}
 use Rattle.est_kinds.specs.Constants.{is_integer, constant_value, constant_faults, constant_place}
-use Rattle.est_kinds.specs.Texts.{text_type, count, multiplied, is_declared}
+use Rattle.est_kinds.specs.TypeTexts.{text_type, count, multiplied, is_declared}
 use Rattle.est_kinds.specs.Dims.{dim_faults}
 use Rattle.est_outline.specs.declared.context.ClauseKind.{ClauseKind}
 use Rattle.est_outline.specs.declared.context.ClauseKind.TheVariants as given
@@ -77,8 +80,7 @@ names_choices o choices n (u ∷ us) = names_choices o choices (name_choices o c
 
 abbrev pub tuples : Outline → ℕ → List VarDef → ℕ
 tuples o n [] = n
-tuples o n (v ∷ vs) =
-    tuples o (names_choices o (choices_by (text_type o v.text)) n v.names) vs
+tuples o n (v ∷ vs) = tuples o (names_choices o (choices_by (text_type o v.text)) n v.names) vs
 
 -- what an `any` breaks
 abbrev pub domain_faults : Outline → VarDef → List Fault

@@ -7,12 +7,13 @@ use Rattle.est_syntax.specs.declared.body.Body.{Body', Row_of-Group, end_of-Grou
 use Rattle.est_syntax.specs.declared.specification.Spec.{Spec}
 use Rattle.est_syntax.specs.declared.statement.Statement.{Statement}
 use Rattle.est_syntax.specs.declared.statement.Statement.TheVariants as statement
-use Rattle.est_syntax.specs.declared.transition.Group.{Group', Row_of-Transition, end_of-Transition, more_of-Transition}
+use Rattle.est_syntax.specs.declared.transition.Group.{Group', Row_of-Transition}
+use Rattle.est_syntax.specs.declared.transition.Group.{end_of-Transition, more_of-Transition}
 use Rattle.est_scope.specs.declared.declaration.Sort.TheVariants as sort
 use Rattle.est_scope.specs.declared.declaration.Entry.{Entry}
 use Rattle.est_scope.specs.Outline.{Outline, Region, names_of, entry_at}
 use Rattle.est_scope.specs.Uses.{declaration_of}
-use Rattle.est_kinds.specs.Texts.{added}
+use Rattle.est_kinds.specs.TypeTexts.{added}
 use Rattle.est_outline.specs.Bodies.{outline_of}
 use Rattle.est_blocks.specs.declared.counts.Counts.{Counts}
 use Rattle.est_statements.specs.Modules.{header_at}

@@ -1,5 +1,5 @@
-pub mod Answers
-pub mod Blocks
+pub mod LeastFault
+pub mod BlockFaults
 pub mod Clauses
 pub mod Counts
 pub mod inside

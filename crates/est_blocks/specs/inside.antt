@@ -1,3 +1,3 @@
 -- What only the private functions say.
 pub mod Counted
-pub mod Parts
+pub mod BlockParts

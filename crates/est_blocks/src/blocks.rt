@@ -2,13 +2,13 @@
 #![tactic(auto, using(est_scope::proofs::LeastLaws::least_append, crate::proofs::PartRows::body_at, crate::proofs::PartRows::routine_at))]
 
 ghost use Rattle.std.specs.Prelude.{◌≡◌, OnOk};
-ghost use Rattle.est_scope.specs.Least.{least_with};
-ghost use Rattle.est_blocks.specs.Blocks.{function_of, part_faults, parts_faults};
+ghost use Rattle.est_scope.specs.LeastSoFar.{least_with};
+ghost use Rattle.est_blocks.specs.BlockFaults.{function_of, part_faults, parts_faults};
 ghost use Rattle.est_blocks.specs.Clauses.{with_clauses};
-ghost use Rattle.est_blocks.specs.inside.Parts.{held_block_faults, first_part_faults};
-ghost use Rattle.est_blocks.specs.inside.Parts.{transition_faults, transitions_faults};
-ghost use Rattle.est_blocks.specs.inside.Parts.{group_faults, groups_faults, body_faults};
-ghost use Rattle.est_blocks.specs.inside.Parts.{routine_faults};
+ghost use Rattle.est_blocks.specs.inside.BlockParts.{held_block_faults, first_part_faults};
+ghost use Rattle.est_blocks.specs.inside.BlockParts.{transition_faults, transitions_faults};
+ghost use Rattle.est_blocks.specs.inside.BlockParts.{group_faults, groups_faults, body_faults};
+ghost use Rattle.est_blocks.specs.inside.BlockParts.{routine_faults};
 
 use crate::clauses::{check_clauses, check_next};
 use crate::context::{check_delay, give_clauses};

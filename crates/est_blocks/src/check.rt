@@ -2,11 +2,11 @@
 #![tactic(auto, using(est_scope::proofs::LeastLaws::least_append))]
 
 ghost use Rattle.std.specs.Prelude.{◌≡◌, ◌++◌, IfOk, None, []};
-ghost use Rattle.est_scope.specs.Least.{least_with};
+ghost use Rattle.est_scope.specs.LeastSoFar.{least_with};
 ghost use Rattle.est_outline.specs.Bodies.{outline_of};
-ghost use Rattle.est_types.specs.Faults.{declaration_faults};
-ghost use Rattle.est_blocks.specs.Blocks.{specification_faults};
-ghost use Rattle.est_blocks.specs.Answers.{IsAnswered};
+ghost use Rattle.est_types.specs.DeclarationFaults.{declaration_faults};
+ghost use Rattle.est_blocks.specs.BlockFaults.{specification_faults};
+ghost use Rattle.est_blocks.specs.LeastFault.{IsAnswered};
 
 use crate::blocks::check_parts;
 use crate::counts::{Counts, numbers};

@@ -2,10 +2,10 @@
 #![tactic(auto, using(est_scope::proofs::LeastLaws::least_append))]
 
 ghost use Rattle.std.specs.Prelude.{◌≡◌, ◌++◌, IfOk, OnOk};
-ghost use Rattle.est_scope.specs.Least.{least_with};
+ghost use Rattle.est_scope.specs.LeastSoFar.{least_with};
 ghost use Rattle.est_scope.specs.Outline.{entry_at};
 ghost use Rattle.est_kinds.specs.Constants.{constant_value, constant_faults, constant_place};
-ghost use Rattle.est_kinds.specs.Texts.{text_type};
+ghost use Rattle.est_kinds.specs.TypeTexts.{text_type};
 ghost use Rattle.est_blocks.specs.Clauses.{is_state_sort, state_faults, states_faults, next_faults};
 ghost use Rattle.est_blocks.specs.Clauses.{choices_by, name_choices, names_choices, tuples};
 ghost use Rattle.est_blocks.specs.Clauses.{domain_faults};

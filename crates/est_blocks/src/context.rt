@@ -2,7 +2,7 @@
 #![tactic(auto, using(est_scope::proofs::LeastLaws::least_append))]
 
 ghost use Rattle.std.specs.Prelude.{◌≡◌, OnOk};
-ghost use Rattle.est_scope.specs.Least.{least_with};
+ghost use Rattle.est_scope.specs.LeastSoFar.{least_with};
 ghost use Rattle.est_blocks.specs.Clauses.{kind_of, clause_place, with_clause, with_clauses};
 ghost use Rattle.est_blocks.specs.Clauses.{has, delay_faults};
 

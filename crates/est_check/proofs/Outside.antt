@@ -14,6 +14,7 @@ pub body_is : (s : Spec) (o : Outline) → o ≡ outline_of s → body_by o s.fi
 unfolding body_started
 body_is s o e = ap (λ x. body_by x s.first) e
 
-pub header_is : (s : Spec) (o : Outline) (body : Option ℕ) → o ≡ outline_of s → header_at o body ≡ header_meant s body
+pub header_is : (s : Spec) (o : Outline) (body : Option ℕ) → o ≡ outline_of s
+    → header_at o body ≡ header_meant s body
 unfolding header_meant
 header_is s o body e = ap (λ x. header_at x body) e

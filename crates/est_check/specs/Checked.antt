@@ -2,7 +2,7 @@
 use Rattle.std.specs.Prelude.{◌≡◌, ℕ, List, Option}
 use Rattle.est_syntax.specs.declared.ports.Port.{Port}
 use Rattle.est_syntax.specs.declared.specification.Spec.{Spec}
-use Rattle.est_blocks.specs.Answers.{IsGood}
+use Rattle.est_blocks.specs.LeastFault.{IsGood}
 use Rattle.est_blocks.specs.Counts.{counts_of}
 use Rattle.est_blocks.specs.declared.counts.Counts.{Counts}
 use Rattle.est_skeleton.specs.Ports.{ports_of, body_started, header_meant}

@@ -1,3 +1,3 @@
-pub mod Answers
+pub mod Found
 pub mod Checked
 pub mod inside

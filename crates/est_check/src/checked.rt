@@ -1,7 +1,7 @@
 //! Checked specifications.
 
 ghost use Rattle.std.specs.Prelude.{◌≡◌, IfOk};
-ghost use Rattle.est_blocks.specs.Answers.{IsGood};
+ghost use Rattle.est_blocks.specs.LeastFault.{IsGood};
 ghost use Rattle.est_blocks.specs.Counts.{counts_of};
 ghost use Rattle.est_skeleton.specs.Ports.{ports_of, body_started, header_meant};
 ghost use Rattle.est_skeleton.specs.Skeleton.{IsSkeleton};

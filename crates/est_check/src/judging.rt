@@ -2,13 +2,13 @@
 #![tactic(auto)]
 
 ghost use Rattle.std.specs.Prelude.{◌≡◌, IfOk, IfErr, None};
-ghost use Rattle.est_scope.specs.Least.{least_with};
+ghost use Rattle.est_scope.specs.LeastSoFar.{least_with};
 ghost use Rattle.est_outline.specs.Bodies.{outline_of};
-ghost use Rattle.est_blocks.specs.Answers.{IsGood};
+ghost use Rattle.est_blocks.specs.LeastFault.{IsGood};
 ghost use Rattle.est_blocks.specs.Counts.{counts_of};
-ghost use Rattle.est_types.specs.Faults.{declaration_faults};
+ghost use Rattle.est_types.specs.DeclarationFaults.{declaration_faults};
 ghost use Rattle.est_skeleton.specs.Small.{IsSmall};
-ghost use Rattle.est_check.specs.Answers.{IsFound, IsRefused};
+ghost use Rattle.est_check.specs.Found.{IsFound, IsRefused};
 ghost use Rattle.est_check.specs.inside.Kept.{IsKept};
 
 use crate::checked::{Checked, Specification};

@@ -1,6 +1,6 @@
 -- How counts go on over several calls.
 use Rattle.std.proofs.Common.{◌≡◌, ◌∙◌, ℕ, List, arith, subst}
-use Rattle.est_edge.specs.Counts.{Rose, GoesOn, AllGoOn, AllStay}
+use Rattle.est_edge.specs.FaultCounts.{Rose, GoesOn, AllGoOn, AllStay}
 
 -- a count that is as it was goes on
 pub GoesOn-same : {a b : ℕ} → b ≡ a → GoesOn a b
@@ -17,13 +17,16 @@ GoesOn-then same on = record {
 pub AllGoOn-same : {old new : List ℕ → ℕ} → AllStay old new → AllGoOn old new
 AllGoOn-same quiet name = GoesOn-same (quiet name)
 
-pub AllGoOn-then : {old middle new : List ℕ → ℕ} → AllStay old middle → AllGoOn middle new → AllGoOn old new
+pub AllGoOn-then : {old middle new : List ℕ → ℕ} → AllStay old middle → AllGoOn middle new
+    → AllGoOn old new
 AllGoOn-then quiet on name = GoesOn-then (quiet name) (on name)
 
 -- counts that are as they were over two parts of a call
-pub AllStay-then : {old middle new : List ℕ → ℕ} → AllStay old middle → AllStay middle new → AllStay old new
+pub AllStay-then : {old middle new : List ℕ → ℕ} → AllStay old middle → AllStay middle new
+    → AllStay old new
 AllStay-then first second name = second name ∙ first name
 
 -- a count that rose since, where it was as at first
-pub rose_then : {old middle : List ℕ → ℕ} {last : ℕ} → AllStay old middle → (name : List ℕ) → Rose (middle name) last → Rose (old name) last
+pub rose_then : {old middle : List ℕ → ℕ} {last : ℕ} → AllStay old middle → (name : List ℕ)
+    → Rose (middle name) last → Rose (old name) last
 rose_then {last = last} quiet name rose = subst (λ n. Rose n last) (quiet name) rose

@@ -1,7 +1,7 @@
-pub mod Calls
-pub mod Counts
+pub mod CallNumbers
+pub mod FaultCounts
 pub mod Memory
 pub mod MemorySink
 pub mod Pieces
-pub mod Places
+pub mod MemoryFiles
 pub mod Wholes

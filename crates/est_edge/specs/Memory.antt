@@ -1,11 +1,12 @@
 -- What a shelf in memory holds, and how it stands.
-use Rattle.std.specs.Prelude.{◌≡◌, ◌≢◌, ℕ, ◌≤◌, ◌⊎◌, List, [], Bool, false, Option, Some, drop, is_some, unwrap_or}
+use Rattle.std.specs.Prelude.{◌≡◌, ◌≢◌, ℕ, ◌≤◌, ◌⊎◌, List, [], Bool, false}
+use Rattle.std.specs.Prelude.{Option, Some, drop, is_some, unwrap_or}
 use Rattle.std.specs.List.{slice_get}
 use Rattle.std.specs.Option.{option_and_then}
 use Rattle.est_edge.specs.declared.memory.MemShelf.{MemShelf}
-use Rattle.est_edge.specs.Calls.{next_number}
-use Rattle.est_edge.specs.Counts.{last_count}
-use Rattle.est_edge.specs.Places.{place_of, name_at, bytes_at, count_at, count_within}
+use Rattle.est_edge.specs.CallNumbers.{next_number}
+use Rattle.est_edge.specs.FaultCounts.{last_count}
+use Rattle.est_edge.specs.MemoryFiles.{place_of, name_at, bytes_at, count_at, count_within}
 
 -- whether a file has this name
 abbrev pub holds : MemShelf → List ℕ → Bool

@@ -1,8 +1,8 @@
 -- What an output in memory has taken, and how it stands.
 use Rattle.std.specs.Prelude.{◌≡◌, ℕ, ◌-◌, ◌≤◌, List, Option, Some, length}
 use Rattle.est_edge.specs.declared.memory_sink.MemSink.{MemSink}
-use Rattle.est_edge.specs.Calls.{next_number}
-use Rattle.est_edge.specs.Counts.{last_count}
+use Rattle.est_edge.specs.CallNumbers.{next_number}
+use Rattle.est_edge.specs.FaultCounts.{last_count}
 
 -- the bytes that were written
 abbrev pub bytes_in : MemSink → List ℕ

@@ -1,7 +1,7 @@
 -- What reading a whole file answers.
 use Rattle.std.specs.Prelude.{◌≡◌, ℕ, ◌+◌, ◌<◌, ◌≤◌, List, Bool, true, length, Result, Ok, Err}
 use Rattle.std.specs.Global.{Vec}
-use Rattle.est_edge.specs.Counts.{Rose, AllStay}
+use Rattle.est_edge.specs.FaultCounts.{Rose, AllStay}
 use Rattle.est_edge.specs.declared.whole.ReadError.{ReadError}
 use Rattle.est_edge.specs.declared.whole.ReadError.TheVariants.{Failed, TooLong, Memory}
 

@@ -1,8 +1,8 @@
 //! Calls by number, some of which are to fail.
 
 ghost use Rattle.std.specs.Prelude.{◌≡◌, ◌+◌, min, IsTrue, IfOk};
-ghost use Rattle.est_edge.specs.Counts.{last_count};
-ghost use Rattle.est_edge.specs.Calls.{is_listed, next_number};
+ghost use Rattle.est_edge.specs.FaultCounts.{last_count};
+ghost use Rattle.est_edge.specs.CallNumbers.{is_listed, next_number};
 
 use std::alloc::{AllocError, Global};
 

@@ -1,7 +1,7 @@
 //! Counts of faults.
 
 ghost use Rattle.std.specs.Prelude.{◌≡◌, ◌≤◌};
-ghost use Rattle.est_edge.specs.Counts.{last_count, Rose, GoesOn};
+ghost use Rattle.est_edge.specs.FaultCounts.{last_count, Rose, GoesOn};
 
 /// A count of faults, which stays at its last value once it is there.
 #[derive(Drop)]

@@ -2,7 +2,7 @@
 
 ghost use Rattle.std.specs.Prelude.{◌≡◌, ℕ, ◌<◌, ◌≤◌, length};
 ghost use Rattle.std.specs.Option.{ForSome};
-ghost use Rattle.est_edge.specs.Places.{place_of, name_at, bytes_at};
+ghost use Rattle.est_edge.specs.MemoryFiles.{place_of, name_at, bytes_at};
 ghost use Rattle.std.proofs.Props.{props};
 
 use crate::calls::Calls;
@@ -35,10 +35,14 @@ pub struct MemShelf {
 }
 
 impl MemShelf {
-    ghost use Rattle.std.specs.Prelude.{◌≡◌, ℕ, ◌<◌, List, [], None, false, length, IsTrue, IfOk, OnOk, OnErr, IfSome, IfNone};
-    ghost use Rattle.est_edge.specs.Places.{place_of};
-    ghost use Rattle.est_edge.specs.Counts.{AllStay};
-    ghost use Rattle.est_edge.specs.Memory.{holds, bytes_under, count_under, Reads, started_name, taken_from, end_seen, made_by, failing_of, chunk_of, SamePlan, SameFiles, SameOtherFiles, SameReading, SameCalls, names_started, times_asked};
+    ghost use Rattle.std.specs.Prelude.{◌≡◌, ℕ, ◌<◌, List, [], None, false, length};
+    ghost use Rattle.std.specs.Prelude.{IsTrue, IfOk, OnOk, OnErr, IfSome, IfNone};
+    ghost use Rattle.est_edge.specs.MemoryFiles.{place_of};
+    ghost use Rattle.est_edge.specs.FaultCounts.{AllStay};
+    ghost use Rattle.est_edge.specs.Memory.{holds, bytes_under, count_under, Reads, started_name};
+    ghost use Rattle.est_edge.specs.Memory.{taken_from, end_seen, made_by, failing_of, chunk_of};
+    ghost use Rattle.est_edge.specs.Memory.{SamePlan, SameFiles, SameOtherFiles, SameReading};
+    ghost use Rattle.est_edge.specs.Memory.{SameCalls, names_started, times_asked};
 
     /// No file yet.
     pub fn new(alloc: Global, chunk: usize, failing: &[u64]) -> Result<MemShelf, AllocError>
@@ -117,11 +121,17 @@ impl MemShelf {
 }
 
 impl Shelf for MemShelf {
-    ghost use Rattle.std.specs.Prelude.{◌≡◌, ℕ, ◌+◌, ◌<◌, ◌≤◌, ◌↔◌, ◌||◌, ◌&&◌, ◌==◌, List, [], ◌∷◌, ◌++◌, false, not, Some, IfSome, OnOk, OnErr, IfOk, Ok, is_ok, is_err, is_some, length, take, min};
-    ghost use Rattle.est_edge.specs.Counts.{last_count, Rose, AllGoOn, AllStay};
+    ghost use Rattle.std.specs.Prelude.{◌≡◌, ℕ, ◌+◌, ◌<◌, ◌≤◌, ◌↔◌, ◌||◌, ◌&&◌, ◌==◌, List};
+    ghost use Rattle.std.specs.Prelude.{[], ◌∷◌, ◌++◌, false, not, Some, IfSome, OnOk, OnErr};
+    ghost use Rattle.std.specs.Prelude.{IfOk, Ok, is_ok, is_err, is_some, length, take, min};
+    ghost use Rattle.est_edge.specs.FaultCounts.{last_count, Rose, AllGoOn, AllStay};
     ghost use Rattle.est_edge.specs.Pieces.{SameTold, TakesOff};
-    ghost use Rattle.est_edge.specs.Calls.{is_listed};
-    ghost use Rattle.est_edge.specs.Memory.{told_under, count_under, holds, Reads, rest_of, started_name, taken_from, end_seen, count_under_within, made_by, failing_of, chunk_of, NumbersCall, SameFiles, SameReading, SameOtherCounts, names_started, times_asked};
+    ghost use Rattle.est_edge.specs.CallNumbers.{is_listed};
+    ghost use Rattle.est_edge.specs.Memory.{told_under, count_under, holds, Reads};
+    ghost use Rattle.est_edge.specs.Memory.{rest_of, started_name, taken_from, end_seen};
+    ghost use Rattle.est_edge.specs.Memory.{count_under_within, made_by, failing_of};
+    ghost use Rattle.est_edge.specs.Memory.{chunk_of, NumbersCall, SameFiles, SameReading};
+    ghost use Rattle.est_edge.specs.Memory.{SameOtherCounts, names_started, times_asked};
 
     ghost told = { told_under };
 

@@ -24,7 +24,8 @@ pub struct MemSink {
 
 impl MemSink {
     ghost use Rattle.std.specs.Prelude.{◌≡◌, ◌<◌, [], IfOk};
-    ghost use Rattle.est_edge.specs.MemorySink.{bytes_in, room_left, count_in, made_in, failing_in, chunk_in};
+    ghost use Rattle.est_edge.specs.MemorySink.{bytes_in, room_left, count_in};
+    ghost use Rattle.est_edge.specs.MemorySink.{made_in, failing_in, chunk_in};
 
     /// Nothing written yet.
     pub fn new(
@@ -59,11 +60,13 @@ impl MemSink {
 }
 
 impl Sink for MemSink {
-    ghost use Rattle.std.specs.Prelude.{◌≡◌, ◌-◌, ◌<◌, ◌≤◌, ◌||◌, ◌==◌, IfOk, OnOk, OnErr, is_err, length, take, min};
-    ghost use Rattle.est_edge.specs.Calls.{is_listed};
-    ghost use Rattle.est_edge.specs.Counts.{last_count, Rose, GoesOn};
+    ghost use Rattle.std.specs.Prelude.{◌≡◌, ◌-◌, ◌<◌, ◌≤◌, ◌||◌, ◌==◌, IfOk};
+    ghost use Rattle.std.specs.Prelude.{OnOk, OnErr, is_err, length, take, min};
+    ghost use Rattle.est_edge.specs.CallNumbers.{is_listed};
+    ghost use Rattle.est_edge.specs.FaultCounts.{last_count, Rose, GoesOn};
     ghost use Rattle.est_edge.specs.Pieces.{appended};
-    ghost use Rattle.est_edge.specs.MemorySink.{told_in, room_left, count_in, count_in_within, made_in, failing_in, chunk_in, NumbersPut};
+    ghost use Rattle.est_edge.specs.MemorySink.{told_in, room_left, count_in, count_in_within};
+    ghost use Rattle.est_edge.specs.MemorySink.{made_in, failing_in, chunk_in, NumbersPut};
 
     ghost written = { told_in };
 

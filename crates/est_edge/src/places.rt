@@ -4,7 +4,7 @@ ghost use Rattle.std.specs.Prelude.{◌≡◌, ◌≢◌, ◌<◌, None, Some, l
 ghost use Rattle.std.specs.List.{position};
 ghost use Rattle.std.specs.Str.{bytes_eq};
 ghost use Rattle.std.specs.String.{string_bytes};
-ghost use Rattle.est_edge.specs.Places.{RaisesAt, ReplacesAt, AddsFile, place_of, bytes_at};
+ghost use Rattle.est_edge.specs.MemoryFiles.{RaisesAt, ReplacesAt, AddsFile, place_of, bytes_at};
 
 use crate::file::MemFile;
 use std::alloc::AllocError;

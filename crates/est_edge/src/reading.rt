@@ -1,7 +1,9 @@
 //! What a shelf of files does.
 
-ghost use Rattle.std.specs.Prelude.{◌≡◌, ℕ, ◌+◌, ◌<◌, ◌≤◌, ◌↔◌, ◌||◌, ◌==◌, List, [], ◌∷◌, ◌++◌, Bool, false, Option, IfSome, OnOk, OnErr, IfOk, Ok, length, take, min};
-ghost use Rattle.est_edge.specs.Counts.{last_count, Rose, AllGoOn, AllStay};
+ghost use Rattle.std.specs.Prelude.{◌≡◌, ℕ, ◌+◌, ◌<◌, ◌≤◌, ◌↔◌, ◌||◌, ◌==◌, List};
+ghost use Rattle.std.specs.Prelude.{[], ◌∷◌, ◌++◌, Bool, false, Option, IfSome};
+ghost use Rattle.std.specs.Prelude.{OnOk, OnErr, IfOk, Ok, length, take, min};
+ghost use Rattle.est_edge.specs.FaultCounts.{last_count, Rose, AllGoOn, AllStay};
 ghost use Rattle.est_edge.specs.Pieces.{SameTold, TakesOff};
 
 /// A fault of the outside.

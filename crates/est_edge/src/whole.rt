@@ -1,7 +1,7 @@
 //! Whole files and whole outputs.
 
 ghost use Rattle.std.specs.Prelude.{◌≡◌, ◌+◌, ◌≤◌, List, [], ◌∷◌, ◌++◌, ℕ, IfSome, OnOk, OnErr};
-ghost use Rattle.est_edge.specs.Counts.{Rose, GoesOn, AllGoOn};
+ghost use Rattle.est_edge.specs.FaultCounts.{Rose, GoesOn, AllGoOn};
 ghost use Rattle.est_edge.specs.Pieces.{SameTold, appended, IsPrefix};
 ghost use Rattle.est_edge.specs.Wholes.{IsWhole, IsTakenWhole, AnswersFaults};
 

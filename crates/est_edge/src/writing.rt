@@ -1,7 +1,8 @@
 //! What an output does.
 
-ghost use Rattle.std.specs.Prelude.{◌≡◌, ℕ, ◌<◌, ◌≤◌, List, Option, OnOk, OnErr, IfOk, length, take};
-ghost use Rattle.est_edge.specs.Counts.{last_count, Rose, GoesOn};
+ghost use Rattle.std.specs.Prelude.{◌≡◌, ℕ, ◌<◌, ◌≤◌, List, Option};
+ghost use Rattle.std.specs.Prelude.{OnOk, OnErr, IfOk, length, take};
+ghost use Rattle.est_edge.specs.FaultCounts.{last_count, Rose, GoesOn};
 ghost use Rattle.est_edge.specs.Pieces.{appended};
 
 use crate::reading::Failed;

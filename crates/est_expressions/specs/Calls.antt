@@ -9,14 +9,16 @@ use Rattle.est_syntax.specs.declared.rule.Rule.TheVariants.{UnknownName, NotSeen
 use Rattle.est_scope.specs.declared.declaration.Entry.{Entry}
 use Rattle.est_scope.specs.declared.declaration.Sort.TheVariants as sort
 use Rattle.est_scope.specs.declared.declaration.Meant.{Meant}
-use Rattle.est_scope.specs.declared.declaration.Meant.TheVariants.{Nothing, Predeclared, Unseen, Seen}
+use Rattle.est_scope.specs.declared.declaration.Meant.TheVariants.{Nothing, Predeclared}
+use Rattle.est_scope.specs.declared.declaration.Meant.TheVariants.{Unseen, Seen}
 use Rattle.est_scope.specs.Outline.{Outline, entry_at}
 use Rattle.est_scope.specs.Uses.{is_sort, meaning}
 use Rattle.est_alike.specs.Types.{Yielded}
 use Rattle.est_expressions.specs.declared.names.Required.{Required}
 use Rattle.est_expressions.specs.declared.receivers.Receiver.{Receiver}
 use Rattle.est_expressions.specs.declared.receivers.Receiver.TheVariants as receiver
-use Rattle.est_expressions.specs.Names.{Selection, Modules, type_in, required_function, value_of}
+use Rattle.est_expressions.specs.Selections.{Selection, Modules, type_in}
+use Rattle.est_expressions.specs.Selections.{required_function, value_of}
 use Rattle.est_expressions.specs.Receivers.{receives, received_faults, takes_number, number_faults}
 
 -- what takes the subscripts of module variables

@@ -1,28 +1,44 @@
 -- What expressions yield, and the rules that they break (ISO 7185, 6.7).
 use Rattle.std.specs.Prelude.{ℕ, ◌+◌, Bool, ◌&&◌, List, [], ◌∷◌, ◌++◌, Option, Some, None}
-use Rattle.est_syntax.specs.declared.expression.Expr.{Expr, Expr', Held-Expr-relation, Expr-relation-None', Expr-relation-Some'}
-use Rattle.est_syntax.specs.declared.expression.Factor.{Factor, Row_of-Expr, end_of-Expr, more_of-Expr, Row_of-Factor, end_of-Factor, more_of-Factor, Row_of-Member, end_of-Member, more_of-Member, Row_of-Selector, end_of-Selector, more_of-Selector}
+use Rattle.est_syntax.specs.declared.expression.Expr.{Expr, Expr', Held-Expr-relation}
+use Rattle.est_syntax.specs.declared.expression.Expr.{Expr-relation-None', Expr-relation-Some'}
+use Rattle.est_syntax.specs.declared.expression.Factor.{Factor, Row_of-Expr, end_of-Expr}
+use Rattle.est_syntax.specs.declared.expression.Factor.{more_of-Expr, Row_of-Factor}
+use Rattle.est_syntax.specs.declared.expression.Factor.{end_of-Factor, more_of-Factor}
+use Rattle.est_syntax.specs.declared.expression.Factor.{Row_of-Member, end_of-Member}
+use Rattle.est_syntax.specs.declared.expression.Factor.{more_of-Member, Row_of-Selector}
+use Rattle.est_syntax.specs.declared.expression.Factor.{end_of-Selector, more_of-Selector}
 use Rattle.est_syntax.specs.declared.expression.Factor.TheVariants as factor
-use Rattle.est_syntax.specs.declared.expression.Member.{Member, Member', Held-Member-high, Member-high-None', Member-high-Some'}
+use Rattle.est_syntax.specs.declared.expression.Member.{Member, Member', Held-Member-high}
+use Rattle.est_syntax.specs.declared.expression.Member.{Member-high-None', Member-high-Some'}
 use Rattle.est_syntax.specs.declared.expression.Operator.{Operator}
 use Rattle.est_syntax.specs.declared.expression.ProductStep.{ProductStep}
 use Rattle.est_syntax.specs.declared.expression.Relation.{Relation, Relation'}
 use Rattle.est_syntax.specs.declared.expression.Selector.{Selector}
 use Rattle.est_syntax.specs.declared.expression.Selector.TheVariants as selector
-use Rattle.est_syntax.specs.declared.expression.Simple.{Simple, Simple', Row_of-SumStep, end_of-SumStep, more_of-SumStep}
+use Rattle.est_syntax.specs.declared.expression.Simple.{Simple, Simple', Row_of-SumStep}
+use Rattle.est_syntax.specs.declared.expression.Simple.{end_of-SumStep, more_of-SumStep}
 use Rattle.est_syntax.specs.declared.expression.SumStep.{SumStep, SumStep'}
-use Rattle.est_syntax.specs.declared.expression.Term.{Term, Term', Row_of-ProductStep, end_of-ProductStep, more_of-ProductStep}
+use Rattle.est_syntax.specs.declared.expression.Term.{Term, Term', Row_of-ProductStep}
+use Rattle.est_syntax.specs.declared.expression.Term.{end_of-ProductStep, more_of-ProductStep}
 use Rattle.est_syntax.specs.declared.rule.Fault.{Fault}
 use Rattle.est_scope.specs.Outline.{Outline}
 use Rattle.est_alike.specs.declared.types.Host.TheVariants as host
 use Rattle.est_alike.specs.Types.{Yielded, Ordinal, Set}
 use Rattle.est_expressions.specs.declared.operators.Wanted.TheVariants as wanted
 use Rattle.est_expressions.specs.declared.receivers.Receiver.{Receiver}
-use Rattle.est_expressions.specs.Operators.{kept, wants, left_of, operated, right_faults, signed, sign_faults, with_member, member_disagrees, spanned, span_faults}
-use Rattle.est_expressions.specs.Names.{Selection, head, head_faults}
-use Rattle.est_expressions.specs.Places.{factor_place, term_place, sign_place, simple_place, expr_place, number_type, too_large_faults}
-use Rattle.est_expressions.specs.Variables.{component, component_faults, chosen_by, index_faults, with_field, with_field_faults, selected_type, end_faults}
-use Rattle.est_expressions.specs.Calls.{subscripts_of, is_received, taken_faults, is_number, count_faults, callee, callee_faults, call_by}
+use Rattle.est_expressions.specs.Operators.{kept, wants, left_of, operated, right_faults}
+use Rattle.est_expressions.specs.Operators.{signed, sign_faults, with_member}
+use Rattle.est_expressions.specs.Operators.{member_disagrees, spanned, span_faults}
+use Rattle.est_expressions.specs.Selections.{Selection, head, head_faults}
+use Rattle.est_expressions.specs.ExpressionPlaces.{factor_place, term_place, sign_place}
+use Rattle.est_expressions.specs.ExpressionPlaces.{simple_place, expr_place}
+use Rattle.est_expressions.specs.ExpressionPlaces.{number_type, too_large_faults}
+use Rattle.est_expressions.specs.Variables.{component, component_faults, chosen_by}
+use Rattle.est_expressions.specs.Variables.{index_faults, with_field, with_field_faults}
+use Rattle.est_expressions.specs.Variables.{selected_type, end_faults}
+use Rattle.est_expressions.specs.Calls.{subscripts_of, is_received, taken_faults, is_number}
+use Rattle.est_expressions.specs.Calls.{count_faults, callee, callee_faults, call_by}
 
 -- What an expression yields, where it and all its parts break no rule.
 abbrev mutual
@@ -37,8 +53,7 @@ abbrev mutual
   with_simple o t (Relation' op right) = operated op t (simple_type o right)
 
   pub simple_type : Outline → Simple → Option Yielded
-  simple_type o (Simple' minus sign first n rest) =
-      row_sum o (signed sign (term_type o first)) rest
+  simple_type o (Simple' minus sign first n rest) = row_sum o (signed sign (term_type o first)) rest
 
   pub row_sum : Outline → Option Yielded → {n : _} → Row_of-SumStep n → Option Yielded
   row_sum o t end_of-SumStep = t
@@ -106,8 +121,7 @@ abbrev mutual
 
   pub row_components : Outline → Selection → {n : _} → Row_of-Expr n → Selection
   row_components o s end_of-Expr = s
-  row_components o s (more_of-Expr e rest) =
-      row_components o (component s (expr_type o e)) rest
+  row_components o s (more_of-Expr e rest) = row_components o (component s (expr_type o e)) rest
 
 -- What an operation breaks, where its left operand begins at the first place and its right one at
 -- the second: the left operand, by itself, and the right one, beside it.
@@ -281,8 +295,7 @@ one_faults o r i e = expr_faults o e ++ taken_faults o r i (expr_type o e) (expr
 
 abbrev pub are_taken_faults : Outline → Option Receiver → ℕ → ℕ → List Expr → List Fault
 are_taken_faults o r i name [] = count_faults o r i name
-are_taken_faults o r i name (e ∷ es) =
-    one_faults o r i e ++ are_taken_faults o r (i + 1) name es
+are_taken_faults o r i name (e ∷ es) = one_faults o r i e ++ are_taken_faults o r (i + 1) name es
 
 -- subscripts of an array, and selectors
 abbrev pub components : Outline → Selection → List Expr → Selection
@@ -300,8 +313,7 @@ components_faults o s name (e ∷ es) =
     ++ components_faults o (component s (expr_type o e)) name es
 
 abbrev pub with_index : Outline → Selection → List Expr → Selection
-with_index o s es =
-    chosen_by s (components o s es) (are_taken o (subscripts_of s) 0 es)
+with_index o s es = chosen_by s (components o s es) (are_taken o (subscripts_of s) 0 es)
 
 abbrev pub with_index_faults : Outline → Selection → ℕ → List Expr → List Fault
 with_index_faults o s name es =

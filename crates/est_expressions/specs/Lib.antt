@@ -1,9 +1,9 @@
 pub mod Accesses
 pub mod Calls
 pub mod Expressions
-pub mod Laws
-pub mod Names
+pub mod CleanExpressions
+pub mod Selections
 pub mod Operators
-pub mod Places
+pub mod ExpressionPlaces
 pub mod Receivers
 pub mod Variables

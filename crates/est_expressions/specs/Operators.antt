@@ -1,5 +1,6 @@
 -- What operators take and yield (ISO 7185, 6.7.2).
-use Rattle.std.specs.Prelude.{ℕ, Bool, true, false, ◌||◌, List, [], Option, Some, None, if◌then◌else◌}
+use Rattle.std.specs.Prelude.{ℕ, Bool, true, false, ◌||◌, List, []}
+use Rattle.std.specs.Prelude.{Option, Some, None, if◌then◌else◌}
 use Rattle.est_syntax.specs.Faults.{broken}
 use Rattle.est_syntax.specs.declared.expression.Operator.{Operator}
 use Rattle.est_syntax.specs.declared.expression.Operator.TheVariants as operator

@@ -1,6 +1,7 @@
 -- What takes the subscripts or the arguments that stand after a name (ISO 7185, 6.5.3.2 and 6.7.3;
 -- ISO 9074, interaction points and module variables).
-use Rattle.std.specs.Prelude.{ℕ, Bool, true, false, nat_eq, List, [], length, slice_get, Option, Some, None, if◌then◌else◌}
+use Rattle.std.specs.Prelude.{ℕ, Bool, true, false, nat_eq, List, [], length}
+use Rattle.std.specs.Prelude.{slice_get, Option, Some, None, if◌then◌else◌}
 use Rattle.est_syntax.specs.Faults.{broken}
 use Rattle.est_syntax.specs.declared.kind.Kind.{Kind}
 use Rattle.est_syntax.specs.declared.rule.Fault.{Fault}
@@ -12,7 +13,7 @@ use Rattle.est_expressions.specs.declared.names.Required.{Required}
 use Rattle.est_expressions.specs.declared.receivers.Receiver.{Receiver}
 use Rattle.est_expressions.specs.declared.receivers.Receiver.TheVariants as receiver
 use Rattle.est_expressions.specs.Operators.{is_taken, wants, gives, is_given}
-use Rattle.est_expressions.specs.Names.{parameter, parameter_type, takes_so_many, argument_of}
+use Rattle.est_expressions.specs.Selections.{parameter, parameter_type, takes_so_many, argument_of}
 
 -- the kinds of the subscripts of a declaration
 abbrev pub dims_in : Option Entry → Option (List Kind)

@@ -1,6 +1,7 @@
 -- Components of variables, and exported variables of modules (ISO 7185, 6.5.3; ISO 9074, exported
 -- variables).
-use Rattle.std.specs.Prelude.{ℕ, Bool, true, false, List, [], ◌∷◌, ◌++◌, Option, Some, None, if◌then◌else◌}
+use Rattle.std.specs.Prelude.{ℕ, Bool, true, false, List, [], ◌∷◌}
+use Rattle.std.specs.Prelude.{◌++◌, Option, Some, None, if◌then◌else◌}
 use Rattle.est_syntax.specs.Names.{is_name, spelled}
 use Rattle.est_syntax.specs.Faults.{broken}
 use Rattle.est_syntax.specs.declared.kind.Kind.{Kind, out-Kind}
@@ -8,7 +9,8 @@ use Rattle.est_syntax.specs.declared.kind.Kind.TheOpen as seen
 use Rattle.est_syntax.specs.declared.kind.FieldKind.{FieldKind}
 use Rattle.est_syntax.specs.declared.name.Used.{Used}
 use Rattle.est_syntax.specs.declared.rule.Fault.{Fault}
-use Rattle.est_syntax.specs.declared.rule.Rule.TheVariants.{UnknownName, WrongSort, WrongKind, WrongNumber}
+use Rattle.est_syntax.specs.declared.rule.Rule.TheVariants.{UnknownName, WrongSort}
+use Rattle.est_syntax.specs.declared.rule.Rule.TheVariants.{WrongKind, WrongNumber}
 use Rattle.est_scope.specs.declared.declaration.Entry.{Entry}
 use Rattle.est_scope.specs.declared.declaration.Section.{Section}
 use Rattle.est_scope.specs.declared.declaration.Section.TheVariants as section
@@ -17,7 +19,8 @@ use Rattle.est_scope.specs.declared.declaration.Sort.TheVariants as sort
 use Rattle.est_scope.specs.declared.declaration.Standing.{Standing}
 use Rattle.est_scope.specs.Outline.{Outline, entry_at, standing}
 use Rattle.est_alike.specs.Types.{Yielded, type_of, is_assignable}
-use Rattle.est_expressions.specs.Names.{Selection, Broken, Value, Component, Modules, Module, SomeModule, variable_head}
+use Rattle.est_expressions.specs.Selections.{Selection, Broken, Value, Component}
+use Rattle.est_expressions.specs.Selections.{Modules, Module, SomeModule, variable_head}
 
 -- A component of an array variable, where the subscript is of the host of its index. What it breaks
 -- that the variable is no array stands at its name.

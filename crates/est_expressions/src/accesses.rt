@@ -2,7 +2,7 @@
 #![tactic(auto, using(est_scope::proofs::LeastLaws::least_append))]
 
 ghost use Rattle.std.specs.Prelude.{◌≡◌};
-ghost use Rattle.est_scope.specs.Least.{least_with};
+ghost use Rattle.est_scope.specs.LeastSoFar.{least_with};
 ghost use Rattle.est_scope.specs.Uses.{declaration_of};
 ghost use Rattle.est_expressions.specs.Accesses.{subscripts_at, access_faults};
 

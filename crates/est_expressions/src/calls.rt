@@ -3,12 +3,12 @@
 #![tactic(auto, using(est_scope::proofs::LeastLaws::least_append))]
 
 ghost use Rattle.std.specs.Prelude.{◌≡◌};
-ghost use Rattle.est_scope.specs.Least.{least_with};
+ghost use Rattle.est_scope.specs.LeastSoFar.{least_with};
 ghost use Rattle.est_scope.specs.declared.declaration.Sort.TheVariants as sort;
 ghost use Rattle.est_scope.specs.Outline.{entry_at};
 ghost use Rattle.est_scope.specs.Uses.{is_sort};
 ghost use Rattle.est_alike.specs.Types.{yielded};
-ghost use Rattle.est_expressions.specs.Names.{required_function};
+ghost use Rattle.est_expressions.specs.Selections.{required_function};
 ghost use Rattle.est_expressions.specs.Calls.{is_received, taken_faults, is_number, count_faults};
 ghost use Rattle.est_expressions.specs.Calls.{declared_callee, required_callee, callee, no_callee};
 ghost use Rattle.est_expressions.specs.Calls.{callee_faults, kind_yields, value_by, call_by};

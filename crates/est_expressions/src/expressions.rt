@@ -2,12 +2,12 @@
 #![tactic(auto, using(est_scope::proofs::LeastLaws::least_append, crate::proofs::Rows::rows))]
 
 ghost use Rattle.std.specs.Prelude.{◌≡◌, ◌≤◌, ◌&&◌, ◌++◌, Some, None, drop, length};
-ghost use Rattle.est_scope.specs.Least.{least_with};
+ghost use Rattle.est_scope.specs.LeastSoFar.{least_with};
 ghost use Rattle.est_alike.specs.Types.{yielded, Set};
 ghost use Rattle.est_expressions.specs.declared.operators.Wanted.TheVariants as wanted;
 ghost use Rattle.est_expressions.specs.Operators.{wants, kept};
-ghost use Rattle.est_expressions.specs.Names.{selects, head, head_faults};
-ghost use Rattle.est_expressions.specs.Places.{factor_place};
+ghost use Rattle.est_expressions.specs.Selections.{selects, head, head_faults};
+ghost use Rattle.est_expressions.specs.ExpressionPlaces.{factor_place};
 ghost use Rattle.est_expressions.specs.Variables.{selected_type, end_faults};
 ghost use Rattle.est_expressions.specs.Calls.{is_received, callee, callee_faults, call_by};
 ghost use Rattle.est_expressions.specs.Expressions.{expr_type, with_simple, simple_type, with_term};

@@ -1,5 +1,5 @@
 //! What yields something breaks no rule.
-ghost use Rattle.est_expressions.specs.Laws.{ExpressionsAreClean};
+ghost use Rattle.est_expressions.specs.CleanExpressions.{ExpressionsAreClean};
 
 /// An expression that yields something breaks no rule.
 #[tactic(auto, using(crate::proofs::Clean::expr_clean))]

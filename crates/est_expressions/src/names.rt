@@ -3,18 +3,20 @@
 
 ghost use Rattle.std.specs.Prelude.{◌≡◌};
 ghost use Rattle.std.specs.Option.{option_copied};
-ghost use Rattle.est_scope.specs.Least.{least_with};
+ghost use Rattle.est_scope.specs.LeastSoFar.{least_with};
 ghost use Rattle.est_scope.specs.Outline.{entry_at};
 ghost use Rattle.est_kinds.specs.Constants.{predeclared_constant};
 ghost use Rattle.est_alike.specs.Types.{yields, yielded};
-ghost use Rattle.est_expressions.specs.Names.{selects, type_in, is_parameter, parameter_at};
-ghost use Rattle.est_expressions.specs.Names.{parameter, has_before, takes_so_many};
-ghost use Rattle.est_expressions.specs.Names.{parameter_type, integer_function};
-ghost use Rattle.est_expressions.specs.Names.{required_function, argument_of};
-ghost use Rattle.est_expressions.specs.Names.{value_of, predeclared_head, value_head};
-ghost use Rattle.est_expressions.specs.Names.{variable_head, module_head, function_head, head_by};
-ghost use Rattle.est_expressions.specs.Names.{head_in, head, predeclared_faults, function_faults};
-ghost use Rattle.est_expressions.specs.Names.{sort_faults, entry_faults, head_faults};
+ghost use Rattle.est_expressions.specs.Selections.{selects, type_in, is_parameter, parameter_at};
+ghost use Rattle.est_expressions.specs.Selections.{parameter, has_before, takes_so_many};
+ghost use Rattle.est_expressions.specs.Selections.{parameter_type, integer_function};
+ghost use Rattle.est_expressions.specs.Selections.{required_function, argument_of};
+ghost use Rattle.est_expressions.specs.Selections.{value_of, predeclared_head, value_head};
+ghost use Rattle.est_expressions.specs.Selections.{variable_head, module_head};
+ghost use Rattle.est_expressions.specs.Selections.{function_head, head_by};
+ghost use Rattle.est_expressions.specs.Selections.{head_in, head, predeclared_faults};
+ghost use Rattle.est_expressions.specs.Selections.{function_faults};
+ghost use Rattle.est_expressions.specs.Selections.{sort_faults, entry_faults, head_faults};
 
 use crate::operators::Wanted;
 use est_alike::types::{Host, ValueType, type_of};

@@ -2,7 +2,7 @@
 #![tactic(auto, using(est_scope::proofs::LeastLaws::least_append))]
 
 ghost use Rattle.std.specs.Prelude.{◌≡◌, Some};
-ghost use Rattle.est_scope.specs.Least.{least_with};
+ghost use Rattle.est_scope.specs.LeastSoFar.{least_with};
 ghost use Rattle.est_alike.specs.Types.{yields, yielded, are_hosts_one};
 ghost use Rattle.est_expressions.specs.Operators.{is_ordinal, is_of, is_set, is_taken, wants, kept};
 ghost use Rattle.est_expressions.specs.Operators.{gives, is_given, left_of, do_agree, may_be_in};

@@ -2,10 +2,11 @@
 #![tactic(auto, using(est_scope::proofs::LeastLaws::least_append, crate::proofs::Rows::places))]
 
 ghost use Rattle.std.specs.Prelude.{◌≡◌};
-ghost use Rattle.est_scope.specs.Least.{least_with};
+ghost use Rattle.est_scope.specs.LeastSoFar.{least_with};
 ghost use Rattle.est_alike.specs.Types.{yielded};
-ghost use Rattle.est_expressions.specs.Places.{factor_place, term_place, sign_place, simple_place};
-ghost use Rattle.est_expressions.specs.Places.{number_type, too_large_faults};
+ghost use Rattle.est_expressions.specs.ExpressionPlaces.{factor_place, term_place};
+ghost use Rattle.est_expressions.specs.ExpressionPlaces.{sign_place, simple_place};
+ghost use Rattle.est_expressions.specs.ExpressionPlaces.{number_type, too_large_faults};
 
 use est_alike::types::{Host, ValueType};
 use est_scope::least::Least;

@@ -3,10 +3,10 @@
 #![tactic(auto, using(est_scope::proofs::LeastLaws::least_append))]
 
 ghost use Rattle.std.specs.Prelude.{◌≡◌};
-ghost use Rattle.est_scope.specs.Least.{least_with};
+ghost use Rattle.est_scope.specs.LeastSoFar.{least_with};
 ghost use Rattle.est_scope.specs.Outline.{entry_at};
 ghost use Rattle.est_alike.specs.Types.{yielded};
-ghost use Rattle.est_expressions.specs.Names.{argument_of};
+ghost use Rattle.est_expressions.specs.Selections.{argument_of};
 ghost use Rattle.est_expressions.specs.Operators.{wants};
 ghost use Rattle.est_expressions.specs.Receivers.{dims_in, subscript_in, is_argument, receives};
 ghost use Rattle.est_expressions.specs.Receivers.{received_faults, are_so_many, takes_number};

@@ -4,12 +4,12 @@
 
 ghost use Rattle.std.specs.Prelude.{◌≡◌, Some};
 ghost use Rattle.std.specs.Option.{option_copied};
-ghost use Rattle.est_scope.specs.Least.{least_with};
+ghost use Rattle.est_scope.specs.LeastSoFar.{least_with};
 ghost use Rattle.est_scope.specs.Outline.{entry_at};
 ghost use Rattle.est_syntax.specs.Names.{spelled};
 ghost use Rattle.est_syntax.specs.declared.kind.Kind.{out-Kind};
 ghost use Rattle.est_alike.specs.Types.{yielded};
-ghost use Rattle.est_expressions.specs.Names.{selects, Component};
+ghost use Rattle.est_expressions.specs.Selections.{selects, Component};
 ghost use Rattle.est_expressions.specs.Variables.{component, subscript_faults, component_faults};
 ghost use Rattle.est_expressions.specs.Variables.{field_in, field_found, field_of, found_faults};
 ghost use Rattle.est_expressions.specs.Variables.{field_faults, is_export, header_in, of_header};

@@ -1,2 +1,2 @@
 -- What only functions of this crate say.
-pub mod Steps
+pub mod Initialized

@@ -5,7 +5,7 @@ ghost use Rattle.est_language.specs.Grammar.{rule, rep};
 ghost use Rattle.est_language.specs.Shown.{node as shown, nodes};
 ghost use Rattle.est_reader.specs.Going.{Goes};
 ghost use Rattle.est_reader.specs.Moving.{SeesOne};
-ghost use Rattle.est_productions.specs.Grammar as grammar;
+ghost use Rattle.est_productions.specs.Productions as grammar;
 ghost use Rattle.est_productions.specs.Nodes as node;
 ghost use Rattle.est_productions.specs.Syntax.{estelle};
 ghost use Rattle.est_productions.specs.Tokens.{block_part_tokens};

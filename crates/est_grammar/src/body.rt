@@ -9,10 +9,11 @@ ghost use Rattle.est_syntax.specs.declared.body.Part.{out-Part};
 ghost use Rattle.est_reader.specs.Going.{Goes};
 ghost use Rattle.est_reader.specs.Moving.{Sees, SeesOne};
 ghost use Rattle.est_reader.specs.Tests.{kind};
-ghost use Rattle.est_productions.specs.Grammar as grammar;
+ghost use Rattle.est_productions.specs.Productions as grammar;
 ghost use Rattle.est_productions.specs.Nodes as node;
 ghost use Rattle.est_productions.specs.Syntax.{estelle};
-ghost use Rattle.est_productions.specs.Tokens.{body_part_tokens, common_tokens, own_tokens, routine_tokens};
+ghost use Rattle.est_productions.specs.Tokens.{body_part_tokens, common_tokens};
+ghost use Rattle.est_productions.specs.Tokens.{own_tokens, routine_tokens};
 
 use crate::block::block;
 use crate::routine::routine;

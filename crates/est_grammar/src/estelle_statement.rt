@@ -8,11 +8,11 @@ ghost use Rattle.est_lexer.specs.declared.kind.TokenKind.TheVariants.{Reserved};
 ghost use Rattle.est_reader.specs.Going.{Goes};
 ghost use Rattle.est_reader.specs.Moving.{Sees, NoneSeen};
 ghost use Rattle.est_reader.specs.Tests.{kind};
-ghost use Rattle.est_productions.specs.Grammar as grammar;
+ghost use Rattle.est_productions.specs.Productions as grammar;
 ghost use Rattle.est_productions.specs.Nodes as node;
 ghost use Rattle.est_productions.specs.Syntax.{estelle};
 ghost use Rattle.est_productions.specs.Tokens.{pascal_tokens, unlinked_tokens};
-ghost use Rattle.est_grammar.specs.inside.Steps.{Initializes};
+ghost use Rattle.est_grammar.specs.inside.Initialized.{Initializes};
 
 use est_lexer::kind::{ReservedWord, Symbol, TokenKind};
 use est_productions::access::{access, arguments, end_point};

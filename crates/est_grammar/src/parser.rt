@@ -1,8 +1,8 @@
 //! The parser of a whole specification.
 
 ghost use Rattle.std.specs.Prelude.{◌≡◌, IfOk, IfErr, Err, MatchResult};
-ghost use Rattle.est_lexer.specs.Places.{text_of, tokens_of};
-ghost use Rattle.est_language.specs.Answers.{wrong_at};
+ghost use Rattle.est_lexer.specs.Offsets.{text_of, tokens_of};
+ghost use Rattle.est_language.specs.Refusals.{wrong_at};
 ghost use Rattle.est_grammar.specs.Answer.{HasOneTree, IsRefusal, IsMemory, Says};
 
 use crate::error::ParseError;

@@ -6,7 +6,7 @@ ghost use Rattle.est_language.specs.Shown.{node as shown, nodes, empty, pair};
 ghost use Rattle.est_lexer.specs.declared.kind.Symbol.TheVariants as symbols;
 ghost use Rattle.est_syntax.specs.declared.statement.Statement.{out-Statement};
 ghost use Rattle.est_reader.specs.Going.{Goes};
-ghost use Rattle.est_productions.specs.Grammar as grammar;
+ghost use Rattle.est_productions.specs.Productions as grammar;
 ghost use Rattle.est_productions.specs.Nodes as node;
 ghost use Rattle.est_productions.specs.Syntax.{estelle};
 

@@ -8,10 +8,11 @@ ghost use Rattle.est_lexer.specs.declared.kind.TokenKind.TheVariants.{Identifier
 ghost use Rattle.est_reader.specs.Going.{Goes};
 ghost use Rattle.est_reader.specs.Moving.{Sees, SeesOne, NoneSeen};
 ghost use Rattle.est_reader.specs.Tests.{kind};
-ghost use Rattle.est_productions.specs.Grammar as grammar;
+ghost use Rattle.est_productions.specs.Productions as grammar;
 ghost use Rattle.est_productions.specs.Nodes as node;
 ghost use Rattle.est_productions.specs.Syntax.{estelle};
-ghost use Rattle.est_productions.specs.Tokens.{assigned_tokens, constant_tokens, first_statement_tokens};
+ghost use Rattle.est_productions.specs.Tokens.{assigned_tokens, constant_tokens};
+ghost use Rattle.est_productions.specs.Tokens.{first_statement_tokens};
 
 use crate::estelle_statement::estelle_statement;
 use est_items::Boxed;

@@ -1,5 +1,6 @@
 -- The values of constants (ISO 7185, 6.3).
-use Rattle.std.specs.Prelude.{ℕ, suc, ◌-◌, ◌^◌, min, ℤ, pos, ◌-ℤ◌, int_lt, Bool, true, false, nat_lt, List, [], ◌++◌, Option, Some, None, if◌then◌else◌, codes}
+use Rattle.std.specs.Prelude.{ℕ, suc, ◌-◌, ◌^◌, min, ℤ, pos, ◌-ℤ◌, int_lt, Bool, true, false}
+use Rattle.std.specs.Prelude.{nat_lt, List, [], ◌++◌, Option, Some, None, if◌then◌else◌, codes}
 use Rattle.est_syntax.specs.Names.{is_name, spelled}
 use Rattle.est_syntax.specs.Faults.{broken}
 use Rattle.est_syntax.specs.declared.name.Used.{Used}
@@ -10,11 +11,13 @@ use Rattle.est_syntax.specs.declared.kind.Kind.TheOpen as seen
 use Rattle.est_syntax.specs.declared.kind.Kind.TheVariants as kind
 use Rattle.est_syntax.specs.declared.kind.FieldKind.{FieldKind}
 use Rattle.est_syntax.specs.declared.rule.Fault.{Fault}
-use Rattle.est_syntax.specs.declared.rule.Rule.TheVariants.{UnknownName, NotSeenHere, WrongSort, NumberTooLarge}
+use Rattle.est_syntax.specs.declared.rule.Rule.TheVariants.{UnknownName, NotSeenHere}
+use Rattle.est_syntax.specs.declared.rule.Rule.TheVariants.{WrongSort, NumberTooLarge}
 use Rattle.est_scope.specs.declared.declaration.Entry.{Entry}
 use Rattle.est_scope.specs.declared.declaration.Measured.{Measured}
 use Rattle.est_scope.specs.declared.declaration.Meant.{Meant}
-use Rattle.est_scope.specs.declared.declaration.Meant.TheVariants.{Nothing, Predeclared, Unseen, Seen}
+use Rattle.est_scope.specs.declared.declaration.Meant.TheVariants.{Nothing, Predeclared}
+use Rattle.est_scope.specs.declared.declaration.Meant.TheVariants.{Unseen, Seen}
 use Rattle.est_scope.specs.declared.declaration.Sort.TheVariants as sort
 use Rattle.est_scope.specs.Outline.{Outline, entry_at}
 use Rattle.est_scope.specs.Uses.{is_sort, meaning}

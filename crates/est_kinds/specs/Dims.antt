@@ -9,7 +9,8 @@ use Rattle.est_syntax.specs.declared.rule.Fault.{Fault}
 use Rattle.est_syntax.specs.declared.rule.Rule.TheVariants.{TooLarge, WrongKind}
 use Rattle.est_scope.specs.declared.declaration.Measured.{Measured}
 use Rattle.est_scope.specs.Outline.{Outline}
-use Rattle.est_kinds.specs.Texts.{text_type, text_faults, text_place, count, multiplied, most_elements}
+use Rattle.est_kinds.specs.TypeTexts.{text_type, text_faults, text_place}
+use Rattle.est_kinds.specs.TypeTexts.{count, multiplied, most_elements}
 
 -- a subscript more, which is ordinal
 abbrev pub with_dim : Option (List Kind) → Option Measured → Option (List Kind)

@@ -1,4 +1,4 @@
 pub mod Constants
 pub mod Dims
-pub mod Texts
-pub mod Laws
+pub mod TypeTexts
+pub mod CleanConstants

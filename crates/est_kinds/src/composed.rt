@@ -4,11 +4,13 @@
 ghost use Rattle.std.specs.Prelude.{◌≡◌, ◌++◌, map, Some, IfOk, OnOk};
 ghost use Rattle.est_syntax.specs.declared.name.Used.{Used};
 ghost use Rattle.est_syntax.specs.declared.kind.Kind.TheVariants.{ArrayOf};
-ghost use Rattle.est_scope.specs.Least.{least_with};
-ghost use Rattle.est_kinds.specs.Texts.{are_bounds, range, range_faults, are_declared, enumeration};
-ghost use Rattle.est_kinds.specs.Texts.{array, limited, size_faults, array_of, array_faults};
-ghost use Rattle.est_kinds.specs.Texts.{set_of, set_faults, field_kinds, with_fields, are_members};
-ghost use Rattle.est_kinds.specs.Texts.{known_fields, record_of, record_faults};
+ghost use Rattle.est_scope.specs.LeastSoFar.{least_with};
+ghost use Rattle.est_kinds.specs.TypeTexts.{are_bounds, range, range_faults};
+ghost use Rattle.est_kinds.specs.TypeTexts.{are_declared, enumeration};
+ghost use Rattle.est_kinds.specs.TypeTexts.{array, limited, size_faults, array_of, array_faults};
+ghost use Rattle.est_kinds.specs.TypeTexts.{set_of, set_faults, field_kinds};
+ghost use Rattle.est_kinds.specs.TypeTexts.{with_fields, are_members};
+ghost use Rattle.est_kinds.specs.TypeTexts.{known_fields, record_of, record_faults};
 
 use crate::hosts::{count, is_ordinal, is_within, same_host, scalar};
 use crate::value::{Gathered, Valued};

@@ -2,7 +2,7 @@
 #![tactic(auto, using(est_scope::proofs::LeastLaws::least_append))]
 
 ghost use Rattle.std.specs.Prelude.{◌≡◌, ◌++◌, Some, IfOk, OnOk};
-ghost use Rattle.est_scope.specs.Least.{least_with};
+ghost use Rattle.est_scope.specs.LeastSoFar.{least_with};
 ghost use Rattle.est_scope.specs.Outline.{entry_at};
 ghost use Rattle.est_scope.specs.Uses.{meaning};
 ghost use Rattle.est_kinds.specs.Constants.{predeclared_constant, negated, number_value, with_sign};

@@ -2,8 +2,8 @@
 #![tactic(auto, using(est_scope::proofs::LeastLaws::least_append))]
 
 ghost use Rattle.std.specs.Prelude.{◌≡◌, ◌++◌, [], Some, IfOk, OnOk};
-ghost use Rattle.est_scope.specs.Least.{least_with};
-ghost use Rattle.est_kinds.specs.Texts.{text_type};
+ghost use Rattle.est_scope.specs.LeastSoFar.{least_with};
+ghost use Rattle.est_kinds.specs.TypeTexts.{text_type};
 ghost use Rattle.est_kinds.specs.Dims.{with_dim, dims_of, elements, dims_elements, ordinal_faults};
 ghost use Rattle.est_kinds.specs.Dims.{dim_faults, each_dim_faults, elements_faults, dims_faults};
 

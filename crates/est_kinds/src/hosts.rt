@@ -3,7 +3,7 @@
 ghost use Rattle.std.specs.Prelude.{◌≡◌, ◌-ℤ◌};
 ghost use Rattle.est_syntax.specs.Kinds.{is_ordinal};
 ghost use Rattle.est_kinds.specs.Constants.{is_integer};
-ghost use Rattle.est_kinds.specs.Texts.{same_host, counted, count, scalar, is_within};
+ghost use Rattle.est_kinds.specs.TypeTexts.{same_host, counted, count, scalar, is_within};
 
 use est_scope::declaration::Measured;
 use est_syntax::kind::Kind;

@@ -1,5 +1,5 @@
 //! What has a value or a kind breaks no rule.
-ghost use Rattle.est_kinds.specs.Laws.{ConstantsAreClean, TextsAreClean};
+ghost use Rattle.est_kinds.specs.CleanConstants.{ConstantsAreClean, TextsAreClean};
 
 /// A constant with a value breaks no rule.
 #[tactic(auto, using(crate::proofs::Clean::constant_clean))]

@@ -2,10 +2,10 @@
 #![tactic(auto, using(est_scope::proofs::LeastLaws::least_append))]
 
 ghost use Rattle.std.specs.Prelude.{◌≡◌, Some, IfOk, OnOk};
-ghost use Rattle.est_scope.specs.Least.{least_with};
+ghost use Rattle.est_scope.specs.LeastSoFar.{least_with};
 ghost use Rattle.est_scope.specs.Outline.{entry_at};
-ghost use Rattle.est_kinds.specs.Texts.{predeclared_type, type_by, type_meant, named_type};
-ghost use Rattle.est_kinds.specs.Texts.{type_used, type_faults};
+ghost use Rattle.est_kinds.specs.TypeTexts.{predeclared_type, type_by, type_meant, named_type};
+ghost use Rattle.est_kinds.specs.TypeTexts.{type_used, type_faults};
 
 use crate::hosts::scalar;
 use crate::value::copy_kind;

@@ -2,12 +2,13 @@
 #![tactic(auto, using(est_scope::proofs::LeastLaws::least_append))]
 
 ghost use Rattle.std.specs.Prelude.{◌≡◌, ◌++◌, Some, IfOk, OnOk};
-ghost use Rattle.est_scope.specs.Least.{least_with};
+ghost use Rattle.est_scope.specs.LeastSoFar.{least_with};
 ghost use Rattle.est_kinds.specs.Constants.{constant_value, constant_faults, constant_place};
-ghost use Rattle.est_kinds.specs.Texts.{range, range_faults, array_of, set_of, set_faults};
-ghost use Rattle.est_kinds.specs.Texts.{no_fields, with_def, fields_after, def_faults, defs_faults};
-ghost use Rattle.est_kinds.specs.Texts.{record_faults, arrays, index_faults, indices_faults};
-ghost use Rattle.est_kinds.specs.Texts.{text_place, text_type, text_faults};
+ghost use Rattle.est_kinds.specs.TypeTexts.{range, range_faults, array_of, set_of, set_faults};
+ghost use Rattle.est_kinds.specs.TypeTexts.{no_fields, with_def, fields_after};
+ghost use Rattle.est_kinds.specs.TypeTexts.{def_faults, defs_faults};
+ghost use Rattle.est_kinds.specs.TypeTexts.{record_faults, arrays, index_faults, indices_faults};
+ghost use Rattle.est_kinds.specs.TypeTexts.{text_place, text_type, text_faults};
 
 use crate::composed::{
     check_bounds, check_fields, check_indexed, check_set, enumeration, known_fields, with_fields,

@@ -1,7 +1,9 @@
 -- Lists of tests.
-use Rattle.std.proofs.Common.{◌≡◌, Bool, true, false, ◌&&◌, ◌||◌, ◌⊎◌, inl, inr, List, [], ◌∷◌, ◌++◌, refl, Option, Some, None}
+use Rattle.std.proofs.Common.{◌≡◌, Bool, true, false, ◌&&◌, ◌||◌, ◌⊎◌, inl, inr}
+use Rattle.std.proofs.Common.{List, [], ◌∷◌, ◌++◌, refl, Option, Some, None}
 use Rattle.est_language.specs.Grammar.{Language, meets}
-use Rattle.est_language.specs.Marks.{MeetsOne, Apart, Within, apart_from, disjoint, implies_one, covered}
+use Rattle.est_language.specs.Marks.{MeetsOne, Apart, Within, apart_from}
+use Rattle.est_language.specs.Marks.{disjoint, implies_one, covered}
 
 pub and_left : (a b : Bool) → (a && b) ≡ true → a ≡ true
 and_left true b h = refl
@@ -25,24 +27,29 @@ module _ {Token T : Type 0} (holds : T → Token → Bool) (o : Option Token) wh
   In-right [] ys h = h
   In-right (x ∷ xs) ys h = inr (In-right xs ys h)
 
-  pub In-split : (xs ys : List T) → MeetsOne holds o (xs ++ ys) → MeetsOne holds o xs ⊎ MeetsOne holds o ys
+  pub In-split : (xs ys : List T) → MeetsOne holds o (xs ++ ys)
+      → MeetsOne holds o xs ⊎ MeetsOne holds o ys
   In-split [] ys h = inr h
   In-split (x ∷ xs) ys (inl e) = inl (inl e)
   In-split (x ∷ xs) ys (inr h) = elim (In-split xs ys h) [ inl q ↦ inl (inr q) | inr q ↦ inr q ]
 
 -- A test of pairs of tests that is right makes the computed relations right.
 module _ {Token V T P : Type 0} (L : Language Token V T P) (apart : T → T → Bool)
-    (sound : (x y : T) (v : Token) → apart x y ≡ true → L.holds x v ≡ true → L.holds y v ≡ true → ⊥) where
-  meets_sound : (x y : T) (o : Option Token) → apart x y ≡ true → meets L.holds x o ≡ true → meets L.holds y o ≡ true → ⊥
+    (sound : (x y : T) (v : Token) → apart x y ≡ true → L.holds x v ≡ true → L.holds y v ≡ true
+    → ⊥) where
+  meets_sound : (x y : T) (o : Option Token) → apart x y ≡ true → meets L.holds x o ≡ true
+      → meets L.holds y o ≡ true → ⊥
   meets_sound x y None e h w = absurd cc
   meets_sound x y (Some v) e h w = sound x y v e h w
 
-  apart_one : (o : Option Token) (x : T) (ys : List T) → apart_from apart x ys ≡ true → meets L.holds x o ≡ true → MeetsOne L.holds o ys → ⊥
+  apart_one : (o : Option Token) (x : T) (ys : List T) → apart_from apart x ys ≡ true
+      → meets L.holds x o ≡ true → MeetsOne L.holds o ys → ⊥
   apart_one o x [] e h w = w
   apart_one o x (y ∷ ys) e h (inl w) = meets_sound x y o (and_left _ _ e) h w
   apart_one o x (y ∷ ys) e h (inr w) = apart_one o x ys (and_right _ _ e) h w
 
-  clear_at : (xs ys : List T) → disjoint apart xs ys ≡ true → (o : Option Token) → MeetsOne L.holds o xs → MeetsOne L.holds o ys → ⊥
+  clear_at : (xs ys : List T) → disjoint apart xs ys ≡ true → (o : Option Token)
+      → MeetsOne L.holds o xs → MeetsOne L.holds o ys → ⊥
   clear_at [] ys e o h w = h
   clear_at (x ∷ xs) ys e o (inl q) w = apart_one o x ys (and_left _ _ e) q w
   clear_at (x ∷ xs) ys e o (inr h) w = clear_at xs ys (and_right _ _ e) o h w
@@ -51,14 +58,20 @@ module _ {Token V T P : Type 0} (L : Language Token V T P) (apart : T → T → 
   clear xs ys e = record { none_meets = clear_at xs ys e }
 
 module _ {Token V T P : Type 0} (L : Language Token V T P) (implies : T → T → Bool)
-    (sound : (x y : T) (v : Token) → implies x y ≡ true → L.holds x v ≡ true → L.holds y v ≡ true) where
-  implied_sound : (x y : T) (o : Option Token) → implies x y ≡ true → meets L.holds x o ≡ true → meets L.holds y o ≡ true
+    (sound : (x y : T) (v : Token) → implies x y ≡ true → L.holds x v ≡ true
+    → L.holds y v ≡ true) where
+  implied_sound : (x y : T) (o : Option Token) → implies x y ≡ true → meets L.holds x o ≡ true
+      → meets L.holds y o ≡ true
   implied_sound x y None e h = h
   implied_sound x y (Some v) e h = sound x y v e h
 
-  pub among : (o : Option Token) (x : T) (ys : List T) → implies_one implies x ys ≡ true → meets L.holds x o ≡ true → MeetsOne L.holds o ys
+  pub among : (o : Option Token) (x : T) (ys : List T) → implies_one implies x ys ≡ true
+      → meets L.holds x o ≡ true → MeetsOne L.holds o ys
   among o x [] e h = cc
-  among o x (y ∷ ys) e h = elim (either _ _ e) [ inl q ↦ inl (implied_sound x y o q h) | inr q ↦ inr (among o x ys q h) ]
+  among o x (y ∷ ys) e h = elim (either _ _ e) [
+    | inl q ↦ inl (implied_sound x y o q h)
+    | inr q ↦ inr (among o x ys q h)
+  ]
 
   pub cover : (xs ys : List T) → covered implies xs ys ≡ true → Within L xs ys
   cover [] ys e o h = elim h [ ]

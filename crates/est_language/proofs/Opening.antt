@@ -1,10 +1,15 @@
 -- What a token that opens a level too many says of the partial trees.
 use Rattle.std.proofs.Common.{ℕ, suc, ◌+◌, ◌≤◌, List, sym, subst, add-one, arith}
-use Rattle.est_language.specs.Grammar.{Language, Grammar, Shape, Tree, Partial, p_none, p_word, p_here, p_skip, p_first, p_second, p_left, p_right, p_opt, p_rep_first, p_rep_more, p_nearest, p_ended_first, p_ended_more, p_deeper, p_rule}
-use Rattle.est_language.specs.Opening.{OpensOneMore, o_now, o_word, o_here, o_skip, o_first, o_second, o_left, o_right, o_opt, o_rep_first, o_rep_more, o_nearest, o_ended_first, o_ended_more, o_deeper, o_rule}
+use Rattle.est_language.specs.Grammar.{Language, Grammar, Shape, Tree, Partial, p_none}
+use Rattle.est_language.specs.Grammar.{p_word, p_here, p_skip, p_first, p_second, p_left}
+use Rattle.est_language.specs.Grammar.{p_right, p_opt, p_rep_first, p_rep_more, p_nearest}
+use Rattle.est_language.specs.Grammar.{p_ended_first, p_ended_more, p_deeper, p_rule}
+use Rattle.est_language.specs.Opening.{OpensOneMore, o_now, o_word, o_here, o_skip, o_first}
+use Rattle.est_language.specs.Opening.{o_second, o_left, o_right, o_opt, o_rep_first, o_rep_more}
+use Rattle.est_language.specs.Opening.{o_nearest, o_ended_first, o_ended_more, o_deeper, o_rule}
 use Rattle.est_language.proofs.Trees
-use Rattle.est_language.specs.Places.{HasPartial}
-use Rattle.est_language.specs.Laws.{OpenersAreTold}
+use Rattle.est_language.specs.Sentences.{HasPartial}
+use Rattle.est_language.specs.TreeLaws.{OpenersAreTold}
 
 module _ {Token V T P : Type 0} (L : Language Token V T P) (s : List Token) (i : ℕ) where
   -- the token stands after the place where the part begins, or there
@@ -26,7 +31,8 @@ module _ {Token V T P : Type 0} (L : Language Token V T P) (s : List Token) (i :
   opens_forward (o_deeper x) = opens_forward x
   opens_forward (o_rule x) = opens_forward x
 
-  fewer : {g h : Grammar T P} {d a b : ℕ} {t : Shape V} → Tree L s (suc i) g d a b t → OpensOneMore L s i h d b → Tree L s i g d a b t
+  fewer : {g h : Grammar T P} {d a b : ℕ} {t : Shape V} → Tree L s (suc i) g d a b t
+      → OpensOneMore L s i h d b → Tree L s i g d a b t
   fewer x y = Trees.tree_of_fewer L s (suc i) i x (opens_forward y) (omega arith)
 
   -- what stands before it is a partial tree with these levels
@@ -49,7 +55,8 @@ module _ {Token V T P : Type 0} (L : Language Token V T P) (s : List Token) (i :
   opens_front (o_rule x) = p_rule (opens_front x)
 
   -- and with it there is one with one level more
-  pub opens_more : {g : Grammar T P} {d a : ℕ} → OpensOneMore L s i g d a → Partial L s (suc i) g (suc d) a
+  pub opens_more : {g : Grammar T P} {d a : ℕ} → OpensOneMore L s i g d a
+      → Partial L s (suc i) g (suc d) a
   opens_more (o_now e x) = p_deeper x
   opens_more (o_word k l e x) = p_word k (omega arith) e (opens_more x)
   opens_more (o_here x) = p_here (opens_more x)
@@ -63,7 +70,8 @@ module _ {Token V T P : Type 0} (L : Language Token V T P) (s : List Token) (i :
   opens_more (o_rep_more x y) = p_rep_more (Trees.tree_deeper L s (suc i) x) (opens_more y)
   opens_more (o_nearest k l e x) = p_nearest k (omega arith) e (opens_more x)
   opens_more (o_ended_first k l e x) = p_ended_first k (omega arith) e (opens_more x)
-  opens_more (o_ended_more k l e x y) = p_ended_more k (omega arith) e (Trees.tree_deeper L s (suc i) x) (opens_more y)
+  opens_more (o_ended_more k l e x y) = p_ended_more k (omega arith) e
+      (Trees.tree_deeper L s (suc i) x) (opens_more y)
   opens_more (o_deeper x) = p_deeper (opens_more x)
   opens_more (o_rule x) = p_rule (opens_more x)
 
@@ -71,5 +79,6 @@ module _ {Token V T P : Type 0} (L : Language Token V T P) (s : List Token) (i :
 pub openers_are_told : {Token V T P : Type 0} → OpenersAreTold Token V T P
 openers_are_told L g d s i x = (
   opens_front L s i x,
-  subst (λ v. HasPartial L g v s (i + 1)) (sym (add-one d)) (subst (λ v. HasPartial L g (suc d) s v) (sym (add-one i)) (opens_more L s i x)),
+  subst (λ v. HasPartial L g v s (i + 1)) (sym (add-one d)) (subst (λ v. HasPartial L g (suc d) s v)
+      (sym (add-one i)) (opens_more L s i x)),
 )

@@ -1,5 +1,6 @@
 -- Grammars as data, which lists of tokens have a tree by a grammar, and which have a partial tree.
-use Rattle.std.specs.Prelude.{◌≡◌, ℕ, zero, suc, ◌<◌, Bool, true, false, List, [], ◌∷◌, Option, Some, None, slice_get}
+use Rattle.std.specs.Prelude.{◌≡◌, ℕ, zero, suc, ◌<◌, Bool, true, false}
+use Rattle.std.specs.Prelude.{List, [], ◌∷◌, Option, Some, None, slice_get}
 
 -- The right side of a production, over tests T of one token and names P of productions.
 pub data Grammar (T P : Type 0) : Type 0 where

@@ -2,10 +2,10 @@ pub mod Grammar
 pub mod Marks
 pub mod Opening
 pub mod Lookahead
-pub mod Reading
-pub mod Places
-pub mod Answers
-pub mod SameTokens
-pub mod Laws
+pub mod Findings
+pub mod Sentences
+pub mod Refusals
+pub mod SeenAlike
+pub mod TreeLaws
 pub mod Shown
 pub mod Extents

@@ -1,6 +1,7 @@
 -- When one token decides each choice of a grammar.
 use Rattle.std.specs.Prelude.{◌≡◌, false, [], ◌∷◌}
-use Rattle.est_language.specs.Grammar.{Grammar, done, none, word, token, here, skip, seq, alt, opt, rep, nearest, ended, deeper, rule, Language}
+use Rattle.est_language.specs.Grammar.{Grammar, done, none, word, token, here, skip, seq}
+use Rattle.est_language.specs.Grammar.{alt, opt, rep, nearest, ended, deeper, rule, Language}
 use Rattle.est_language.specs.Marks.{Apart, Marks, can_be_empty, can_begin, can_go_on}
 
 -- The next token alone tells which alternative stands at a place, and whether a part goes on there

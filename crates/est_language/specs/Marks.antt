@@ -1,7 +1,9 @@
 -- What tokens can begin a tree or a partial tree of a grammar, and what tokens can go on after a
 -- tree, as computed lists of tests.
-use Rattle.std.specs.Prelude.{◌≡◌, Bool, true, false, cond, not, ◌&&◌, ◌||◌, ◌⊎◌, List, [], ◌∷◌, ◌++◌, Option}
-use Rattle.est_language.specs.Grammar.{Grammar, done, none, word, token, here, skip, seq, alt, opt, rep, nearest, ended, deeper, rule, Language, meets}
+use Rattle.std.specs.Prelude.{◌≡◌, Bool, true, false, cond, not, ◌&&◌}
+use Rattle.std.specs.Prelude.{◌||◌, ◌⊎◌, List, [], ◌∷◌, ◌++◌, Option}
+use Rattle.est_language.specs.Grammar.{Grammar, done, none, word, token, here, skip, seq, alt}
+use Rattle.est_language.specs.Grammar.{opt, rep, nearest, ended, deeper, rule, Language, meets}
 
 -- there is a token that meets one of the tests
 abbrev pub MeetsOne : {Token T : Type 0} → (T → Token → Bool) → Option Token → List T → Type 0

@@ -1,6 +1,7 @@
 -- Which token opens a level for which none is left.
 use Rattle.std.specs.Prelude.{◌≡◌, ℕ, zero, suc, ◌<◌, List}
-use Rattle.est_language.specs.Grammar.{Grammar, word, here, skip, seq, alt, opt, rep, nearest, ended, deeper, rule, Language, Shape, At, Tree, Partial}
+use Rattle.est_language.specs.Grammar.{Grammar, word, here, skip, seq, alt, opt, rep, nearest}
+use Rattle.est_language.specs.Grammar.{ended, deeper, rule, Language, Shape, At, Tree, Partial}
 
 module _ {Token V T P : Type 0} (L : Language Token V T P) (s : List Token) (i : ℕ) where
   -- OpensOneMore L s i g d a: the tokens of s from place a up to i have a partial tree by g with d

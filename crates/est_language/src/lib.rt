@@ -1,10 +1,10 @@
 // Grammars in general: trees, partial trees, first bad places, and their laws.
 #![tactic(auto)]
 
-ghost use Rattle.est_language.specs.Laws.{AtMostOneBadPlace, AtMostOneTree, FrontsOfTree};
-ghost use Rattle.est_language.specs.Laws.{FrontsOfPartial, PlacesLieWithin, LeavesAreTokens};
-ghost use Rattle.est_language.specs.Laws.{OpenersAreTold, TreesTakeTokens, TurnsTakeTokens};
-ghost use Rattle.est_language.specs.Laws.{SameTrees, SameCauses, RefusalsStay};
+ghost use Rattle.est_language.specs.TreeLaws.{AtMostOneBadPlace, AtMostOneTree, FrontsOfTree};
+ghost use Rattle.est_language.specs.TreeLaws.{FrontsOfPartial, PlacesLieWithin, LeavesAreTokens};
+ghost use Rattle.est_language.specs.TreeLaws.{OpenersAreTold, TreesTakeTokens, TurnsTakeTokens};
+ghost use Rattle.est_language.specs.TreeLaws.{SameTrees, SameCauses, RefusalsStay};
 
 /// A list of tokens has at most one first bad place.
 pub fn one_bad_place<Token, Value, Test, Production>()

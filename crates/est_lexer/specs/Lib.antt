@@ -1,10 +1,10 @@
 pub mod Between
-pub mod Laws
+pub mod TokenLaws
 pub mod Lines
-pub mod Places
+pub mod Offsets
 pub mod Scanning
 pub mod Spans
 pub mod Spellings
 pub mod TokenList
 pub mod Words
-pub mod Kinds
+pub mod TokenKinds

@@ -1,4 +1,6 @@
-use Rattle.std.specs.Prelude.{ℕ, Bool, false, List, [], ◌∷◌, ◌==◌, ◌||◌, ◌&&◌, not, nat_lt, nat_le, length, if◌then◌else◌, Option, Some, find, option_map, unwrap_or, bytes_eq}
+use Rattle.std.specs.Prelude.{ℕ, Bool, false, List, [], ◌∷◌, ◌==◌, ◌||◌, ◌&&◌}
+use Rattle.std.specs.Prelude.{not, nat_lt, nat_le, length, if◌then◌else◌, Option}
+use Rattle.std.specs.Prelude.{Some, find, option_map, unwrap_or, bytes_eq}
 use Rattle.std.specs.List.{list_all}
 use Rattle.std.specs.Char.{is_ascii_alphabetic, is_ascii_alphanumeric, is_ascii_digit}
 use Rattle.std.specs.Str.{byte, str_eq_ignore_ascii_case}

@@ -1,4 +1,5 @@
-use Rattle.std.specs.Prelude.{◌≡◌, ℕ, false, List, [], ◌∷◌, ◌+◌, ◌-◌, ◌<◌, ◌≤◌, length, drop, slice_get, slice_index, slice_range, Some, None}
+use Rattle.std.specs.Prelude.{◌≡◌, ℕ, false, List, [], ◌∷◌, ◌+◌, ◌-◌, ◌<◌, ◌≤◌, length}
+use Rattle.std.specs.Prelude.{drop, slice_get, slice_index, slice_range, Some, None}
 use Rattle.std.specs.List.{prefix_len}
 use Rattle.std.specs.Char.{is_ascii_digit}
 use Rattle.est_lexer.specs.declared.kind.Token.{Token}

@@ -1,8 +1,10 @@
 //! Blanks and comments, which lie between tokens.
 
-ghost use Rattle.std.specs.Prelude.{◌≡◌, ◌≤◌, ◌<◌, ◌+◌, ℕ, length, slice_index, MatchOption, IfNone, IfSome};
+ghost use Rattle.std.specs.Prelude.{◌≡◌, ◌≤◌, ◌<◌, ◌+◌, ℕ, length};
+ghost use Rattle.std.specs.Prelude.{slice_index, MatchOption, IfNone, IfSome};
 ghost use Rattle.est_lexer.specs.Scanning.{IsBegin};
-ghost use Rattle.est_lexer.specs.Between.{is_blank, opening, closing, IsBetween, IsFirstEnd, IsUnended};
+ghost use Rattle.est_lexer.specs.Between.{is_blank, opening, closing};
+ghost use Rattle.est_lexer.specs.Between.{IsBetween, IsFirstEnd, IsUnended};
 
 // The byte at a place, and 0 after the text.
 pub(crate) fn byte_at(text: &[u8], place: usize) -> u8

@@ -1,7 +1,8 @@
 //! Laws of token lists and of the tables, for proofs that build on them.
 
 ghost use Rattle.std.specs.Prelude.{IsTrue};
-ghost use Rattle.est_lexer.specs.Laws.{TokenListIsUnique, are_distinct, are_lower_names, are_apart};
+ghost use Rattle.est_lexer.specs.TokenLaws.{TokenListIsUnique, are_distinct};
+ghost use Rattle.est_lexer.specs.TokenLaws.{are_lower_names, are_apart};
 ghost use Rattle.est_lexer.specs.Words.{words, symbols};
 
 /// A text has one token list.

@@ -1,6 +1,7 @@
 //! The longest token at a place, or the bad one where none begins.
 
-ghost use Rattle.std.specs.Prelude.{◌≡◌, ◌≤◌, ◌<◌, ◌+◌, ◌≢◌, ◌==◌, ◌&&◌, true, false, length, drop, slice_index, MatchResult};
+ghost use Rattle.std.specs.Prelude.{◌≡◌, ◌≤◌, ◌<◌, ◌+◌, ◌≢◌, ◌==◌, ◌&&◌, true};
+ghost use Rattle.std.specs.Prelude.{false, length, drop, slice_index, MatchResult};
 ghost use Rattle.std.specs.Char.{is_ascii_alphabetic, is_ascii_digit};
 ghost use Rattle.std.specs.List.{prefix_len};
 ghost use Rattle.est_lexer.specs.Between.{opening};

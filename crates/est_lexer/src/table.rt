@@ -1,6 +1,7 @@
 //! The words and symbols of the profile with their spellings.
 
-ghost use Rattle.std.specs.Prelude.{◌≡◌, ◌<◌, true, length, slice_index, option_map, find, nat_eq, IsTrue};
+ghost use Rattle.std.specs.Prelude.{◌≡◌, ◌<◌, true, length, slice_index};
+ghost use Rattle.std.specs.Prelude.{option_map, find, nat_eq, IsTrue};
 ghost use Rattle.std.specs.Char.{is_ascii_alphabetic};
 ghost use Rattle.std.specs.List.{starts_with};
 ghost use Rattle.std.specs.Str.{str_eq_ignore_ascii_case};

@@ -28,7 +28,7 @@ pub struct Tokens<'t> {
 
 impl Tokens<'_> {
     ghost use Rattle.est_lexer.specs.Lines.{line_at, column_at};
-    ghost use Rattle.est_lexer.specs.Places.{text_of, tokens_of, offset_at};
+    ghost use Rattle.est_lexer.specs.Offsets.{text_of, tokens_of, offset_at};
     ghost use Rattle.est_lexer.specs.Spans.{spelling};
 
     /// How many tokens the text has.

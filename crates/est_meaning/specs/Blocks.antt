@@ -1,5 +1,6 @@
 -- What a block does to a situation.
-use Rattle.std.specs.Prelude.{ℕ, Bool, zero, suc, List, [], ◌∷◌, ◌++◌, Option, Some, None, slice_get, option_and_then}
+use Rattle.std.specs.Prelude.{ℕ, Bool, zero, suc, List, [], ◌∷◌, ◌++◌}
+use Rattle.std.specs.Prelude.{Option, Some, None, slice_get, option_and_then}
 use Rattle.std.specs.List.{position}
 use Rattle.est_syntax.specs.declared.name.Name.{Name}
 use Rattle.est_syntax.specs.declared.kind.Value.{Value}

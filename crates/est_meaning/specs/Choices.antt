@@ -1,5 +1,6 @@
 -- Which transitions may fire.
-use Rattle.std.specs.Prelude.{◌≡◌, ◌<◌, ℕ, Bool, true, false, ◌&&◌, nat_eq, List, [], ◌∷◌, Option, Some, None, IsTrue, option_and_then, unwrap_or, if◌then◌else◌}
+use Rattle.std.specs.Prelude.{◌≡◌, ◌<◌, ℕ, Bool, true, false, ◌&&◌, nat_eq, List, [], ◌∷◌, Option}
+use Rattle.std.specs.Prelude.{Some, None, IsTrue, option_and_then, unwrap_or, if◌then◌else◌}
 use Rattle.std.specs.List.{list_any}
 use Rattle.std.specs.Option.{option_map, option_map_or}
 use Rattle.est_syntax.specs.declared.name.Name.{Name}
@@ -7,8 +8,10 @@ use Rattle.est_syntax.specs.declared.name.Used.{Used}
 use Rattle.est_syntax.specs.declared.transition.Transition.{Transition}
 use Rattle.est_syntax.specs.declared.specification.Spec.{Spec}
 use Rattle.est_meaning.specs.declared.run.Firing.{Firing}
-use Rattle.est_meaning.specs.Text.{is_name, uses_name, transitions_of, numbered, from_of, when_of, Awaited, has_delay, priority_of}
-use Rattle.est_meaning.specs.Situation.{InteractionPoint, is_point, Item, Row, Clocked, Situation, row_of}
+use Rattle.est_meaning.specs.Text.{is_name, uses_name, transitions_of, numbered}
+use Rattle.est_meaning.specs.Text.{from_of, when_of, Awaited, has_delay, priority_of}
+use Rattle.est_meaning.specs.Situation.{InteractionPoint, is_point, Item}
+use Rattle.est_meaning.specs.Situation.{Row, Clocked, Situation, row_of}
 use Rattle.est_meaning.specs.Links.{queue_of}
 
 -- CHOICES

@@ -8,4 +8,4 @@ pub mod Allowed
 pub mod Order
 pub mod Stack
 pub mod Run
-pub mod Laws
+pub mod RunLaws

@@ -1,5 +1,6 @@
 -- Attachments, connections and queues.
-use Rattle.std.specs.Prelude.{ℕ, zero, suc, Bool, false, List, [], ◌∷◌, ◌++◌, map, find, Option, Some, None, length, option_and_then}
+use Rattle.std.specs.Prelude.{ℕ, zero, suc, Bool, false, List, [], ◌∷◌, ◌++◌, map}
+use Rattle.std.specs.Prelude.{find, Option, Some, None, length, option_and_then}
 use Rattle.std.specs.List.{position}
 use Rattle.std.specs.Option.{option_map_or}
 use Rattle.est_syntax.specs.declared.header.Queue.{Queue}
@@ -8,7 +9,8 @@ use Rattle.est_syntax.specs.declared.specification.Spec.{Spec}
 use Rattle.est_syntax.specs.declared.ports.Port.{Port}
 use Rattle.est_skeleton.specs.Ports.{ports_of}
 use Rattle.est_meaning.specs.Text.{Declared, points_in, is_declared, discipline, header_of}
-use Rattle.est_meaning.specs.Situation.{InteractionPoint, is_point, QueueName, Own, Shared, Item, Row, Situation, row_of, with_queue}
+use Rattle.est_meaning.specs.Situation.{InteractionPoint, is_point, QueueName, Own}
+use Rattle.est_meaning.specs.Situation.{Shared, Item, Row, Situation, row_of, with_queue}
 
 -- POINTS OF AN INSTANCE
 

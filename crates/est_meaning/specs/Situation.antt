@@ -1,7 +1,8 @@
 -- The situation of a system: what its instances, links, queues and clock are at one moment.
 --
 -- It speaks by names, over flat lists and maps. An instance is known by its number.
-use Rattle.std.specs.Prelude.{ℕ, ℤ, Bool, false, ◌&&◌, nat_eq, List, [], find, map, Option, Some, None, if◌then◌else◌}
+use Rattle.std.specs.Prelude.{ℕ, ℤ, Bool, false, ◌&&◌, nat_eq, List, []}
+use Rattle.std.specs.Prelude.{find, map, Option, Some, None, if◌then◌else◌}
 use Rattle.std.specs.Ordering.{int_eq}
 use Rattle.std.specs.Cmp.Lexicographic.{pointwise}
 use Rattle.est_syntax.specs.declared.name.Name.{Name}

@@ -15,7 +15,8 @@ use Rattle.est_syntax.specs.declared.ports.Port.{Port}
 use Rattle.est_syntax.specs.declared.ports.Signal.{Signal}
 use Rattle.est_skeleton.specs.Ports.{ports_of}
 use Rattle.est_meaning.specs.Text.{Awaited, root_of, when_of, to_of}
-use Rattle.est_meaning.specs.Situation.{nothing, InteractionPoint, Row, Situation, empty_situation, with_row, in_state}
+use Rattle.est_meaning.specs.Situation.{nothing, InteractionPoint, Row, Situation}
+use Rattle.est_meaning.specs.Situation.{empty_situation, with_row, in_state}
 use Rattle.est_meaning.specs.Links.{port_point, bottom, put, taken}
 use Rattle.est_meaning.specs.Choices.{Choice, choice_of, awaited_at, restamped, IsPossible}
 use Rattle.est_meaning.specs.Blocks.{Outcome, Done, Fault, Limit, block_meaning}

@@ -2,7 +2,8 @@
 --
 -- These definitions serve skeletons: no interaction point has subscripts, and each `trans` holds
 -- one transition.
-use Rattle.std.specs.Prelude.{ℕ, zero, suc, Bool, false, nat_eq, List, [], ◌∷◌, map, find, Option, Some, None, unwrap_or, option_and_then, slice_get}
+use Rattle.std.specs.Prelude.{ℕ, zero, suc, Bool, false, nat_eq, List, [], ◌∷◌, map, find}
+use Rattle.std.specs.Prelude.{Option, Some, None, unwrap_or, option_and_then, slice_get}
 use Rattle.std.specs.List.{filter_map, flat_map}
 use Rattle.std.specs.Option.{option_or}
 use Rattle.est_syntax.specs.Names as names

@@ -1,5 +1,8 @@
 //! Laws of steps and runs. Each function does nothing; its clause is the law.
-ghost use Rattle.est_meaning.specs.Laws.{StepsAreUnique, RunsAreUnique, BoundedRunsBeginBounded, BoundedMeansFewInARow, AgreementIsOneByOne, YieldsAllBelow, RunOrderIsStrictTotal, ClockStaysBounded, RowsAreInOrder, BlocksDoNotFault};
+ghost use Rattle.est_meaning.specs.RunLaws.{StepsAreUnique, RunsAreUnique, BoundedRunsBeginBounded};
+ghost use Rattle.est_meaning.specs.RunLaws.{BoundedMeansFewInARow, AgreementIsOneByOne};
+ghost use Rattle.est_meaning.specs.RunLaws.{YieldsAllBelow, RunOrderIsStrictTotal};
+ghost use Rattle.est_meaning.specs.RunLaws.{ClockStaysBounded, RowsAreInOrder, BlocksDoNotFault};
 
 /// A firing is a step in one way at most.
 pub fn steps_are_unique()

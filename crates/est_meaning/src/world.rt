@@ -4,7 +4,8 @@ ghost use Rattle.est_syntax.specs.declared.specification.Spec.{Spec};
 ghost use Rattle.est_meaning.specs.Choices.{IsPossible};
 ghost use Rattle.est_meaning.specs.Step.{outcome, after_event, later};
 ghost use Rattle.est_meaning.specs.Allowed.{IsArrival};
-ghost use Rattle.est_meaning.specs.Stack.{Stack, pushed, alone, Keeps, SameStack, OffersAre, FiredAs};
+ghost use Rattle.est_meaning.specs.Stack.{Stack, pushed, alone, Keeps};
+ghost use Rattle.est_meaning.specs.Stack.{SameStack, OffersAre, FiredAs};
 
 use crate::event::Event;
 use crate::run::{Fired, Firing, Offers};

@@ -7,20 +7,26 @@ use Rattle.est_syntax.specs.declared.constant.Constant.{Constant}
 use Rattle.est_syntax.specs.declared.type_text.TypeText.{TypeText}
 use Rattle.est_syntax.specs.declared.type_text.TypeText.TheVariants as text
 use Rattle.est_syntax.specs.declared.expression.Expr.{Expr, out-Expr}
-use Rattle.est_syntax.specs.declared.statement.Statement.{Statement, Row_of-Statement, end_of-Statement, more_of-Statement, Row_of-Arm, end_of-Arm, more_of-Arm, Held-Statement-If-2}
+use Rattle.est_syntax.specs.declared.statement.Statement.{Statement, Row_of-Statement}
+use Rattle.est_syntax.specs.declared.statement.Statement.{end_of-Statement, more_of-Statement}
+use Rattle.est_syntax.specs.declared.statement.Statement.{Row_of-Arm, end_of-Arm, more_of-Arm}
+use Rattle.est_syntax.specs.declared.statement.Statement.{Held-Statement-If-2}
 use Rattle.est_syntax.specs.declared.statement.Statement.TheVariants as statement
 use Rattle.est_syntax.specs.declared.statement.Statement.TheBlock as held
 use Rattle.est_syntax.specs.declared.transition.Clause.{Clause}
 use Rattle.est_syntax.specs.declared.transition.Clause.TheVariants as clauses
-use Rattle.est_syntax.specs.declared.body.Part.{Part, out-Part, Row_of-Part, end_of-Part, more_of-Part}
+use Rattle.est_syntax.specs.declared.body.Part.{Part, out-Part, Row_of-Part}
+use Rattle.est_syntax.specs.declared.body.Part.{end_of-Part, more_of-Part}
 use Rattle.est_syntax.specs.declared.body.Part.TheOpen as seen
 use Rattle.est_syntax.specs.declared.body.Part.TheVariants as part
 use Rattle.est_syntax.specs.declared.body.Block.{Block}
 use Rattle.est_syntax.specs.declared.body.FirstPart.{FirstPart}
 use Rattle.est_syntax.specs.declared.transition.Transition.{Transition}
-use Rattle.est_syntax.specs.declared.body.Body.{Body, Body', Row_of-Group, end_of-Group, more_of-Group, Held-Body-first}
+use Rattle.est_syntax.specs.declared.body.Body.{Body, Body', Row_of-Group, end_of-Group}
+use Rattle.est_syntax.specs.declared.body.Body.{more_of-Group, Held-Body-first}
 use Rattle.est_syntax.specs.declared.body.Part.TheBlock as first
-use Rattle.est_syntax.specs.declared.transition.Group.{Group, Group', Row_of-Transition, end_of-Transition, more_of-Transition}
+use Rattle.est_syntax.specs.declared.transition.Group.{Group, Group', Row_of-Transition}
+use Rattle.est_syntax.specs.declared.transition.Group.{end_of-Transition, more_of-Transition}
 use Rattle.est_syntax.specs.declared.routine.Formal.{Formal}
 use Rattle.est_syntax.specs.declared.routine.Routine.{Routine, out-Routine}
 use Rattle.est_syntax.specs.declared.type_text.VarDef.{VarDef}
@@ -35,18 +41,23 @@ use Rattle.est_scope.specs.declared.declaration.Side.{Side}
 use Rattle.est_scope.specs.declared.declaration.Standing.{Standing}
 use Rattle.est_scope.specs.declared.declaration.Within.{Within}
 use Rattle.est_scope.specs.Outline.{Outline, standing, entry_at, member_at}
-use Rattle.est_scope.specs.Declaring.{empty, declared, amended, with_kind, with_header, with_closed, lying}
+use Rattle.est_scope.specs.Declaring.{empty, declared, amended, with_kind}
+use Rattle.est_scope.specs.Declaring.{with_header, with_closed, lying}
 use Rattle.est_scope.specs.Uses.{declaration_of}
 use Rattle.est_kinds.specs.Constants.{constant_place}
-use Rattle.est_kinds.specs.Texts.{text_type, named_type}
+use Rattle.est_kinds.specs.TypeTexts.{text_type, named_type}
 use Rattle.est_uses.specs.Closed.{is_closed}
 use Rattle.est_outline.specs.declared.context.ClauseKind.{ClauseKind}
 use Rattle.est_outline.specs.declared.context.ClauseKind.TheVariants as clause
 use Rattle.est_outline.specs.declared.context.Given.{Given}
 use Rattle.est_outline.specs.Contexts.{dropped, given, under}
-use Rattle.est_outline.specs.Entries.{plain, typed, module_variable, outermost, in_body, inner, in_region, in_section}
+use Rattle.est_outline.specs.Entries.{plain, typed, module_variable, outermost}
+use Rattle.est_outline.specs.Entries.{in_body, inner, in_region, in_section}
 use Rattle.est_outline.specs.Lasts.{text_last}
-use Rattle.est_outline.specs.Declares.{consts_declare, types_declare, vars_declare, channel_declares, header_declares, modvars_declare, points_declare, states_declare, statesets_declare, formals_declare}
+use Rattle.est_outline.specs.Declares.{consts_declare, types_declare, vars_declare}
+use Rattle.est_outline.specs.Declares.{channel_declares, header_declares}
+use Rattle.est_outline.specs.Declares.{modvars_declare, points_declare, states_declare}
+use Rattle.est_outline.specs.Declares.{statesets_declare, formals_declare}
 
 -- the place of the first token of a statement
 abbrev pub statement_place : Statement → ℕ
@@ -229,8 +240,7 @@ result_given w name (Some u) o = result_by name u (lying w u.place o)
 
 -- the head of a routine
 abbrev pub head_declares : Within → Used → List Formal → Option Used → Outline → Outline
-head_declares w name formals result o =
-    result_given w name result (formals_declare w formals o)
+head_declares w name formals result o = result_given w name result (formals_declare w formals o)
 
 -- where the first state of a body is named, the text lies in the body
 abbrev pub to_lying : Within → Option Used → Outline → Outline

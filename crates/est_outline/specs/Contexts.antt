@@ -1,6 +1,7 @@
 -- The clauses that a transition has: its own, and those before it in its group that none of its own
 -- replaces (ISO 9074, transition-group).
-use Rattle.std.specs.Prelude.{ℕ, Bool, true, false, List, [], ◌∷◌, ◌++◌, Option, None, if◌then◌else◌}
+use Rattle.std.specs.Prelude.{ℕ, Bool, true, false, List, [], ◌∷◌}
+use Rattle.std.specs.Prelude.{◌++◌, Option, None, if◌then◌else◌}
 use Rattle.est_scope.specs.declared.declaration.Within.{Within}
 use Rattle.est_outline.specs.declared.context.ClauseKind.{ClauseKind}
 use Rattle.est_outline.specs.declared.context.ClauseKind.TheVariants as clause

@@ -1,10 +1,13 @@
 -- What the parts of a specification declare, in the order of the text: each name is looked up in
 -- what is declared before it (ISO 9074, scope of identifiers; ISO 7185, 6.2.2).
-use Rattle.std.specs.Prelude.{ℕ, suc, Bool, true, false, nat_lt, List, [], ◌∷◌, Option, Some, None, if◌then◌else◌}
+use Rattle.std.specs.Prelude.{ℕ, suc, Bool, true, false, nat_lt, List}
+use Rattle.std.specs.Prelude.{[], ◌∷◌, Option, Some, None, if◌then◌else◌}
 use Rattle.est_syntax.specs.Names.{spelled}
 use Rattle.est_syntax.specs.declared.name.Used.{Used}
 use Rattle.est_syntax.specs.declared.constant.ConstDef.{ConstDef}
-use Rattle.est_syntax.specs.declared.type_text.TypeText.{TypeText, Row_of-TypeText, end_of-TypeText, more_of-TypeText, Row_of-VarDef, end_of-VarDef, more_of-VarDef}
+use Rattle.est_syntax.specs.declared.type_text.TypeText.{TypeText, Row_of-TypeText, end_of-TypeText}
+use Rattle.est_syntax.specs.declared.type_text.TypeText.{more_of-TypeText, Row_of-VarDef}
+use Rattle.est_syntax.specs.declared.type_text.TypeText.{end_of-VarDef, more_of-VarDef}
 use Rattle.est_syntax.specs.declared.type_text.TypeText.TheVariants as text
 use Rattle.est_syntax.specs.declared.type_text.VarDef.{VarDef}
 use Rattle.est_syntax.specs.declared.type_text.TypeDef.{TypeDef}
@@ -33,9 +36,10 @@ use Rattle.est_scope.specs.Outline.{Outline, standing, member_at}
 use Rattle.est_scope.specs.Declaring.{declared, put, amended, with_kind, lying}
 use Rattle.est_scope.specs.Uses.{declaration_of}
 use Rattle.est_kinds.specs.Constants.{constant_value, constant_last}
-use Rattle.est_kinds.specs.Texts.{text_type, text_place, named_type, enumeration}
+use Rattle.est_kinds.specs.TypeTexts.{text_type, text_place, named_type, enumeration}
 use Rattle.est_kinds.specs.Dims.{dims_of, dims_elements}
-use Rattle.est_outline.specs.Entries.{plain, constant, numbered, point, module_variable, header, in_region, in_section}
+use Rattle.est_outline.specs.Entries.{plain, constant, numbered, point}
+use Rattle.est_outline.specs.Entries.{module_variable, header, in_region, in_section}
 use Rattle.est_outline.specs.Lasts.{names_last, text_last, channel_last, header_last}
 
 -- names that are declared together
@@ -157,8 +161,7 @@ sender _ s = s
 
 abbrev pub with_senders : Outline → ℕ → List Used → Senders → Senders
 with_senders o region [] s = s
-with_senders o region (u ∷ us) s =
-    with_senders o region us (sender (member_named o region u) s)
+with_senders o region (u ∷ us) s = with_senders o region us (sender (member_named o region u) s)
 
 abbrev pub senders : Outline → ℕ → List Used → Senders
 senders o region us = with_senders o region us record { first = false; second = false }
@@ -253,8 +256,7 @@ header_declares w h o =
 -- states
 abbrev pub states_declare : Within → List Used → Outline → Outline
 states_declare w [] o = o
-states_declare w (u ∷ us) o =
-    states_declare w us (declared w u u.place (plain w sort.State) o)
+states_declare w (u ∷ us) o = states_declare w us (declared w u u.place (plain w sort.State) o)
 
 -- state sets
 abbrev pub stateset_declares : Within → StateSet → Outline → Outline

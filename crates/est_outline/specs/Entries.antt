@@ -1,5 +1,6 @@
 -- What is known of each sort of declaration, and where the parts of a text stand.
-use Rattle.std.specs.Prelude.{ℕ, ◌^◌, ℤ, pos, Bool, false, nat_lt, List, [], ◌∷◌, ◌++◌, Option, Some, None, if◌then◌else◌}
+use Rattle.std.specs.Prelude.{ℕ, ◌^◌, ℤ, pos, Bool, false, nat_lt, List, []}
+use Rattle.std.specs.Prelude.{◌∷◌, ◌++◌, Option, Some, None, if◌then◌else◌}
 use Rattle.est_syntax.specs.declared.kind.Kind.{Kind}
 use Rattle.est_scope.specs.declared.declaration.Sort.{Sort}
 use Rattle.est_scope.specs.declared.declaration.Sort.TheVariants as sort
@@ -10,7 +11,7 @@ use Rattle.est_scope.specs.declared.declaration.Measured.{Measured}
 use Rattle.est_scope.specs.declared.declaration.Side.{Side}
 use Rattle.est_scope.specs.declared.declaration.Within.{Within}
 use Rattle.est_kinds.specs.declared.value.Valued.{Valued}
-use Rattle.est_kinds.specs.Texts.{scalar}
+use Rattle.est_kinds.specs.TypeTexts.{scalar}
 
 -- a declaration of this sort with a kind, an ordinal, subscripts and a side, where it has such
 abbrev pub entry :
@@ -40,8 +41,7 @@ typed w s k = entry w s k None None None
 -- a constant, by its value
 abbrev pub constant : Within → Option Valued → Entry
 constant w None = plain w sort.Constant
-constant w (Some v) =
-    entry w sort.Constant (Some (scalar v.host)) (Some v.ordinal) None None
+constant w (Some v) = entry w sort.Constant (Some (scalar v.host)) (Some v.ordinal) None None
 
 -- the constant of an enumeration with this number, whose kind is not known yet
 abbrev pub ordinal_of : ℕ → Option ℤ
@@ -61,8 +61,7 @@ module_variable w dims header =
 
 -- a module header, with its attribute, and whether it has exports
 abbrev pub header : Within → Bool → Bool → Entry
-header w system exports =
-    record (plain w sort.Header) { system = system; exports = exports }
+header w system exports = record (plain w sort.Header) { system = system; exports = exports }
 
 -- the parts of a specification
 abbrev pub outermost : Within

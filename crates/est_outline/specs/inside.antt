@@ -1,3 +1,3 @@
 -- What only the private functions say.
-pub mod Parts
-pub mod Texts
+pub mod DeclaredParts
+pub mod DeclaredTexts

@@ -7,10 +7,11 @@ ghost use Rattle.est_outline.specs.Bodies.{body_named, body_header, header_given
 ghost use Rattle.est_outline.specs.Bodies.{routine_sort, routine_named};
 ghost use Rattle.est_outline.specs.Bodies.{result_given, head_declares, to_lying, closed_by};
 ghost use Rattle.est_outline.specs.Bodies.{part_declares, parts_declare, outline_of};
-ghost use Rattle.est_outline.specs.inside.Parts.{block_declares, first_declares};
-ghost use Rattle.est_outline.specs.inside.Parts.{transition_declares, transitions_declare};
-ghost use Rattle.est_outline.specs.inside.Parts.{group_declares, groups_declare, held_declares};
-ghost use Rattle.est_outline.specs.inside.Parts.{body_declares, head_of, routine_declares};
+ghost use Rattle.est_outline.specs.inside.DeclaredParts.{block_declares, first_declares};
+ghost use Rattle.est_outline.specs.inside.DeclaredParts.{transition_declares, transitions_declare};
+ghost use Rattle.est_outline.specs.inside.DeclaredParts.{group_declares};
+ghost use Rattle.est_outline.specs.inside.DeclaredParts.{groups_declare, held_declares};
+ghost use Rattle.est_outline.specs.inside.DeclaredParts.{body_declares, head_of, routine_declares};
 
 use crate::context::Context;
 use crate::declares::{consts, formals, states, statesets, types, vars};

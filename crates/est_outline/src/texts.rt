@@ -4,7 +4,8 @@
 ghost use Rattle.std.specs.Prelude.{◌≡◌, OnOk};
 ghost use Rattle.est_outline.specs.Declares.{numbers_declare, kinds_given, enumeration_declares};
 ghost use Rattle.est_outline.specs.Declares.{names_put, text_declares};
-ghost use Rattle.est_outline.specs.inside.Texts.{texts_declare, field_declares, fields_declare};
+ghost use Rattle.est_outline.specs.inside.DeclaredTexts.{texts_declare, field_declares};
+ghost use Rattle.est_outline.specs.inside.DeclaredTexts.{fields_declare};
 ghost use Rattle.est_scope.specs.Declaring.{amended, with_kind};
 
 use crate::entries::numbered;

@@ -1,5 +1,7 @@
 -- Plain situations, and what they stand for.
-use Rattle.std.specs.Prelude.{◌≡◌, ◌<◌, ◌^◌, ◌+◌, ◌&&◌, ℕ, zero, suc, Bool, true, false, List, [], ◌∷◌, ◌++◌, map, filter, find, length, Option, Some, None, nat_eq, slice_get, if◌then◌else◌}
+use Rattle.std.specs.Prelude.{◌≡◌, ◌<◌, ◌^◌, ◌+◌, ◌&&◌, ℕ, zero, suc, Bool, true}
+use Rattle.std.specs.Prelude.{false, List, [], ◌∷◌, ◌++◌, map, filter, find, length}
+use Rattle.std.specs.Prelude.{Option, Some, None, nat_eq, slice_get, if◌then◌else◌}
 use Rattle.std.specs.Borrow.{Bor}
 use Rattle.std.specs.List.{position}
 use Rattle.std.specs.Option.{option_map_or}
@@ -17,8 +19,10 @@ use Rattle.est_syntax.specs.Least.{IsIn}
 use Rattle.est_meaning.specs.declared.event.Event.{Event}
 use Rattle.est_meaning.specs.declared.event.Event.TheVariants as event
 use Rattle.est_meaning.specs.declared.run.Firing.{Firing}
-use Rattle.est_meaning.specs.Text.{Declared, Awaited, is_name, discipline, points_in, header_of, numbered, from_of, to_of, when_of}
-use Rattle.est_meaning.specs.Situation.{nothing, InteractionPoint, QueueName, Own, Shared, is_queue, Item, Situation}
+use Rattle.est_meaning.specs.Text.{Declared, Awaited, is_name, discipline, points_in}
+use Rattle.est_meaning.specs.Text.{header_of, numbered, from_of, to_of, when_of}
+use Rattle.est_meaning.specs.Situation.{nothing, InteractionPoint, QueueName}
+use Rattle.est_meaning.specs.Situation.{Own, Shared, is_queue, Item, Situation}
 use Rattle.est_meaning.specs.Order.{IsAscending}
 use Rattle.est_meaning.specs.declared.event.Interaction.{Interaction}
 use Rattle.est_syntax.specs.declared.body.FirstPart.{FirstPart}
@@ -116,8 +120,7 @@ bare body state queues clock =
     record {
       rows = record (root_row body) { state = state }
           ∷ [];
-      peer =
-          nothing;
+      peer = nothing;
       down = nothing;
       queues = queues;
       stamps = nothing;

@@ -1,5 +1,6 @@
 -- What undoes moves.
-use Rattle.std.specs.Prelude.{◌≤◌, ◌<◌, ◌-◌, ℕ, List, [], ◌∷◌, Option, Some, None, length, take, insert, ⊤}
+use Rattle.std.specs.Prelude.{◌≤◌, ◌<◌, ◌-◌, ℕ, List, [], ◌∷◌, Option}
+use Rattle.std.specs.Prelude.{Some, None, length, take, insert, ⊤}
 use Rattle.est_plain.specs.declared.situation.Waiting.{Waiting}
 use Rattle.est_plain.specs.declared.undo.Taken.{Taken}
 use Rattle.est_plain.specs.declared.undo.Undo.{Undo}

@@ -5,7 +5,8 @@ ghost use Rattle.std.specs.List.{position};
 ghost use Rattle.std.specs.Option.{option_copied};
 ghost use Rattle.std.specs.VecDeque.{deque_capacity};
 ghost use Rattle.est_meaning.specs.Situation.{is_queue};
-ghost use Rattle.est_plain.specs.PlainSituation.{has_name, shares, queue_named, waits_in, without_first};
+ghost use Rattle.est_plain.specs.PlainSituation.{has_name, shares, queue_named};
+ghost use Rattle.est_plain.specs.PlainSituation.{waits_in, without_first};
 ghost use Rattle.est_plain.specs.Undo.{put_back, HasPlace};
 
 use crate::situation::{PointQueue, Waiting};

@@ -6,12 +6,21 @@ use Rattle.est_language.proofs.OneTree.{decided, decides}
 use Rattle.est_reader.specs.Tests.{apart, implies, language}
 use Rattle.est_reader.proofs.Apart.{apart-holds, near}
 use Rattle.est_reader.proofs.Going.{Known}
-use Rattle.est_productions.specs.Grammar.{Production, specification, common, own, consts, constdef, constant, types, typedef, typetext, shorttype, arraytype, recordtype, settype, vars, vardef, channel, by_part, interaction, param, header, point, dims, queue, export, modvar, stateset, body, routine, formal, block, transpart, transition, clause, access, statement, arm, sending, init, end_point, expr, simple, term, factor, selector, member, production}
+use Rattle.est_productions.specs.Productions.{Production, specification, common, own, consts}
+use Rattle.est_productions.specs.Productions.{constdef, constant, types, typedef, typetext}
+use Rattle.est_productions.specs.Productions.{shorttype, arraytype, recordtype, settype, vars}
+use Rattle.est_productions.specs.Productions.{vardef, channel, by_part, interaction, param}
+use Rattle.est_productions.specs.Productions.{header, point, dims, queue, export, modvar}
+use Rattle.est_productions.specs.Productions.{stateset, body, routine, formal, block}
+use Rattle.est_productions.specs.Productions.{transpart, transition, clause, access, statement}
+use Rattle.est_productions.specs.Productions.{arm, sending, init, end_point, expr, simple}
+use Rattle.est_productions.specs.Productions.{term, factor, selector, member, production}
 use Rattle.est_productions.specs.FirstTokens.{begins, goes_on, can_be_left_out, marks}
 use Rattle.est_productions.specs.Nodes.{Node}
 use Rattle.est_productions.specs.Syntax.{estelle}
 
-begins_covered : (p : Production) → covered implies (can_begin marks (production p)) (begins p) ≡ true
+begins_covered : (p : Production) → covered implies (can_begin marks (production p)) (begins p)
+    ≡ true
 begins_covered specification = refl
 begins_covered common = refl
 begins_covered own = refl
@@ -58,7 +67,8 @@ begins_covered factor = refl
 begins_covered selector = refl
 begins_covered member = refl
 
-goes_on_covered : (p : Production) → covered implies (can_go_on marks (production p)) (goes_on p) ≡ true
+goes_on_covered : (p : Production) → covered implies (can_go_on marks (production p)) (goes_on p)
+    ≡ true
 goes_on_covered specification = refl
 goes_on_covered common = refl
 goes_on_covered own = refl
@@ -105,7 +115,8 @@ goes_on_covered factor = refl
 goes_on_covered selector = refl
 goes_on_covered member = refl
 
-empty_marked : (p : Production) → (not (can_be_empty marks (production p)) || can_be_left_out p) ≡ true
+empty_marked : (p : Production) → (not (can_be_empty marks (production p)) || can_be_left_out p)
+    ≡ true
 empty_marked specification = refl
 empty_marked common = refl
 empty_marked own = refl
@@ -202,7 +213,8 @@ each_decided member = refl
 pub fits : (text : List ℕ) → Fits (language production text) marks
 fits text = record {
   starts = λ p. near production text (can_begin marks (production p)) (begins p) (begins_covered p);
-  goes_on = λ p. near production text (can_go_on marks (production p)) (goes_on p) (goes_on_covered p);
+  goes_on = λ p. near production text (can_go_on marks (production p)) (goes_on p)
+      (goes_on_covered p);
   is_empty = empty_marked;
 }
 
@@ -211,5 +223,7 @@ abbrev pub K : Known Production Node
 K = record { syntax = estelle; fits = fits }
 
 -- one token decides each choice of a production
-pub each_token : (text : List ℕ) (p : Production) → OneTokenDecides (language production text) marks (production p)
-each_token text p = decides (language production text) marks apart (λ a b x h q r. apart-holds text a b x h q r) (production p) (each_decided p)
+pub each_token : (text : List ℕ) (p : Production)
+    → OneTokenDecides (language production text) marks (production p)
+each_token text p = decides (language production text) marks apart (λ a b x h q r. apart-holds text
+    a b x h q r) (production p) (each_decided p)

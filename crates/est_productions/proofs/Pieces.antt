@@ -1,5 +1,7 @@
--- The pieces of layers tell what they show: lists, names, constants, types, declarations and expressions.
-use Rattle.std.proofs.Common.{◌≡◌, ℕ, Bool, true, false, List, [], ◌∷◌, map, Option, Some, None, refl, ◌∙◌, ap}
+-- The pieces of layers tell what they show: lists, names, constants, types, declarations and
+-- expressions.
+use Rattle.std.proofs.Common.{◌≡◌, ℕ, Bool, true, false, List, [], ◌∷◌}
+use Rattle.std.proofs.Common.{map, Option, Some, None, refl, ◌∙◌, ap}
 use Rattle.est_syntax.specs.declared.name.Used.{Used}
 use Rattle.est_syntax.specs.declared.constant.Constant.{Constant}
 use Rattle.est_syntax.specs.declared.constant.Constant.TheVariants as constant
@@ -29,17 +31,27 @@ use Rattle.est_syntax.specs.declared.expression.Member.{Member}
 use Rattle.est_syntax.specs.declared.expression.Factor.TheOpen as factor
 use Rattle.est_syntax.specs.declared.expression.ProductStep.{ProductStep}
 use Rattle.est_syntax.specs.declared.expression.SumStep.{SumStep}
-use Rattle.est_syntax.specs.declared.expression.Relation.{Relation, out-Relation, roll-Relation, roll-out-Relation}
+use Rattle.est_syntax.specs.declared.expression.Relation.{Relation, out-Relation}
+use Rattle.est_syntax.specs.declared.expression.Relation.{roll-Relation, roll-out-Relation}
 use Rattle.est_syntax.specs.declared.expression.Expr.{Expr}
 use Rattle.est_syntax.specs.declared.expression.Access.{Access}
 use Rattle.est_syntax.specs.declared.statement.Arm.{Arm}
 use Rattle.est_syntax.specs.declared.statement.Sending.{Sending}
 use Rattle.est_syntax.specs.declared.statement.Statement.{Statement}
-use Rattle.est_language.specs.Shown.{Shows, empty, kept, at, pair, first, second, given, node, nowhere, nodes, s_pair, s_first, s_given}
+use Rattle.est_language.specs.Shown.{Shows, empty, kept, at, pair, first, second, given}
+use Rattle.est_language.specs.Shown.{node, nowhere, nodes, s_pair, s_first, s_given}
 use Rattle.est_reader.specs.Tests as kinds
 use Rattle.est_reader.specs.Going.{Shape, used}
 use Rattle.est_productions.specs.Nodes as shown
-use Rattle.est_productions.specs.Nodes.{Node, View, a_use, a_constant, a_constant_definition, a_type, a_short_type, a_type_definition, a_field, a_variable, a_parameter, an_export, an_interaction, a_by_part, a_channel, a_point, a_module_variable, a_state_set, a_formal, a_routine, a_common_part, a_body_part, a_block_part, a_block, a_clause, a_transition, a_group, an_access, a_statement, an_arm, a_sending, an_expr, a_simple, a_sum_step, a_product_step, a_factor, a_selector, a_member, layer, TypeTextForm, FactorForm, SelectorForm}
+use Rattle.est_productions.specs.Nodes.{Node, View, a_use, a_constant, a_constant_definition}
+use Rattle.est_productions.specs.Nodes.{a_type, a_short_type, a_type_definition, a_field}
+use Rattle.est_productions.specs.Nodes.{a_variable, a_parameter, an_export, an_interaction}
+use Rattle.est_productions.specs.Nodes.{a_by_part, a_channel, a_point, a_module_variable}
+use Rattle.est_productions.specs.Nodes.{a_state_set, a_formal, a_routine, a_common_part}
+use Rattle.est_productions.specs.Nodes.{a_body_part, a_block_part, a_block, a_clause, a_transition}
+use Rattle.est_productions.specs.Nodes.{a_group, an_access, a_statement, an_arm, a_sending, an_expr}
+use Rattle.est_productions.specs.Nodes.{a_simple, a_sum_step, a_product_step, a_factor, a_selector}
+use Rattle.est_productions.specs.Nodes.{a_member, layer, TypeTextForm, FactorForm, SelectorForm}
 
 -- the view shows this shape
 abbrev pub Has : View → Shape → Type 0
@@ -56,9 +68,11 @@ abbrev pub read : {A : Type 0} → (Node → Option A) → List Node → List A
 read out [] = []
 read out (n ∷ ns) = put (out n) (read out ns)
 
-back : {A : Type 0} (out : Node → Option A) (part : A → Node) → ((x : A) → out (part x) ≡ Some x) → (xs : List A) → read out (map part xs) ≡ xs
+back : {A : Type 0} (out : Node → Option A) (part : A → Node) → ((x : A) → out (part x) ≡ Some x)
+    → (xs : List A) → read out (map part xs) ≡ xs
 back out part e [] = refl
-back out part e (x ∷ xs) = ap (λ o. put o (read out (map part xs))) (e x) ∙ ap (λ l. x ∷ l) (back out part e xs)
+back out part e (x ∷ xs) = ap (λ o. put o (read out (map part xs))) (e x)
+    ∙ ap (λ l. x ∷ l) (back out part e xs)
 
 abbrev pub use_of : Node → Option Used
 use_of (a_use x) = Some x
@@ -78,7 +92,8 @@ abbrev pub constant_definition_of : Node → Option ConstDef
 constant_definition_of (a_constant_definition x) = Some x
 constant_definition_of n = None
 
-pub constant_definitions_back : (xs : List ConstDef) → read constant_definition_of (map a_constant_definition xs) ≡ xs
+pub constant_definitions_back : (xs : List ConstDef)
+    → read constant_definition_of (map a_constant_definition xs) ≡ xs
 constant_definitions_back xs = back constant_definition_of a_constant_definition (λ x. refl) xs
 
 abbrev pub type_of : Node → Option TypeText
@@ -99,7 +114,8 @@ abbrev pub type_definition_of : Node → Option TypeDef
 type_definition_of (a_type_definition x) = Some x
 type_definition_of n = None
 
-pub type_definitions_back : (xs : List TypeDef) → read type_definition_of (map a_type_definition xs) ≡ xs
+pub type_definitions_back : (xs : List TypeDef) → read type_definition_of (map a_type_definition xs)
+    ≡ xs
 type_definitions_back xs = back type_definition_of a_type_definition (λ x. refl) xs
 
 abbrev pub field_of : Node → Option VarDef
@@ -155,7 +171,8 @@ abbrev pub module_variable_of : Node → Option ModvarDef
 module_variable_of (a_module_variable x) = Some x
 module_variable_of n = None
 
-pub module_variables_back : (xs : List ModvarDef) → read module_variable_of (map a_module_variable xs) ≡ xs
+pub module_variables_back : (xs : List ModvarDef)
+    → read module_variable_of (map a_module_variable xs) ≡ xs
 module_variables_back xs = back module_variable_of a_module_variable (λ x. refl) xs
 
 abbrev pub state_set_of : Node → Option StateSet
@@ -299,7 +316,8 @@ is_second v = false
 
 abbrev pub signed_in : Bool → ℕ → View → Constant
 signed_in minus place (first (kept (kinds.value number))) = constant.Number minus true number place
-signed_in minus place (second (at p (kept (kinds.name bytes)))) = constant.Named minus true (spelled bytes p) place
+signed_in minus place (second (at p (kept (kinds.name bytes)))) = constant.Named minus true
+    (spelled bytes p) place
 signed_in minus place v = constant.Number false false 0 0
 
 abbrev pub unnamed_in : View → Constant
@@ -308,7 +326,8 @@ unnamed_in (at place (second (first (pair w v)))) = signed_in (is_second w) plac
 unnamed_in (at place (second (second (kept (kinds.code code))))) = constant.Character code place
 unnamed_in v = constant.Number false false 0 0
 
-unnamed_back : (c : Constant) {t : Shape} → Has (shown.unnamed c) t → unnamed_in (shown.unnamed c) ≡ c
+unnamed_back : (c : Constant) {t : Shape} → Has (shown.unnamed c) t
+    → unnamed_in (shown.unnamed c) ≡ c
 unnamed_back (constant.Number true true number place) d = refl
 unnamed_back (constant.Number false true number place) d = refl
 unnamed_back (constant.Number false false number place) d = refl
@@ -324,8 +343,10 @@ constant_in (second (at place v)) = constant.Named false false (used_in v) place
 constant_in (first v) = unnamed_in v
 constant_in v = constant.Number false false 0 0
 
-pub constant_back : (c : Constant) {t : Shape} → Has (shown.constant c) t → constant_in (shown.constant c) ≡ c
-constant_back (constant.Number minus sign number place) (s_first d) = unnamed_back (constant.Number minus sign number place) d
+pub constant_back : (c : Constant) {t : Shape} → Has (shown.constant c) t
+    → constant_in (shown.constant c) ≡ c
+constant_back (constant.Number minus sign number place) (s_first d) =
+    unnamed_back (constant.Number minus sign number place) d
 constant_back (constant.Named false false name place) d = refl
 constant_back (constant.Named true false name place) (s_first d) = elim d [ ]
 constant_back (constant.Named true true name place) d = refl
@@ -334,19 +355,23 @@ constant_back (constant.Character code place) d = refl
 
 abbrev pub short_in : View → Option TypeTextForm
 short_in (second (at place (pair v empty))) = Some (text.Named (used_in v))
-short_in (second (at place (pair v (given (node (a_constant high)))))) = Some (text.Range (constant.Named false false (used_in v) place) high)
+short_in (second (at place (pair v (given (node (a_constant high)))))) =
+    Some (text.Range (constant.Named false false (used_in v) place) high)
 short_in (first (pair v (node (a_constant high)))) = Some (text.Range (unnamed_in v) high)
 short_in v = None
 
-range_back : (low high : Constant) {t : Shape} → Has (shown.range low high) t → short_in (shown.range low high) ≡ Some (text.Range low high)
-range_back (constant.Number minus sign number place) high (s_first (s_pair d e)) = ap (λ c. Some (text.Range c high)) (unnamed_back (constant.Number minus sign number place) d)
+range_back : (low high : Constant) {t : Shape} → Has (shown.range low high) t
+    → short_in (shown.range low high) ≡ Some (text.Range low high)
+range_back (constant.Number minus sign number place) high (s_first (s_pair d e)) =
+    ap (λ c. Some (text.Range c high)) (unnamed_back (constant.Number minus sign number place) d)
 range_back (constant.Named false false name place) high d = refl
 range_back (constant.Named true false name place) high (s_first (s_pair d e)) = elim d [ ]
 range_back (constant.Named true true name place) high d = refl
 range_back (constant.Named false true name place) high d = refl
 range_back (constant.Character code place) high d = refl
 
-pub short_back : (x : TypeTextForm) {t : Shape} → Has (shown.short_type x) t → short_in (shown.short_type x) ≡ Some x
+pub short_back : (x : TypeTextForm) {t : Shape} → Has (shown.short_type x) t
+    → short_in (shown.short_type x) ≡ Some x
 short_back (text.Named name) d = refl
 short_back (text.Range low high) d = range_back low high d
 short_back (text.Names us place) d = elim d [ ]
@@ -356,22 +381,27 @@ short_back (text.Set of_ place) d = elim d [ ]
 
 -- the type after `of`
 abbrev pub structured_in : ℕ → View → Option TypeTextForm
-structured_in place (first (pair (nodes ns) (node (a_type of_)))) = Some (text.Array (read type_of ns) of_ place)
-structured_in place (second (first (pair (nodes ns) empty))) = Some (text.Fields (read field_of ns) place)
+structured_in place (first (pair (nodes ns) (node (a_type of_)))) =
+    Some (text.Array (read type_of ns) of_ place)
+structured_in place (second (first (pair (nodes ns) empty))) =
+    Some (text.Fields (read field_of ns) place)
 structured_in place (second (second (node (a_type of_)))) = Some (text.Set of_ place)
 structured_in place v = None
 
 abbrev pub type_in : View → Option TypeTextForm
 type_in (first v) = short_in v
-type_in (second (first (at place (pair (nodes ns) empty)))) = Some (text.Names (read use_of ns) place)
+type_in (second (first (at place (pair (nodes ns) empty)))) =
+    Some (text.Names (read use_of ns) place)
 type_in (second (second (at place (pair empty v)))) = structured_in place v
 type_in v = None
 
-pub type_back : (x : TypeTextForm) {t : Shape} → Has (shown.type_text x) t → type_in (shown.type_text x) ≡ Some x
+pub type_back : (x : TypeTextForm) {t : Shape} → Has (shown.type_text x) t
+    → type_in (shown.type_text x) ≡ Some x
 type_back (text.Named name) d = refl
 type_back (text.Range low high) (s_first d) = range_back low high d
 type_back (text.Names us place) d = ap (λ l. Some (text.Names l place)) (uses_back us)
-type_back (text.Array index of_ place) d = ap (λ l. Some (text.Array l of_ place)) (types_back index)
+type_back (text.Array index of_ place) d = ap (λ l. Some (text.Array l of_ place))
+    (types_back index)
 type_back (text.Fields fs place) d = ap (λ l. Some (text.Fields l place)) (fields_back fs)
 type_back (text.Set of_ place) d = refl
 
@@ -386,26 +416,47 @@ parameters_are (v ∷ vs) = parameters_back (v ∷ vs)
 -- CHANNELS, HEADERS AND MODULE VARIABLES
 
 abbrev pub by_part_in : View → Option Node
-by_part_in (pair v (pair empty (nodes ns))) = Some (a_by_part record { roles = used_in v ∷ []; interactions = read interaction_of ns })
-by_part_in (pair v (pair (given w) (nodes ns))) = Some (a_by_part record { roles = used_in v ∷ used_in w ∷ []; interactions = read interaction_of ns })
+by_part_in (pair v (pair empty (nodes ns))) = Some (a_by_part record {
+  roles = used_in v ∷ [];
+  interactions = read interaction_of ns;
+})
+by_part_in (pair v (pair (given w) (nodes ns))) = Some (a_by_part record {
+  roles = used_in v ∷ used_in w ∷ [];
+  interactions = read interaction_of ns;
+})
 by_part_in v = None
 
-pub by_part_back : (us : List Used) (is : List InteractionDef) {t : Shape} → Has (shown.roles us (nodes (map an_interaction is))) t
-    → by_part_in (shown.roles us (nodes (map an_interaction is))) ≡ Some (a_by_part record { roles = us; interactions = is })
+pub by_part_back : (us : List Used) (is : List InteractionDef) {t : Shape}
+    → Has (shown.roles us (nodes (map an_interaction is))) t
+    → by_part_in (shown.roles us (nodes (map an_interaction is)))
+    ≡ Some (a_by_part record { roles = us; interactions = is })
 by_part_back [] is d = elim d [ ]
-by_part_back (one ∷ []) is d = ap (λ l. Some (a_by_part record { roles = one ∷ []; interactions = l })) (interactions_back is)
-by_part_back (one ∷ other ∷ []) is d = ap (λ l. Some (a_by_part record { roles = one ∷ other ∷ []; interactions = l })) (interactions_back is)
+by_part_back (one ∷ []) is d = ap (λ l. Some (a_by_part record {
+  roles = one ∷ [];
+  interactions = l;
+})) (interactions_back is)
+by_part_back (one ∷ other ∷ []) is d =
+    ap (λ l. Some (a_by_part record { roles = one ∷ other ∷ []; interactions = l }))
+    (interactions_back is)
 by_part_back (one ∷ other ∷ more ∷ us) is d = elim d [ ]
 
 abbrev pub channel_in : View → Option Node
-channel_in (pair v (pair one (pair other (nodes ns)))) = Some (a_channel record { name = used_in v; roles = used_in one ∷ used_in other ∷ []; by = read by_part_of ns })
+channel_in (pair v (pair one (pair other (nodes ns)))) = Some (a_channel record {
+  name = used_in v;
+  roles = used_in one ∷ used_in other ∷ [];
+  by = read by_part_of ns;
+})
 channel_in v = None
 
-pub channel_back : (name : Used) (us : List Used) (bs : List ByPart) {t : Shape} → Has (shown.two_names us (nodes (map a_by_part bs))) t
-    → channel_in (pair (used name) (shown.two_names us (nodes (map a_by_part bs)))) ≡ Some (a_channel record { name = name; roles = us; by = bs })
+pub channel_back : (name : Used) (us : List Used) (bs : List ByPart) {t : Shape}
+    → Has (shown.two_names us (nodes (map a_by_part bs))) t
+    → channel_in (pair (used name) (shown.two_names us (nodes (map a_by_part bs))))
+    ≡ Some (a_channel record { name = name; roles = us; by = bs })
 channel_back name [] bs d = elim d [ ]
 channel_back name (one ∷ []) bs d = elim d [ ]
-channel_back name (one ∷ other ∷ []) bs d = ap (λ l. Some (a_channel record { name = name; roles = one ∷ other ∷ []; by = l })) (by_parts_back bs)
+channel_back name (one ∷ other ∷ []) bs d =
+    ap (λ l. Some (a_channel record { name = name; roles = one ∷ other ∷ []; by = l }))
+    (by_parts_back bs)
 channel_back name (one ∷ other ∷ more ∷ us) bs d = elim d [ ]
 
 abbrev pub queue_in : View → Queue
@@ -428,7 +479,8 @@ abbrev pub dimensions_in : View → List TypeText
 dimensions_in (given (at place (pair (nodes ns) empty))) = read short_type_of ns
 dimensions_in v = []
 
-pub dimensions_back : (place : ℕ) (ds : List TypeText) → dimensions_in (shown.dimensions place ds) ≡ ds
+pub dimensions_back : (place : ℕ) (ds : List TypeText) → dimensions_in (shown.dimensions place ds)
+    ≡ ds
 dimensions_back place [] = refl
 dimensions_back place (d ∷ ds) = short_types_back (d ∷ ds)
 
@@ -437,7 +489,8 @@ abbrev pub place_in : ℕ → View → ℕ
 place_in beginning (given (at place v)) = place
 place_in beginning v = beginning
 
-pub place_back : (place : ℕ) (ds : List TypeText) (us : List Used) → place_in (shown.beginning place ds us) (shown.dimensions place ds) ≡ place
+pub place_back : (place : ℕ) (ds : List TypeText) (us : List Used)
+    → place_in (shown.beginning place ds us) (shown.dimensions place ds) ≡ place
 place_back place [] us = refl
 place_back place (d ∷ ds) us = refl
 
@@ -469,15 +522,43 @@ formals_are (f ∷ fs) = formals_back (f ∷ fs)
 
 abbrev pub routine_in : View → Option Node
 routine_in (first (pair v (pair fs (pair (node (a_block block)) empty)))) =
-    Some (a_routine (roll-Routine record { name = used_in v; formals = formals_in fs; result = None; block = block }))
+    Some (a_routine (roll-Routine record {
+      name = used_in v;
+      formals = formals_in fs;
+      result = None;
+      block = block;
+    }))
 routine_in (second (pair empty (pair v (pair fs (pair w (pair (node (a_block block)) empty)))))) =
-    Some (a_routine (roll-Routine record { name = used_in v; formals = formals_in fs; result = Some (used_in w); block = block }))
+    Some (a_routine (roll-Routine record {
+      name = used_in v;
+      formals = formals_in fs;
+      result = Some (used_in w);
+      block = block;
+    }))
 routine_in v = None
 
 pub routine_back : (name : Used) (fs : List Formal) (result : Option Used) (block : Block)
-    → routine_in (shown.routine_of name fs result block) ≡ Some (a_routine (roll-Routine record { name = name; formals = fs; result = result; block = block }))
-routine_back name fs None block = ap (λ l. Some (a_routine (roll-Routine record { name = name; formals = l; result = None; block = block }))) (formals_are fs)
-routine_back name fs (Some result) block = ap (λ l. Some (a_routine (roll-Routine record { name = name; formals = l; result = Some result; block = block }))) (formals_are fs)
+    → routine_in (shown.routine_of name fs result block)
+    ≡ Some (a_routine (roll-Routine record {
+      name = name;
+      formals = fs;
+      result = result;
+      block = block;
+    }))
+routine_back name fs None block =
+    ap (λ l. Some (a_routine (roll-Routine record {
+      name = name;
+      formals = l;
+      result = None;
+      block = block;
+    }))) (formals_are fs)
+routine_back name fs (Some result) block =
+    ap (λ l. Some (a_routine (roll-Routine record {
+      name = name;
+      formals = l;
+      result = Some result;
+      block = block;
+    }))) (formals_are fs)
 
 -- EXPRESSIONS
 
@@ -490,7 +571,8 @@ relational_in (second (second (second (second (first v))))) = operator.Above
 relational_in (second (second (second (second (second (first v)))))) = operator.AtLeast
 relational_in v = operator.Within
 
-relational_back : (o : Operator) {t : Shape} → Has (shown.relational_operator o) t → relational_in (shown.relational_operator o) ≡ o
+relational_back : (o : Operator) {t : Shape} → Has (shown.relational_operator o) t
+    → relational_in (shown.relational_operator o) ≡ o
 relational_back operator.Equal d = refl
 relational_back operator.Unequal d = refl
 relational_back operator.Below d = refl
@@ -511,7 +593,8 @@ adding_in (first v) = operator.Plus
 adding_in (second (first v)) = operator.Minus
 adding_in v = operator.Or
 
-pub adding_back : (o : Operator) {t : Shape} → Has (shown.adding_operator o) t → adding_in (shown.adding_operator o) ≡ o
+pub adding_back : (o : Operator) {t : Shape} → Has (shown.adding_operator o) t
+    → adding_in (shown.adding_operator o) ≡ o
 adding_back operator.Plus d = refl
 adding_back operator.Minus d = refl
 adding_back operator.Or d = refl
@@ -533,7 +616,8 @@ multiplying_in (second (first v)) = operator.Div
 multiplying_in (second (second (first v))) = operator.Mod
 multiplying_in v = operator.And
 
-pub multiplying_back : (o : Operator) {t : Shape} → Has (shown.multiplying_operator o) t → multiplying_in (shown.multiplying_operator o) ≡ o
+pub multiplying_back : (o : Operator) {t : Shape} → Has (shown.multiplying_operator o) t
+    → multiplying_in (shown.multiplying_operator o) ≡ o
 multiplying_back operator.Times d = refl
 multiplying_back operator.Div d = refl
 multiplying_back operator.Mod d = refl
@@ -550,13 +634,18 @@ multiplying_back operator.Minus d = elim d [ ]
 multiplying_back operator.Or d = elim d [ ]
 
 abbrev pub relation_in : View → Option Relation
-relation_in (given (pair v (node (a_simple right)))) = Some (roll-Relation record { operator = relational_in v; right = right })
+relation_in (given (pair v (node (a_simple right)))) = Some (roll-Relation record {
+  operator = relational_in v;
+  right = right;
+})
 relation_in v = None
 
-pub relation_back : (o : Option Relation) {t : Shape} → Has (shown.relation o) t → relation_in (shown.relation o) ≡ o
+pub relation_back : (o : Option Relation) {t : Shape} → Has (shown.relation o) t
+    → relation_in (shown.relation o) ≡ o
 relation_back None d = refl
 relation_back (Some r) (s_given (s_pair d e)) =
-    ap (λ o. Some (roll-Relation record { operator = o; right = (out-Relation r).right })) (relational_back (out-Relation r).operator d) ∙ ap (λ x. Some x) (roll-out-Relation r)
+    ap (λ o. Some (roll-Relation record { operator = o; right = (out-Relation r).right }))
+    (relational_back (out-Relation r).operator d) ∙ ap (λ x. Some x) (roll-out-Relation r)
 
 -- the sign before a sum: "-" alone is told by what no tree shows
 abbrev pub minus_in : View → Bool
@@ -594,21 +683,27 @@ members_are (m ∷ ms) = members_back (m ∷ ms)
 
 -- what stands after a name
 abbrev pub path_in : Used → ℕ → View → FactorForm
-path_in name place (given (first (pair (nodes ns) empty))) = factor.Call name (read expr_of ns) place
+path_in name place (given (first (pair (nodes ns) empty))) = factor.Call name (read expr_of ns)
+    place
 path_in name place (given (second (nodes ns))) = factor.Variable name (read selector_of ns) place
 path_in name place v = factor.Variable name [] place
 
-path_back : (name : Used) (place : ℕ) (ss : List Selector) → path_in name place (shown.selectors ss) ≡ factor.Variable name ss place
+path_back : (name : Used) (place : ℕ) (ss : List Selector) → path_in name place (shown.selectors ss)
+    ≡ factor.Variable name ss place
 path_back name place [] = refl
 path_back name place (s ∷ ss) = ap (λ l. factor.Variable name l place) (selectors_back (s ∷ ss))
 
 abbrev pub factor_in : View → Option FactorForm
 factor_in (at place (first (kept (kinds.value number)))) = Some (factor.Number number place)
 factor_in (at place (second (first (kept (kinds.code code))))) = Some (factor.Character code place)
-factor_in (at place (second (second (first (pair (node (an_expr of_)) empty))))) = Some (factor.Group of_ place)
-factor_in (at place (second (second (second (first (node (a_factor of_))))))) = Some (factor.Not of_ place)
-factor_in (at place (second (second (second (second (first (pair v empty))))))) = Some (factor.Set (members_in v) place)
-factor_in (at place (second (second (second (second (second (pair v w))))))) = Some (path_in (used_in v) place w)
+factor_in (at place (second (second (first (pair (node (an_expr of_)) empty))))) =
+    Some (factor.Group of_ place)
+factor_in (at place (second (second (second (first (node (a_factor of_))))))) =
+    Some (factor.Not of_ place)
+factor_in (at place (second (second (second (second (first (pair v empty))))))) =
+    Some (factor.Set (members_in v) place)
+factor_in (at place (second (second (second (second (second (pair v w))))))) =
+    Some (path_in (used_in v) place w)
 factor_in v = None
 
 pub factor_back : (f : FactorForm) → factor_in (shown.factor f) ≡ Some f
@@ -622,7 +717,8 @@ factor_back (factor.Call name es place) = ap (λ l. Some (factor.Call name l pla
 
 abbrev pub selector_in : View → Option SelectorForm
 selector_in (first v) = Some (factor.Field (used_in v))
-selector_in (second (at place (pair (nodes ns) empty))) = Some (factor.Index (read expr_of ns) place)
+selector_in (second (at place (pair (nodes ns) empty))) =
+    Some (factor.Index (read expr_of ns) place)
 selector_in v = None
 
 pub selector_back : (s : SelectorForm) → selector_in (shown.selector s) ≡ Some s

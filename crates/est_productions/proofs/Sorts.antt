@@ -1,5 +1,6 @@
 -- What the layers of each sort of part look like: the grammar, once more.
-use Rattle.std.proofs.Common.{◌≡◌, ℕ, Bool, true, false, List, [], ◌∷◌, map, Option, Some, None, refl}
+use Rattle.std.proofs.Common.{◌≡◌, ℕ, Bool, true, false, List, []}
+use Rattle.std.proofs.Common.{◌∷◌, map, Option, Some, None, refl}
 use Rattle.est_syntax.specs.declared.name.Used.{Used}
 use Rattle.est_syntax.specs.declared.constant.Constant.{Constant}
 use Rattle.est_syntax.specs.declared.constant.Constant.TheVariants as constant
@@ -41,16 +42,30 @@ use Rattle.est_syntax.specs.declared.statement.Statement.{Statement, out-Stateme
 use Rattle.est_syntax.specs.declared.statement.Statement.TheOpen as statement
 use Rattle.est_language.specs.Shown.{nodes}
 use Rattle.est_language.proofs.Alike as alike
-use Rattle.est_language.proofs.Alike.{All, of_nothing, of_kept, of_at, of_option, of_pair, of_choice, of_part, of_parts, of_sections, f_nowhere, f_empty, f_kept, f_at, f_pair, f_first, f_second, f_out, f_in, f_part, f_parts, f_sections}
+use Rattle.est_language.proofs.Alike.{All, of_nothing, of_kept, of_at, of_option}
+use Rattle.est_language.proofs.Alike.{of_pair, of_choice, of_part, of_parts, of_sections}
+use Rattle.est_language.proofs.Alike.{f_nowhere, f_empty, f_kept, f_at, f_pair, f_first}
+use Rattle.est_language.proofs.Alike.{f_second, f_out, f_in, f_part, f_parts, f_sections}
 use Rattle.est_reader.specs.Tests as kinds
 use Rattle.est_reader.specs.Tests.{Kept}
 use Rattle.est_reader.specs.Going.{used}
 use Rattle.est_productions.specs.Nodes as shown
-use Rattle.est_productions.specs.Nodes.{Node, View, a_use, a_constant, a_constant_definition, a_type, a_short_type, a_type_definition, a_field, a_variable, a_parameter, an_export, an_interaction, a_by_part, a_channel, a_point, a_header, a_module_variable, a_state_set, a_formal, a_routine, a_common_part, a_body_part, a_block_part, a_block, a_clause, a_transition, a_group, a_body, an_access, an_end_point, a_statement, an_arm, a_sending, an_expr, a_simple, a_sum_step, a_term, a_product_step, a_factor, a_selector, a_member, a_specification, layer, TypeTextForm, FactorForm, SelectorForm, StatementForm, PartForm}
+use Rattle.est_productions.specs.Nodes.{Node, View, a_use, a_constant, a_constant_definition}
+use Rattle.est_productions.specs.Nodes.{a_type, a_short_type, a_type_definition, a_field}
+use Rattle.est_productions.specs.Nodes.{a_variable, a_parameter, an_export, an_interaction}
+use Rattle.est_productions.specs.Nodes.{a_by_part, a_channel, a_point, a_header, a_module_variable}
+use Rattle.est_productions.specs.Nodes.{a_state_set, a_formal, a_routine, a_common_part}
+use Rattle.est_productions.specs.Nodes.{a_body_part, a_block_part, a_block, a_clause, a_transition}
+use Rattle.est_productions.specs.Nodes.{a_group, a_body, an_access, an_end_point, a_statement}
+use Rattle.est_productions.specs.Nodes.{an_arm, a_sending, an_expr, a_simple, a_sum_step, a_term}
+use Rattle.est_productions.specs.Nodes.{a_product_step, a_factor, a_selector, a_member}
+use Rattle.est_productions.specs.Nodes.{a_specification, layer, TypeTextForm, FactorForm}
+use Rattle.est_productions.specs.Nodes.{SelectorForm, StatementForm, PartForm}
 
 -- what sort of part it is
 pub data Tag : Type 0 where
-  uses constants constant_definitions types short_types type_definitions fields variables parameters : Tag
+  uses constants constant_definitions types short_types type_definitions fields variables
+      parameters : Tag
   exports interactions by_parts channels points headers module_variables state_sets formals : Tag
   routines common_parts body_parts block_parts blocks clauses transitions groups bodies : Tag
   accesses end_points statements arms sendings exprs simples sum_steps terms : Tag
@@ -106,12 +121,14 @@ abbrev pub IsOf : Sort → View → Type 0
 IsOf s v = alike.IsOf tag s v
 
 -- the parts of one sort in a list
-pub all : {A : Type 0} (part : A → Node) (g : Tag) → ((x : A) → tag (part x) ≡ g) → (xs : List A) → All tag g (map part xs)
+pub all : {A : Type 0} (part : A → Node) (g : Tag) → ((x : A) → tag (part x) ≡ g) → (xs : List A)
+    → All tag g (map part xs)
 all part g e [] = tt
 all part g e (x ∷ xs) = (e x, all part g e xs)
 
 -- parts of one sort, one after the other
-are : {A : Type 0} (part : A → Node) (g : Tag) → ((x : A) → tag (part x) ≡ g) → (xs : List A) → IsOf (of_parts g) (nodes (map part xs))
+are : {A : Type 0} (part : A → Node) (g : Tag) → ((x : A) → tag (part x) ≡ g) → (xs : List A)
+    → IsOf (of_parts g) (nodes (map part xs))
 are part g e xs = f_parts (map part xs) (all part g e xs)
 
 -- NAMES AND SIGNS
@@ -136,44 +153,66 @@ of_either = of_choice of_nothing of_nothing
 -- CONSTANTS AND TYPES
 
 abbrev of_unnamed : Sort
-of_unnamed = of_at (of_choice of_kept (of_choice (of_pair of_either (of_choice of_kept of_used)) of_kept))
+of_unnamed = of_at (of_choice of_kept (of_choice (of_pair of_either (of_choice of_kept of_used))
+    of_kept))
 
 written_sign_is : (minus : Bool) → IsOf of_either (shown.written_sign minus)
 written_sign_is false = f_first f_empty
 written_sign_is true = f_second f_empty
 
 unnamed_is : (c : Constant) → IsOf of_unnamed (shown.unnamed c)
-unnamed_is (constant.Number true true number place) = f_at place (f_second (f_first (f_pair (written_sign_is true) (f_first (f_kept (kinds.value number))))))
-unnamed_is (constant.Number false true number place) = f_at place (f_second (f_first (f_pair (written_sign_is false) (f_first (f_kept (kinds.value number))))))
-unnamed_is (constant.Number false false number place) = f_at place (f_first (f_kept (kinds.value number)))
+unnamed_is (constant.Number true true number place) =
+    f_at place (f_second (f_first (f_pair (written_sign_is true)
+    (f_first (f_kept (kinds.value number))))))
+unnamed_is (constant.Number false true number place) =
+    f_at place (f_second (f_first (f_pair (written_sign_is false)
+    (f_first (f_kept (kinds.value number))))))
+unnamed_is (constant.Number false false number place) =
+    f_at place (f_first (f_kept (kinds.value number)))
 unnamed_is (constant.Number true false number place) = f_nowhere
-unnamed_is (constant.Named true true name place) = f_at place (f_second (f_first (f_pair (written_sign_is true) (f_second (used_is name)))))
-unnamed_is (constant.Named false true name place) = f_at place (f_second (f_first (f_pair (written_sign_is false) (f_second (used_is name)))))
+unnamed_is (constant.Named true true name place) =
+    f_at place (f_second (f_first (f_pair (written_sign_is true) (f_second (used_is name)))))
+unnamed_is (constant.Named false true name place) =
+    f_at place (f_second (f_first (f_pair (written_sign_is false) (f_second (used_is name)))))
 unnamed_is (constant.Named true false name place) = f_nowhere
 unnamed_is (constant.Named false false name place) = f_nowhere
-unnamed_is (constant.Character code place) = f_at place (f_second (f_second (f_kept (kinds.code code))))
+unnamed_is (constant.Character code place) =
+    f_at place (f_second (f_second (f_kept (kinds.code code))))
 
 abbrev of_constant : Sort
 of_constant = of_choice of_unnamed (of_at of_used)
 
 constant_is : (c : Constant) → IsOf of_constant (shown.constant c)
-constant_is (constant.Number minus sign number place) = f_first (unnamed_is (constant.Number minus sign number place))
+constant_is (constant.Number minus sign number place) =
+    f_first (unnamed_is (constant.Number minus sign number place))
 constant_is (constant.Named false false name place) = f_second (f_at place (used_is name))
 constant_is (constant.Named true false name place) = f_first f_nowhere
-constant_is (constant.Named true true name place) = f_first (unnamed_is (constant.Named true true name place))
-constant_is (constant.Named false true name place) = f_first (unnamed_is (constant.Named false true name place))
+constant_is (constant.Named true true name place) =
+    f_first (unnamed_is (constant.Named true true name place))
+constant_is (constant.Named false true name place) =
+    f_first (unnamed_is (constant.Named false true name place))
 constant_is (constant.Character code place) = f_first (unnamed_is (constant.Character code place))
 
 abbrev of_short : Sort
-of_short = of_choice (of_pair of_unnamed (of_part constants)) (of_at (of_pair of_used (of_option (of_part constants))))
+of_short = of_choice (of_pair of_unnamed (of_part constants))
+    (of_at (of_pair of_used (of_option (of_part constants))))
 
 range_is : (low high : Constant) → IsOf of_short (shown.range low high)
-range_is (constant.Number minus sign number place) high = f_first (f_pair (unnamed_is (constant.Number minus sign number place)) (f_part (a_constant high) refl))
-range_is (constant.Named false false name place) high = f_second (f_at place (f_pair (used_is name) (f_in (f_part (a_constant high) refl))))
-range_is (constant.Named true false name place) high = f_first (f_pair f_nowhere (f_part (a_constant high) refl))
-range_is (constant.Named true true name place) high = f_first (f_pair (unnamed_is (constant.Named true true name place)) (f_part (a_constant high) refl))
-range_is (constant.Named false true name place) high = f_first (f_pair (unnamed_is (constant.Named false true name place)) (f_part (a_constant high) refl))
-range_is (constant.Character code place) high = f_first (f_pair (unnamed_is (constant.Character code place)) (f_part (a_constant high) refl))
+range_is (constant.Number minus sign number place) high =
+    f_first (f_pair (unnamed_is (constant.Number minus sign number place))
+    (f_part (a_constant high) refl))
+range_is (constant.Named false false name place) high =
+    f_second (f_at place (f_pair (used_is name) (f_in (f_part (a_constant high) refl))))
+range_is (constant.Named true false name place) high =
+    f_first (f_pair f_nowhere (f_part (a_constant high) refl))
+range_is (constant.Named true true name place) high =
+    f_first (f_pair (unnamed_is (constant.Named true true name place))
+    (f_part (a_constant high) refl))
+range_is (constant.Named false true name place) high =
+    f_first (f_pair (unnamed_is (constant.Named false true name place))
+    (f_part (a_constant high) refl))
+range_is (constant.Character code place) high =
+    f_first (f_pair (unnamed_is (constant.Character code place)) (f_part (a_constant high) refl))
 
 short_is : (t : TypeTextForm) → IsOf of_short (shown.short_type t)
 short_is (text.Named name) = f_second (f_at name.place (f_pair (used_is name) f_out))
@@ -185,15 +224,23 @@ short_is (text.Set of_ place) = f_nowhere
 
 abbrev of_type : Sort
 of_type = of_choice of_short (of_choice (of_at (of_pair (of_parts uses) of_nothing))
-    (of_at (of_pair of_nothing (of_choice (of_pair (of_parts types) (of_part types)) (of_choice (of_pair (of_parts fields) of_nothing) (of_part types))))))
+    (of_at (of_pair of_nothing (of_choice (of_pair (of_parts types) (of_part types))
+    (of_choice (of_pair (of_parts fields) of_nothing) (of_part types))))))
 
 type_is : (t : TypeTextForm) → IsOf of_type (shown.type_text t)
 type_is (text.Named name) = f_first (short_is (text.Named name))
 type_is (text.Range low high) = f_first (range_is low high)
 type_is (text.Names us place) = f_second (f_first (f_at place (f_pair (names_are us) f_empty)))
-type_is (text.Array index of_ place) = f_second (f_second (f_at place (f_pair f_empty (f_first (f_pair (are a_type types (λ x. refl) index) (f_part (a_type of_) refl))))))
-type_is (text.Fields fs place) = f_second (f_second (f_at place (f_pair f_empty (f_second (f_first (f_pair (are a_field fields (λ x. refl) fs) f_empty))))))
-type_is (text.Set of_ place) = f_second (f_second (f_at place (f_pair f_empty (f_second (f_second (f_part (a_type of_) refl))))))
+type_is (text.Array index of_ place) =
+    f_second (f_second (f_at place
+    (f_pair f_empty (f_first (f_pair (are a_type types (λ x. refl) index)
+    (f_part (a_type of_) refl))))))
+type_is (text.Fields fs place) =
+    f_second (f_second (f_at place
+    (f_pair f_empty (f_second (f_first (f_pair (are a_field fields (λ x. refl) fs) f_empty))))))
+type_is (text.Set of_ place) =
+    f_second (f_second (f_at place
+    (f_pair f_empty (f_second (f_second (f_part (a_type of_) refl))))))
 
 abbrev of_parameters : Sort
 of_parameters = of_option (of_pair (of_parts parameters) of_nothing)
@@ -207,19 +254,24 @@ parameters_are (v ∷ vs) = f_in (f_pair (are a_parameter parameters (λ x. refl
 abbrev of_by_part : Sort
 of_by_part = of_pair of_used (of_pair (of_option of_used) (of_parts interactions))
 
-roles_are : (us : List Used) (is : List InteractionDef) → IsOf of_by_part (shown.roles us (nodes (map an_interaction is)))
+roles_are : (us : List Used) (is : List InteractionDef)
+    → IsOf of_by_part (shown.roles us (nodes (map an_interaction is)))
 roles_are [] is = f_nowhere
-roles_are (one ∷ []) is = f_pair (used_is one) (f_pair f_out (are an_interaction interactions (λ x. refl) is))
-roles_are (one ∷ other ∷ []) is = f_pair (used_is one) (f_pair (f_in (used_is other)) (are an_interaction interactions (λ x. refl) is))
+roles_are (one ∷ []) is = f_pair (used_is one)
+    (f_pair f_out (are an_interaction interactions (λ x. refl) is))
+roles_are (one ∷ other ∷ []) is = f_pair (used_is one) (f_pair (f_in (used_is other))
+    (are an_interaction interactions (λ x. refl) is))
 roles_are (one ∷ other ∷ more ∷ us) is = f_nowhere
 
 abbrev of_two_names : Sort
 of_two_names = of_pair of_used (of_pair of_used (of_parts by_parts))
 
-two_names_are : (us : List Used) (bs : List ByPart) → IsOf of_two_names (shown.two_names us (nodes (map a_by_part bs)))
+two_names_are : (us : List Used) (bs : List ByPart)
+    → IsOf of_two_names (shown.two_names us (nodes (map a_by_part bs)))
 two_names_are [] bs = f_nowhere
 two_names_are (one ∷ []) bs = f_nowhere
-two_names_are (one ∷ other ∷ []) bs = f_pair (used_is one) (f_pair (used_is other) (are a_by_part by_parts (λ x. refl) bs))
+two_names_are (one ∷ other ∷ []) bs = f_pair (used_is one)
+    (f_pair (used_is other) (are a_by_part by_parts (λ x. refl) bs))
 two_names_are (one ∷ other ∷ more ∷ us) bs = f_nowhere
 
 queue_is : (q : Queue) → IsOf of_either (shown.queue q)
@@ -235,7 +287,8 @@ of_dimensions = of_option (of_at (of_pair (of_parts short_types) of_nothing))
 
 dimensions_are : (place : ℕ) (ds : List TypeText) → IsOf of_dimensions (shown.dimensions place ds)
 dimensions_are place [] = f_out
-dimensions_are place (d ∷ ds) = f_in (f_at place (f_pair (are a_short_type short_types (λ x. refl) (d ∷ ds)) f_empty))
+dimensions_are place (d ∷ ds) =
+    f_in (f_at place (f_pair (are a_short_type short_types (λ x. refl) (d ∷ ds)) f_empty))
 
 attribute_is : (system : Bool) → IsOf of_either (shown.attribute system)
 attribute_is true = f_first f_empty
@@ -263,16 +316,25 @@ formals_are (f ∷ fs) = f_in (f_pair (are a_formal formals (λ x. refl) (f ∷ 
 
 abbrev of_routine : Sort
 of_routine = of_choice (of_pair of_used (of_pair of_formals (of_pair (of_part blocks) of_nothing)))
-    (of_pair of_nothing (of_pair of_used (of_pair of_formals (of_pair of_used (of_pair (of_part blocks) of_nothing)))))
+    (of_pair of_nothing (of_pair of_used
+    (of_pair of_formals (of_pair of_used (of_pair (of_part blocks) of_nothing)))))
 
-routine_is : (name : Used) (fs : List Formal) (result : Option Used) (block : Block) → IsOf of_routine (shown.routine_of name fs result block)
-routine_is name fs None block = f_first (f_pair (used_is name) (f_pair (formals_are fs) (f_pair (f_part (a_block block) refl) f_empty)))
-routine_is name fs (Some result) block = f_second (f_pair f_empty (f_pair (used_is name) (f_pair (formals_are fs) (f_pair (used_is result) (f_pair (f_part (a_block block) refl) f_empty)))))
+routine_is : (name : Used) (fs : List Formal) (result : Option Used) (block : Block)
+    → IsOf of_routine (shown.routine_of name fs result block)
+routine_is name fs None block =
+    f_first (f_pair (used_is name) (f_pair (formals_are fs) (f_pair (f_part (a_block block) refl)
+    f_empty)))
+routine_is name fs (Some result) block =
+    f_second (f_pair f_empty
+    (f_pair (used_is name) (f_pair (formals_are fs)
+    (f_pair (used_is result) (f_pair (f_part (a_block block) refl) f_empty)))))
 
 -- EXPRESSIONS
 
 abbrev of_relational : Sort
-of_relational = of_choice of_nothing (of_choice of_nothing (of_choice of_nothing (of_choice of_nothing (of_choice of_nothing (of_choice of_nothing of_nothing)))))
+of_relational = of_choice of_nothing
+    (of_choice of_nothing (of_choice of_nothing
+    (of_choice of_nothing (of_choice of_nothing (of_choice of_nothing of_nothing)))))
 
 relational_is : (o : Operator) → IsOf of_relational (shown.relational_operator o)
 relational_is operator.Equal = f_first f_empty
@@ -280,8 +342,10 @@ relational_is operator.Unequal = f_second (f_first f_empty)
 relational_is operator.Below = f_second (f_second (f_first f_empty))
 relational_is operator.AtMost = f_second (f_second (f_second (f_first f_empty)))
 relational_is operator.Above = f_second (f_second (f_second (f_second (f_first f_empty))))
-relational_is operator.AtLeast = f_second (f_second (f_second (f_second (f_second (f_first f_empty)))))
-relational_is operator.Within = f_second (f_second (f_second (f_second (f_second (f_second f_empty)))))
+relational_is operator.AtLeast =
+    f_second (f_second (f_second (f_second (f_second (f_first f_empty)))))
+relational_is operator.Within =
+    f_second (f_second (f_second (f_second (f_second (f_second f_empty)))))
 relational_is operator.Plus = f_nowhere
 relational_is operator.Minus = f_nowhere
 relational_is operator.Or = f_nowhere
@@ -333,7 +397,8 @@ of_relation = of_option (of_pair of_relational (of_part simples))
 
 relation_is : (o : Option Relation) → IsOf of_relation (shown.relation o)
 relation_is None = f_out
-relation_is (Some r) = f_in (f_pair (relational_is (out-Relation r).operator) (f_part (a_simple (out-Relation r).right) refl))
+relation_is (Some r) = f_in (f_pair (relational_is (out-Relation r).operator)
+    (f_part (a_simple (out-Relation r).right) refl))
 
 sign_is : (minus sign : Bool) → IsOf (of_option of_either) (shown.sign minus sign)
 sign_is false false = f_out
@@ -360,24 +425,37 @@ selectors_are [] = f_out
 selectors_are (s ∷ ss) = f_in (f_second (are a_selector selectors (λ x. refl) (s ∷ ss)))
 
 abbrev of_factor : Sort
-of_factor = of_at (of_choice of_kept (of_choice of_kept (of_choice (of_pair (of_part exprs) of_nothing) (of_choice (of_part factors)
+of_factor =
+    of_at (of_choice of_kept (of_choice of_kept (of_choice (of_pair (of_part exprs) of_nothing)
+    (of_choice (of_part factors)
     (of_choice (of_pair (of_option (of_parts members)) of_nothing) (of_pair of_used of_path))))))
 
 factor_is : (f : FactorForm) → IsOf of_factor (shown.factor f)
 factor_is (factor.Number number place) = f_at place (f_first (f_kept (kinds.value number)))
 factor_is (factor.Character code place) = f_at place (f_second (f_first (f_kept (kinds.code code))))
-factor_is (factor.Group of_ place) = f_at place (f_second (f_second (f_first (f_pair (f_part (an_expr of_) refl) f_empty))))
-factor_is (factor.Not of_ place) = f_at place (f_second (f_second (f_second (f_first (f_part (a_factor of_) refl)))))
-factor_is (factor.Set ms place) = f_at place (f_second (f_second (f_second (f_second (f_first (f_pair (members_are ms) f_empty))))))
-factor_is (factor.Variable name path place) = f_at place (f_second (f_second (f_second (f_second (f_second (f_pair (used_is name) (selectors_are path)))))))
-factor_is (factor.Call name es place) = f_at place (f_second (f_second (f_second (f_second (f_second (f_pair (used_is name) (f_in (f_first (f_pair (are an_expr exprs (λ x. refl) es) f_empty)))))))))
+factor_is (factor.Group of_ place) =
+    f_at place (f_second (f_second (f_first (f_pair (f_part (an_expr of_) refl) f_empty))))
+factor_is (factor.Not of_ place) =
+    f_at place (f_second (f_second (f_second (f_first (f_part (a_factor of_) refl)))))
+factor_is (factor.Set ms place) =
+    f_at place (f_second (f_second
+    (f_second (f_second (f_first (f_pair (members_are ms) f_empty))))))
+factor_is (factor.Variable name path place) =
+    f_at place (f_second (f_second
+    (f_second (f_second (f_second (f_pair (used_is name) (selectors_are path)))))))
+factor_is (factor.Call name es place) =
+    f_at place (f_second (f_second
+    (f_second (f_second (f_second
+    (f_pair (used_is name) (f_in
+    (f_first (f_pair (are an_expr exprs (λ x. refl) es) f_empty)))))))))
 
 abbrev of_selector : Sort
 of_selector = of_choice of_used (of_at (of_pair (of_parts exprs) of_nothing))
 
 selector_is : (s : SelectorForm) → IsOf of_selector (shown.selector s)
 selector_is (factor.Field name) = f_first (used_is name)
-selector_is (factor.Index es place) = f_second (f_at place (f_pair (are an_expr exprs (λ x. refl) es) f_empty))
+selector_is (factor.Index es place) =
+    f_second (f_at place (f_pair (are an_expr exprs (λ x. refl) es) f_empty))
 
 expr_given_is : (o : Option Expr) → IsOf (of_option (of_part exprs)) (shown.expr_given o)
 expr_given_is None = f_out
@@ -399,7 +477,8 @@ direction_is true = f_second f_empty
 
 -- what stands after the name of an assignment or of a call
 abbrev of_rest : Sort
-of_rest = of_option (of_choice (of_pair (of_option (of_parts selectors)) (of_part exprs)) (of_pair (of_parts exprs) of_nothing))
+of_rest = of_option (of_choice (of_pair (of_option (of_parts selectors)) (of_part exprs))
+    (of_pair (of_parts exprs) of_nothing))
 
 path_is : (ss : List Selector) → IsOf (of_option (of_parts selectors)) (shown.path ss)
 path_is [] = f_out
@@ -412,18 +491,23 @@ call_is (e ∷ es) = f_in (f_second (f_pair (are an_expr exprs (λ x. refl) (e �
 abbrev of_init : Sort
 of_init = of_pair (of_part accesses) (of_pair of_used of_exprs_given)
 
-init_is : (target : Access) (body : Used) (es : List Expr) → IsOf of_init (shown.init target body es)
-init_is target body es = f_pair (f_part (an_access target) refl) (f_pair (used_is body) (exprs_given_are es))
+init_is : (target : Access) (body : Used) (es : List Expr)
+    → IsOf of_init (shown.init target body es)
+init_is target body es = f_pair (f_part (an_access target) refl)
+    (f_pair (used_is body) (exprs_given_are es))
 
 abbrev of_statement : Sort
 of_statement = of_at (of_option
     (of_choice (of_pair (of_parts statements) of_nothing)
     (of_choice (of_pair of_used of_rest)
-    (of_choice (of_pair (of_part exprs) (of_pair (of_part statements) (of_option (of_part statements))))
+    (of_choice (of_pair (of_part exprs) (of_pair (of_part statements)
+    (of_option (of_part statements))))
     (of_choice (of_pair (of_part exprs) (of_pair (of_parts arms) of_nothing))
     (of_choice (of_pair (of_part exprs) (of_part statements))
     (of_choice (of_pair (of_parts statements) (of_part exprs))
-    (of_choice (of_pair of_used (of_pair (of_part exprs) (of_pair of_either (of_pair (of_part exprs) (of_part statements)))))
+    (of_choice (of_pair of_used
+    (of_pair (of_part exprs)
+    (of_pair of_either (of_pair (of_part exprs) (of_part statements)))))
     (of_choice (of_pair of_used (of_pair (of_part short_types) (of_part statements)))
     (of_choice (of_parts sendings)
     (of_choice of_init
@@ -435,25 +519,80 @@ of_statement = of_at (of_option
 
 statement_is : (s : StatementForm) → IsOf of_statement (shown.statement s)
 statement_is (statement.Empty place) = f_at place f_out
-statement_is (statement.Compound ss place) = f_at place (f_in (f_first (f_pair (are a_statement statements (λ x. refl) ss) f_empty)))
-statement_is (statement.Assign target path value place) = f_at place (f_in (f_second (f_first (f_pair (used_is target) (f_in (f_first (f_pair (path_is path) (f_part (an_expr value) refl))))))))
-statement_is (statement.Call name es place) = f_at place (f_in (f_second (f_first (f_pair (used_is name) (call_is es)))))
-statement_is (statement.If condition one other place) = f_at place (f_in (f_second (f_second (f_first (f_pair (f_part (an_expr condition) refl) (f_pair (f_part (a_statement one) refl) (else_part_is other)))))))
-statement_is (statement.Case value as_ place) = f_at place (f_in (f_second (f_second (f_second (f_first (f_pair (f_part (an_expr value) refl) (f_pair (are an_arm arms (λ x. refl) as_) f_empty)))))))
-statement_is (statement.While condition turn place) = f_at place (f_in (f_second (f_second (f_second (f_second (f_first (f_pair (f_part (an_expr condition) refl) (f_part (a_statement turn) refl))))))))
-statement_is (statement.Repeat ss until place) = f_at place (f_in (f_second (f_second (f_second (f_second (f_second (f_first (f_pair (are a_statement statements (λ x. refl) ss) (f_part (an_expr until) refl)))))))))
-statement_is (statement.For name from down to turn place) = f_at place (f_in (f_second (f_second (f_second (f_second (f_second (f_second (f_first
-    (f_pair (used_is name) (f_pair (f_part (an_expr from) refl) (f_pair (direction_is down) (f_pair (f_part (an_expr to) refl) (f_part (a_statement turn) refl)))))))))))))
-statement_is (statement.All name over turn place) = f_at place (f_in (f_second (f_second (f_second (f_second (f_second (f_second (f_second (f_first
-    (f_pair (used_is name) (f_pair (f_part (a_short_type over) refl) (f_part (a_statement turn) refl))))))))))))
-statement_is (statement.Output os place) = f_at place (f_in (f_second (f_second (f_second (f_second (f_second (f_second (f_second (f_second (f_first (are a_sending sendings (λ x. refl) os)))))))))))
-statement_is (statement.Init target body es place) = f_at place (f_in (f_second (f_second (f_second (f_second (f_second (f_second (f_second (f_second (f_second (f_first (init_is target body es))))))))))))
-statement_is (statement.Release target place) = f_at place (f_in (f_second (f_second (f_second (f_second (f_second (f_second (f_second (f_second (f_second (f_second (f_first (f_part (an_access target) refl)))))))))))))
-statement_is (statement.Connect one other place) = f_at place (f_in (f_second (f_second (f_second (f_second (f_second (f_second (f_second (f_second (f_second (f_second (f_second (f_first (f_pair (f_part (an_end_point one) refl) (f_part (an_end_point other) refl)))))))))))))))
-statement_is (statement.Disconnect end_ place) = f_at place (f_in (f_second (f_second (f_second (f_second (f_second (f_second (f_second (f_second (f_second (f_second (f_second (f_second (f_first (f_part (an_end_point end_) refl)))))))))))))))
-statement_is (statement.Attach own child ip place) = f_at place (f_in (f_second (f_second (f_second (f_second (f_second (f_second (f_second (f_second (f_second (f_second (f_second (f_second (f_second (f_first
-    (f_pair (f_part (an_access own) refl) (f_pair (f_part (an_access child) refl) (f_part (an_access ip) refl))))))))))))))))))
-statement_is (statement.Detach end_ place) = f_at place (f_in (f_second (f_second (f_second (f_second (f_second (f_second (f_second (f_second (f_second (f_second (f_second (f_second (f_second (f_second (f_part (an_end_point end_) refl))))))))))))))))
+statement_is (statement.Compound ss place) =
+    f_at place (f_in (f_first (f_pair (are a_statement statements (λ x. refl) ss) f_empty)))
+statement_is (statement.Assign target path value place) =
+    f_at place (f_in (f_second
+    (f_first (f_pair (used_is target)
+    (f_in (f_first (f_pair (path_is path) (f_part (an_expr value) refl))))))))
+statement_is (statement.Call name es place) =
+    f_at place (f_in (f_second (f_first (f_pair (used_is name) (call_is es)))))
+statement_is (statement.If condition one other place) =
+    f_at place (f_in (f_second
+    (f_second (f_first (f_pair (f_part (an_expr condition) refl)
+    (f_pair (f_part (a_statement one) refl) (else_part_is other)))))))
+statement_is (statement.Case value as_ place) =
+    f_at place (f_in (f_second
+    (f_second (f_second (f_first (f_pair (f_part (an_expr value) refl)
+    (f_pair (are an_arm arms (λ x. refl) as_) f_empty)))))))
+statement_is (statement.While condition turn place) =
+    f_at place (f_in (f_second
+    (f_second (f_second (f_second
+    (f_first (f_pair (f_part (an_expr condition) refl) (f_part (a_statement turn) refl))))))))
+statement_is (statement.Repeat ss until place) =
+    f_at place (f_in (f_second
+    (f_second (f_second (f_second
+    (f_second (f_first (f_pair (are a_statement statements (λ x. refl) ss)
+    (f_part (an_expr until) refl)))))))))
+statement_is (statement.For name from down to turn place) =
+    f_at place (f_in (f_second (f_second (f_second (f_second (f_second (f_second (f_first
+    (f_pair (used_is name) (f_pair (f_part (an_expr from) refl)
+    (f_pair (direction_is down) (f_pair (f_part (an_expr to) refl)
+    (f_part (a_statement turn) refl)))))))))))))
+statement_is (statement.All name over turn place) =
+    f_at place (f_in (f_second (f_second (f_second (f_second (f_second (f_second (f_second (f_first
+    (f_pair (used_is name) (f_pair (f_part (a_short_type over) refl)
+    (f_part (a_statement turn) refl))))))))))))
+statement_is (statement.Output os place) =
+    f_at place (f_in (f_second
+    (f_second (f_second (f_second
+    (f_second (f_second (f_second
+    (f_second (f_first (are a_sending sendings (λ x. refl) os)))))))))))
+statement_is (statement.Init target body es place) =
+    f_at place (f_in (f_second
+    (f_second (f_second (f_second
+    (f_second (f_second (f_second (f_second (f_second (f_first (init_is target body es))))))))))))
+statement_is (statement.Release target place) =
+    f_at place (f_in (f_second
+    (f_second (f_second (f_second
+    (f_second (f_second (f_second
+    (f_second (f_second (f_second (f_first (f_part (an_access target) refl)))))))))))))
+statement_is (statement.Connect one other place) =
+    f_at place (f_in (f_second
+    (f_second (f_second (f_second
+    (f_second (f_second (f_second
+    (f_second (f_second (f_second
+    (f_second (f_first (f_pair (f_part (an_end_point one) refl) (f_part (an_end_point other)
+    refl)))))))))))))))
+statement_is (statement.Disconnect end_ place) =
+    f_at place (f_in (f_second
+    (f_second (f_second (f_second
+    (f_second (f_second (f_second
+    (f_second (f_second (f_second
+    (f_second (f_second (f_first (f_part (an_end_point end_) refl)))))))))))))))
+statement_is (statement.Attach own child ip place) =
+    f_at place (f_in (f_second
+    (f_second (f_second (f_second
+    (f_second (f_second (f_second
+    (f_second (f_second (f_second (f_second (f_second (f_second (f_first
+    (f_pair (f_part (an_access own) refl) (f_pair (f_part (an_access child) refl)
+    (f_part (an_access ip) refl))))))))))))))))))
+statement_is (statement.Detach end_ place) =
+    f_at place (f_in (f_second
+    (f_second (f_second (f_second
+    (f_second (f_second (f_second
+    (f_second (f_second (f_second
+    (f_second (f_second (f_second (f_second (f_part (an_end_point end_) refl))))))))))))))))
 
 -- TRANSITIONS AND BODIES
 
@@ -470,21 +609,36 @@ most_is (most.Value e) = f_in (f_first (f_part (an_expr e) refl))
 most_is most.Never = f_in (f_second f_empty)
 
 abbrev of_clause : Sort
-of_clause = of_at (of_choice (of_parts uses) (of_choice (of_choice of_used of_nothing) (of_choice (of_pair (of_part accesses) of_used)
-    (of_choice (of_choice (of_part exprs) of_nothing) (of_choice (of_pair (of_parts parameters) of_nothing) (of_choice (of_part constants)
+of_clause = of_at (of_choice (of_parts uses) (of_choice (of_choice of_used of_nothing)
+    (of_choice (of_pair (of_part accesses) of_used)
+    (of_choice (of_choice (of_part exprs) of_nothing)
+    (of_choice (of_pair (of_parts parameters) of_nothing) (of_choice (of_part constants)
     (of_pair (of_part exprs) (of_pair of_most of_nothing))))))))
 
 clause_is : (c : Clause) → IsOf of_clause (shown.clause c)
 clause_is (clause.From states place) = f_at place (f_first (names_are states))
 clause_is (clause.To state place) = f_at place (f_second (f_first (next_state_is state)))
-clause_is (clause.When ip signal place) = f_at place (f_second (f_second (f_first (f_pair (f_part (an_access ip) refl) (used_is signal)))))
-clause_is (clause.Provided condition place) = f_at place (f_second (f_second (f_second (f_first (f_first (f_part (an_expr condition) refl))))))
-clause_is (clause.Otherwise place) = f_at place (f_second (f_second (f_second (f_first (f_second f_empty)))))
-clause_is (clause.Any vs place) = f_at place (f_second (f_second (f_second (f_second (f_first (f_pair (are a_parameter parameters (λ x. refl) vs) f_empty))))))
-clause_is (clause.Priority value place) = f_at place (f_second (f_second (f_second (f_second (f_second (f_first (f_part (a_constant value) refl)))))))
-clause_is (clause.Delay least bound place) = f_at place (f_second (f_second (f_second (f_second (f_second (f_second (f_pair (f_part (an_expr least) refl) (f_pair (most_is bound) f_empty))))))))
+clause_is (clause.When ip signal place) =
+    f_at place (f_second (f_second
+    (f_first (f_pair (f_part (an_access ip) refl) (used_is signal)))))
+clause_is (clause.Provided condition place) =
+    f_at place (f_second (f_second
+    (f_second (f_first (f_first (f_part (an_expr condition) refl))))))
+clause_is (clause.Otherwise place) =
+    f_at place (f_second (f_second (f_second (f_first (f_second f_empty)))))
+clause_is (clause.Any vs place) =
+    f_at place (f_second (f_second
+    (f_second (f_second (f_first (f_pair (are a_parameter parameters (λ x. refl) vs) f_empty))))))
+clause_is (clause.Priority value place) =
+    f_at place (f_second (f_second
+    (f_second (f_second (f_second (f_first (f_part (a_constant value) refl)))))))
+clause_is (clause.Delay least bound place) =
+    f_at place (f_second (f_second
+    (f_second (f_second (f_second
+    (f_second (f_pair (f_part (an_expr least) refl) (f_pair (most_is bound) f_empty))))))))
 
-transition_name_is : (o : Option Used) → IsOf (of_option (of_pair of_used of_nothing)) (shown.transition_name o)
+transition_name_is : (o : Option Used)
+    → IsOf (of_option (of_pair of_used of_nothing)) (shown.transition_name o)
 transition_name_is None = f_out
 transition_name_is (Some u) = f_in (f_pair (used_is u) f_empty)
 
@@ -493,33 +647,44 @@ of_first = of_option (of_pair (of_option of_used) (of_pair (of_part blocks) of_n
 
 first_part_is : (o : Option FirstPart) → IsOf of_first (shown.first_part o)
 first_part_is None = f_out
-first_part_is (Some f) = f_in (f_pair (name_given_is (out-FirstPart f).to) (f_pair (f_part (a_block (out-FirstPart f).block) refl) f_empty))
+first_part_is (Some f) = f_in (f_pair (name_given_is (out-FirstPart f).to)
+    (f_pair (f_part (a_block (out-FirstPart f).block) refl) f_empty))
 
 abbrev of_common : Sort
-of_common = of_choice (of_parts constant_definitions) (of_choice (of_parts type_definitions) (of_choice (of_part channels) (of_choice (of_part headers)
+of_common = of_choice (of_parts constant_definitions) (of_choice (of_parts type_definitions)
+    (of_choice (of_part channels) (of_choice (of_part headers)
     (of_choice (of_part bodies) (of_choice (of_part routines) (of_parts module_variables))))))
 
 common_is : (p : PartForm) → IsOf of_common (shown.common_part p)
 common_is (part.Consts ds) = f_first (are a_constant_definition constant_definitions (λ x. refl) ds)
-common_is (part.Types ds) = f_second (f_first (are a_type_definition type_definitions (λ x. refl) ds))
+common_is (part.Types ds) =
+    f_second (f_first (are a_type_definition type_definitions (λ x. refl) ds))
 common_is (part.Channel c) = f_second (f_second (f_first (f_part (a_channel c) refl)))
 common_is (part.Header h) = f_second (f_second (f_second (f_first (f_part (a_header h) refl))))
-common_is (part.Body b) = f_second (f_second (f_second (f_second (f_first (f_part (a_body b) refl)))))
-common_is (part.Routine r) = f_second (f_second (f_second (f_second (f_second (f_first (f_part (a_routine r) refl))))))
-common_is (part.Modvars ms) = f_second (f_second (f_second (f_second (f_second (f_second (are a_module_variable module_variables (λ x. refl) ms))))))
+common_is (part.Body b) =
+    f_second (f_second (f_second (f_second (f_first (f_part (a_body b) refl)))))
+common_is (part.Routine r) =
+    f_second (f_second (f_second (f_second (f_second (f_first (f_part (a_routine r) refl))))))
+common_is (part.Modvars ms) =
+    f_second (f_second (f_second
+    (f_second (f_second (f_second (are a_module_variable module_variables (λ x. refl) ms))))))
 common_is (part.Points ps) = f_nowhere
 common_is (part.Vars vs) = f_nowhere
 common_is (part.States us) = f_nowhere
 common_is (part.StateSets ss) = f_nowhere
 
 abbrev of_own : Sort
-of_own = of_choice (of_parts points) (of_choice (of_parts variables) (of_choice (of_pair (of_parts uses) of_nothing) (of_parts state_sets)))
+of_own = of_choice (of_parts points) (of_choice (of_parts variables)
+    (of_choice (of_pair (of_parts uses) of_nothing) (of_parts state_sets)))
 
 body_part_is : (p : PartForm) → IsOf (of_choice of_common of_own) (shown.body_part p)
 body_part_is (part.Points ps) = f_second (f_first (are a_point points (λ x. refl) ps))
-body_part_is (part.Vars vs) = f_second (f_second (f_first (are a_variable variables (λ x. refl) vs)))
-body_part_is (part.States us) = f_second (f_second (f_second (f_first (f_pair (names_are us) f_empty))))
-body_part_is (part.StateSets ss) = f_second (f_second (f_second (f_second (are a_state_set state_sets (λ x. refl) ss))))
+body_part_is (part.Vars vs) =
+    f_second (f_second (f_first (are a_variable variables (λ x. refl) vs)))
+body_part_is (part.States us) =
+    f_second (f_second (f_second (f_first (f_pair (names_are us) f_empty))))
+body_part_is (part.StateSets ss) =
+    f_second (f_second (f_second (f_second (are a_state_set state_sets (λ x. refl) ss))))
 body_part_is (part.Consts ds) = f_first (common_is (part.Consts ds))
 body_part_is (part.Types ds) = f_first (common_is (part.Types ds))
 body_part_is (part.Channel c) = f_first (common_is (part.Channel c))
@@ -529,11 +694,14 @@ body_part_is (part.Routine r) = f_first (common_is (part.Routine r))
 body_part_is (part.Modvars ms) = f_first (common_is (part.Modvars ms))
 
 abbrev of_block_part : Sort
-of_block_part = of_choice (of_parts constant_definitions) (of_choice (of_parts type_definitions) (of_parts variables))
+of_block_part = of_choice (of_parts constant_definitions) (of_choice (of_parts type_definitions)
+    (of_parts variables))
 
 block_part_is : (p : PartForm) → IsOf of_block_part (shown.block_part p)
-block_part_is (part.Consts ds) = f_first (are a_constant_definition constant_definitions (λ x. refl) ds)
-block_part_is (part.Types ds) = f_second (f_first (are a_type_definition type_definitions (λ x. refl) ds))
+block_part_is (part.Consts ds) = f_first (are a_constant_definition constant_definitions (λ x. refl)
+    ds)
+block_part_is (part.Types ds) =
+    f_second (f_first (are a_type_definition type_definitions (λ x. refl) ds))
 block_part_is (part.Vars vs) = f_second (f_second (are a_variable variables (λ x. refl) vs))
 block_part_is (part.Channel c) = f_nowhere
 block_part_is (part.Header h) = f_nowhere
@@ -546,11 +714,13 @@ block_part_is (part.StateSets ss) = f_nowhere
 
 -- SPECIFICATIONS
 
-default_queue_is : (o : Option Queue) → IsOf (of_option (of_pair of_either of_nothing)) (shown.default_queue o)
+default_queue_is : (o : Option Queue)
+    → IsOf (of_option (of_pair of_either of_nothing)) (shown.default_queue o)
 default_queue_is None = f_out
 default_queue_is (Some q) = f_in (f_pair (queue_is q) f_empty)
 
-time_scale_is : (o : Option Used) → IsOf (of_option (of_pair of_used of_nothing)) (shown.time_scale o)
+time_scale_is : (o : Option Used)
+    → IsOf (of_option (of_pair of_used of_nothing)) (shown.time_scale o)
 time_scale_is None = f_out
 time_scale_is (Some u) = f_in (f_pair (used_is u) f_empty)
 
@@ -589,9 +759,16 @@ sort_of exports = of_pair (of_parts uses) (of_pair (of_part short_types) of_noth
 sort_of interactions = of_pair of_used (of_pair of_parameters of_nothing)
 sort_of by_parts = of_by_part
 sort_of channels = of_pair of_used of_two_names
-sort_of points = of_at (of_pair (of_parts uses) (of_pair of_dimensions (of_pair of_used (of_pair of_used (of_pair (of_option of_either) of_nothing)))))
-sort_of headers = of_pair of_used (of_pair of_either (of_pair of_parameters (of_pair (of_sections nodes nodes (of_parts points) (of_parts exports) points exports) of_nothing)))
-sort_of module_variables = of_at (of_pair (of_parts uses) (of_pair of_dimensions (of_pair of_used of_nothing)))
+sort_of points =
+    of_at (of_pair (of_parts uses)
+    (of_pair of_dimensions (of_pair of_used
+    (of_pair of_used (of_pair (of_option of_either) of_nothing)))))
+sort_of headers = of_pair of_used
+    (of_pair of_either (of_pair of_parameters
+    (of_pair (of_sections nodes nodes (of_parts points) (of_parts exports) points exports)
+    of_nothing)))
+sort_of module_variables =
+    of_at (of_pair (of_parts uses) (of_pair of_dimensions (of_pair of_used of_nothing)))
 sort_of state_sets = of_pair of_used (of_pair (of_parts uses) of_nothing)
 sort_of formals = of_pair (of_option of_nothing) (of_pair (of_parts uses) of_used)
 sort_of routines = of_routine
@@ -600,9 +777,12 @@ sort_of body_parts = of_choice of_common of_own
 sort_of block_parts = of_block_part
 sort_of blocks = of_pair (of_parts block_parts) (of_at (of_pair (of_parts statements) of_nothing))
 sort_of clauses = of_clause
-sort_of transitions = of_pair (of_parts clauses) (of_pair (of_option (of_pair of_used of_nothing)) (of_pair (of_part blocks) of_nothing))
+sort_of transitions = of_pair (of_parts clauses) (of_pair (of_option (of_pair of_used of_nothing))
+    (of_pair (of_part blocks) of_nothing))
 sort_of groups = of_parts transitions
-sort_of bodies = of_pair of_used (of_pair of_used (of_pair (of_parts body_parts) (of_pair of_first (of_pair (of_parts groups) of_nothing))))
+sort_of bodies = of_pair of_used
+    (of_pair of_used (of_pair (of_parts body_parts)
+    (of_pair of_first (of_pair (of_parts groups) of_nothing))))
 sort_of accesses = of_pair of_used of_exprs_given
 sort_of end_points = of_pair (of_part accesses) (of_option (of_part accesses))
 sort_of statements = of_statement
@@ -616,53 +796,86 @@ sort_of product_steps = of_pair of_multiplying (of_part factors)
 sort_of factors = of_factor
 sort_of selectors = of_selector
 sort_of members = of_pair (of_part exprs) (of_option (of_part exprs))
-sort_of specifications = of_pair of_used (of_pair (of_option (of_pair of_either of_nothing)) (of_pair (of_option (of_pair of_used of_nothing))
+sort_of specifications = of_pair of_used (of_pair (of_option (of_pair of_either of_nothing))
+    (of_pair (of_option (of_pair of_used of_nothing))
     (of_pair (of_parts common_parts) (of_pair (of_at of_init) (of_pair of_nothing of_nothing)))))
 
 pub layer_is : (n : Node) → IsOf (sort_of (tag n)) (layer n)
 layer_is (a_use u) = used_is u
 layer_is (a_constant c) = constant_is c
-layer_is (a_constant_definition d) = f_pair (used_is d.name) (f_pair (f_part (a_constant d.value) refl) f_empty)
+layer_is (a_constant_definition d) = f_pair (used_is d.name)
+    (f_pair (f_part (a_constant d.value) refl) f_empty)
 layer_is (a_type t) = type_is (out-TypeText t)
 layer_is (a_short_type t) = short_is (out-TypeText t)
-layer_is (a_type_definition d) = f_pair (used_is d.name) (f_pair (f_part (a_type d.text) refl) f_empty)
-layer_is (a_field v) = f_pair (names_are (out-VarDef v).names) (f_part (a_type (out-VarDef v).text) refl)
-layer_is (a_variable v) = f_pair (names_are (out-VarDef v).names) (f_pair (f_part (a_type (out-VarDef v).text) refl) f_empty)
-layer_is (a_parameter v) = f_pair (names_are (out-VarDef v).names) (f_part (a_short_type (out-VarDef v).text) refl)
-layer_is (an_export v) = f_pair (names_are (out-VarDef v).names) (f_pair (f_part (a_short_type (out-VarDef v).text) refl) f_empty)
+layer_is (a_type_definition d) = f_pair (used_is d.name) (f_pair (f_part (a_type d.text) refl)
+    f_empty)
+layer_is (a_field v) = f_pair (names_are (out-VarDef v).names) (f_part (a_type (out-VarDef v).text)
+    refl)
+layer_is (a_variable v) = f_pair (names_are (out-VarDef v).names)
+    (f_pair (f_part (a_type (out-VarDef v).text) refl) f_empty)
+layer_is (a_parameter v) = f_pair (names_are (out-VarDef v).names)
+    (f_part (a_short_type (out-VarDef v).text) refl)
+layer_is (an_export v) = f_pair (names_are (out-VarDef v).names)
+    (f_pair (f_part (a_short_type (out-VarDef v).text) refl) f_empty)
 layer_is (an_interaction i) = f_pair (used_is i.name) (f_pair (parameters_are i.params) f_empty)
 layer_is (a_by_part b) = roles_are b.roles b.interactions
 layer_is (a_channel c) = f_pair (used_is c.name) (two_names_are c.roles c.by)
-layer_is (a_point p) = f_at (shown.beginning p.place p.dims p.names) (f_pair (names_are p.names) (f_pair (dimensions_are p.place p.dims)
-    (f_pair (used_is p.channel) (f_pair (used_is p.role) (f_pair (queue_given_is p.queue) f_empty)))))
-layer_is (a_header h) = f_pair (used_is h.name) (f_pair (attribute_is h.system) (f_pair (parameters_are h.params)
-    (f_pair (f_sections (map a_point h.points) (map an_export h.exports) (λ ls a. f_parts ls a) one_run (λ ls a. f_parts ls a) one_run
-    (all a_point points (λ x. refl) h.points) (all an_export exports (λ x. refl) h.exports)) f_empty)))
-layer_is (a_module_variable m) = f_at (shown.beginning m.place m.dims m.names) (f_pair (names_are m.names) (f_pair (dimensions_are m.place m.dims) (f_pair (used_is m.header) f_empty)))
+layer_is (a_point p) = f_at (shown.beginning p.place p.dims p.names)
+    (f_pair (names_are p.names) (f_pair (dimensions_are p.place p.dims)
+    (f_pair (used_is p.channel) (f_pair (used_is p.role) (f_pair (queue_given_is p.queue)
+    f_empty)))))
+layer_is (a_header h) = f_pair (used_is h.name) (f_pair (attribute_is h.system)
+    (f_pair (parameters_are h.params)
+    (f_pair (f_sections (map a_point h.points) (map an_export h.exports) (λ ls a. f_parts ls a)
+    one_run (λ ls a. f_parts ls a) one_run
+    (all a_point points (λ x. refl) h.points) (all an_export exports (λ x. refl) h.exports))
+    f_empty)))
+layer_is (a_module_variable m) = f_at (shown.beginning m.place m.dims m.names)
+    (f_pair (names_are m.names) (f_pair (dimensions_are m.place m.dims)
+    (f_pair (used_is m.header) f_empty)))
 layer_is (a_state_set s) = f_pair (used_is s.name) (f_pair (names_are s.states) f_empty)
-layer_is (a_formal f) = f_pair (by_place_is f.by_place) (f_pair (names_are f.names) (used_is f.kind))
-layer_is (a_routine r) = routine_is (out-Routine r).name (out-Routine r).formals (out-Routine r).result (out-Routine r).block
+layer_is (a_formal f) = f_pair (by_place_is f.by_place)
+    (f_pair (names_are f.names) (used_is f.kind))
+layer_is (a_routine r) = routine_is (out-Routine r).name (out-Routine r).formals
+    (out-Routine r).result (out-Routine r).block
 layer_is (a_common_part p) = common_is (out-Part p)
 layer_is (a_body_part p) = body_part_is (out-Part p)
 layer_is (a_block_part p) = block_part_is (out-Part p)
-layer_is (a_block b) = f_pair (are a_block_part block_parts (λ x. refl) (out-Block b).parts) (f_at (out-Block b).place (f_pair (are a_statement statements (λ x. refl) (out-Block b).statements) f_empty))
+layer_is (a_block b) = f_pair (are a_block_part block_parts (λ x. refl) (out-Block b).parts)
+    (f_at (out-Block b).place
+    (f_pair (are a_statement statements (λ x. refl) (out-Block b).statements) f_empty))
 layer_is (a_clause c) = clause_is c
-layer_is (a_transition t) = f_pair (are a_clause clauses (λ x. refl) (out-Transition t).clauses) (f_pair (transition_name_is (out-Transition t).name) (f_pair (f_part (a_block (out-Transition t).block) refl) f_empty))
+layer_is (a_transition t) = f_pair (are a_clause clauses (λ x. refl) (out-Transition t).clauses)
+    (f_pair (transition_name_is (out-Transition t).name)
+    (f_pair (f_part (a_block (out-Transition t).block) refl) f_empty))
 layer_is (a_group g) = are a_transition transitions (λ x. refl) (out-Group g).transitions
-layer_is (a_body b) = f_pair (used_is (out-Body b).name) (f_pair (used_is (out-Body b).header) (f_pair (are a_body_part body_parts (λ x. refl) (out-Body b).parts)
-    (f_pair (first_part_is (out-Body b).first) (f_pair (are a_group groups (λ x. refl) (out-Body b).groups) f_empty))))
+layer_is (a_body b) = f_pair (used_is (out-Body b).name) (f_pair (used_is (out-Body b).header)
+    (f_pair (are a_body_part body_parts (λ x. refl) (out-Body b).parts)
+    (f_pair (first_part_is (out-Body b).first)
+    (f_pair (are a_group groups (λ x. refl) (out-Body b).groups) f_empty))))
 layer_is (an_access a) = f_pair (used_is a.name) (exprs_given_are a.index)
 layer_is (an_end_point e) = f_pair (f_part (an_access e.first) refl) (access_given_is e.second)
 layer_is (a_statement s) = statement_is (out-Statement s)
-layer_is (an_arm a) = f_pair (are a_constant constants (λ x. refl) (out-Arm a).constants) (f_part (a_statement (out-Arm a).turn) refl)
-layer_is (a_sending s) = f_pair (f_part (an_access s.at) refl) (f_pair (used_is s.signal) (exprs_given_are s.arguments))
-layer_is (an_expr e) = f_at (out-Expr e).place (f_pair (f_part (a_simple (out-Expr e).left) refl) (relation_is (out-Expr e).relation))
-layer_is (a_simple s) = f_pair (sign_is (out-Simple s).minus (out-Simple s).sign) (f_pair (f_part (a_term (out-Simple s).first) refl) (are a_sum_step sum_steps (λ x. refl) (out-Simple s).rest))
-layer_is (a_sum_step s) = f_pair (adding_is (out-SumStep s).operator) (f_part (a_term (out-SumStep s).right) refl)
-layer_is (a_term t) = f_pair (f_part (a_factor (out-Term t).first) refl) (are a_product_step product_steps (λ x. refl) (out-Term t).rest)
-layer_is (a_product_step s) = f_pair (multiplying_is (out-ProductStep s).operator) (f_part (a_factor (out-ProductStep s).right) refl)
+layer_is (an_arm a) = f_pair (are a_constant constants (λ x. refl) (out-Arm a).constants)
+    (f_part (a_statement (out-Arm a).turn) refl)
+layer_is (a_sending s) = f_pair (f_part (an_access s.at) refl)
+    (f_pair (used_is s.signal) (exprs_given_are s.arguments))
+layer_is (an_expr e) = f_at (out-Expr e).place (f_pair (f_part (a_simple (out-Expr e).left) refl)
+    (relation_is (out-Expr e).relation))
+layer_is (a_simple s) = f_pair (sign_is (out-Simple s).minus (out-Simple s).sign)
+    (f_pair (f_part (a_term (out-Simple s).first) refl) (are a_sum_step sum_steps (λ x. refl)
+    (out-Simple s).rest))
+layer_is (a_sum_step s) = f_pair (adding_is (out-SumStep s).operator)
+    (f_part (a_term (out-SumStep s).right) refl)
+layer_is (a_term t) = f_pair (f_part (a_factor (out-Term t).first) refl)
+    (are a_product_step product_steps (λ x. refl) (out-Term t).rest)
+layer_is (a_product_step s) = f_pair (multiplying_is (out-ProductStep s).operator)
+    (f_part (a_factor (out-ProductStep s).right) refl)
 layer_is (a_factor f) = factor_is (out-Factor f)
 layer_is (a_selector s) = selector_is (out-Selector s)
-layer_is (a_member m) = f_pair (f_part (an_expr (out-Member m).low) refl) (expr_given_is (out-Member m).high)
-layer_is (a_specification s) = f_pair (used_is s.name) (f_pair (default_queue_is s.queue) (f_pair (time_scale_is s.scale)
-    (f_pair (are a_common_part common_parts (λ x. refl) s.parts) (f_pair (first_statement_is (out-Statement s.first)) (f_pair f_empty f_empty)))))
+layer_is (a_member m) = f_pair (f_part (an_expr (out-Member m).low) refl)
+    (expr_given_is (out-Member m).high)
+layer_is (a_specification s) = f_pair (used_is s.name) (f_pair (default_queue_is s.queue)
+    (f_pair (time_scale_is s.scale)
+    (f_pair (are a_common_part common_parts (λ x. refl) s.parts)
+    (f_pair (first_statement_is (out-Statement s.first)) (f_pair f_empty f_empty)))))

@@ -3,10 +3,18 @@
 use Rattle.std.specs.Prelude.{Bool, true, false, List, [], ◌∷◌}
 use Rattle.est_lexer.specs.declared.kind.ReservedWord.TheVariants as words
 use Rattle.est_lexer.specs.declared.kind.Symbol.TheVariants as symbols
-use Rattle.est_lexer.specs.declared.kind.TokenKind.TheVariants.{Identifier, Number, Character, Reserved, Symbol as Special}
+use Rattle.est_lexer.specs.declared.kind.TokenKind.TheVariants.{Identifier, Number, Character}
+use Rattle.est_lexer.specs.declared.kind.TokenKind.TheVariants.{Reserved, Symbol as Special}
 use Rattle.est_language.specs.Marks.{Marks}
 use Rattle.est_reader.specs.Tests.{Test, kind}
-use Rattle.est_productions.specs.Grammar.{Production, specification, common, own, consts, constdef, constant, types, typedef, typetext, shorttype, arraytype, recordtype, settype, vars, vardef, channel, by_part, interaction, param, header, point, dims, queue, export, modvar, stateset, body, routine, formal, block, transpart, transition, clause, access, statement, arm, sending, init, end_point, expr, simple, term, factor, selector, member}
+use Rattle.est_productions.specs.Productions.{Production, specification, common, own, consts}
+use Rattle.est_productions.specs.Productions.{constdef, constant, types, typedef, typetext}
+use Rattle.est_productions.specs.Productions.{shorttype, arraytype, recordtype, settype, vars}
+use Rattle.est_productions.specs.Productions.{vardef, channel, by_part, interaction, param, header}
+use Rattle.est_productions.specs.Productions.{point, dims, queue, export, modvar, stateset, body}
+use Rattle.est_productions.specs.Productions.{routine, formal, block, transpart, transition, clause}
+use Rattle.est_productions.specs.Productions.{access, statement, arm, sending, init, end_point}
+use Rattle.est_productions.specs.Productions.{expr, simple, term, factor, selector, member}
 
 -- the tokens that can begin a tree of a production
 abbrev pub begins : Production → List Test

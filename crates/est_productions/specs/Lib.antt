@@ -1,4 +1,4 @@
-pub mod Grammar
+pub mod Productions
 pub mod FirstTokens
 pub mod Nodes
 pub mod Syntax

@@ -1,7 +1,8 @@
 -- What the parts of a syntax tree show, a layer at a time: the alternative that was chosen, the
 -- parts and the names, numbers and places that a tree keeps. A part that no sentence has shows
 -- nothing that a tree has.
-use Rattle.std.specs.Prelude.{ℕ, zero, suc, Bool, true, false, List, [], ◌∷◌, Option, Some, None, map}
+use Rattle.std.specs.Prelude.{ℕ, zero, suc, Bool, true, false, List}
+use Rattle.std.specs.Prelude.{[], ◌∷◌, Option, Some, None, map}
 use Rattle.est_syntax.specs.declared.name.Used.{Used}
 use Rattle.est_syntax.specs.declared.constant.Constant.{Constant}
 use Rattle.est_syntax.specs.declared.constant.Constant.TheVariants as constants
@@ -51,7 +52,8 @@ use Rattle.est_syntax.specs.declared.statement.Sending.{Sending}
 use Rattle.est_syntax.specs.declared.statement.Statement.{Statement, out-Statement}
 use Rattle.est_syntax.specs.declared.statement.Statement.TheOpen as statements
 use Rattle.est_syntax.specs.declared.specification.Spec.{Spec}
-use Rattle.est_language.specs.Shown.{empty, kept, at, pair, first, second, given, node, nowhere, nodes, sections}
+use Rattle.est_language.specs.Shown.{empty, kept, at, pair, first, second}
+use Rattle.est_language.specs.Shown.{given, node, nowhere, nodes, sections}
 use Rattle.est_reader.specs.Tests as kinds
 use Rattle.est_reader.specs.Going as going
 use Rattle.est_reader.specs.Going.{used}
@@ -241,8 +243,7 @@ queue_given (Some q) = given (queue q)
 -- the dimensions of an array of points or module variables, with their place
 abbrev pub dimensions : ℕ → List TypeText → View
 dimensions place [] = empty
-dimensions place (d ∷ ds) =
-    given (at place (pair (nodes (map a_short_type (d ∷ ds))) empty))
+dimensions place (d ∷ ds) = given (at place (pair (nodes (map a_short_type (d ∷ ds))) empty))
 
 -- the place of the first of these names
 abbrev pub first_place : List Used → ℕ
@@ -394,8 +395,7 @@ selectors (s ∷ ss) = given (second (nodes (map a_selector (s ∷ ss))))
 
 -- A factor, with its parts.
 abbrev pub FactorForm : Type 0
-FactorForm =
-    factors.Factor-F Factor Selector Expr Member ProductStep Relation Simple SumStep Term
+FactorForm = factors.Factor-F Factor Selector Expr Member ProductStep Relation Simple SumStep Term
 
 -- a factor
 abbrev pub factor : FactorForm → View
@@ -404,8 +404,7 @@ factor (factors.Character character place) = at place (choice 1 (kept (kinds.cod
 factor (factors.Group of_ place) = at place (choice 2 (pair (node (an_expr of_)) empty))
 factor (factors.Not of_ place) = at place (choice 3 (node (a_factor of_)))
 factor (factors.Set ms place) = at place (choice 4 (pair (members ms) empty))
-factor (factors.Variable name ss place) =
-    at place (last_choice 5 (pair (used name) (selectors ss)))
+factor (factors.Variable name ss place) = at place (last_choice 5 (pair (used name) (selectors ss)))
 factor (factors.Call name arguments place) =
     at place (last_choice 5 (pair (used name)
     (given (first (pair (nodes (map an_expr arguments)) empty)))))
@@ -418,8 +417,7 @@ SelectorForm =
 -- subscripts, or a field
 abbrev pub selector : SelectorForm → View
 selector (factors.Field name) = first (used name)
-selector (factors.Index exprs place) =
-    second (at place (pair (nodes (map an_expr exprs)) empty))
+selector (factors.Index exprs place) = second (at place (pair (nodes (map an_expr exprs)) empty))
 
 -- the later end of a part of a set, where there is one
 abbrev pub expr_given : Option Expr → View
@@ -502,8 +500,7 @@ statement (statements.For name from down to turn place) =
 statement (statements.All name over turn place) =
     chosen place 7 (pair (used name)
     (pair (node (a_short_type over)) (node (a_statement turn))))
-statement (statements.Output sendings place) =
-    chosen place 8 (nodes (map a_sending sendings))
+statement (statements.Output sendings place) = chosen place 8 (nodes (map a_sending sendings))
 statement (statements.Init target body arguments place) =
     chosen place 9 (init target body arguments)
 statement (statements.Release target place) = chosen place 10 (node (an_access target))
@@ -543,11 +540,9 @@ clause (clauses.From states place) = at place (choice 0 (names states))
 clause (clauses.To state place) = at place (choice 1 (next_state state))
 clause (clauses.When ip signal place) =
     at place (choice 2 (pair (node (an_access ip)) (used signal)))
-clause (clauses.Provided condition place) =
-    at place (choice 3 (first (node (an_expr condition))))
+clause (clauses.Provided condition place) = at place (choice 3 (first (node (an_expr condition))))
 clause (clauses.Otherwise place) = at place (choice 3 (second empty))
-clause (clauses.Any vs place) =
-    at place (choice 4 (pair (nodes (map a_parameter vs)) empty))
+clause (clauses.Any vs place) = at place (choice 4 (pair (nodes (map a_parameter vs)) empty))
 clause (clauses.Priority value place) = at place (choice 5 (node (a_constant value)))
 clause (clauses.Delay least bound place) =
     at place (last_choice 6 (pair (node (an_expr least)) (pair (most bound) empty)))

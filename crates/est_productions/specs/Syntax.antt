@@ -1,6 +1,6 @@
 -- The syntax of specifications.
 use Rattle.est_reader.specs.Going.{Syntax}
-use Rattle.est_productions.specs.Grammar.{Production, production}
+use Rattle.est_productions.specs.Productions.{Production, production}
 use Rattle.est_productions.specs.FirstTokens.{marks}
 use Rattle.est_productions.specs.Nodes.{Node, layer}
 

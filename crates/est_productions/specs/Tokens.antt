@@ -2,7 +2,8 @@
 use Rattle.std.specs.Prelude.{List, [], ◌∷◌, ◌++◌}
 use Rattle.est_lexer.specs.declared.kind.ReservedWord.TheVariants as words
 use Rattle.est_lexer.specs.declared.kind.Symbol.TheVariants as symbols
-use Rattle.est_lexer.specs.declared.kind.TokenKind.TheVariants.{Identifier, Number, Character, Reserved, Symbol as Special}
+use Rattle.est_lexer.specs.declared.kind.TokenKind.TheVariants.{Identifier, Number, Character}
+use Rattle.est_lexer.specs.declared.kind.TokenKind.TheVariants.{Reserved, Symbol as Special}
 use Rattle.est_reader.specs.Tests.{Test, kind}
 
 -- the relational operators

@@ -3,7 +3,7 @@
 ghost use Rattle.est_language.specs.Grammar.{rule, opt};
 ghost use Rattle.est_language.specs.Shown.{node as shown};
 ghost use Rattle.est_reader.specs.Going.{Goes};
-ghost use Rattle.est_productions.specs.Grammar as grammar;
+ghost use Rattle.est_productions.specs.Productions as grammar;
 ghost use Rattle.est_productions.specs.Nodes as node;
 ghost use Rattle.est_productions.specs.Syntax.{estelle};
 

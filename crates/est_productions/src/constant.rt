@@ -8,7 +8,7 @@ ghost use Rattle.est_lexer.specs.declared.kind.TokenKind.TheVariants.{Symbol as 
 ghost use Rattle.est_reader.specs.Going.{Goes};
 ghost use Rattle.est_reader.specs.Moving.{OneSeen};
 ghost use Rattle.est_reader.specs.Tests.{kind};
-ghost use Rattle.est_productions.specs.Grammar as grammar;
+ghost use Rattle.est_productions.specs.Productions as grammar;
 ghost use Rattle.est_productions.specs.Nodes as node;
 ghost use Rattle.est_productions.specs.Syntax.{estelle};
 

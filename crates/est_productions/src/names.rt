@@ -1,7 +1,7 @@
 //! Names.
 
 ghost use Rattle.est_reader.specs.Going.{Goes};
-ghost use Rattle.est_productions.specs.Grammar as grammar;
+ghost use Rattle.est_productions.specs.Productions as grammar;
 ghost use Rattle.est_productions.specs.Nodes as node;
 ghost use Rattle.est_productions.specs.Syntax.{estelle};
 

@@ -2,9 +2,10 @@
 
 ghost use Rattle.est_reader.specs.Going.{Goes};
 ghost use Rattle.est_reader.specs.Moving.{SeesOne};
-ghost use Rattle.est_productions.specs.Grammar as grammar;
+ghost use Rattle.est_productions.specs.Productions as grammar;
 ghost use Rattle.est_productions.specs.Nodes as node;
-ghost use Rattle.est_productions.specs.Tokens.{relational_tokens, adding_tokens, multiplying_tokens};
+ghost use Rattle.est_productions.specs.Tokens.{relational_tokens, adding_tokens};
+ghost use Rattle.est_productions.specs.Tokens.{multiplying_tokens};
 ghost use Rattle.est_productions.specs.Syntax.{estelle};
 
 use est_lexer::kind::{ReservedWord, Symbol, TokenKind};

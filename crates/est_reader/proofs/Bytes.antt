@@ -1,11 +1,13 @@
 -- The bytes of a token that was taken.
-use Rattle.std.proofs.Common.{◌≡◌, ℕ, ◌<◌, true, List, length, refl, sym, ◌∙◌, ap, subst, Option, Some, None, IfSome, slice_get}
+use Rattle.std.proofs.Common.{◌≡◌, ℕ, ◌<◌, true, List, length, refl, sym, ◌∙◌}
+use Rattle.std.proofs.Common.{ap, subst, Option, Some, None, IfSome, slice_get}
 use Rattle.est_lexer.specs.declared.kind.Token.{Token}
 use Rattle.est_lexer.specs.declared.kind.TokenKind.{TokenKind}
-use Rattle.est_lexer.specs.declared.kind.TokenKind.TheVariants.{Identifier, Reserved, LeftOut, Number, Character, Symbol, Bad}
+use Rattle.est_lexer.specs.declared.kind.TokenKind.TheVariants.{Identifier, Reserved, LeftOut}
+use Rattle.est_lexer.specs.declared.kind.TokenKind.TheVariants.{Number, Character, Symbol, Bad}
 use Rattle.est_lexer.specs.declared.tokens.Tokens.{Tokens}
-use Rattle.est_lexer.specs.Kinds.{is_same}
-use Rattle.est_lexer.specs.Places.{text_of, tokens_of}
+use Rattle.est_lexer.specs.TokenKinds.{is_same}
+use Rattle.est_lexer.specs.Offsets.{text_of, tokens_of}
 use Rattle.est_lexer.specs.Spans.{spelling}
 use Rattle.est_lexer.specs.Spellings.{is_number, is_character}
 use Rattle.est_lexer.proofs.Spelled.{number_spelled, character_spelled, character_long}
@@ -41,22 +43,37 @@ tested_well Wrong e = absurd cc
 tested_well TooDeep e = absurd cc
 tested_well NoMemory e = absurd cc
 
-number_at : (tokens : Tokens) (at : ℕ) (bytes : List ℕ) (o : Option Token) → slice_get (tokens_of tokens) at ≡ o → meets (holds (text_of tokens)) (kind Number) o ≡ true → IfSome o (λ token. bytes ≡ spelling (text_of tokens) token) → is_number bytes ≡ true
+number_at : (tokens : Tokens) (at : ℕ) (bytes : List ℕ) (o : Option Token)
+    → slice_get (tokens_of tokens) at ≡ o → meets (holds (text_of tokens)) (kind Number) o ≡ true
+    → IfSome o (λ token. bytes ≡ spelling (text_of tokens) token) → is_number bytes ≡ true
 number_at tokens at bytes None e m s = absurd cc
-number_at tokens at bytes (Some token) e m s = ap is_number s ∙ number_spelled tokens at token e (same_number token.kind m)
+number_at tokens at bytes (Some token) e m s = ap is_number s ∙ number_spelled tokens at token e
+    (same_number token.kind m)
 
-character_at : (tokens : Tokens) (at : ℕ) (bytes : List ℕ) (o : Option Token) → slice_get (tokens_of tokens) at ≡ o → meets (holds (text_of tokens)) (kind Character) o ≡ true → IfSome o (λ token. bytes ≡ spelling (text_of tokens) token) → is_character bytes ≡ true
+character_at : (tokens : Tokens) (at : ℕ) (bytes : List ℕ) (o : Option Token)
+    → slice_get (tokens_of tokens) at ≡ o → meets (holds (text_of tokens)) (kind Character) o ≡ true
+    → IfSome o (λ token. bytes ≡ spelling (text_of tokens) token) → is_character bytes ≡ true
 character_at tokens at bytes None e m s = absurd cc
-character_at tokens at bytes (Some token) e m s = ap is_character s ∙ character_spelled tokens at token e (same_character token.kind m)
+character_at tokens at bytes (Some token) e m s = ap is_character s
+    ∙ character_spelled tokens at token e (same_character token.kind m)
 
 -- those of a number
-pub number_bytes : {A B : Reader} (bytes : List ℕ) → Takes (kind Number) A B → IsTest B.outcome true → IfSome (slice_get (tokens_of B.tokens.now) A.at) (λ token. bytes ≡ spelling (text_of B.tokens.now) token) → is_number bytes ≡ true
+pub number_bytes : {A B : Reader} (bytes : List ℕ) → Takes (kind Number) A B → IsTest B.outcome true
+    → IfSome (slice_get (tokens_of B.tokens.now) A.at) (λ token. bytes
+    ≡ spelling (text_of B.tokens.now) token) → is_number bytes ≡ true
 number_bytes {A} {B} bytes x w s =
     number_at B.tokens.now A.at bytes (slice_get (tokens_of B.tokens.now) A.at) refl
-    (subst (λ ts. stands ts A.at (kind Number) ≡ true) (sym x.same.tokens) (taken_at A.tokens.now (kind Number) A.at B.at A.outcome B.outcome x.takes (tested_well B.outcome w))) s
+    (subst (λ ts. stands ts A.at (kind Number) ≡ true) (sym x.same.tokens)
+    (taken_at A.tokens.now (kind Number) A.at B.at A.outcome B.outcome x.takes
+    (tested_well B.outcome w))) s
 
 -- and of a character constant, of which one stands after its first quote
-pub character_bytes : {A B : Reader} (bytes : List ℕ) → Takes (kind Character) A B → IsTest B.outcome true → IfSome (slice_get (tokens_of B.tokens.now) A.at) (λ token. bytes ≡ spelling (text_of B.tokens.now) token) → 1 < length bytes
+pub character_bytes : {A B : Reader} (bytes : List ℕ) → Takes (kind Character) A B
+    → IsTest B.outcome true → IfSome (slice_get (tokens_of B.tokens.now) A.at) (λ token. bytes
+    ≡ spelling (text_of B.tokens.now) token) → 1 < length bytes
 character_bytes {A} {B} bytes x w s =
-    character_long bytes (character_at B.tokens.now A.at bytes (slice_get (tokens_of B.tokens.now) A.at) refl
-    (subst (λ ts. stands ts A.at (kind Character) ≡ true) (sym x.same.tokens) (taken_at A.tokens.now (kind Character) A.at B.at A.outcome B.outcome x.takes (tested_well B.outcome w))) s)
+    character_long bytes (character_at B.tokens.now A.at bytes (slice_get (tokens_of B.tokens.now)
+    A.at) refl
+    (subst (λ ts. stands ts A.at (kind Character) ≡ true) (sym x.same.tokens)
+    (taken_at A.tokens.now (kind Character) A.at B.at A.outcome B.outcome x.takes
+    (tested_well B.outcome w))) s)

@@ -1,12 +1,12 @@
 -- From what a reader of a whole text does to its answer.
 use Rattle.std.proofs.Common.{◌≡◌, ℕ, Bool, true, false, List, length, refl, subst}
 use Rattle.est_lexer.specs.declared.tokens.Tokens.{Tokens}
-use Rattle.est_lexer.specs.Places.{text_of, tokens_of}
+use Rattle.est_lexer.specs.Offsets.{text_of, tokens_of}
 use Rattle.est_language.specs.Grammar.{Language, Grammar}
 use Rattle.est_language.specs.Marks.{Marks}
-use Rattle.est_language.specs.Reading.{Refused}
-use Rattle.est_language.specs.Answers.{Cause, SaysWhy, wrong_at, too_deep_at}
-use Rattle.est_language.specs.Places.{HasTree}
+use Rattle.est_language.specs.Findings.{Refused}
+use Rattle.est_language.specs.Refusals.{Cause, SaysWhy, wrong_at, too_deep_at}
+use Rattle.est_language.specs.Sentences.{HasTree}
 use Rattle.est_language.specs.Shown.{Shows}
 use Rattle.est_language.proofs.Exits as exits
 use Rattle.est_language.proofs.Flat.{flat, flat_opens_none}
@@ -40,7 +40,8 @@ module _ (P : ℕ → Type 0) (Q : ℕ → Bool → Type 0) (a b : ℕ) where
   got_deep NoMemory x e = absurd cc
 
 -- what opens no level is not refused for lack of levels
-pub flat_not_deep : {Token V T P : Type 0} {L : Language Token V T P} {S : Marks T P} {s : List Token} {g : Grammar T P} {d a i : ℕ}
+pub flat_not_deep : {Token V T P : Type 0} {L : Language Token V T P} {S : Marks T P}
+    {s : List Token} {g : Grammar T P} {d a i : ℕ}
     → flat g ≡ true
     → Refused L S s g d a i true → ⊥
 flat_not_deep {L = L} {s = s} {i = i} f h = flat_opens_none L s i f (h.more refl).1
@@ -52,7 +53,8 @@ pub record Starts (tokens : Tokens) (d : ℕ) (A : Reader) : Type 0 where
   pub levels : A.levels ≡ d
   pub well : A.outcome ≡ Well
 
-module _ {P N : Type 0} (K : Known P N) {tokens : Tokens} {g : Rule P} {d : ℕ} {A B : Reader} {v : View N} (x : Goes K.syntax g A v B) (s : Starts tokens d A) where
+module _ {P N : Type 0} (K : Known P N) {tokens : Tokens} {g : Rule P} {d : ℕ} {A B : Reader}
+    {v : View N} (x : Goes K.syntax g A v B) (s : Starts tokens d A) where
   -- what is found and refused of the tokens
   abbrev Here : ℕ → Type 0
   Here b = Finds K.syntax tokens g d 0 v b
@@ -71,9 +73,12 @@ module _ {P N : Type 0} (K : Known P N) {tokens : Tokens} {g : Rule P} {d : ℕ}
   started : Does Here NotHere 0 Well B.at B.outcome
   started =
       subst (λ o. Does Here NotHere 0 o B.at B.outcome) s.well
-      (subst (λ a. Does (Finds K.syntax tokens g d a v) (Fails K.syntax tokens g d a) a A.outcome B.at B.outcome) s.at
-      (subst (λ e. Does (Finds K.syntax tokens g e A.at v) (Fails K.syntax tokens g e A.at) A.at A.outcome B.at B.outcome) s.levels
-      (subst (λ ts. Does (Finds K.syntax ts g A.levels A.at v) (Fails K.syntax ts g A.levels A.at) A.at A.outcome B.at B.outcome) s.tokens_are x.moves)))
+      (subst (λ a. Does (Finds K.syntax tokens g d a v) (Fails K.syntax tokens g d a) a A.outcome
+      B.at B.outcome) s.at
+      (subst (λ e. Does (Finds K.syntax tokens g e A.at v) (Fails K.syntax tokens g e A.at) A.at
+      A.outcome B.at B.outcome) s.levels
+      (subst (λ ts. Does (Finds K.syntax ts g A.levels A.at v) (Fails K.syntax ts g A.levels A.at)
+      A.at A.outcome B.at B.outcome) s.tokens_are x.moves)))
 
   -- the whole list is read: it has one tree, whose shape the view shows
   pub whole_read : B.outcome ≡ Well → B.at ≡ length (tokens_of tokens)
@@ -91,18 +96,23 @@ module _ {P N : Type 0} (K : Known P N) {tokens : Tokens} {g : Rule P} {d : ℕ}
 
   -- the grammar is refused
   pub whole_wrong : B.outcome ≡ Wrong → Why (wrong_at B.at)
-  whole_wrong w = exits.explained (K.fits (text_of tokens)) g d (tokens_of tokens) (wrong_at B.at) (got_wrong Here NotHere 0 B.at B.outcome started w)
+  whole_wrong w = exits.explained (K.fits (text_of tokens)) g d (tokens_of tokens) (wrong_at B.at)
+      (got_wrong Here NotHere 0 B.at B.outcome started w)
 
   pub fails_deep : B.outcome ≡ TooDeep → Fails K.syntax tokens g d 0 B.at true
   fails_deep w = got_deep Here NotHere 0 B.at B.outcome started w
 
   pub whole_deep : B.outcome ≡ TooDeep → Why (too_deep_at B.at)
-  whole_deep w = exits.explained (K.fits (text_of tokens)) g d (tokens_of tokens) (too_deep_at B.at) (fails_deep w)
+  whole_deep w = exits.explained (K.fits (text_of tokens)) g d (tokens_of tokens) (too_deep_at B.at)
+      (fails_deep w)
 
 -- the whole list is read as this value, where no two values show one shape
-pub read_as : {I P N : Type 0} (K : Known P N) {tokens : Tokens} {g : Rule P} {d : ℕ} {A B : Reader} (view : I → View N) (i : I)
-    → ((j : I) (t : Shape) → Shows K.syntax.layer (view j) t → Shows K.syntax.layer (view i) t → j ≡ i)
-    → Goes K.syntax g A (view i) B → Starts tokens d A → B.outcome ≡ Well → B.at ≡ length (tokens_of tokens)
+pub read_as : {I P N : Type 0} (K : Known P N) {tokens : Tokens} {g : Rule P} {d : ℕ} {A B : Reader}
+    (view : I → View N) (i : I)
+    → ((j : I) (t : Shape) → Shows K.syntax.layer (view j) t → Shows K.syntax.layer (view i) t
+    → j ≡ i)
+    → Goes K.syntax g A (view i) B → Starts tokens d A → B.outcome ≡ Well
+    → B.at ≡ length (tokens_of tokens)
     → IsReadAs K.syntax.production K.syntax.layer (text_of tokens) (tokens_of tokens) g d view i
 read_as K view i one x s w e =
     let r = whole_read K x s w e in
@@ -111,5 +121,6 @@ read_as K view i one x s w e =
       tree = r.1;
       shows = r.2;
       only_tree = r.3;
-      only_value = λ j q. one j r.0 (subst (λ t. Shows K.syntax.layer (view j) t) (r.3 q.0 q.1) q.2) r.2;
+      only_value = λ j q. one j r.0 (subst (λ t. Shows K.syntax.layer (view j) t) (r.3 q.0 q.1) q.2)
+          r.2;
     }

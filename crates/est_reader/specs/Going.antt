@@ -2,11 +2,11 @@
 use Rattle.std.specs.Prelude.{◌≡◌, ℕ, Bool, List, ◌++◌, map}
 use Rattle.est_lexer.specs.declared.kind.TokenKind.TheVariants.{Identifier}
 use Rattle.est_lexer.specs.declared.tokens.Tokens.{Tokens}
-use Rattle.est_lexer.specs.Places.{text_of, tokens_of}
+use Rattle.est_lexer.specs.Offsets.{text_of, tokens_of}
 use Rattle.est_language.specs.Grammar as grammar
 use Rattle.est_language.specs.Grammar.{Grammar, here, token}
 use Rattle.est_language.specs.Marks.{Marks, Fits}
-use Rattle.est_language.specs.Reading.{Found, Refused}
+use Rattle.est_language.specs.Findings.{Found, Refused}
 use Rattle.est_language.specs.Shown as shown
 use Rattle.est_language.specs.Shown.{Shows, at, kept}
 use Rattle.est_syntax.specs.declared.name.Used.{Used}

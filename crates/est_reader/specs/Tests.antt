@@ -1,13 +1,15 @@
 -- The tests of the tokens of a text, what trees keep of tokens, and languages over them.
-use Rattle.std.specs.Prelude.{ℕ, Bool, true, false, not, ◌+◌, ◌-◌, ◌*◌, ◌&&◌, nat_lt, nat_le, List, fold, codes, bytes_eq, slice_get, slice_index}
+use Rattle.std.specs.Prelude.{ℕ, Bool, true, false, not, ◌+◌, ◌-◌, ◌*◌, ◌&&◌, nat_lt}
+use Rattle.std.specs.Prelude.{nat_le, List, fold, codes, bytes_eq, slice_get, slice_index}
 use Rattle.std.specs.Str.{str_to_ascii_lowercase}
 use Prim.Native.String.{String}
 use Rattle.est_lexer.specs.declared.kind.Token.{Token}
 use Rattle.est_lexer.specs.declared.kind.TokenKind.{TokenKind}
-use Rattle.est_lexer.specs.declared.kind.TokenKind.TheVariants.{Identifier, Reserved, LeftOut, Number, Character, Symbol, Bad}
+use Rattle.est_lexer.specs.declared.kind.TokenKind.TheVariants.{Identifier, Reserved, LeftOut}
+use Rattle.est_lexer.specs.declared.kind.TokenKind.TheVariants.{Number, Character, Symbol, Bad}
 use Rattle.est_lexer.specs.declared.tokens.Tokens.{Tokens}
-use Rattle.est_lexer.specs.Kinds.{is_same}
-use Rattle.est_lexer.specs.Places.{text_of, tokens_of}
+use Rattle.est_lexer.specs.TokenKinds.{is_same}
+use Rattle.est_lexer.specs.Offsets.{text_of, tokens_of}
 use Rattle.est_lexer.specs.Spans.{spelling}
 use Rattle.est_language.specs.Grammar.{Grammar, Language, meets}
 

@@ -1,7 +1,7 @@
 -- What a reader of a whole text tells.
 use Rattle.std.specs.Prelude.{◌≡◌, ℕ, List}
 use Rattle.est_lexer.specs.declared.kind.Token.{Token}
-use Rattle.est_language.specs.Places.{HasTree}
+use Rattle.est_language.specs.Sentences.{HasTree}
 use Rattle.est_language.specs.Shown.{Shows}
 use Rattle.est_reader.specs.Tests.{language}
 use Rattle.est_reader.specs.Going.{Rule, Shape, View}

@@ -1,7 +1,8 @@
 //! A reader of tokens, which keeps its place and what became of the reading.
 
-ghost use Rattle.std.specs.Prelude.{◌≡◌, ◌≤◌, ◌<◌, true, length, slice_get, Some, IfSome, ◌++◌, ◌∷◌, []};
-ghost use Rattle.est_lexer.specs.Places.{text_of, tokens_of};
+ghost use Rattle.std.specs.Prelude.{◌≡◌, ◌≤◌, ◌<◌, true, length, slice_get};
+ghost use Rattle.std.specs.Prelude.{Some, IfSome, ◌++◌, ◌∷◌, []};
+ghost use Rattle.est_lexer.specs.Offsets.{text_of, tokens_of};
 
 use crate::number::{value, value_up_to};
 use crate::outcome::Outcome;
@@ -43,9 +44,13 @@ impl<'t> Reader<'t> {
 }
 
 impl Reader<'_> {
-    ghost use Rattle.est_reader.specs.Tests.{kind, spelled, stands as does_stand, lowered as is_lowered};
-    ghost use Rattle.est_reader.specs.Moving.{IsTest, Sees, Steps, Takes, TakesName, TakesNumber, TakesValue, TakesCharacter, IsNamedAt, FindsNumber, Opens, Enters, Closes, Still, Kept, KeptSome};
-    ghost use Rattle.est_lexer.specs.declared.kind.TokenKind.TheVariants.{Reserved, Symbol as Special};
+    ghost use Rattle.est_reader.specs.Tests.{kind, spelled, stands as does_stand};
+    ghost use Rattle.est_reader.specs.Tests.{lowered as is_lowered};
+    ghost use Rattle.est_reader.specs.Moving.{IsTest, Sees, Steps, Takes, TakesName, TakesNumber};
+    ghost use Rattle.est_reader.specs.Moving.{TakesValue, TakesCharacter, IsNamedAt, FindsNumber};
+    ghost use Rattle.est_reader.specs.Moving.{Opens, Enters, Closes, Still, Kept, KeptSome};
+    ghost use Rattle.est_lexer.specs.declared.kind.TokenKind.TheVariants.{Reserved};
+    ghost use Rattle.est_lexer.specs.declared.kind.TokenKind.TheVariants.{Symbol as Special};
     ghost use Rattle.est_reader.specs.declared.outcome.Outcome.TheVariants.{Well};
     ghost use Rattle.std.specs.Str.{str_to_ascii_lowercase};
     ghost use Rattle.std.specs.Option.{option_map};

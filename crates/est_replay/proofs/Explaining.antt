@@ -3,12 +3,16 @@ use Rattle.std.proofs.Common.{ℕ, List}
 use Rattle.est_language.specs.Marks.{Fits}
 use Rattle.est_reader.specs.Tests.{language}
 use Rattle.est_reader.proofs.Going.{Known}
-use Rattle.est_replay.specs.Grammar.{NoName, production, marks}
-use Rattle.est_replay.specs.Nodes.{Node, explaining}
+use Rattle.est_replay.specs.ExplanationGrammar.{NoName, production, marks}
+use Rattle.est_replay.specs.ExplanationNodes.{Node, explaining}
 
 -- the table has nothing to say
 pub fits : (text : List ℕ) → Fits (language production text) marks
-fits text = record { starts = λ name. elim name [ ]; goes_on = λ name. elim name [ ]; is_empty = λ name. elim name [ ] }
+fits text = record {
+  starts = λ name. elim name [ ];
+  goes_on = λ name. elim name [ ];
+  is_empty = λ name. elim name [ ];
+}
 
 -- the syntax, and that its table fits
 abbrev pub known : Known NoName Node

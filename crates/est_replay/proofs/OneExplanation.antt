@@ -1,37 +1,46 @@
 -- One explanation shows a shape, and it has no more moves than its text has tokens.
 use Rattle.std.proofs.Common.{◌≡◌, ℕ, ◌+◌, ◌≤◌, List, [], ◌∷◌, length, map, refl, ap, arith}
 use Rattle.est_lexer.specs.declared.kind.Token.{Token}
-use Rattle.est_language.specs.Grammar.{rep, Tree, t_word, t_seq, t_left, t_right, t_rep_out, t_rep_in}
-use Rattle.est_language.specs.Shown.{Shows, node, nodes, s_kept, s_pair, s_first, s_second, s_node, s_none, s_more}
+use Rattle.est_language.specs.Grammar.{rep, Tree, t_word, t_seq, t_left}
+use Rattle.est_language.specs.Grammar.{t_right, t_rep_out, t_rep_in}
+use Rattle.est_language.specs.Shown.{Shows, node, nodes, s_kept, s_pair}
+use Rattle.est_language.specs.Shown.{s_first, s_second, s_node, s_none, s_more}
 use Rattle.est_language.proofs.Trees.{tree_forward}
 use Rattle.est_meaning.specs.declared.run.Firing.{Firing}
 use Rattle.est_meaning.specs.declared.run.Move.{Move}
 use Rattle.est_meaning.specs.declared.run.Move.TheVariants.{Take, Fire}
 use Rattle.est_reader.specs.Going.{Shape}
 use Rattle.est_replay.specs.declared.explanation.Explanation.{Explanation}
-use Rattle.est_replay.specs.Grammar.{move, explanation}
-use Rattle.est_replay.specs.Nodes.{layer, a_move, an_explanation, number_view, firing_view}
-use Rattle.est_replay.specs.Reading.{explanations, IsExplanationText}
+use Rattle.est_replay.specs.ExplanationGrammar.{move, explanation}
+use Rattle.est_replay.specs.ExplanationNodes.{layer, a_move, an_explanation}
+use Rattle.est_replay.specs.ExplanationNodes.{number_view, firing_view}
+use Rattle.est_replay.specs.ExplanationText.{explanations, IsExplanationText}
 
 one_number : (m n : ℕ) {t : Shape} → Shows layer (number_view m) t → Shows layer (number_view n) t
     → m ≡ n
 one_number m n (s_kept v) (s_kept w) = refl
 
 equal_firings : {a b c a' b' c' : ℕ} → a ≡ a' → b ≡ b' → c ≡ c'
-    → let x : Firing = record { instance = a; transition = b; choice = c } in x ≡ record { instance = a'; transition = b'; choice = c' }
+    → let x : Firing = record {
+      instance = a;
+      transition = b;
+      choice = c;
+    } in x ≡ record { instance = a'; transition = b'; choice = c' }
 equal_firings p q r = cc
 
 one_firing : (x y : Firing) {t : Shape} → Shows layer (firing_view x) t
     → Shows layer (firing_view y) t → x ≡ y
 one_firing x y (s_pair a (s_pair b c)) (s_pair d (s_pair e f)) =
-    equal_firings (one_number x.instance y.instance a d) (one_number x.transition y.transition b e) (one_number x.choice y.choice c f)
+    equal_firings (one_number x.instance y.instance a d) (one_number x.transition y.transition b e)
+    (one_number x.choice y.choice c f)
 
 one_move : (x y : Move) {t : Shape} → Shows layer (node (a_move x)) t
     → Shows layer (node (a_move y)) t → x ≡ y
 one_move Take Take d e = refl
 one_move Take (Fire f) (s_node (s_first d)) (s_node e) = elim e [ ]
 one_move (Fire f) Take (s_node (s_second d)) (s_node e) = elim e [ ]
-one_move (Fire f) (Fire g) (s_node (s_second d)) (s_node (s_second e)) = ap Fire (one_firing f g d e)
+one_move (Fire f) (Fire g) (s_node (s_second d)) (s_node (s_second e)) =
+    ap Fire (one_firing f g d e)
 
 same_moves : (xs ys : List Move) {t : Shape} → Shows layer (nodes (map a_move xs)) t
     → Shows layer (nodes (map a_move ys)) t → xs ≡ ys

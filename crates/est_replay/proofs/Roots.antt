@@ -1,5 +1,6 @@
 -- The root of a skeleton that breaks no rule has a body.
-use Rattle.std.proofs.Common.{◌≡◌, true, List, [], ◌∷◌, ◌++◌, Some, None, find, cond, nat_eq, option_and_then, refl, ap, ◌∙◌, arith}
+use Rattle.std.proofs.Common.{◌≡◌, true, List, [], ◌∷◌, ◌++◌, Some, None, find}
+use Rattle.std.proofs.Common.{cond, nat_eq, option_and_then, refl, ap, ◌∙◌, arith}
 use Rattle.std.specs.List.{filter_map}
 use Rattle.std.proofs.lemmas.Bool.Decides.{nat_tests}
 use Rattle.est_syntax.specs.declared.channel.Channel.{Channel}
@@ -8,13 +9,15 @@ use Rattle.est_syntax.specs.declared.body.Body.{Body, out-Body}
 use Rattle.est_syntax.specs.declared.header.ModvarDef.{ModvarDef}
 use Rattle.est_syntax.specs.declared.body.Part.TheVariants as part
 use Rattle.est_syntax.specs.declared.specification.Spec.{Spec}
-use Rattle.est_blocks.specs.Answers.{IsGood}
+use Rattle.est_blocks.specs.LeastFault.{IsGood}
 use Rattle.est_skeleton.specs.Skeleton.{IsSkeleton, channel_parts}
 use Rattle.est_skeleton.proofs.BodyLaw.{body_is}
 use Rattle.est_meaning.specs.Text.{body_in, body_at, root_of}
 
 -- the one body of a skeleton
-bodies_are : (cs : List Channel) (h : Header) (b : Body) (m : ModvarDef) → filter_map body_in (channel_parts cs ++ part.Header h ∷ part.Body b ∷ part.Modvars (m ∷ []) ∷ []) ≡ b ∷ []
+bodies_are : (cs : List Channel) (h : Header) (b : Body) (m : ModvarDef)
+    → filter_map body_in (channel_parts cs ++ part.Header h ∷ part.Body b ∷ part.Modvars (m ∷ [])
+    ∷ []) ≡ b ∷ []
 bodies_are [] h b m = refl
 bodies_are (c ∷ cs) h b m = bodies_are cs h b m
 
@@ -23,7 +26,8 @@ body_there : (s : Spec) (sk : IsSkeleton s) → body_at s (out-Body sk.body).nam
 body_there s sk =
     let place = (out-Body sk.body).name.place in
     let e : nat_eq place place ≡ true = grind (arith, nat_tests) in
-    ap (find (λ (b : Body). nat_eq place (out-Body b).name.place)) (ap (filter_map body_in) sk.parts ∙ bodies_are sk.channels sk.header sk.body sk.variable)
+    ap (find (λ (b : Body). nat_eq place (out-Body b).name.place)) (ap (filter_map body_in) sk.parts
+    ∙ bodies_are sk.channels sk.header sk.body sk.variable)
     ∙ ap (λ t. cond t (Some sk.body) None) e
 
 pub root_is : (s : Spec) (sk : IsSkeleton s) → IsGood s → root_of s ≡ Some sk.body

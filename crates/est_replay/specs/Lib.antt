@@ -1,5 +1,5 @@
-pub mod Grammar
-pub mod Nodes
-pub mod Reading
+pub mod ExplanationGrammar
+pub mod ExplanationNodes
+pub mod ExplanationText
 pub mod Replay
 pub mod Standing

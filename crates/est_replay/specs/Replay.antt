@@ -2,9 +2,10 @@
 --
 -- Moves stand in the order in which they are made. Runs are read from their last move back, so that
 -- `reverse moves` is the run of these moves.
-use Rattle.std.specs.Prelude.{◌≡◌, ◌≢◌, ℕ, ◌+◌, ◌<◌, ◌⊎◌, List, [], ◌∷◌, ◌++◌, length, take, reverse}
+use Rattle.std.specs.Prelude.{◌≡◌, ◌≢◌, ℕ, ◌+◌, ◌<◌, ◌⊎◌, List, []}
+use Rattle.std.specs.Prelude.{◌∷◌, ◌++◌, length, take, reverse}
 use Rattle.est_syntax.specs.declared.specification.Spec.{Spec}
-use Rattle.est_blocks.specs.Answers.{IsGood}
+use Rattle.est_blocks.specs.LeastFault.{IsGood}
 use Rattle.est_skeleton.specs.Skeleton.{IsSkeleton}
 use Rattle.est_meaning.specs.declared.event.Event.{Event}
 use Rattle.est_meaning.specs.declared.run.BlockFault.{BlockFault}
@@ -15,7 +16,8 @@ use Rattle.est_meaning.specs.Choices.{IsSettled, IsPossible}
 use Rattle.est_meaning.specs.Blocks.{Outcome, Done, Fault, Limit}
 use Rattle.est_meaning.specs.Step.{outcome, start_of}
 use Rattle.est_meaning.specs.Stack.{Stack}
-use Rattle.est_meaning.specs.Run.{AgreeFirst, Setup, Place, first_place, Takes, Fires, IsBoundedRun, Follows, FollowsBefore, Yields}
+use Rattle.est_meaning.specs.Run.{AgreeFirst, Setup, Place, first_place, Takes, Fires}
+use Rattle.est_meaning.specs.Run.{IsBoundedRun, Follows, FollowsBefore, Yields}
 use Rattle.est_replay.specs.declared.verdict.Why.{Why}
 use Rattle.est_replay.specs.declared.verdict.Why.TheVariants as why
 use Rattle.est_replay.specs.declared.verdict.Replayed.{Replayed}

@@ -1,12 +1,14 @@
 -- Where a replay stands on its way, and what its moves answer.
-use Rattle.std.specs.Prelude.{◌≡◌, ℕ, ◌+◌, ◌<◌, ◌≤◌, ◌⊎◌, List, [], ◌∷◌, ◌++◌, length, take, drop, reverse}
+use Rattle.std.specs.Prelude.{◌≡◌, ℕ, ◌+◌, ◌<◌, ◌≤◌, ◌⊎◌, List, []}
+use Rattle.std.specs.Prelude.{◌∷◌, ◌++◌, length, take, drop, reverse}
 use Rattle.est_syntax.specs.declared.specification.Spec.{Spec}
 use Rattle.est_meaning.specs.declared.event.Event.{Event}
 use Rattle.est_meaning.specs.declared.run.Move.{Move}
 use Rattle.est_meaning.specs.Situation.{Situation}
 use Rattle.est_meaning.specs.Stack.{Stack}
 use Rattle.est_meaning.specs.Allowed.{IsAllowedTrace}
-use Rattle.est_meaning.specs.Run.{IsPrefix, AgreeFirst, Setup, Place, IsBegun, Moves, IsBoundedRun, silent_after}
+use Rattle.est_meaning.specs.Run.{IsPrefix, AgreeFirst, Setup, Place}
+use Rattle.est_meaning.specs.Run.{IsBegun, Moves, IsBoundedRun, silent_after}
 use Rattle.est_replay.specs.declared.verdict.Why.TheVariants as why
 use Rattle.est_replay.specs.declared.verdict.Replayed.{Replayed}
 use Rattle.est_replay.specs.declared.verdict.Replayed.TheVariants.{Confirmed, Rejected}

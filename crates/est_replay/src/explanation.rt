@@ -1,15 +1,16 @@
 //! Explanation texts.
 
 ghost use Rattle.std.specs.Prelude.{◌≤◌, length, map, true, IfOk};
-ghost use Rattle.est_lexer.specs.Places.{text_of, tokens_of};
+ghost use Rattle.est_lexer.specs.Offsets.{text_of, tokens_of};
 ghost use Rattle.est_language.specs.Grammar.{rep};
 ghost use Rattle.est_language.specs.Shown.{node, nodes, pair, kept};
 ghost use Rattle.est_reader.specs.Tests.{said};
 ghost use Rattle.est_reader.specs.Moving.{Sees, SeesOne};
 ghost use Rattle.est_reader.specs.Going.{Goes};
-ghost use Rattle.est_replay.specs.Grammar as grammar;
-ghost use Rattle.est_replay.specs.Nodes.{a_move, an_explanation, firing_view, explaining};
-ghost use Rattle.est_replay.specs.Reading.{ReadsExplanation};
+ghost use Rattle.est_replay.specs.ExplanationGrammar as grammar;
+ghost use Rattle.est_replay.specs.ExplanationNodes.{a_move, an_explanation};
+ghost use Rattle.est_replay.specs.ExplanationNodes.{firing_view, explaining};
+ghost use Rattle.est_replay.specs.ExplanationText.{ReadsExplanation};
 
 use crate::error::ExplanationError;
 use est_lexer::tokens::Tokens;

@@ -1,5 +1,6 @@
 //! Replays of explanations.
-ghost use Rattle.std.specs.Prelude.{◌≡◌, ℕ, ◌+◌, ◌-◌, ◌<◌, ◌≤◌, ◌^◌, ◌↔◌, ◌⊎◌, ◌++◌, List, length, take, IsTrue, IfOk};
+ghost use Rattle.std.specs.Prelude.{◌≡◌, ℕ, ◌+◌, ◌-◌, ◌<◌, ◌≤◌, ◌^◌, ◌↔◌, ◌⊎◌};
+ghost use Rattle.std.specs.Prelude.{◌++◌, List, length, take, IsTrue, IfOk};
 ghost use Rattle.est_syntax.specs.declared.specification.Spec.{Spec};
 ghost use Rattle.est_syntax.specs.Least.{IsIn};
 ghost use Rattle.est_meaning.specs.Allowed.{IsAllowedTrace, most_events};
@@ -8,7 +9,8 @@ ghost use Rattle.est_meaning.specs.Run.{Setup, IsPrefix};
 ghost use Rattle.est_meaning.specs.Stack.{Keeps};
 ghost use Rattle.est_meaning.specs.Step.{start_of};
 ghost use Rattle.est_replay.specs.Replay.{IsAnswer, setup_of};
-ghost use Rattle.est_replay.specs.Standing.{IsSetup, IsReady, HasMoved, HasLanded, IsMet, IsEnding, asked_of, place_of};
+ghost use Rattle.est_replay.specs.Standing.{IsSetup, IsReady, HasMoved, HasLanded};
+ghost use Rattle.est_replay.specs.Standing.{IsMet, IsEnding, asked_of, place_of};
 
 use crate::verdict::{Replayed, Why};
 use est_meaning::event::Event;

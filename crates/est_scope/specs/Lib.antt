@@ -1,4 +1,4 @@
 pub mod Declaring
-pub mod Least
+pub mod LeastSoFar
 pub mod Outline
 pub mod Uses

@@ -1,16 +1,19 @@
 -- The uses of names (ISO 9074, scope of identifiers; ISO 7185, 6.2.2).
-use Rattle.std.specs.Prelude.{ℕ, Bool, true, false, List, [], ◌++◌, ◌∷◌, Option, Some, None, if◌then◌else◌}
+use Rattle.std.specs.Prelude.{ℕ, Bool, true, false, List, [], ◌++◌}
+use Rattle.std.specs.Prelude.{◌∷◌, Option, Some, None, if◌then◌else◌}
 use Rattle.est_syntax.specs.Names.{spelled}
 use Rattle.est_syntax.specs.Faults.{broken}
 use Rattle.est_syntax.specs.declared.name.Used.{Used}
 use Rattle.est_syntax.specs.declared.rule.Fault.{Fault}
-use Rattle.est_syntax.specs.declared.rule.Rule.TheVariants.{UnknownName, DeclaredTwice, NotSeenHere, WrongSort}
+use Rattle.est_syntax.specs.declared.rule.Rule.TheVariants.{UnknownName, DeclaredTwice}
+use Rattle.est_syntax.specs.declared.rule.Rule.TheVariants.{NotSeenHere, WrongSort}
 use Rattle.est_scope.specs.declared.declaration.Sort.{Sort}
 use Rattle.est_scope.specs.declared.declaration.Sort.TheVariants as sort
 use Rattle.est_scope.specs.declared.declaration.Entry.{Entry}
 use Rattle.est_scope.specs.declared.declaration.Member.{Member}
 use Rattle.est_scope.specs.declared.declaration.Meant.{Meant}
-use Rattle.est_scope.specs.declared.declaration.Meant.TheVariants.{Nothing, Predeclared, Unseen, Seen}
+use Rattle.est_scope.specs.declared.declaration.Meant.TheVariants.{Nothing, Predeclared}
+use Rattle.est_scope.specs.declared.declaration.Meant.TheVariants.{Unseen, Seen}
 use Rattle.est_scope.specs.Outline.{Outline, entry_at, member_at, meant}
 
 -- whether two sorts are one

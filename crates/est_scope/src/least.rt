@@ -2,7 +2,7 @@
 
 ghost use Rattle.std.specs.Prelude.{◌≡◌};
 ghost use Rattle.est_syntax.specs.Least.{number, is_before};
-ghost use Rattle.est_scope.specs.Least.{lesser, least_with};
+ghost use Rattle.est_scope.specs.LeastSoFar.{lesser, least_with};
 ghost use Rattle.est_syntax.specs.Faults.{broken, broken_if};
 
 use est_syntax::rule::{Fault, Rule};

@@ -2,7 +2,7 @@
 #![tactic(auto, using(crate::proofs::LeastLaws::least_append))]
 
 ghost use Rattle.std.specs.Prelude.{◌≡◌};
-ghost use Rattle.est_scope.specs.Least.{least_with};
+ghost use Rattle.est_scope.specs.LeastSoFar.{least_with};
 ghost use Rattle.est_scope.specs.Outline.{entry_at};
 ghost use Rattle.est_scope.specs.Uses.{same_sort, is_sort, meaning, use_faults, uses_faults};
 ghost use Rattle.est_scope.specs.Uses.{declaration_of, twice_faults, twices_faults};

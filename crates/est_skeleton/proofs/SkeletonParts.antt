@@ -1,5 +1,6 @@
 -- The parts of a skeleton, one after the other, are those of its tree.
-use Rattle.std.proofs.Common.{◌≡◌, ◌<◌, refl, ap, subst, sym, suc, List, [], ◌∷◌, ◌++◌, length, arith}
+use Rattle.std.proofs.Common.{◌≡◌, ◌<◌, refl, ap, subst, sym, suc}
+use Rattle.std.proofs.Common.{List, [], ◌∷◌, ◌++◌, length, arith}
 use Rattle.std.specs.List.{All}
 use Rattle.std.proofs.lemmas.List.Elements.{All-cons, All-nil}
 use Rattle.est_syntax.specs.declared.channel.Channel.{Channel}
@@ -9,7 +10,8 @@ use Rattle.est_syntax.specs.declared.body.Body.{Body}
 use Rattle.est_syntax.specs.declared.body.Part.{Part}
 use Rattle.est_syntax.specs.declared.body.Part.TheVariants as part
 use Rattle.est_syntax.specs.declared.specification.Spec.{Spec}
-use Rattle.est_skeleton.specs.Skeleton.{channel_parts, IsPlainChannel, IsPlainHeader, IsPlainBody, IsPlainVariable, IsSkeleton}
+use Rattle.est_skeleton.specs.Skeleton.{channel_parts, IsPlainChannel, IsPlainHeader}
+use Rattle.est_skeleton.specs.Skeleton.{IsPlainBody, IsPlainVariable, IsSkeleton}
 use Rattle.est_skeleton.specs.inside.SkeletonParts.{AreParts, BeginWithChannel, IsForm}
 
 -- channels, a header, a body and a module variable that are plain
@@ -18,7 +20,8 @@ record Split (ps : List Part) : Type 0 where
   header : Header
   body : Body
   variable : ModvarDef
-  parts : ps ≡ channel_parts channels ++ part.Header header ∷ part.Body body ∷ part.Modvars (variable ∷ []) ∷ []
+  parts : ps ≡ channel_parts channels ++ part.Header header ∷ part.Body body ∷ part.Modvars
+      (variable ∷ []) ∷ []
   plain_channels : All IsPlainChannel channels
   plain_header : IsPlainHeader header
   plain : IsPlainBody body
@@ -51,7 +54,8 @@ split (part.Header h ∷ part.Body b ∷ part.Modvars (m ∷ []) ∷ []) x = rec
 }
 split _ x = absurd x
 
-joined : (cs : List Channel) (h : Header) (b : Body) (m : ModvarDef) → All IsPlainChannel cs → IsPlainHeader h → IsPlainBody b → IsPlainVariable m
+joined : (cs : List Channel) (h : Header) (b : Body) (m : ModvarDef) → All IsPlainChannel cs
+    → IsPlainHeader h → IsPlainBody b → IsPlainVariable m
     → AreParts (channel_parts cs ++ part.Header h ∷ part.Body b ∷ part.Modvars (m ∷ []) ∷ [])
 joined [] h b m cs_plain h_plain b_plain m_plain = (h_plain, b_plain, m_plain)
 joined (c ∷ cs) h b m cs_plain h_plain b_plain m_plain = (
@@ -59,7 +63,8 @@ joined (c ∷ cs) h b m cs_plain h_plain b_plain m_plain = (
   joined cs h b m (λ k d l. cs_plain (suc k) d (omega (arith, l))) h_plain b_plain m_plain,
 )
 
-some_channel : (cs : List Channel) (h : Header) (ps : List Part) → BeginWithChannel (channel_parts cs ++ part.Header h ∷ ps) → 0 < length cs
+some_channel : (cs : List Channel) (h : Header) (ps : List Part)
+    → BeginWithChannel (channel_parts cs ++ part.Header h ∷ ps) → 0 < length cs
 some_channel [] h ps b = absurd b
 some_channel (c ∷ cs) h ps b = omega arith
 
@@ -67,7 +72,8 @@ begin : (ps : List Part) → BeginWithChannel ps → AreParts ps
 begin (part.Channel c ∷ ps) h = h
 begin _ h = absurd h
 
-begun : (cs : List Channel) (ps : List Part) → 0 < length cs → AreParts (channel_parts cs ++ ps) → BeginWithChannel (channel_parts cs ++ ps)
+begun : (cs : List Channel) (ps : List Part) → 0 < length cs → AreParts (channel_parts cs ++ ps)
+    → BeginWithChannel (channel_parts cs ++ ps)
 begun [] ps l h = absurd (omega (arith, l))
 begun (c ∷ cs) ps l h = h
 
@@ -75,8 +81,10 @@ pub skeleton_form : (s : Spec) → IsSkeleton s → IsForm s
 skeleton_form s sk =
     let parts : BeginWithChannel s.parts =
     subst BeginWithChannel (sym sk.parts)
-    (begun sk.channels (part.Header sk.header ∷ part.Body sk.body ∷ part.Modvars (sk.variable ∷ []) ∷ []) sk.some
-    (joined sk.channels sk.header sk.body sk.variable sk.plain_channels sk.plain_header sk.plain sk.plain_variable))
+    (begun sk.channels (part.Header sk.header ∷ part.Body sk.body ∷ part.Modvars (sk.variable ∷ [])
+    ∷ []) sk.some
+    (joined sk.channels sk.header sk.body sk.variable sk.plain_channels sk.plain_header sk.plain
+    sk.plain_variable))
     in record { queue = sk.queue; scale = sk.scale; parts = parts; init = sk.init }
 
 pub form_skeleton : (s : Spec) → IsForm s → IsSkeleton s
@@ -90,7 +98,8 @@ form_skeleton s f =
       queue = f.queue;
       scale = f.scale;
       parts = x.parts;
-      some = some_channel x.channels x.header (part.Body x.body ∷ part.Modvars (x.variable ∷ []) ∷ []) (subst BeginWithChannel x.parts f.parts);
+      some = some_channel x.channels x.header (part.Body x.body ∷ part.Modvars (x.variable ∷ [])
+          ∷ []) (subst BeginWithChannel x.parts f.parts);
       plain_channels = x.plain_channels;
       plain_header = x.plain_header;
       plain = x.plain;

@@ -1,5 +1,5 @@
 pub mod Differing
-pub mod Laws
+pub mod PortLaws
 pub mod Ports
 pub mod Skeleton
 pub mod Small

@@ -33,8 +33,7 @@ signal_by r name _ = []
 -- those among the names of a channel, in the order of the text
 abbrev pub signals_in : Outline → Role → Region → List Signal
 signals_in o r [] = []
-signals_in o r ((name, s) ∷ names) =
-    signal_by r name (member_at o s.place) ++ signals_in o r names
+signals_in o r ((name, s) ∷ names) = signal_by r name (member_at o s.place) ++ signals_in o r names
 
 -- what may pass a point of this side, or nothing where it has none
 abbrev pub signals_of : Outline → Option Side → List Signal

@@ -81,8 +81,7 @@ IsEmpty _ = ⊥
 -- the empty statement, or an `output` of one sending or more
 abbrev pub IsPlain : Statement → Type 0
 IsPlain (statement.Empty place) = Unit {0}
-IsPlain (statement.Output sendings place) =
-    (0 < length sendings) × All IsPlainSending sendings
+IsPlain (statement.Output sendings place) = (0 < length sendings) × All IsPlainSending sendings
 IsPlain _ = ⊥
 
 -- a statement that starts a module, without subscripts and arguments

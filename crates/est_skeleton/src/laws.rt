@@ -1,5 +1,5 @@
 //! What holds of the ports of skeletons, and of the body that they start.
-ghost use Rattle.est_skeleton.specs.Laws.{PortsDiffer, PortsAreFew, BodiesAreStarted};
+ghost use Rattle.est_skeleton.specs.PortLaws.{PortsDiffer, PortsAreFew, BodiesAreStarted};
 
 /// No two ports of a skeleton have one name, and no two signals of a port, whatever rules it
 /// breaks.

@@ -6,9 +6,11 @@ use Rattle.est_grammar.specs.Answer.{HasOneTree}
 use Rattle.est_skeleton.specs.Small.{IsSmall, most_parts}
 use Rattle.est_specification.proofs.Sizes.{HasParts, names_few, parts_read, transitions_few}
 
-pub sentence_is_small : (text : List ℕ) (tokens : List Token) (spec : Spec) → HasOneTree text tokens spec → length tokens ≤ most_parts → IsSmall spec
+pub sentence_is_small : (text : List ℕ) (tokens : List Token) (spec : Spec)
+    → HasOneTree text tokens spec → length tokens ≤ most_parts → IsSmall spec
 sentence_is_small text tokens spec one few =
-    let x : HasParts text tokens spec = parts_read text tokens spec _ one.shape one.shows one.tree in
+    let x : HasParts text tokens spec = parts_read text tokens spec _ one.shape one.shows one.tree
+    in
     record {
       few_names = omega (arith, names_few text tokens spec x, few);
       few_transitions = omega (arith, transitions_few text tokens spec x, few);

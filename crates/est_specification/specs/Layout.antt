@@ -6,7 +6,7 @@ use Rattle.est_reader.specs.SameTokens.{AreSameTokens}
 use Rattle.est_check.specs.declared.checked.Specification.{Specification}
 use Rattle.est_specification.specs.declared.error.SpecificationError.{SpecificationError}
 use Rattle.est_specification.specs.declared.error.SpecificationError.TheVariants as errors
-use Rattle.est_specification.specs.Reading.{IsNoSpecification, ReadsSpecification}
+use Rattle.est_specification.specs.SpecificationText.{IsNoSpecification, ReadsSpecification}
 
 -- What is true of a text is true of one with the same tokens.
 abbrev pub LayoutMeansNothing : Type 0

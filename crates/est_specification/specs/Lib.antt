@@ -1,5 +1,5 @@
 pub mod Errors
-pub mod Reading
+pub mod SpecificationText
 pub mod Layout
 pub mod Sizes
 pub mod Unique

@@ -1,9 +1,9 @@
 //! The reader of specifications.
 
 ghost use Rattle.std.specs.Prelude.{◌≤◌, length};
-ghost use Rattle.est_lexer.specs.Places.{text_of, tokens_of};
+ghost use Rattle.est_lexer.specs.Offsets.{text_of, tokens_of};
 ghost use Rattle.est_skeleton.specs.Small.{most_parts};
-ghost use Rattle.est_specification.specs.Reading.{ReadsSpecification};
+ghost use Rattle.est_specification.specs.SpecificationText.{ReadsSpecification};
 
 use crate::error::SpecificationError;
 use est_check::{Specification, check};

@@ -1,5 +1,6 @@
 -- The constants of a `case` (ISO 7185, 6.8.3.5).
-use Rattle.std.specs.Prelude.{ℕ, ℤ, Bool, false, List, [], ◌∷◌, ◌++◌, Option, Some, None, if◌then◌else◌}
+use Rattle.std.specs.Prelude.{ℕ, ℤ, Bool, false, List, [], ◌∷◌, ◌++◌}
+use Rattle.std.specs.Prelude.{Option, Some, None, if◌then◌else◌}
 use Rattle.std.specs.Map.{lookup}
 use Rattle.std.specs.Ordering.{int_eq}
 use Rattle.indexmap.specs.IndexMap.{insert_entry}
@@ -56,8 +57,7 @@ again_faults (Some z) seen place = again_by (lookup (int_eq z) seen) place
 
 -- a constant of a `case`
 abbrev pub with_constant : Outline → Option Host → Chosen → Constant → Chosen
-with_constant o h seen c =
-    with_ordinal (ordinal_of h (constant_value o c)) (constant_place c) seen
+with_constant o h seen c = with_ordinal (ordinal_of h (constant_value o c)) (constant_place c) seen
 
 abbrev pub choice_faults : Outline → Option Host → Chosen → Constant → List Fault
 choice_faults o h seen c =

@@ -1,5 +1,5 @@
 pub mod Cases
-pub mod Links
+pub mod LinkFaults
 pub mod Modules
 pub mod Signals
 pub mod Statements

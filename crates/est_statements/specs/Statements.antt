@@ -1,12 +1,16 @@
 -- The rules that statements break (ISO 7185, 6.8; ISO 9074, statements).
-use Rattle.std.specs.Prelude.{ℕ, ◌+◌, Bool, true, false, List, [], ◌∷◌, ◌++◌, Option, Some, None, if◌then◌else◌}
+use Rattle.std.specs.Prelude.{ℕ, ◌+◌, Bool, true, false, List, [], ◌∷◌}
+use Rattle.std.specs.Prelude.{◌++◌, Option, Some, None, if◌then◌else◌}
 use Rattle.est_syntax.specs.Faults.{broken}
 use Rattle.est_syntax.specs.declared.expression.Expr.{Expr}
 use Rattle.est_syntax.specs.declared.name.Used.{Used}
 use Rattle.est_syntax.specs.declared.rule.Fault.{Fault}
 use Rattle.est_syntax.specs.declared.rule.Rule.TheVariants.{NotInFunction}
 use Rattle.est_syntax.specs.declared.statement.Arm.{Arm}
-use Rattle.est_syntax.specs.declared.statement.Statement.{Statement, Row_of-Statement, end_of-Statement, more_of-Statement, Row_of-Arm, end_of-Arm, more_of-Arm, Held-Statement-If-2, None', Some'}
+use Rattle.est_syntax.specs.declared.statement.Statement.{Statement, Row_of-Statement}
+use Rattle.est_syntax.specs.declared.statement.Statement.{end_of-Statement, more_of-Statement}
+use Rattle.est_syntax.specs.declared.statement.Statement.{Row_of-Arm, end_of-Arm, more_of-Arm}
+use Rattle.est_syntax.specs.declared.statement.Statement.{Held-Statement-If-2, None', Some'}
 use Rattle.est_syntax.specs.declared.statement.Statement.TheVariants as statement
 use Rattle.est_syntax.specs.declared.type_text.TypeText.{TypeText}
 use Rattle.est_syntax.specs.declared.type_text.TypeText.TheVariants as text
@@ -25,16 +29,17 @@ use Rattle.est_expressions.specs.declared.operators.Wanted.{Wanted}
 use Rattle.est_expressions.specs.declared.operators.Wanted.TheVariants as wanted
 use Rattle.est_expressions.specs.declared.receivers.Receiver.TheVariants as receiver
 use Rattle.est_expressions.specs.Operators.{wants, kept, gives}
-use Rattle.est_expressions.specs.Names.{parameter, type_in}
+use Rattle.est_expressions.specs.Selections.{parameter, type_in}
 use Rattle.est_expressions.specs.Receivers.{number_faults}
-use Rattle.est_expressions.specs.Places.{expr_place}
+use Rattle.est_expressions.specs.ExpressionPlaces.{expr_place}
 use Rattle.est_expressions.specs.Variables.{selected_type}
 use Rattle.est_expressions.specs.Expressions.{expr_type, expr_faults, exprs_faults}
 use Rattle.est_expressions.specs.Accesses.{access_faults}
-use Rattle.est_statements.specs.Targets.{target, target_faults, end_faults, assign_faults, place_faults}
+use Rattle.est_statements.specs.Targets.{target, target_faults, end_faults}
+use Rattle.est_statements.specs.Targets.{assign_faults, place_faults}
 use Rattle.est_statements.specs.Signals.{sendings_faults}
 use Rattle.est_statements.specs.Modules.{init_faults}
-use Rattle.est_statements.specs.Links.{connect_faults, attach_faults, untied_faults}
+use Rattle.est_statements.specs.LinkFaults.{connect_faults, attach_faults, untied_faults}
 use Rattle.est_statements.specs.Cases.{Chosen, chosen_host, with_constants, choices_faults}
 
 -- an expression whose place wants this
@@ -81,8 +86,7 @@ abbrev pub control_type : Outline → Option ℕ → List ℕ → Used → Optio
 control_type o f loops name = selected_type (target o f loops name)
 
 abbrev pub bound_faults : Outline → Option Yielded → Expr → List Fault
-bound_faults o t e =
-    expr_faults o e ++ gives (kept wanted.Ordinal t) (expr_type o e) (expr_place e)
+bound_faults o t e = expr_faults o e ++ gives (kept wanted.Ordinal t) (expr_type o e) (expr_place e)
 
 abbrev pub for_faults : Outline → Option ℕ → List ℕ → Used → Expr → Expr → List Fault
 for_faults o f loops name first last =

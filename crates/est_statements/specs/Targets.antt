@@ -1,6 +1,7 @@
 -- What statements may write (ISO 7185, 6.8.2.2 and 6.8.3.9; ISO 9074, exported variables and
 -- module variables).
-use Rattle.std.specs.Prelude.{ℕ, Bool, true, false, ◌&&◌, not, nat_lt, nat_eq, List, [], ◌∷◌, ◌++◌, Option, Some, None, if◌then◌else◌, length, slice_get}
+use Rattle.std.specs.Prelude.{ℕ, Bool, true, false, ◌&&◌, not, nat_lt, nat_eq, List, [], ◌∷◌}
+use Rattle.std.specs.Prelude.{◌++◌, Option, Some, None, if◌then◌else◌, length, slice_get}
 use Rattle.std.specs.List.{list_any}
 use Rattle.est_syntax.specs.Names.{spelled}
 use Rattle.est_syntax.specs.Faults.{broken}
@@ -17,11 +18,13 @@ use Rattle.est_syntax.specs.declared.expression.Term.{Term, out-Term}
 use Rattle.est_syntax.specs.declared.kind.Kind.{Kind}
 use Rattle.est_syntax.specs.declared.name.Used.{Used}
 use Rattle.est_syntax.specs.declared.rule.Fault.{Fault}
-use Rattle.est_syntax.specs.declared.rule.Rule.TheVariants.{UnknownName, NotSeenHere, WrongSort, WrongKind, WrongNumber, NotWritable}
+use Rattle.est_syntax.specs.declared.rule.Rule.TheVariants.{UnknownName, NotSeenHere, WrongSort}
+use Rattle.est_syntax.specs.declared.rule.Rule.TheVariants.{WrongKind, WrongNumber, NotWritable}
 use Rattle.est_scope.specs.declared.declaration.Entry.{Entry}
 use Rattle.est_scope.specs.declared.declaration.Measured.{Measured}
 use Rattle.est_scope.specs.declared.declaration.Meant.{Meant}
-use Rattle.est_scope.specs.declared.declaration.Meant.TheVariants.{Nothing, Predeclared, Unseen, Seen}
+use Rattle.est_scope.specs.declared.declaration.Meant.TheVariants.{Nothing, Predeclared}
+use Rattle.est_scope.specs.declared.declaration.Meant.TheVariants.{Unseen, Seen}
 use Rattle.est_scope.specs.declared.declaration.Section.{Section}
 use Rattle.est_scope.specs.declared.declaration.Section.TheVariants as section
 use Rattle.est_scope.specs.declared.declaration.Sort.{Sort}
@@ -33,8 +36,10 @@ use Rattle.est_kinds.specs.Constants.{predeclared_constant}
 use Rattle.est_alike.specs.Alike.{is_alike}
 use Rattle.est_expressions.specs.declared.names.Required.{Required}
 use Rattle.est_expressions.specs.Operators.{gives}
-use Rattle.est_expressions.specs.Names.{Selection, Broken, Component, Modules, Module, SomeModule, value_head, variable_head, module_head, required_function}
-use Rattle.est_expressions.specs.Places.{expr_place}
+use Rattle.est_expressions.specs.Selections.{Selection, Broken, Component, Modules, Module}
+use Rattle.est_expressions.specs.Selections.{SomeModule, value_head, variable_head}
+use Rattle.est_expressions.specs.Selections.{module_head, required_function}
+use Rattle.est_expressions.specs.ExpressionPlaces.{expr_place}
 use Rattle.est_expressions.specs.Variables.{selected_type}
 use Rattle.est_expressions.specs.Expressions.{expr_type, expr_faults, selected, selected_faults}
 use Rattle.est_statements.specs.declared.targets.VariableAccess.{VariableAccess}
@@ -105,13 +110,14 @@ is_target_sort sort.ModuleVariable = true
 is_target_sort sort.Function = true
 is_target_sort _ = false
 
--- The subscripts of a module variable are counted also where it may not be written: those that stand
--- first, and behind which stand no others.
+-- The subscripts of a module variable are counted also where it may not be written: those that
+-- stand first, and after which stand no others.
 abbrev pub subscripts_in : Option Selector → ℕ
 subscripts_in None = 0
 subscripts_in (Some x) = held (out-Selector x)
   where
-    held : opened.Selector-F Factor Selector Expr Member ProductStep Relation Simple SumStep Term → ℕ
+    held : opened.Selector-F Factor Selector Expr Member ProductStep Relation Simple SumStep Term
+        → ℕ
     held (opened.Index es place) = length es
     held (opened.Field u) = 0
 
@@ -119,7 +125,8 @@ abbrev pub is_index : Option Selector → Bool
 is_index None = false
 is_index (Some x) = held (out-Selector x)
   where
-    held : opened.Selector-F Factor Selector Expr Member ProductStep Relation Simple SumStep Term → Bool
+    held : opened.Selector-F Factor Selector Expr Member ProductStep Relation Simple SumStep Term
+        → Bool
     held (opened.Index es place) = true
     held (opened.Field u) = false
 
@@ -204,7 +211,8 @@ Variable = Used × List Selector
 abbrev pub bare_factor : Factor → Option Variable
 bare_factor x = held (out-Factor x)
   where
-    held : opened.Factor-F Factor Selector Expr Member ProductStep Relation Simple SumStep Term → Option Variable
+    held : opened.Factor-F Factor Selector Expr Member ProductStep Relation Simple SumStep Term
+        → Option Variable
     held (opened.Variable name path place) = Some (name, path)
     held _ = None
 

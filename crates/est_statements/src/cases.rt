@@ -5,7 +5,7 @@ ghost use Rattle.std.specs.Prelude.{◌≡◌, [], OnOk};
 ghost use Rattle.std.specs.Map.{lookup};
 ghost use Rattle.std.specs.Ordering.{int_eq};
 ghost use Rattle.indexmap.specs.IndexMap.{insert_entry};
-ghost use Rattle.est_scope.specs.Least.{least_with};
+ghost use Rattle.est_scope.specs.LeastSoFar.{least_with};
 ghost use Rattle.est_alike.specs.Types.{yielded};
 ghost use Rattle.est_statements.specs.Cases.{chosen_host, is_kind_of, ordinal_of, host_faults};
 ghost use Rattle.est_statements.specs.Cases.{with_ordinal, again_faults, with_constant};

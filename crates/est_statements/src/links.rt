@@ -2,19 +2,21 @@
 #![tactic(auto, using(est_scope::proofs::LeastLaws::least_append))]
 
 ghost use Rattle.std.specs.Prelude.{◌≡◌};
-ghost use Rattle.est_scope.specs.Least.{least_with};
+ghost use Rattle.est_scope.specs.LeastSoFar.{least_with};
 ghost use Rattle.est_scope.specs.Outline.{entry_at};
 ghost use Rattle.est_scope.specs.Uses.{meaning};
 ghost use Rattle.est_expressions.specs.Accesses.{subscripts_at};
-ghost use Rattle.est_statements.specs.Links.{is_end_sort, end_of, end_used, single_faults};
-ghost use Rattle.est_statements.specs.Links.{point_in, outer_point, point_used, outer_used};
-ghost use Rattle.est_statements.specs.Links.{module_header};
-ghost use Rattle.est_statements.specs.Links.{child_point, child_faults, is_external};
-ghost use Rattle.est_statements.specs.Links.{is_internal_point, internal_faults, is_external_entry};
-ghost use Rattle.est_statements.specs.Links.{external_faults, connected_faults, connected_side};
-ghost use Rattle.est_statements.specs.Links.{same_role, do_connect, do_attach, opposed_faults};
-ghost use Rattle.est_statements.specs.Links.{joined_faults, connect_faults, attach_faults};
-ghost use Rattle.est_statements.specs.Links.{untied_faults};
+ghost use Rattle.est_statements.specs.LinkFaults.{is_end_sort, end_of, end_used, single_faults};
+ghost use Rattle.est_statements.specs.LinkFaults.{point_in, outer_point, point_used, outer_used};
+ghost use Rattle.est_statements.specs.LinkFaults.{module_header};
+ghost use Rattle.est_statements.specs.LinkFaults.{child_point, child_faults, is_external};
+ghost use Rattle.est_statements.specs.LinkFaults.{is_internal_point, internal_faults};
+ghost use Rattle.est_statements.specs.LinkFaults.{is_external_entry};
+ghost use Rattle.est_statements.specs.LinkFaults.{external_faults};
+ghost use Rattle.est_statements.specs.LinkFaults.{connected_faults, connected_side};
+ghost use Rattle.est_statements.specs.LinkFaults.{same_role, do_connect, do_attach, opposed_faults};
+ghost use Rattle.est_statements.specs.LinkFaults.{joined_faults, connect_faults, attach_faults};
+ghost use Rattle.est_statements.specs.LinkFaults.{untied_faults};
 
 use crate::modules::header_at;
 use crate::signals::{point_side, side_at};

@@ -2,7 +2,7 @@
 #![tactic(auto, using(est_scope::proofs::LeastLaws::least_append))]
 
 ghost use Rattle.std.specs.Prelude.{◌≡◌};
-ghost use Rattle.est_scope.specs.Least.{least_with};
+ghost use Rattle.est_scope.specs.LeastSoFar.{least_with};
 ghost use Rattle.est_scope.specs.Outline.{entry_at};
 ghost use Rattle.est_expressions.specs.Variables.{header_in};
 ghost use Rattle.est_statements.specs.Modules.{header_at, section_faults, started_by};

@@ -2,7 +2,7 @@
 #![tactic(auto, using(est_scope::proofs::LeastLaws::least_append))]
 
 ghost use Rattle.std.specs.Prelude.{◌≡◌};
-ghost use Rattle.est_scope.specs.Least.{least_with};
+ghost use Rattle.est_scope.specs.LeastSoFar.{least_with};
 ghost use Rattle.est_scope.specs.Outline.{member_at};
 ghost use Rattle.est_statements.specs.Signals.{side_at, point_side, may_pass, direction_faults};
 ghost use Rattle.est_statements.specs.Signals.{standing_faults, signal_by_faults, signal_faults};

@@ -2,7 +2,7 @@
 #![tactic(auto, using(est_scope::proofs::LeastLaws::least_append, crate::proofs::StatementRows::rows))]
 
 ghost use Rattle.std.specs.Prelude.{◌≡◌, ◌++◌, [], IfOk, OnOk};
-ghost use Rattle.est_scope.specs.Least.{least_with};
+ghost use Rattle.est_scope.specs.LeastSoFar.{least_with};
 ghost use Rattle.est_kinds.specs.Dims.{dim_faults};
 ghost use Rattle.est_alike.specs.Types.{yielded};
 ghost use Rattle.est_expressions.specs.Operators.{kept};

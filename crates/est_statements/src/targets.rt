@@ -4,10 +4,10 @@
 
 ghost use Rattle.std.specs.Prelude.{◌≡◌};
 ghost use Rattle.std.specs.Option.{option_copied};
-ghost use Rattle.est_scope.specs.Least.{least_with};
+ghost use Rattle.est_scope.specs.LeastSoFar.{least_with};
 ghost use Rattle.est_scope.specs.Outline.{entry_at};
 ghost use Rattle.est_kinds.specs.Constants.{predeclared_constant};
-ghost use Rattle.est_expressions.specs.Names.{selects, required_function};
+ghost use Rattle.est_expressions.specs.Selections.{selects, required_function};
 ghost use Rattle.est_statements.specs.Targets.{is_written_section, is_within, is_uncontrolled};
 ghost use Rattle.est_statements.specs.Targets.{may_write, is_own};
 ghost use Rattle.est_statements.specs.Targets.{is_procedural, is_writable, target_by, target_in};

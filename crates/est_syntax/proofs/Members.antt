@@ -1,5 +1,6 @@
 -- What is in a list that is put together.
-use Rattle.std.proofs.Common.{◌≡◌, ◌⊎◌, inl, inr, ℕ, zero, suc, List, [], ◌∷◌, ◌++◌, Some, slice_get}
+use Rattle.std.proofs.Common.{◌≡◌, ◌⊎◌, inl, inr, ℕ, zero, suc}
+use Rattle.std.proofs.Common.{List, [], ◌∷◌, ◌++◌, Some, slice_get}
 use Rattle.est_syntax.specs.Least.{IsIn}
 
 -- what is in one of two lists is in both together
@@ -17,7 +18,8 @@ in_either p xs ys (inl i) = in_first p xs ys i
 in_either p xs ys (inr i) = in_second p xs ys i
 
 -- and what is in both together is in one of them
-pub shifted : {X : Type 0} (p x : X) (xs ys : List X) → IsIn p xs ⊎ IsIn p ys → IsIn p (x ∷ xs) ⊎ IsIn p ys
+pub shifted : {X : Type 0} (p x : X) (xs ys : List X) → IsIn p xs ⊎ IsIn p ys
+    → IsIn p (x ∷ xs) ⊎ IsIn p ys
 shifted p x xs ys (inl i) = inl (inr i)
 shifted p x xs ys (inr i) = inr i
 

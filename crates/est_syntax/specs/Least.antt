@@ -1,5 +1,6 @@
 -- The order of faults, and the least of a set of them.
-use Rattle.std.specs.Prelude.{◌≡◌, ℕ, Bool, true, false, nat_lt, List, [], ◌∷◌, Option, Some, None, if◌then◌else◌, ◌⊎◌}
+use Rattle.std.specs.Prelude.{◌≡◌, ℕ, Bool, true, false, nat_lt, List, []}
+use Rattle.std.specs.Prelude.{◌∷◌, Option, Some, None, if◌then◌else◌, ◌⊎◌}
 use Rattle.est_syntax.specs.declared.rule.Fault.{Fault}
 use Rattle.est_syntax.specs.declared.rule.Rule.{Rule}
 use Rattle.est_syntax.specs.declared.rule.Rule.TheVariants as rule

@@ -1,28 +1,37 @@
 -- Words ask for one thing at most.
 use Rattle.std.proofs.Common.{◌≡◌, ◌∙◌, ℕ, List, sym, ap, refl}
 use Rattle.std.specs.Str.Parse.{digits_value}
-use Rattle.est_tool.specs.Words.{check, replay, to_check, to_replay, AreLimits, left_out, given, IsNumber}
-use Rattle.est_tool.specs.Laws.{OneRequest}
+use Rattle.est_tool.specs.Requests.{check, replay, to_check, to_replay}
+use Rattle.est_tool.specs.Requests.{AreLimits, left_out, given, IsNumber}
+use Rattle.est_tool.specs.CallLaws.{OneRequest}
 
 -- a word is of one number
-one_number : (low high : ℕ) (word other : List ℕ) (a b : ℕ) → word ≡ other → IsNumber low high word a → IsNumber low high other b → a ≡ b
-one_number low high word other a b same x y = x.valued ∙ ap (λ w. digits_value 10 w) same ∙ sym y.valued
+one_number : (low high : ℕ) (word other : List ℕ) (a b : ℕ) → word ≡ other
+    → IsNumber low high word a → IsNumber low high other b → a ≡ b
+one_number low high word other a b same x y = x.valued ∙ ap (λ w. digits_value 10 w) same
+    ∙ sym y.valued
 
 -- words are of one pair of limits
-one_limits : (words other : List (List ℕ)) (a b c d : ℕ) → words ≡ other → AreLimits words a b → AreLimits other c d → (a ≡ c) × (b ≡ d)
+one_limits : (words other : List (List ℕ)) (a b c d : ℕ) → words ≡ other → AreLimits words a b
+    → AreLimits other c d → (a ≡ c) × (b ≡ d)
 one_limits words other _ _ _ _ same (left_out e) (left_out f) = (refl, refl)
 one_limits words other _ _ _ _ same (left_out e) (given first second c d f p q) = absurd cc
 one_limits words other _ _ _ _ same (given first second a b e m n) (left_out f) = absurd cc
-one_limits words other _ _ _ _ same (given first second a b e m n) (given first' second' c d f p q) =
+one_limits words other _ _ _ _ same (given first second a b e m n) (given first' second' c d f p
+    q) =
     let one : first ≡ first' = cc in
     let two : second ≡ second' = cc in
     (one_number 0 1000 first first' a c one m p, one_number 1 1000000 second second' b d two n q)
 
 pub request_one : OneRequest
-request_one words _ _ (to_check name e named) (to_check other f named') = let same : name ≡ other = cc in ap check same
-request_one words _ _ (to_check name e named) (to_replay specification trace explanation limits silent statements f p q r l) = absurd cc
-request_one words _ _ (to_replay specification trace explanation limits silent statements e p q r l) (to_check other f named) = absurd cc
-request_one words _ _ (to_replay specification trace explanation limits silent statements e p q r l) (to_replay specification' trace' explanation' limits' silent' statements' f p' q' r' l') =
+request_one words _ _ (to_check name e named) (to_check other f named') = let same : name ≡ other =
+    cc in ap check same
+request_one words _ _ (to_check name e named) (to_replay specification trace explanation limits
+    silent statements f p q r l) = absurd cc
+request_one words _ _ (to_replay specification trace explanation limits silent statements e p q r l)
+    (to_check other f named) = absurd cc
+request_one words _ _ (to_replay specification trace explanation limits silent statements e p q r l)
+    (to_replay specification' trace' explanation' limits' silent' statements' f p' q' r' l') =
     let one : specification ≡ specification' = cc in
     let two : trace ≡ trace' = cc in
     let three : explanation ≡ explanation' = cc in

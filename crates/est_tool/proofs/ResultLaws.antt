@@ -1,8 +1,9 @@
 -- What a call writes, from what its steps answered.
-use Rattle.std.proofs.Common.{◌≡◌, ◌≢◌, ◌∙◌, refl, ap, ℕ, List, Option, Some, None, sym, subst, Result, Ok, Err}
+use Rattle.std.proofs.Common.{◌≡◌, ◌≢◌, ◌∙◌, refl, ap, ℕ, List, Option}
+use Rattle.std.proofs.Common.{Some, None, sym, subst, Result, Ok, Err}
 use Rattle.std.specs.Prelude.{String, string_bytes}
 use Rattle.std.specs.Global.{Global}
-use Rattle.est_edge.specs.Counts.{Rose, AllStay}
+use Rattle.est_edge.specs.FaultCounts.{Rose, AllStay}
 use Rattle.est_tool.specs.declared.report.Report.{Report}
 use Rattle.est_lexer.specs.declared.kind.Token.{Token}
 use Rattle.est_edge.specs.Pieces.{appended, IsPrefix}
@@ -18,37 +19,50 @@ use Rattle.est_tool.specs.declared.stop.Stop.{Stop}
 use Rattle.est_tool.specs.declared.stop.Stop.TheVariants as stop
 use Rattle.est_tool.specs.declared.file.File.{File}
 use Rattle.est_tool.specs.declared.status.Status.{Status}
-use Rattle.est_tool.specs.declared.status.Status.TheVariants.{Fine, Refused, BadSpec, BadTrace, BadExplanation, TooLong, Usage, ReadFault, WriteFault, OutOfMemory, NotBuilt}
+use Rattle.est_tool.specs.declared.status.Status.TheVariants.{Fine, Refused, BadSpec, BadTrace}
+use Rattle.est_tool.specs.declared.status.Status.TheVariants.{BadExplanation, TooLong, Usage}
+use Rattle.est_tool.specs.declared.status.Status.TheVariants.{ReadFault, WriteFault}
+use Rattle.est_tool.specs.declared.status.Status.TheVariants.{OutOfMemory, NotBuilt}
 use Rattle.est_tool.specs.Statuses.{replay_status}
-use Rattle.est_tool.specs.Texts.{Holds, Refusals, RefusesSpecification, RefusesTrace, RefusesExplanation, SaysOfSpecification, SaysOfTrace, SaysOfExplanation, IsReported}
-use Rattle.est_tool.specs.Words.{Request, check, replay}
+use Rattle.est_tool.specs.FileTexts.{Holds, Refusals, RefusesSpecification, RefusesTrace}
+use Rattle.est_tool.specs.FileTexts.{RefusesExplanation, SaysOfSpecification}
+use Rattle.est_tool.specs.FileTexts.{SaysOfTrace, SaysOfExplanation, IsReported}
+use Rattle.est_tool.specs.Requests.{Request, check, replay}
 use Rattle.est_tool.specs.Seen.{Seen, Sent}
-use Rattle.est_tool.specs.Ends.{End, reported, unread, EndsAt, longer, refused, failed, at_its_file, good, at_specification, unbuilt, at_trace, at_explanation, replayed, Ends}
+use Rattle.est_tool.specs.Ends.{End, reported, unread, EndsAt, longer, refused}
+use Rattle.est_tool.specs.Ends.{failed, at_its_file, good, at_specification}
+use Rattle.est_tool.specs.Ends.{unbuilt, at_trace, at_explanation, replayed, Ends}
 use Rattle.est_tool.specs.Result.{Reports, Writes, IsResult}
-use Rattle.est_tool.specs.inside.Steps.{IsQuiet}
+use Rattle.est_tool.specs.inside.Reads.{IsQuiet}
 use Rattle.est_tool.specs.inside.Work.{IsMade, IsObeyed}
-use Rattle.est_tool.specs.inside.Written.{HasReport, IsReportable, IsSent, whole, broken_off, IsDelivered, Delivers, Sends}
+use Rattle.est_tool.specs.inside.Written.{HasReport, IsReportable, IsSent, whole}
+use Rattle.est_tool.specs.inside.Written.{broken_off, IsDelivered, Delivers, Sends}
 use Rattle.est_tool.proofs.WorkLaws.{made_then}
 
 -- STATUSES WITH REPORTS
 
 -- each refusal has a status with a report
 abbrev AreReportable : Refusals → Type 0
-AreReportable Refuses = (text : List ℕ) (tokens : List Token) (status : Status) (place : Option ℕ) (why : List ℕ) → Refuses text tokens status place why → HasReport status
+AreReportable Refuses = (text : List ℕ) (tokens : List Token) (status : Status) (place : Option ℕ)
+    (why : List ℕ) → Refuses text tokens status place why → HasReport status
 
-of_specification : (error : SpecificationError) (status : Status) (place : Option ℕ) (why : List ℕ) → SaysOfSpecification error status place why → HasReport status
+of_specification : (error : SpecificationError) (status : Status) (place : Option ℕ) (why : List ℕ)
+    → SaysOfSpecification error status place why → HasReport status
 of_specification (specification.BadToken at) status place why said = subst HasReport (sym said.0) tt
 of_specification (specification.LeftOut at) status place why said = subst HasReport (sym said.0) tt
 of_specification (specification.TooDeep at) status place why said = subst HasReport (sym said.0) tt
-of_specification (specification.BrokenRule at rule) status place why said = subst HasReport (sym said.0) tt
+of_specification (specification.BrokenRule at rule) status place why said = subst HasReport
+    (sym said.0) tt
 of_specification (specification.Memory error) status place why said = absurd said
 
-of_trace : (error : TraceError) (status : Status) (place : Option ℕ) (why : List ℕ) → SaysOfTrace error status place why → HasReport status
+of_trace : (error : TraceError) (status : Status) (place : Option ℕ) (why : List ℕ)
+    → SaysOfTrace error status place why → HasReport status
 of_trace (trace.BadToken at) status place why said = subst HasReport (sym said.0) tt
 of_trace (trace.TooMany at) status place why said = subst HasReport (sym said.0) tt
 of_trace (trace.Memory error) status place why said = absurd said
 
-of_explanation : (error : ExplanationError) (status : Status) (place : Option ℕ) (why : List ℕ) → SaysOfExplanation error status place why → HasReport status
+of_explanation : (error : ExplanationError) (status : Status) (place : Option ℕ) (why : List ℕ)
+    → SaysOfExplanation error status place why → HasReport status
 of_explanation (explanation.BadToken at) status place why said = subst HasReport (sym said.0) tt
 of_explanation (explanation.Memory error) status place why said = absurd said
 
@@ -56,30 +70,48 @@ of_answer : (answer : Replayed) → HasReport (replay_status answer)
 of_answer (Confirmed events) = tt
 of_answer (Rejected at why) = tt
 
-of_refused : (file : File) (Refuses : Refusals) (told : Option (List ℕ)) (status : Status) (report : List ℕ) → AreReportable Refuses → Holds file told (IsReported file Refuses status report) → HasReport status
-of_refused file Refuses None status report are holds = let is : _ = holds.1.is in are holds.0 holds.1.tokens status is.place is.why is.refused
-of_refused file Refuses (Some text) status report are holds = let is : _ = holds.is in are text holds.tokens status is.place is.why is.refused
+of_refused : (file : File) (Refuses : Refusals) (told : Option (List ℕ)) (status : Status)
+    (report : List ℕ) → AreReportable Refuses
+    → Holds file told (IsReported file Refuses status report) → HasReport status
+of_refused file Refuses None status report are holds = let is : _ = holds.1.is in are holds.0
+    holds.1.tokens status is.place is.why is.refused
+of_refused file Refuses (Some text) status report are holds = let is : _ = holds.is in are text
+    holds.tokens status is.place is.why is.refused
 
-at_file : {shelf : Seen} {file : File} {name : List ℕ} (Refuses : Refusals) (end : End) → AreReportable Refuses → EndsAt shelf file name Refuses end → IsReportable end
+at_file : {shelf : Seen} {file : File} {name : List ℕ} (Refuses : Refusals) (end : End)
+    → AreReportable Refuses → EndsAt shelf file name Refuses end → IsReportable end
 at_file Refuses _ are (longer status report long) = subst HasReport (sym long.status_is) tt
-at_file {shelf} {file} {name} Refuses _ are (refused status report holds) = of_refused file Refuses (shelf.before.told name) status report are holds
+at_file {shelf} {file} {name} Refuses _ are (refused status report holds) = of_refused file Refuses
+    (shelf.before.told name) status report are holds
 at_file Refuses _ are (failed rose) = tt
 
 -- how what the words ask for ends, a report has such a status
-pub ends_reportable : (shelf : Seen) (request : Request) (end : End) → Ends shelf request end → IsReportable end
-ends_reportable shelf (check name) _ (at_its_file end is) = at_file RefusesSpecification end (λ text tokens status place why refuses. of_specification refuses.0 status place why refuses.2) is
+pub ends_reportable : (shelf : Seen) (request : Request) (end : End) → Ends shelf request end
+    → IsReportable end
+ends_reportable shelf (check name) _ (at_its_file end is) = at_file RefusesSpecification end
+    (λ text tokens status place why refuses. of_specification refuses.0 status place why refuses.2)
+    is
 ends_reportable shelf (check name) _ (good spec holds) = tt
-ends_reportable shelf (replay s t e silent statements) _ (at_specification end is) = at_file RefusesSpecification end (λ text tokens status place why refuses. of_specification refuses.0 status place why refuses.2) is
+ends_reportable shelf (replay s t e silent statements) _ (at_specification end is) =
+    at_file RefusesSpecification end (λ text tokens status place why refuses. of_specification
+    refuses.0 status place why refuses.2) is
 ends_reportable shelf (replay s t e silent statements) _ (unbuilt counts holds) = tt
-ends_reportable shelf (replay s t e silent statements) _ (at_trace spec end holds is) = at_file (RefusesTrace spec) end (λ text tokens status place why refuses. of_trace refuses.0 status place why refuses.2) is
-ends_reportable shelf (replay s t e silent statements) _ (at_explanation spec events end holds traced is) = at_file RefusesExplanation end (λ text tokens status place why refuses. of_explanation refuses.0 status place why refuses.2) is
-ends_reportable shelf (replay s t e silent statements) _ (replayed spec events read answer holds traced explained is) = of_answer answer
+ends_reportable shelf (replay s t e silent statements) _ (at_trace spec end holds is) =
+    at_file (RefusesTrace spec) end (λ text tokens status place why refuses. of_trace refuses.0
+    status place why refuses.2) is
+ends_reportable shelf (replay s t e silent statements) _ (at_explanation spec events end holds
+    traced is) = at_file RefusesExplanation end (λ text tokens status place why refuses.
+    of_explanation refuses.0 status place why refuses.2) is
+ends_reportable shelf (replay s t e silent statements) _ (replayed spec events read answer holds
+    traced explained is) = of_answer answer
 
 -- WRITTEN REPORTS
 
 -- a written report is what the call writes
 module _ (Gives : Status → List ℕ → Type 0) where
-  writes_whole : (status : Status) (report : List ℕ) (before after : Option (List ℕ)) → HasReport status → Gives status report → after ≡ appended before report → Writes Gives status before after
+  writes_whole : (status : Status) (report : List ℕ) (before after : Option (List ℕ))
+      → HasReport status → Gives status report → after ≡ appended before report
+      → Writes Gives status before after
   writes_whole Fine report before after has given is = (report, given, is)
   writes_whole Refused report before after has given is = (report, given, is)
   writes_whole BadSpec report before after has given is = (report, given, is)
@@ -92,60 +124,98 @@ module _ (Gives : Status → List ℕ → Type 0) where
   writes_whole WriteFault report before after has given is = absurd has
   writes_whole OutOfMemory report before after has given is = absurd has
 
-  writes_sent : (status : Status) (report : List ℕ) (answer : Status) (before after : Option (List ℕ)) → HasReport status → Gives status report → IsSent status report answer before after → Writes Gives answer before after
-  writes_sent status report answer before after has given (whole _ _ is) = writes_whole status report _ _ has given is
-  writes_sent status report answer before after has given (broken_off _ _ part front is) = (status, report, given, part, front, is)
+  writes_sent : (status : Status) (report : List ℕ) (answer : Status)
+      (before after : Option (List ℕ)) → HasReport status → Gives status report
+      → IsSent status report answer before after → Writes Gives answer before after
+  writes_sent status report answer before after has given (whole _ _ is) = writes_whole status
+      report _ _ has given is
+  writes_sent status report answer before after has given (broken_off _ _ part front is) =
+      (status, report, given, part, front, is)
 
   -- and so where it may be that no report was made
-  pub writes_delivered : (P : End → Type 0) (made : Result Report Stop) (answer : Status) (before after : Option (List ℕ)) → ((status : Status) (report : List ℕ) → P (reported status report) → Gives status report)
-      → IsMade IsReportable made → IsMade P made → IsDelivered made answer before after → Writes Gives answer before after
-  writes_delivered P (Ok made) answer before after gives has is sent = writes_sent made.status (string_bytes made.text) answer before after has (gives made.status (string_bytes made.text) is) sent
-  writes_delivered P (Err (stop.Refused made)) answer before after gives has is sent = writes_sent made.status (string_bytes made.text) answer before after has (gives made.status (string_bytes made.text) is) sent
-  writes_delivered P (Err stop.ReadFault) answer before after gives has is none = subst (λ a. Writes Gives a before after) (sym none.0) none.1
-  writes_delivered P (Err stop.OutOfMemory) answer before after gives has is none = subst (λ a. Writes Gives a before after) (sym none.0) none.1
+  pub writes_delivered : (P : End → Type 0) (made : Result Report Stop) (answer : Status)
+      (before after : Option (List ℕ)) → ((status : Status) (report : List ℕ)
+      → P (reported status report) → Gives status report)
+      → IsMade IsReportable made → IsMade P made → IsDelivered made answer before after
+      → Writes Gives answer before after
+  writes_delivered P (Ok made) answer before after gives has is sent = writes_sent made.status
+      (string_bytes made.text) answer before after has (gives made.status (string_bytes made.text)
+      is) sent
+  writes_delivered P (Err (stop.Refused made)) answer before after gives has is sent =
+      writes_sent made.status (string_bytes made.text) answer before after has
+      (gives made.status (string_bytes made.text) is) sent
+  writes_delivered P (Err stop.ReadFault) answer before after gives has is none =
+      subst (λ a. Writes Gives a before after) (sym none.0) none.1
+  writes_delivered P (Err stop.OutOfMemory) answer before after gives has is none =
+      subst (λ a. Writes Gives a before after) (sym none.0) none.1
 
 -- FAULTS OF READS
 
-sent_no_read_fault : (status : Status) (report : List ℕ) (answer : Status) (before after : Option (List ℕ)) → HasReport status → IsSent status report answer before after → answer ≡ ReadFault → ⊥
-sent_no_read_fault status report answer before after has (whole _ _ is) fault = let no : HasReport ReadFault = subst HasReport fault has in no
+sent_no_read_fault : (status : Status) (report : List ℕ) (answer : Status)
+    (before after : Option (List ℕ)) → HasReport status → IsSent status report answer before after
+    → answer ≡ ReadFault → ⊥
+sent_no_read_fault status report answer before after has (whole _ _ is) fault = let no : HasReport
+    ReadFault = subst HasReport fault has in no
 sent_no_read_fault status report answer before after has (broken_off _ _ part front is) fault = cc
 
 -- the answer is a fault of a read only where a file could not be read
-pub delivered_unread : (P : End → Type 0) (made : Result Report Stop) (answer : Status) (before after : Option (List ℕ))
-    → IsMade IsReportable made → IsMade P made → IsDelivered made answer before after → answer ≡ ReadFault → P unread
-delivered_unread P (Ok made) answer before after has is sent fault = absurd (sent_no_read_fault made.status (string_bytes made.text) answer before after has sent fault)
-delivered_unread P (Err (stop.Refused made)) answer before after has is sent fault = absurd (sent_no_read_fault made.status (string_bytes made.text) answer before after has sent fault)
+pub delivered_unread : (P : End → Type 0) (made : Result Report Stop) (answer : Status)
+    (before after : Option (List ℕ))
+    → IsMade IsReportable made → IsMade P made → IsDelivered made answer before after
+    → answer ≡ ReadFault → P unread
+delivered_unread P (Ok made) answer before after has is sent fault =
+    absurd (sent_no_read_fault made.status (string_bytes made.text) answer before after has sent
+    fault)
+delivered_unread P (Err (stop.Refused made)) answer before after has is sent fault =
+    absurd (sent_no_read_fault made.status (string_bytes made.text) answer before after has sent
+    fault)
 delivered_unread P (Err stop.ReadFault) answer before after has is none fault = is
-delivered_unread P (Err stop.OutOfMemory) answer before after has is none fault = let f : OutOfMemory ≡ ReadFault = sym none.0 ∙ fault in cc
+delivered_unread P (Err stop.OutOfMemory) answer before after has is none fault =
+    let f : OutOfMemory ≡ ReadFault = sym none.0 ∙ fault in cc
 
 -- RESULTS
 
 -- the report of what the words ask for has such a status
-pub obeyed_reportable : (words : List (String Global)) (shelf : Seen) (made : Result Report Stop) → IsObeyed words shelf made → IsMade IsReportable made
-obeyed_reportable words shelf made obeyed = made_then made (ends_reportable shelf obeyed.request) obeyed.work.ends
+pub obeyed_reportable : (words : List (String Global)) (shelf : Seen) (made : Result Report Stop)
+    → IsObeyed words shelf made → IsMade IsReportable made
+obeyed_reportable words shelf made obeyed = made_then made (ends_reportable shelf obeyed.request)
+    obeyed.work.ends
 
 -- no count of a file rose where the answer is no fault of a read
-delivered_quiet : (shelf : Seen) (made : Result Report Stop) (answer : Status) (before after : Option (List ℕ))
-    → IsQuiet shelf made → IsDelivered made answer before after → answer ≢ ReadFault → AllStay shelf.before.faults shelf.after.faults
+delivered_quiet : (shelf : Seen) (made : Result Report Stop) (answer : Status)
+    (before after : Option (List ℕ))
+    → IsQuiet shelf made → IsDelivered made answer before after → answer ≢ ReadFault
+    → AllStay shelf.before.faults shelf.after.faults
 delivered_quiet shelf (Ok made) answer before after quiet sent not = quiet
 delivered_quiet shelf (Err (stop.Refused made)) answer before after quiet sent not = quiet
 delivered_quiet shelf (Err stop.ReadFault) answer before after quiet none not = absurd (not none.0)
 delivered_quiet shelf (Err stop.OutOfMemory) answer before after quiet none not = quiet
 
 -- what the words ask for was done, and its report was written
-pub obeyed_result : (words : List (String Global)) (shelf : Seen) (output : Sent) (made : Result Report Stop) (answer : Status)
+pub obeyed_result : (words : List (String Global)) (shelf : Seen) (output : Sent)
+    (made : Result Report Stop) (answer : Status)
     → IsObeyed words shelf made → Delivers made output answer → IsResult words shelf output answer
 obeyed_result words shelf output made answer obeyed delivers =
     let work = obeyed.work in
     let reportable = obeyed_reportable words shelf made obeyed in
     record {
-      usage = (λ is. absurd (delivers.answers.asked is), λ nothing. absurd (nothing obeyed.request obeyed.asked));
-      read_fault = λ is. (obeyed.request, obeyed.asked, delivered_unread (Ends shelf obeyed.request) made answer _ _ reportable work.ends delivers.delivered is);
+      usage = (
+        λ is. absurd (delivers.answers.asked is),
+        λ nothing. absurd
+            (nothing obeyed.request obeyed.asked),
+      );
+      read_fault = λ is. (
+        obeyed.request,
+        obeyed.asked,
+        delivered_unread (Ends shelf obeyed.request)
+            made answer _ _ reportable work.ends delivers.delivered is,
+      );
       no_read_fault = delivered_quiet shelf made answer _ _ work.quiet delivers.delivered;
       write_fault = delivers.answers.fault;
       no_write_fault = delivers.answers.quiet;
       written = writes_delivered (Reports words shelf) (Ends shelf obeyed.request) made answer _ _
-          (λ status report is. (obeyed.request, obeyed.asked, is)) reportable work.ends delivers.delivered;
+          (λ status report is. (obeyed.request, obeyed.asked, is)) reportable work.ends
+          delivers.delivered;
       told = work.told;
       idle = λ is. absurd (delivers.answers.asked is);
       started = λ _. (obeyed.request, obeyed.asked, work.names, work.starts, work.started);
@@ -159,17 +229,25 @@ no_fault : (status : Status) → HasReport status → status ≢ WriteFault
 no_fault status has is = subst HasReport is has
 
 -- a report was written whole
-pub sends_whole : (report : Report) (output : Sent) (bytes : List ℕ) → bytes ≡ string_bytes report.text → HasReport report.status
-    → output.after.written ≡ appended output.before.written bytes → output.after.faults ≡ output.before.faults
+pub sends_whole : (report : Report) (output : Sent) (bytes : List ℕ)
+    → bytes ≡ string_bytes report.text → HasReport report.status
+    → output.after.written ≡ appended output.before.written bytes
+    → output.after.faults ≡ output.before.faults
     → Sends report output report.status
 sends_whole report output bytes same has is quiet = record {
-  answers = record { asked = no_usage report.status has; fault = λ fault. absurd (no_fault report.status has fault); quiet = λ _. quiet };
+  answers = record {
+    asked = no_usage report.status has;
+    fault = λ fault. absurd (no_fault report.status has fault);
+    quiet = λ _. quiet;
+  };
   sent = whole _ _ (is ∙ ap (appended output.before.written) same);
 }
 
 -- a write failed
-pub sends_part : (report : Report) (output : Sent) (bytes part : List ℕ) → bytes ≡ string_bytes report.text → IsPrefix part bytes
-    → output.after.written ≡ appended output.before.written part → Rose output.before.faults output.after.faults
+pub sends_part : (report : Report) (output : Sent) (bytes part : List ℕ)
+    → bytes ≡ string_bytes report.text → IsPrefix part bytes
+    → output.after.written ≡ appended output.before.written part
+    → Rose output.before.faults output.after.faults
     → Sends report output WriteFault
 sends_part report output bytes part same front is rose = record {
   answers = record { asked = λ e. cc; fault = λ _. rose; quiet = λ not. absurd (not refl) };

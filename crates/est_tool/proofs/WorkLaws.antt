@@ -1,8 +1,9 @@
 -- What is made of a request, from what its steps answered.
-use Rattle.std.proofs.Common.{◌≡◌, ◌∙◌, ◌<◌, ℕ, List, [], ◌∷◌, ◌++◌, Option, length, sym, subst, ap, IfSome, Result, Ok, Err, append_assoc}
+use Rattle.std.proofs.Common.{◌≡◌, ◌∙◌, ◌<◌, ℕ, List, [], ◌∷◌, ◌++◌, Option, length}
+use Rattle.std.proofs.Common.{sym, subst, ap, IfSome, Result, Ok, Err, append_assoc}
 use Rattle.std.specs.Result.{IsErr, IsErrAnd}
 use Rattle.est_lexer.specs.declared.kind.Token.{Token}
-use Rattle.est_edge.specs.Counts.{AllStay}
+use Rattle.est_edge.specs.FaultCounts.{AllStay}
 use Rattle.est_edge.specs.Pieces.{SameTold}
 use Rattle.est_edge.proofs.CountLaws.{AllStay-then, rose_then}
 use Rattle.est_edge.proofs.PieceLaws.{SameTold-then}
@@ -21,27 +22,35 @@ use Rattle.est_tool.specs.declared.status.Status.TheVariants.{Fine, NotBuilt}
 use Rattle.est_tool.specs.Files.{limit_of}
 use Rattle.est_tool.specs.Statuses.{replay_status}
 use Rattle.est_tool.specs.Seen.{Shelved, Seen, seen}
-use Rattle.est_tool.specs.Texts.{Holds, Refusals, IsReported, OfSpecification, OfSkeleton, OfTrace, OfExplanation}
-use Rattle.est_tool.specs.Words.{Request, check, replay}
-use Rattle.est_tool.specs.Ends.{End, reported, IsTooLong, EndsAt, longer, refused, failed, HoldsRead, HoldsSpecification, HoldsTrace, HoldsExplanation, CheckEnds, at_its_file, good, ReplayEnds, at_specification, unbuilt, at_trace, at_explanation, replayed, Ends}
+use Rattle.est_tool.specs.FileTexts.{Holds, Refusals, IsReported, OfSpecification}
+use Rattle.est_tool.specs.FileTexts.{OfSkeleton, OfTrace, OfExplanation}
+use Rattle.est_tool.specs.Requests.{Request, check, replay}
+use Rattle.est_tool.specs.Ends.{End, reported, IsTooLong, EndsAt, longer, refused, failed}
+use Rattle.est_tool.specs.Ends.{HoldsRead, HoldsSpecification, HoldsTrace, HoldsExplanation}
+use Rattle.est_tool.specs.Ends.{CheckEnds, at_its_file, good, ReplayEnds, at_specification}
+use Rattle.est_tool.specs.Ends.{unbuilt, at_trace, at_explanation, replayed, Ends}
 use Rattle.est_tool.specs.Started.{ReplayStarts, one, two, three, Starts}
-use Rattle.est_tool.specs.inside.Steps.{IsStop, IsQuiet, ReadsFile}
+use Rattle.est_tool.specs.inside.Reads.{IsStop, IsQuiet, ReadsFile}
 use Rattle.est_tool.specs.inside.Work.{IsMade, Gives, IsCounted, IsUnbuilt, IsAnswered, IsWork}
 use Rattle.est_tool.proofs.ReadLaws.{stop_then, stops_for, quiet_any, quiet_stop}
 
 -- what is held where a shelf tells the same as before was held before
-pub holds_before : (file : File) {old new : Option (List ℕ)} (Is : List ℕ → List Token → Type 0) → new ≡ old → Holds file new Is → Holds file old Is
+pub holds_before : (file : File) {old new : Option (List ℕ)} (Is : List ℕ → List Token → Type 0)
+    → new ≡ old → Holds file new Is → Holds file old Is
 holds_before file Is same holds = subst (λ told. Holds file told Is) same holds
 
 -- what holds of the end of a command holds in a weaker form too
-pub made_then : {P Q : End → Type 0} (made : Result Report Stop) → ((end : End) → P end → Q end) → IsMade P made → IsMade Q made
+pub made_then : {P Q : End → Type 0} (made : Result Report Stop) → ((end : End) → P end → Q end)
+    → IsMade P made → IsMade Q made
 made_then (Ok made) weaker holds = weaker _ holds
 made_then (Err e) weaker holds = stop_then e weaker holds
 
 -- The shelf told the same under each name, and its counts were the same, when this part of a call
 -- began.
-module _ (before middle after : Shelved) (same : SameTold before.told middle.told) (stay : AllStay before.faults middle.faults) where
-  too_long_before : {file : File} {name : List ℕ} (status : Status) (report : List ℕ) → IsTooLong (seen middle after) file name status report
+module _ (before middle after : Shelved) (same : SameTold before.told middle.told)
+    (stay : AllStay before.faults middle.faults) where
+  too_long_before : {file : File} {name : List ℕ} (status : Status) (report : List ℕ)
+      → IsTooLong (seen middle after) file name status report
       → IsTooLong (seen before after) file name status report
   too_long_before {file} {name} status report long = record {
     longer = subst (λ t. IfSome t (λ bytes. limit_of file < length bytes)) (same name) long.longer;
@@ -50,48 +59,66 @@ module _ (before middle after : Shelved) (same : SameTold before.told middle.tol
     report_is = long.report_is;
   }
 
-  file_before : {file : File} {name : List ℕ} {Refuses : Refusals} (end : End) → EndsAt (seen middle after) file name Refuses end
+  file_before : {file : File} {name : List ℕ} {Refuses : Refusals} (end : End)
+      → EndsAt (seen middle after) file name Refuses end
       → EndsAt (seen before after) file name Refuses end
-  file_before _ (longer status report long) = longer status report (too_long_before status report long)
+  file_before _ (longer status report long) = longer status report (too_long_before status report
+      long)
   file_before {file} {name} {Refuses} _ (refused status report is) =
-      refused status report (holds_before file (IsReported file Refuses status report) (same name) is)
+      refused status report (holds_before file (IsReported file Refuses status report) (same name)
+      is)
   file_before {name = name} _ (failed rose) = failed (rose_then stay name rose)
 
-  ends_before : (request : Request) (end : End) → Ends (seen middle after) request end → Ends (seen before after) request end
+  ends_before : (request : Request) (end : End) → Ends (seen middle after) request end
+      → Ends (seen before after) request end
   ends_before (check s) _ (at_its_file end at) = at_its_file end (file_before end at)
-  ends_before (check s) _ (good read holds) = good read (holds_before _ (OfSpecification read) (same s) holds)
-  ends_before (replay s t e n m) _ (at_specification end at) = at_specification end (file_before end at)
-  ends_before (replay s t e n m) _ (unbuilt counts holds) = unbuilt counts (holds_before _ (OfSpecification (found.Whole counts)) (same s) holds)
-  ends_before (replay s t e n m) _ (at_trace spec end holds at) = at_trace spec end (holds_before _ (OfSkeleton spec) (same s) holds) (file_before end at)
+  ends_before (check s) _ (good read holds) = good read (holds_before _ (OfSpecification read)
+      (same s) holds)
+  ends_before (replay s t e n m) _ (at_specification end at) = at_specification end
+      (file_before end at)
+  ends_before (replay s t e n m) _ (unbuilt counts holds) = unbuilt counts
+      (holds_before _ (OfSpecification (found.Whole counts)) (same s) holds)
+  ends_before (replay s t e n m) _ (at_trace spec end holds at) = at_trace spec end
+      (holds_before _ (OfSkeleton spec) (same s) holds) (file_before end at)
   ends_before (replay s t e n m) _ (at_explanation spec events end holds traced at) =
-      at_explanation spec events end (holds_before _ (OfSkeleton spec) (same s) holds) (holds_before _ (OfTrace spec events) (same t) traced) (file_before end at)
+      at_explanation spec events end (holds_before _ (OfSkeleton spec) (same s) holds)
+      (holds_before _ (OfTrace spec events) (same t) traced) (file_before end at)
   ends_before (replay s t e n m) _ (replayed spec events read answer holds traced explained is) =
-      replayed spec events read answer (holds_before _ (OfSkeleton spec) (same s) holds) (holds_before _ (OfTrace spec events) (same t) traced)
+      replayed spec events read answer (holds_before _ (OfSkeleton spec) (same s) holds)
+      (holds_before _ (OfTrace spec events) (same t) traced)
       (holds_before _ (OfExplanation read) (same e) explained) is
 
-  replay_starts_before : (s t e : List ℕ) (names : List (List ℕ)) → ReplayStarts (seen middle after) s t e names → ReplayStarts (seen before after) s t e names
+  replay_starts_before : (s t e : List ℕ) (names : List (List ℕ))
+      → ReplayStarts (seen middle after) s t e names → ReplayStarts (seen before after) s t e names
   replay_starts_before s t e _ one = one
-  replay_starts_before s t e _ (two spec holds) = two spec (holds_before _ (OfSkeleton spec) (same s) holds)
+  replay_starts_before s t e _ (two spec holds) = two spec (holds_before _ (OfSkeleton spec)
+      (same s) holds)
   replay_starts_before s t e _ (three spec events holds traced) =
-      three spec events (holds_before _ (OfSkeleton spec) (same s) holds) (holds_before _ (OfTrace spec events) (same t) traced)
+      three spec events (holds_before _ (OfSkeleton spec) (same s) holds)
+      (holds_before _ (OfTrace spec events) (same t) traced)
 
-  starts_before : (request : Request) (names : List (List ℕ)) → Starts (seen middle after) request names → Starts (seen before after) request names
+  starts_before : (request : Request) (names : List (List ℕ))
+      → Starts (seen middle after) request names → Starts (seen before after) request names
   starts_before (check s) names starts = starts
   starts_before (replay s t e n m) names starts = replay_starts_before s t e names starts
 
-  quiet_before : {A : Type 0} (r : Result A Stop) → IsQuiet (seen middle after) r → IsQuiet (seen before after) r
+  quiet_before : {A : Type 0} (r : Result A Stop) → IsQuiet (seen middle after) r
+      → IsQuiet (seen before after) r
   quiet_before (Ok x) quiet = AllStay-then stay quiet
   quiet_before (Err (Refused report)) quiet = AllStay-then stay quiet
   quiet_before (Err ReadFault) quiet = tt
   quiet_before (Err OutOfMemory) quiet = AllStay-then stay quiet
 
 module _
-    {A : Type 0} {file : File} {name : List ℕ} (Is : A → List ℕ → List Token → Type 0) (Refuses : Refusals)
+    {A : Type 0} {file : File} {name : List ℕ} (Is : A → List ℕ → List Token
+    → Type 0) (Refuses : Refusals)
     (done : List (List ℕ)) (request : Request)
   where
     -- the work stops at a file
-    pub stops_at : (shelf : Seen) (r : Result Report Stop) (e : Stop) → IsErr r × IsErrAnd r (λ x. x ≡ e) → ReadsFile file name Is Refuses shelf (Err e)
-        → Starts shelf request (done ++ name ∷ []) → ((end : End) → EndsAt shelf file name Refuses end → Ends shelf request end)
+    pub stops_at : (shelf : Seen) (r : Result Report Stop) (e : Stop)
+        → IsErr r × IsErrAnd r (λ x. x ≡ e) → ReadsFile file name Is Refuses shelf (Err e)
+        → Starts shelf request (done ++ name ∷ [])
+        → ((end : End) → EndsAt shelf file name Refuses end → Ends shelf request end)
         → IsWork done request shelf r
     stops_at shelf r e is reads starts at = stops_for (IsWork done request shelf) r e is (record {
       told = reads.touches.told;
@@ -103,8 +130,10 @@ module _
     })
 
     -- a file was read, and then the rest of the work was done
-    pub goes_on : (before middle after : Shelved) (x : A) (r : Result Report Stop) → ReadsFile file name Is Refuses (seen before middle) (Ok x)
-        → IsWork (done ++ name ∷ []) request (seen middle after) r → IsWork done request (seen before after) r
+    pub goes_on : (before middle after : Shelved) (x : A) (r : Result Report Stop)
+        → ReadsFile file name Is Refuses (seen before middle) (Ok x)
+        → IsWork (done ++ name ∷ []) request (seen middle after) r
+        → IsWork done request (seen before after) r
     goes_on before middle after x r reads work =
         let same = reads.touches.told in
         let stay = reads.touches.quiet in
@@ -112,15 +141,20 @@ module _
           told = SameTold-then same work.told;
           quiet = quiet_before before middle after same stay r work.quiet;
           names = name ∷ work.names;
-          started = work.started ∙ ap (λ names. names ++ work.names) reads.touches.started ∙ append_assoc before.started (name ∷ []) work.names;
-          starts = subst (λ names. Starts (seen before after) request names) (append_assoc done (name ∷ []) work.names)
+          started = work.started ∙ ap (λ names. names ++ work.names) reads.touches.started
+              ∙ append_assoc before.started (name ∷ []) work.names;
+          starts = subst (λ names. Starts (seen before after) request names)
+              (append_assoc done (name ∷ []) work.names)
               (starts_before before middle after same stay request _ work.starts);
-          ends = made_then r (λ end at. ends_before before middle after same stay request end at) work.ends;
+          ends = made_then r (λ end at. ends_before before middle after same stay request end at)
+              work.ends;
         }
 
     -- the last file was read, and the report was made
-    pub ends_work : (shelf : Seen) (x : A) (r : Result Report Stop) (P : Status → List ℕ → Type 0) → ReadsFile file name Is Refuses shelf (Ok x) → Gives P r
-        → Starts shelf request (done ++ name ∷ []) → ((status : Status) (report : List ℕ) → P status report → Ends shelf request (reported status report))
+    pub ends_work : (shelf : Seen) (x : A) (r : Result Report Stop) (P : Status → List ℕ → Type 0)
+        → ReadsFile file name Is Refuses shelf (Ok x) → Gives P r
+        → Starts shelf request (done ++ name ∷ []) → ((status : Status) (report : List ℕ)
+        → P status report → Ends shelf request (reported status report))
         → IsWork done request shelf r
     ends_work shelf x r P reads gives starts at = record {
       told = reads.touches.told;
@@ -137,24 +171,33 @@ module _
 
 -- REPORTS
 
-pub check_reports : (shelf : Seen) (name : List ℕ) (read : Specification) → HoldsRead shelf name read
-    → (status : Status) (report : List ℕ) → IsCounted read status report → CheckEnds shelf name (reported status report)
+pub check_reports : (shelf : Seen) (name : List ℕ) (read : Specification)
+    → HoldsRead shelf name read
+    → (status : Status) (report : List ℕ) → IsCounted read status report
+    → CheckEnds shelf name (reported status report)
 check_reports shelf name read holds status report is =
     subst (λ s. CheckEnds shelf name (reported s report)) (sym is.0)
     (subst (λ r. CheckEnds shelf name (reported Fine r)) (sym is.1) (good read holds))
 
-pub unbuilt_reports : (shelf : Seen) (s t e : List ℕ) (silent statements : ℕ) (read : Specification) (counts : Counts) → read ≡ found.Whole counts → HoldsRead shelf s read
-    → (status : Status) (report : List ℕ) → IsUnbuilt status report → ReplayEnds shelf s t e silent statements (reported status report)
+pub unbuilt_reports : (shelf : Seen) (s t e : List ℕ) (silent statements : ℕ) (read : Specification)
+    (counts : Counts) → read ≡ found.Whole counts → HoldsRead shelf s read
+    → (status : Status) (report : List ℕ) → IsUnbuilt status report
+    → ReplayEnds shelf s t e silent statements (reported status report)
 unbuilt_reports shelf s t e silent statements read counts whole holds status report is =
     subst (λ z. ReplayEnds shelf s t e silent statements (reported z report)) (sym is.0)
     (subst (λ r. ReplayEnds shelf s t e silent statements (reported NotBuilt r)) (sym is.1)
     (unbuilt counts (subst (λ z. HoldsRead shelf s z) whole holds)))
 
-pub replay_reports : (shelf : Seen) (s t e : List ℕ) (silent statements : ℕ) (spec : Spec) (events : List Event) (read : Explanation)
-    → HoldsSpecification shelf s spec → HoldsTrace shelf t spec events → HoldsExplanation shelf e read
-    → (status : Status) (report : List ℕ) → IsAnswered silent statements spec events read status report
+pub replay_reports : (shelf : Seen) (s t e : List ℕ) (silent statements : ℕ) (spec : Spec)
+    (events : List Event) (read : Explanation)
+    → HoldsSpecification shelf s spec → HoldsTrace shelf t spec events
+    → HoldsExplanation shelf e read
+    → (status : Status) (report : List ℕ)
+    → IsAnswered silent statements spec events read status report
     → ReplayEnds shelf s t e silent statements (reported status report)
-replay_reports shelf s t e silent statements spec events read holds traced explained status report is =
+replay_reports shelf s t e silent statements spec events read holds traced explained status report
+    is =
     subst (λ z. ReplayEnds shelf s t e silent statements (reported z report)) (sym is.2)
-    (subst (λ r. ReplayEnds shelf s t e silent statements (reported (replay_status is.0) r)) (sym is.3)
+    (subst (λ r. ReplayEnds shelf s t e silent statements (reported (replay_status is.0) r))
+    (sym is.3)
     (replayed spec events read is.0 holds traced explained is.1))

@@ -1,6 +1,6 @@
 -- How a call ends.
 use Rattle.std.specs.Prelude.{◌≡◌, ℕ, ◌+◌, ◌<◌, List, length, IfSome}
-use Rattle.est_edge.specs.Counts.{Rose}
+use Rattle.est_edge.specs.FaultCounts.{Rose}
 use Rattle.est_syntax.specs.declared.specification.Spec.{Spec}
 use Rattle.est_blocks.specs.Counts.{counts_of}
 use Rattle.est_blocks.specs.declared.counts.Counts.{Counts}
@@ -11,15 +11,18 @@ use Rattle.est_replay.specs.Replay.{IsReplay}
 use Rattle.est_replay.specs.declared.explanation.Explanation.{Explanation}
 use Rattle.est_replay.specs.declared.verdict.Replayed.{Replayed}
 use Rattle.est_tool.specs.declared.file.File.{File}
-use Rattle.est_tool.specs.declared.file.File.TheVariants.{Specification, Trace, Explanation as Explaining}
+use Rattle.est_tool.specs.declared.file.File.TheVariants.{Specification, Trace}
+use Rattle.est_tool.specs.declared.file.File.TheVariants.{Explanation as Explaining}
 use Rattle.est_tool.specs.declared.status.Status.{Status}
 use Rattle.est_tool.specs.declared.status.Status.TheVariants.{Fine, TooLong, NotBuilt}
 use Rattle.est_tool.specs.Files.{limit_of}
 use Rattle.est_tool.specs.Reports.{ok_line, too_long_line, not_built_line, replay_line}
 use Rattle.est_tool.specs.Seen.{Seen}
 use Rattle.est_tool.specs.Statuses.{replay_status}
-use Rattle.est_tool.specs.Texts.{Holds, OfSpecification, OfTrace, OfExplanation, Refusals, RefusesSpecification, RefusesTrace, RefusesExplanation, IsReported}
-use Rattle.est_tool.specs.Words.{Request, check, replay}
+use Rattle.est_tool.specs.FileTexts.{Holds, OfSpecification, OfTrace}
+use Rattle.est_tool.specs.FileTexts.{OfExplanation, Refusals, RefusesSpecification}
+use Rattle.est_tool.specs.FileTexts.{RefusesTrace, RefusesExplanation, IsReported}
+use Rattle.est_tool.specs.Requests.{Request, check, replay}
 
 -- an end of a call: a status with a report, or a file that could not be read
 pub data End : Type 0 where
@@ -51,8 +54,7 @@ pub data EndsAt (shelf : Seen) (file : File) (name : List ℕ) (Refuses : Refusa
 -- the file of this name holds the text of a specification that breaks no rule, and this is what is
 -- read of it: the tree of a skeleton, or the numbers of another
 abbrev pub HoldsRead : Seen → List ℕ → Read → Type 0
-HoldsRead shelf name read =
-    Holds Specification (shelf.before.told name) (OfSpecification read)
+HoldsRead shelf name read = Holds Specification (shelf.before.told name) (OfSpecification read)
 
 -- the file holds the text of this skeleton, which breaks no rule
 abbrev pub HoldsSpecification : Seen → List ℕ → Spec → Type 0

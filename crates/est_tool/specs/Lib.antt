@@ -1,11 +1,11 @@
 pub mod Ends
 pub mod Files
-pub mod Laws
+pub mod CallLaws
 pub mod Reports
 pub mod Result
 pub mod Seen
 pub mod Started
 pub mod Statuses
-pub mod Texts
-pub mod Words
+pub mod FileTexts
+pub mod Requests
 pub mod inside

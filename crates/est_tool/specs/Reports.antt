@@ -3,13 +3,22 @@ use Rattle.std.specs.Prelude.{ℕ, List, [], ◌∷◌, ◌++◌, codes, if◌th
 use Rattle.std.specs.Fmt.{decimal}
 use Rattle.est_blocks.specs.declared.counts.Counts.{Counts}
 use Rattle.est_meaning.specs.declared.run.BlockFault.{BlockFault}
-use Rattle.est_meaning.specs.declared.run.BlockFault.TheVariants.{Range, Divide, Undefined, NoCase, NoModule, LinkTaken, SelfLink, TooMany}
+use Rattle.est_meaning.specs.declared.run.BlockFault.TheVariants.{Range, Divide, Undefined}
+use Rattle.est_meaning.specs.declared.run.BlockFault.TheVariants.{NoCase, NoModule, LinkTaken}
+use Rattle.est_meaning.specs.declared.run.BlockFault.TheVariants.{SelfLink, TooMany}
 use Rattle.est_replay.specs.declared.verdict.Replayed.{Replayed}
 use Rattle.est_replay.specs.declared.verdict.Replayed.TheVariants.{Confirmed, Rejected}
 use Rattle.est_replay.specs.declared.verdict.Why.{Why}
-use Rattle.est_replay.specs.declared.verdict.Why.TheVariants.{NoStart, Limit, WrongOutput, NoEvent, NotOffered, Fault, TooSilent, NotAll}
+use Rattle.est_replay.specs.declared.verdict.Why.TheVariants.{NoStart, Limit, WrongOutput, NoEvent}
+use Rattle.est_replay.specs.declared.verdict.Why.TheVariants.{NotOffered, Fault, TooSilent, NotAll}
 use Rattle.est_syntax.specs.declared.rule.Rule.{Rule}
-use Rattle.est_syntax.specs.declared.rule.Rule.TheVariants.{UnknownName, DeclaredTwice, NotSeenHere, WrongSort, NumberTooLarge, WrongBounds, TooLarge, WrongKind, WrongNumber, NotWritable, NotInFunction, WrongDirection, DelayNotAlone, NoFirstState, WrongAttribute, WrongBody, WrongLink, CaseTwice}
+use Rattle.est_syntax.specs.declared.rule.Rule.TheVariants.{UnknownName, DeclaredTwice, NotSeenHere}
+use Rattle.est_syntax.specs.declared.rule.Rule.TheVariants.{WrongSort, NumberTooLarge, WrongBounds}
+use Rattle.est_syntax.specs.declared.rule.Rule.TheVariants.{TooLarge, WrongKind, WrongNumber}
+use Rattle.est_syntax.specs.declared.rule.Rule.TheVariants.{NotWritable, NotInFunction}
+use Rattle.est_syntax.specs.declared.rule.Rule.TheVariants.{WrongDirection, DelayNotAlone}
+use Rattle.est_syntax.specs.declared.rule.Rule.TheVariants.{NoFirstState, WrongAttribute, WrongBody}
+use Rattle.est_syntax.specs.declared.rule.Rule.TheVariants.{WrongLink, CaseTwice}
 use Rattle.est_tool.specs.Files.{word_of}
 use Rattle.est_tool.specs.declared.file.File.{File}
 

@@ -4,7 +4,7 @@ use Rattle.est_syntax.specs.declared.specification.Spec.{Spec}
 use Rattle.est_meaning.specs.declared.event.Event.{Event}
 use Rattle.est_tool.specs.Seen.{Seen}
 use Rattle.est_tool.specs.Ends.{HoldsSpecification, HoldsTrace}
-use Rattle.est_tool.specs.Words.{Request, check, replay}
+use Rattle.est_tool.specs.Requests.{Request, check, replay}
 
 -- `check` starts its file, once
 abbrev pub CheckStarts : List ℕ → List (List ℕ) → Type 0

@@ -3,7 +3,10 @@ use Rattle.std.specs.Prelude.{ℕ}
 use Rattle.est_replay.specs.declared.verdict.Replayed.{Replayed}
 use Rattle.est_replay.specs.declared.verdict.Replayed.TheVariants.{Confirmed, Rejected}
 use Rattle.est_tool.specs.declared.status.Status.{Status}
-use Rattle.est_tool.specs.declared.status.Status.TheVariants.{Fine, Refused, BadSpec, BadTrace, BadExplanation, TooLong, Usage, ReadFault, WriteFault, OutOfMemory, NotBuilt}
+use Rattle.est_tool.specs.declared.status.Status.TheVariants.{Fine, Refused, BadSpec, BadTrace}
+use Rattle.est_tool.specs.declared.status.Status.TheVariants.{BadExplanation, TooLong, Usage}
+use Rattle.est_tool.specs.declared.status.Status.TheVariants.{ReadFault, WriteFault}
+use Rattle.est_tool.specs.declared.status.Status.TheVariants.{OutOfMemory, NotBuilt}
 
 -- the exit status of the program
 abbrev pub code_of : Status → ℕ

@@ -1,4 +1,4 @@
 -- What only the private functions say.
-pub mod Steps
+pub mod Reads
 pub mod Work
 pub mod Written

@@ -1,10 +1,11 @@
 //! The commands.
 ghost use Rattle.std.specs.Prelude.{◌-◌, ◌<◌, ◌^◌, [], ◌∷◌, length};
 ghost use Rattle.est_meaning.specs.Allowed.{IsAllowedTrace};
-ghost use Rattle.est_tool.specs.declared.file.File.TheVariants.{Specification as Specifying, Trace as Tracing};
+ghost use Rattle.est_tool.specs.declared.file.File.TheVariants.{Specification as Specifying};
+ghost use Rattle.est_tool.specs.declared.file.File.TheVariants.{Trace as Tracing};
 ghost use Rattle.est_tool.specs.Seen.{seen, shelved};
-ghost use Rattle.est_tool.specs.Texts.{Holds, OfSkeleton, OfTrace};
-ghost use Rattle.est_tool.specs.Words.{check, replay};
+ghost use Rattle.est_tool.specs.FileTexts.{Holds, OfSkeleton, OfTrace};
+ghost use Rattle.est_tool.specs.Requests.{check, replay};
 ghost use Rattle.est_tool.specs.inside.Work.{IsWork, Gives, IsCounted, IsUnbuilt};
 ghost use Rattle.est_tool.specs.inside.Work.{IsAnswered};
 

@@ -3,8 +3,8 @@ ghost use Rattle.std.specs.Prelude.{◌≤◌, IfSome, length, IfOk, ◌<◌, �
 ghost use Rattle.est_tool.specs.declared.file.File.TheVariants.{Explanation as Explaining};
 ghost use Rattle.est_tool.specs.Files.{limit_of};
 ghost use Rattle.est_tool.specs.Seen.{seen, shelved};
-ghost use Rattle.est_tool.specs.Texts.{OfExplanation, RefusesExplanation, SaysOfExplanation};
-ghost use Rattle.est_tool.specs.inside.Steps.{ReadsFile, ReadsText};
+ghost use Rattle.est_tool.specs.FileTexts.{OfExplanation, RefusesExplanation, SaysOfExplanation};
+ghost use Rattle.est_tool.specs.inside.Reads.{ReadsFile, ReadsText};
 
 use crate::file::File;
 use crate::reading::read_text;

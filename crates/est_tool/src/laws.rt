@@ -1,5 +1,5 @@
 //! Laws of calls. Each function does nothing; its clause is the law.
-ghost use Rattle.est_tool.specs.Laws.{OneRequest, OneResult};
+ghost use Rattle.est_tool.specs.CallLaws.{OneRequest, OneResult};
 
 /// Words ask for one thing at most.
 pub fn one_request()

@@ -2,7 +2,7 @@
 ghost use Rattle.est_tool.specs.declared.status.Status.TheVariants.{TooLong as Longer};
 ghost use Rattle.est_tool.specs.Seen.{seen, shelved};
 ghost use Rattle.est_tool.specs.Reports.{too_long_line};
-ghost use Rattle.est_tool.specs.inside.Steps.{StopsWith, ReadsBytes};
+ghost use Rattle.est_tool.specs.inside.Reads.{StopsWith, ReadsBytes};
 
 use crate::file::File;
 use crate::report::{Report, too_long_report};

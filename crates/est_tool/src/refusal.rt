@@ -1,9 +1,9 @@
 //! Refusals of texts.
 ghost use Rattle.std.specs.Prelude.{◌≡◌, IfSome, IfNone, IfOk, string_bytes};
-ghost use Rattle.est_lexer.specs.Places.{text_of, tokens_of};
+ghost use Rattle.est_lexer.specs.Offsets.{text_of, tokens_of};
 ghost use Rattle.est_tool.specs.declared.stop.Stop.TheVariants.{OutOfMemory as Wanting};
-ghost use Rattle.est_tool.specs.Texts.{refusal_at};
-ghost use Rattle.est_tool.specs.inside.Steps.{StopsWith};
+ghost use Rattle.est_tool.specs.FileTexts.{refusal_at};
+ghost use Rattle.est_tool.specs.inside.Reads.{StopsWith};
 
 use crate::file::File;
 use crate::report::{Report, line_report, refusal_report};

@@ -3,8 +3,9 @@ ghost use Rattle.std.specs.Prelude.{◌≤◌, IfSome, length};
 ghost use Rattle.est_tool.specs.declared.file.File.TheVariants.{Specification as Specifying};
 ghost use Rattle.est_tool.specs.Files.{limit_of};
 ghost use Rattle.est_tool.specs.Seen.{seen, shelved};
-ghost use Rattle.est_tool.specs.Texts.{OfSpecification, RefusesSpecification, SaysOfSpecification};
-ghost use Rattle.est_tool.specs.inside.Steps.{ReadsFile, ReadsText};
+ghost use Rattle.est_tool.specs.FileTexts.{OfSpecification, RefusesSpecification};
+ghost use Rattle.est_tool.specs.FileTexts.{SaysOfSpecification};
+ghost use Rattle.est_tool.specs.inside.Reads.{ReadsFile, ReadsText};
 
 use crate::file::File;
 use crate::reading::read_text;

@@ -1,7 +1,7 @@
 //! The top call.
 ghost use Rattle.est_tool.specs.Seen.{seen, shelved, sent};
 ghost use Rattle.est_tool.specs.Result.{IsResult};
-ghost use Rattle.est_tool.specs.Words.{IsCommand};
+ghost use Rattle.est_tool.specs.Requests.{IsCommand};
 ghost use Rattle.est_tool.specs.inside.Work.{IsMade, IsObeyed};
 ghost use Rattle.est_tool.specs.inside.Written.{HasReport, IsReportable, Delivers, Sends};
 

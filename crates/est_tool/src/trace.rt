@@ -4,8 +4,8 @@ ghost use Rattle.est_meaning.specs.Allowed.{IsAllowedTrace};
 ghost use Rattle.est_tool.specs.declared.file.File.TheVariants.{Trace as Tracing};
 ghost use Rattle.est_tool.specs.Files.{limit_of};
 ghost use Rattle.est_tool.specs.Seen.{seen, shelved};
-ghost use Rattle.est_tool.specs.Texts.{OfTrace, RefusesTrace, SaysOfTrace};
-ghost use Rattle.est_tool.specs.inside.Steps.{ReadsFile, ReadsText};
+ghost use Rattle.est_tool.specs.FileTexts.{OfTrace, RefusesTrace, SaysOfTrace};
+ghost use Rattle.est_tool.specs.inside.Reads.{ReadsFile, ReadsText};
 
 use crate::file::File;
 use crate::reading::read_text;

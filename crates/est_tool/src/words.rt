@@ -1,6 +1,7 @@
 //! The words that the program is called with.
 ghost use Rattle.std.specs.Prelude.{◌≡◌, ℕ, IfOk, IfSome, MatchOption, OnErr};
-ghost use Rattle.est_tool.specs.Words.{AreLimits, AsksNothing, IsCommand, IsNumber, bytes_of, usual_budget};
+ghost use Rattle.est_tool.specs.Requests.{AreLimits, AsksNothing, IsCommand};
+ghost use Rattle.est_tool.specs.Requests.{IsNumber, bytes_of, usual_budget};
 
 use est_meaning::run::Limits;
 

@@ -1,5 +1,7 @@
 -- The first item of a list that passes a test.
-use Rattle.std.proofs.Common.{◌≡◌, ℕ, zero, suc, ◌+◌, ◌≤◌, Bool, true, false, ◌||◌, List, [], ◌∷◌, length, map, take, refl, sym, ap, ◌∙◌, subst, arith, Some, None, slice_get, bytes_eq}
+use Rattle.std.proofs.Common.{◌≡◌, ℕ, zero, suc, ◌+◌, ◌≤◌, Bool, true, false, ◌||◌}
+use Rattle.std.proofs.Common.{List, [], ◌∷◌, length, map, take, refl, sym, ap, ◌∙◌}
+use Rattle.std.proofs.Common.{subst, arith, Some, None, slice_get, bytes_eq}
 use Rattle.std.specs.List.{list_any}
 use Rattle.std.proofs.lemmas.List.{take_all}
 use Rattle.std.proofs.lemmas.Map.Keys.{any_passes_from_place}
@@ -26,7 +28,8 @@ pub none_more : {A : Type 0} (p : A → Bool) (xs : List A) (i : ℕ) (x : A) �
 none_more p [] i x e h f = cc
 none_more p (y ∷ ys) zero x e h f = neither_true (p y) false (ap p (some_same e) ∙ f) refl
 none_more p (y ∷ ys) (suc i) x e h f =
-    subst (λ n. list_any p (take n (y ∷ ys)) ≡ false) (let q : suc (i + 1) ≡ suc i + 1 = omega arith in q)
+    subst (λ n. list_any p (take n (y ∷ ys)) ≡ false) (let q : suc (i + 1) ≡ suc i + 1 =
+    omega arith in q)
     (neither_true (p y) _ (first_false (p y) _ h) (none_more p ys i x e (second_false (p y) _ h) f))
 
 -- none at all
@@ -49,6 +52,8 @@ module _ {A : Type 0} (name : A → List ℕ) (xs : List A) (bytes : List ℕ) w
       → IsNumberOf bytes (map name xs) None
   no_number h = λ j e.
       let q = mapped_at name xs j bytes e in
-      let w : list_any (λ x. bytes_eq (name x) bytes) xs ≡ true = one_of_them (λ x. bytes_eq (name x) bytes) xs j q.0 q.1 ((bytes_eq-Decides (name q.0) bytes).1 q.2) in
+      let w : list_any (λ x. bytes_eq (name x) bytes) xs ≡ true =
+      one_of_them (λ x. bytes_eq (name x) bytes) xs j q.0 q.1
+      ((bytes_eq-Decides (name q.0) bytes).1 q.2) in
       let u : false ≡ true = sym h ∙ w in
       absurd cc

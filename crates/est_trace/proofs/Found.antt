@@ -10,4 +10,5 @@ use Rattle.est_trace.proofs.Lists.{mapped_at}
 pub port_at : (directory : Directory) → IsDirectory directory → (i : ℕ) (bytes : List ℕ)
     → slice_get (names_in directory.names) i ≡ Some bytes
     → (p : Port) × (slice_get directory.ports.now i ≡ Some p) × (port_name p ≡ bytes)
-port_at directory h i bytes e = mapped_at port_name directory.ports.now i bytes (subst (λ v. slice_get v i ≡ Some bytes) h.named e)
+port_at directory h i bytes e = mapped_at port_name directory.ports.now i bytes
+    (subst (λ v. slice_get v i ≡ Some bytes) h.named e)

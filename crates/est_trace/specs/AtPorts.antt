@@ -7,7 +7,7 @@ use Rattle.est_meaning.specs.declared.event.Event.{Event}
 use Rattle.est_meaning.specs.declared.event.Event.TheVariants.{Arrives, Leaves, Passes}
 use Rattle.est_trace.specs.declared.direction.Direction.{Direction}
 use Rattle.est_trace.specs.declared.direction.Direction.TheVariants.{In, Out}
-use Rattle.est_trace.specs.Grammar.{passes}
+use Rattle.est_trace.specs.TraceGrammar.{passes}
 
 -- the interaction is of one of the ports and of one of its signals, which passes it in this
 -- direction and has no parameters, and it has no values

@@ -1,10 +1,10 @@
 -- What a reader of events does with the levels, which count the events.
 use Rattle.std.specs.Prelude.{◌≡◌, true, List}
-use Rattle.est_lexer.specs.Places.{text_of, tokens_of}
+use Rattle.est_lexer.specs.Offsets.{text_of, tokens_of}
 use Rattle.est_syntax.specs.declared.ports.Port.{Port}
 use Rattle.est_reader.specs.declared.reader.Reader.{Reader}
 use Rattle.est_reader.specs.Moving.{Does}
-use Rattle.est_trace.specs.Reading.{IsFullAfter, IsFull}
+use Rattle.est_trace.specs.TraceText.{IsFullAfter, IsFull}
 
 -- where a reader of events finds one too many, as many as there were levels are complete before it
 abbrev pub CountsEvents : List Port → Reader → Reader → Type 0

@@ -1,9 +1,9 @@
-pub mod Grammar
-pub mod Nodes
+pub mod TraceGrammar
+pub mod TraceNodes
 pub mod Skeletons
 pub mod Lookups
 pub mod Counting
-pub mod Reading
+pub mod TraceText
 pub mod Tables
 pub mod Directories
 pub mod AtPorts

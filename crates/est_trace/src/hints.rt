@@ -1,7 +1,8 @@
 //! Where signals were found before.
 
-ghost use Rattle.std.specs.Prelude.{◌≡◌, true, map, slice_get, Some, IfOk, IfSome, is_some, bytes_eq};
-ghost use Rattle.est_trace.specs.Grammar.{passes as does_pass, some_pass as some_do_pass};
+ghost use Rattle.std.specs.Prelude.{◌≡◌, true, map, slice_get, Some};
+ghost use Rattle.std.specs.Prelude.{IfOk, IfSome, is_some, bytes_eq};
+ghost use Rattle.est_trace.specs.TraceGrammar.{passes as does_pass, some_pass as some_do_pass};
 ghost use Rattle.est_trace.specs.Directories.{signal_name};
 ghost use Rattle.est_trace.specs.Tables.{IsNumberOf};
 

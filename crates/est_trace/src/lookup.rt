@@ -3,7 +3,7 @@
 ghost use Rattle.std.specs.Prelude.{◌≡◌, ◌≤◌, length, slice_get, IfOk};
 ghost use Rattle.est_reader.specs.Moving.{Still};
 ghost use Rattle.est_skeleton.specs.Small.{most_parts};
-ghost use Rattle.est_trace.specs.Grammar.{signal as a_signal, port as a_port};
+ghost use Rattle.est_trace.specs.TraceGrammar.{signal as a_signal, port as a_port};
 ghost use Rattle.est_skeleton.specs.Differing.{HaveDifferentNames};
 ghost use Rattle.est_trace.specs.Skeletons.{ArePlain};
 ghost use Rattle.est_trace.specs.Directories.{signal_name, IsDirectory};

@@ -1,20 +1,20 @@
 //! Trace texts.
 
 ghost use Rattle.std.specs.Prelude.{◌≡◌, ◌≤◌, [], length, IfOk, Err};
-ghost use Rattle.est_lexer.specs.Places.{text_of, tokens_of};
+ghost use Rattle.est_lexer.specs.Offsets.{text_of, tokens_of};
 ghost use Rattle.est_language.specs.Grammar.{rule};
 ghost use Rattle.est_language.specs.Shown.{node};
 ghost use Rattle.est_skeleton.specs.Ports.{ports_of};
 ghost use Rattle.est_meaning.specs.Allowed.{IsAllowedTrace};
 ghost use Rattle.est_reader.specs.Moving.{SeesOne};
 ghost use Rattle.est_reader.specs.Going.{Goes};
-ghost use Rattle.est_trace.specs.Grammar as grammar;
-ghost use Rattle.est_trace.specs.Nodes.{an_event, some_events, a_trace, tracing};
+ghost use Rattle.est_trace.specs.TraceGrammar as grammar;
+ghost use Rattle.est_trace.specs.TraceNodes.{an_event, some_events, a_trace, tracing};
 ghost use Rattle.est_trace.specs.Skeletons.{ArePlain};
 ghost use Rattle.est_trace.specs.Directories.{IsDirectory};
 ghost use Rattle.est_trace.specs.AtPorts.{AreAtPorts};
 ghost use Rattle.est_trace.specs.Counting.{CountsEvents, CountsTrace};
-ghost use Rattle.est_trace.specs.Reading.{ReadsTrace};
+ghost use Rattle.est_trace.specs.TraceText.{ReadsTrace};
 
 use crate::direction::Direction;
 use crate::error::TraceError;

@@ -1,30 +1,54 @@
 -- What a part breaks by the lists that it is made of.
-use Rattle.std.proofs.Common.{◌≡◌, refl, sym, ap, ◌∙◌, ℕ, Bool, false, List, ◌++◌, Option, Some, None}
+use Rattle.std.proofs.Common.{◌≡◌, refl, sym, ap, ◌∙◌, ℕ, Bool}
+use Rattle.std.proofs.Common.{false, List, ◌++◌, Option, Some, None}
 use Rattle.est_syntax.specs.declared.body.Block.{Block}
 use Rattle.est_syntax.specs.declared.body.FirstPart.{FirstPart}
-use Rattle.est_syntax.specs.declared.body.Part.{Part, Row_of-Part, end_of-Part, more_of-Part, items-the_row-Part, items_hidden-the_row-Part-0, items_shown-the_row-Part-0}
-use Rattle.est_syntax.specs.declared.body.Part.TheBlock.{hidden-the_row-Part-0, shown-the_row-Part-0, hidden-the_row-Group-1}
+use Rattle.est_syntax.specs.declared.body.Part.{Part, Row_of-Part, end_of-Part, more_of-Part}
+use Rattle.est_syntax.specs.declared.body.Part.{items-the_row-Part, items_hidden-the_row-Part-0}
+use Rattle.est_syntax.specs.declared.body.Part.{items_shown-the_row-Part-0}
+use Rattle.est_syntax.specs.declared.body.Part.TheBlock.{hidden-the_row-Part-0}
+use Rattle.est_syntax.specs.declared.body.Part.TheBlock.{shown-the_row-Part-0}
+use Rattle.est_syntax.specs.declared.body.Part.TheBlock.{hidden-the_row-Group-1}
 use Rattle.est_syntax.specs.declared.body.Part.TheVariants as part
-use Rattle.est_syntax.specs.declared.body.Body.{Body, out-Body, is-Body', Row_of-Group, end_of-Group, more_of-Group, items-the_row-Group, items_hidden-the_row-Group-1, back-Body-first}
-use Rattle.est_syntax.specs.declared.transition.Group.{Group, Group-F, Group', outs-Group', Row_of-Transition, end_of-Transition, more_of-Transition, items-the_row-Transition, items_shown-the_row-Transition-2}
+use Rattle.est_syntax.specs.declared.body.Body.{Body, out-Body, is-Body', Row_of-Group}
+use Rattle.est_syntax.specs.declared.body.Body.{end_of-Group, more_of-Group, items-the_row-Group}
+use Rattle.est_syntax.specs.declared.body.Body.{items_hidden-the_row-Group-1, back-Body-first}
+use Rattle.est_syntax.specs.declared.transition.Group.{Group, Group-F, Group', outs-Group'}
+use Rattle.est_syntax.specs.declared.transition.Group.{Row_of-Transition, end_of-Transition}
+use Rattle.est_syntax.specs.declared.transition.Group.{more_of-Transition, items-the_row-Transition}
+use Rattle.est_syntax.specs.declared.transition.Group.{items_shown-the_row-Transition-2}
 use Rattle.est_syntax.specs.declared.transition.Transition.{Transition}
 use Rattle.est_syntax.specs.declared.routine.Routine.{Routine}
 use Rattle.est_scope.specs.Outline.{Outline}
 use Rattle.est_scope.specs.Uses.{twice_faults}
-use Rattle.est_types.specs.Faults.{part_faults, row_faults, parts_faults, first_faults, row_groups_faults, row_transitions_faults, clauses_faults, row_scalars, vars_scalars, row_has_states, names_first, first_state_faults, scalars_faults, formals_faults, result_faults, is_function}
-use Rattle.est_types.specs.inside.Parts.{parts_scalars, have_states, has_first, first_part_faults, transitions_faults, groups_faults, body_faults, routine_faults}
+use Rattle.est_types.specs.DeclarationFaults.{part_faults, row_faults, parts_faults}
+use Rattle.est_types.specs.DeclarationFaults.{first_faults, row_groups_faults}
+use Rattle.est_types.specs.DeclarationFaults.{row_transitions_faults, clauses_faults}
+use Rattle.est_types.specs.DeclarationFaults.{row_scalars, vars_scalars, row_has_states}
+use Rattle.est_types.specs.DeclarationFaults.{names_first, first_state_faults, scalars_faults}
+use Rattle.est_types.specs.DeclarationFaults.{formals_faults, result_faults, is_function}
+use Rattle.est_types.specs.inside.DeclarationParts.{parts_scalars, have_states, has_first}
+use Rattle.est_types.specs.inside.DeclarationParts.{first_part_faults, transitions_faults}
+use Rattle.est_types.specs.inside.DeclarationParts.{groups_faults, body_faults, routine_faults}
 
-parts_row : (o : Outline) (outer : Bool) (n : _) (row : Row_of-Part n) → row_faults o outer row ≡ parts_faults o outer (items-the_row-Part n row)
+parts_row : (o : Outline) (outer : Bool) (n : _) (row : Row_of-Part n)
+    → row_faults o outer row ≡ parts_faults o outer (items-the_row-Part n row)
 parts_row o outer n end_of-Part = refl
-parts_row o outer n (more_of-Part p rest) = ap (λ l. part_faults o outer p ++ l) (parts_row o outer _ rest)
+parts_row o outer n (more_of-Part p rest) = ap (λ l. part_faults o outer p ++ l)
+    (parts_row o outer _ rest)
 
-parts_hidden : (o : Outline) (outer : Bool) (ps : List Part) → row_faults o outer (hidden-the_row-Part-0 ps) ≡ parts_faults o outer ps
-parts_hidden o outer ps = parts_row o outer _ (hidden-the_row-Part-0 ps) ∙ ap (parts_faults o outer) (items_hidden-the_row-Part-0 ps)
+parts_hidden : (o : Outline) (outer : Bool) (ps : List Part)
+    → row_faults o outer (hidden-the_row-Part-0 ps) ≡ parts_faults o outer ps
+parts_hidden o outer ps = parts_row o outer _ (hidden-the_row-Part-0 ps)
+    ∙ ap (parts_faults o outer) (items_hidden-the_row-Part-0 ps)
 
-parts_shown : (o : Outline) (outer : Bool) (a : _) (row : Row_of-Part _) → row_faults o outer row ≡ parts_faults o outer (shown-the_row-Part-0 a row)
-parts_shown o outer a row = parts_row o outer _ row ∙ ap (parts_faults o outer) (sym (items_shown-the_row-Part-0 a row))
+parts_shown : (o : Outline) (outer : Bool) (a : _) (row : Row_of-Part _)
+    → row_faults o outer row ≡ parts_faults o outer (shown-the_row-Part-0 a row)
+parts_shown o outer a row = parts_row o outer _ row
+    ∙ ap (parts_faults o outer) (sym (items_shown-the_row-Part-0 a row))
 
-pub scalars_row : (o : Outline) (sum : ℕ) (n : _) (row : Row_of-Part n) → row_scalars o sum row ≡ parts_scalars o sum (items-the_row-Part n row)
+pub scalars_row : (o : Outline) (sum : ℕ) (n : _) (row : Row_of-Part n)
+    → row_scalars o sum row ≡ parts_scalars o sum (items-the_row-Part n row)
 scalars_row o sum n end_of-Part = refl
 scalars_row o sum n (more_of-Part (part.Consts x) rest) = scalars_row o sum _ rest
 scalars_row o sum n (more_of-Part (part.Types x) rest) = scalars_row o sum _ rest
@@ -33,18 +57,24 @@ scalars_row o sum n (more_of-Part (part.Header x) rest) = scalars_row o sum _ re
 scalars_row o sum n (more_of-Part (part.Body x) rest) = scalars_row o sum _ rest
 scalars_row o sum n (more_of-Part (part.Modvars x) rest) = scalars_row o sum _ rest
 scalars_row o sum n (more_of-Part (part.Points x) rest) = scalars_row o sum _ rest
-scalars_row o sum n (more_of-Part (part.Vars vs) rest) = scalars_row o (vars_scalars o sum vs) _ rest
+scalars_row o sum n (more_of-Part (part.Vars vs) rest) = scalars_row o (vars_scalars o sum vs) _
+    rest
 scalars_row o sum n (more_of-Part (part.States x) rest) = scalars_row o sum _ rest
 scalars_row o sum n (more_of-Part (part.StateSets x) rest) = scalars_row o sum _ rest
 scalars_row o sum n (more_of-Part (part.Routine' a b c d e f g) rest) = scalars_row o sum _ rest
 
-pub scalars_hidden : (o : Outline) (ps : List Part) → row_scalars o 0 (hidden-the_row-Part-0 ps) ≡ parts_scalars o 0 ps
-scalars_hidden o ps = scalars_row o 0 _ (hidden-the_row-Part-0 ps) ∙ ap (parts_scalars o 0) (items_hidden-the_row-Part-0 ps)
+pub scalars_hidden : (o : Outline) (ps : List Part) → row_scalars o 0 (hidden-the_row-Part-0 ps)
+    ≡ parts_scalars o 0 ps
+scalars_hidden o ps = scalars_row o 0 _ (hidden-the_row-Part-0 ps)
+    ∙ ap (parts_scalars o 0) (items_hidden-the_row-Part-0 ps)
 
-pub scalars_shown : (o : Outline) (a : _) (row : Row_of-Part _) → row_scalars o 0 row ≡ parts_scalars o 0 (shown-the_row-Part-0 a row)
-scalars_shown o a row = scalars_row o 0 _ row ∙ ap (parts_scalars o 0) (sym (items_shown-the_row-Part-0 a row))
+pub scalars_shown : (o : Outline) (a : _) (row : Row_of-Part _)
+    → row_scalars o 0 row ≡ parts_scalars o 0 (shown-the_row-Part-0 a row)
+scalars_shown o a row = scalars_row o 0 _ row
+    ∙ ap (parts_scalars o 0) (sym (items_shown-the_row-Part-0 a row))
 
-states_row : (n : _) (row : Row_of-Part n) → row_has_states row ≡ have_states (items-the_row-Part n row)
+states_row : (n : _) (row : Row_of-Part n)
+    → row_has_states row ≡ have_states (items-the_row-Part n row)
 states_row n end_of-Part = refl
 states_row n (more_of-Part (part.Consts x) rest) = states_row _ rest
 states_row n (more_of-Part (part.Types x) rest) = states_row _ rest
@@ -59,9 +89,11 @@ states_row n (more_of-Part (part.StateSets x) rest) = states_row _ rest
 states_row n (more_of-Part (part.Routine' a b c d e f g) rest) = states_row _ rest
 
 states_hidden : (ps : List Part) → row_has_states (hidden-the_row-Part-0 ps) ≡ have_states ps
-states_hidden ps = states_row _ (hidden-the_row-Part-0 ps) ∙ ap have_states (items_hidden-the_row-Part-0 ps)
+states_hidden ps = states_row _ (hidden-the_row-Part-0 ps)
+    ∙ ap have_states (items_hidden-the_row-Part-0 ps)
 
-first_at : (o : Outline) (f : Option FirstPart) → first_faults o (back-Body-first f) ≡ first_part_faults o f
+first_at : (o : Outline) (f : Option FirstPart)
+    → first_faults o (back-Body-first f) ≡ first_part_faults o f
 first_at o None = refl
 first_at o (Some f) = parts_hidden o false f.block.parts
 
@@ -69,33 +101,45 @@ named_at : (f : Option FirstPart) → names_first (back-Body-first f) ≡ has_fi
 named_at None = refl
 named_at (Some f) = refl
 
-transitions_row : (o : Outline) (n : _) (row : Row_of-Transition n) → row_transitions_faults o row ≡ transitions_faults o (items-the_row-Transition n row)
+transitions_row : (o : Outline) (n : _) (row : Row_of-Transition n)
+    → row_transitions_faults o row ≡ transitions_faults o (items-the_row-Transition n row)
 transitions_row o n end_of-Transition = refl
 transitions_row o n (more_of-Transition cs name a parts statements place rest) =
     λ i. (clauses_faults o cs ++ parts_shown o false a parts i) ++ transitions_row o _ rest i
 
-groups_row : (o : Outline) (n : _) (row : Row_of-Group n) → row_groups_faults o row ≡ groups_faults o (items-the_row-Group n row)
+groups_row : (o : Outline) (n : _) (row : Row_of-Group n)
+    → row_groups_faults o row ≡ groups_faults o (items-the_row-Group n row)
 groups_row o n end_of-Group = refl
 groups_row o n (more_of-Group (Group' a transitions) rest) =
-    (λ i. (transitions_row o _ transitions ∙ ap (transitions_faults o) (sym (items_shown-the_row-Transition-2 a transitions))) i ++ groups_row o _ rest i)
-    ∙ ap (λ (g : Group-F Part Block Body FirstPart Routine Group Transition). transitions_faults o g.transitions ++ groups_faults o (items-the_row-Group _ rest)) (sym (outs-Group' a transitions))
+    (λ i. (transitions_row o _ transitions
+    ∙ ap (transitions_faults o) (sym (items_shown-the_row-Transition-2 a transitions))) i
+    ++ groups_row o _ rest i)
+    ∙ ap (λ (g : Group-F Part Block Body FirstPart Routine Group Transition). transitions_faults o
+    g.transitions ++ groups_faults o (items-the_row-Group _ rest))
+    (sym (outs-Group' a transitions))
 
-groups_hidden : (o : Outline) (gs : List Group) → row_groups_faults o (hidden-the_row-Group-1 gs) ≡ groups_faults o gs
-groups_hidden o gs = groups_row o _ (hidden-the_row-Group-1 gs) ∙ ap (groups_faults o) (items_hidden-the_row-Group-1 gs)
+groups_hidden : (o : Outline) (gs : List Group) → row_groups_faults o (hidden-the_row-Group-1 gs)
+    ≡ groups_faults o gs
+groups_hidden o gs = groups_row o _ (hidden-the_row-Group-1 gs)
+    ∙ ap (groups_faults o) (items_hidden-the_row-Group-1 gs)
 
-body_is : (o : Outline) (outer : Bool) (b : Body) → part_faults o outer (part.Body b) ≡ body_faults o b
+body_is : (o : Outline) (outer : Bool) (b : Body)
+    → part_faults o outer (part.Body b) ≡ body_faults o b
 body_is o outer b =
     ap (λ x. part_faults o outer (part.Body x)) (is-Body' b)
     ∙ (λ i. twice_faults o (out-Body b).name ++ parts_hidden o false (out-Body b).parts i
     ++ first_at o (out-Body b).first i ++ groups_hidden o (out-Body b).groups i
-    ++ first_state_faults (states_hidden (out-Body b).parts i) (named_at (out-Body b).first i) (out-Body b).name.place
+    ++ first_state_faults (states_hidden (out-Body b).parts i) (named_at (out-Body b).first i)
+    (out-Body b).name.place
     ++ scalars_faults (scalars_hidden o (out-Body b).parts i) (out-Body b).name.place)
 
 -- a body and a routine by their parts
-pub body_at : (o : Outline) (outer : Bool) (p : Part) (b : Body) → p ≡ part.Body b → part_faults o outer p ≡ body_faults o b
+pub body_at : (o : Outline) (outer : Bool) (p : Part) (b : Body) → p ≡ part.Body b
+    → part_faults o outer p ≡ body_faults o b
 body_at o outer p b h = ap (part_faults o outer) h ∙ body_is o outer b
 
-pub routine_at : (o : Outline) (outer : Bool) (p : Part) (r : Routine) → p ≡ part.Routine r → part_faults o outer p ≡ routine_faults o r
+pub routine_at : (o : Outline) (outer : Bool) (p : Part) (r : Routine) → p ≡ part.Routine r
+    → part_faults o outer p ≡ routine_faults o r
 routine_at o outer p r h =
     ap (part_faults o outer) h
     ∙ (λ i. twice_faults o r.name ++ formals_faults o (is_function r.result) r.formals

@@ -1,3 +1,3 @@
-pub mod Faults
+pub mod DeclarationFaults
 pub mod Table
 pub mod inside

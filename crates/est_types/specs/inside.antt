@@ -1,2 +1,2 @@
 -- What only the private functions say.
-pub mod Parts
+pub mod DeclarationParts

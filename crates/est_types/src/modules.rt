@@ -2,13 +2,15 @@
 #![tactic(auto, using(est_scope::proofs::LeastLaws::least_append))]
 
 ghost use Rattle.std.specs.Prelude.{◌≡◌, OnOk};
-ghost use Rattle.est_scope.specs.Least.{least_with};
+ghost use Rattle.est_scope.specs.LeastSoFar.{least_with};
 ghost use Rattle.est_scope.specs.Outline.{entry_at};
-ghost use Rattle.est_types.specs.Faults.{role_faults, roles_faults, interaction_faults};
-ghost use Rattle.est_types.specs.Faults.{interactions_faults, by_faults, bys_faults};
-ghost use Rattle.est_types.specs.Faults.{channel_faults, side_faults, point_faults};
-ghost use Rattle.est_types.specs.Faults.{points_faults, header_faults, is_system, same_truth};
-ghost use Rattle.est_types.specs.Faults.{attribute_faults, modvar_faults, modvars_faults};
+ghost use Rattle.est_types.specs.DeclarationFaults.{role_faults, roles_faults, interaction_faults};
+ghost use Rattle.est_types.specs.DeclarationFaults.{interactions_faults, by_faults, bys_faults};
+ghost use Rattle.est_types.specs.DeclarationFaults.{channel_faults, side_faults, point_faults};
+ghost use Rattle.est_types.specs.DeclarationFaults.{points_faults, header_faults};
+ghost use Rattle.est_types.specs.DeclarationFaults.{is_system, same_truth};
+ghost use Rattle.est_types.specs.DeclarationFaults.{attribute_faults};
+ghost use Rattle.est_types.specs.DeclarationFaults.{modvar_faults, modvars_faults};
 
 use crate::sections::check_vars;
 use est_kinds::dims::check_dims;

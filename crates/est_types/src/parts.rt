@@ -2,13 +2,14 @@
 #![tactic(auto, using(est_scope::proofs::LeastLaws::least_append, crate::proofs::PartRows::body_at, crate::proofs::PartRows::routine_at))]
 
 ghost use Rattle.std.specs.Prelude.{◌≡◌, OnOk, IfOk, None};
-ghost use Rattle.est_scope.specs.Least.{least_with};
-ghost use Rattle.est_types.specs.Faults.{is_function, scalars_faults, first_state_faults};
-ghost use Rattle.est_types.specs.Faults.{part_faults, parts_faults};
-ghost use Rattle.est_types.specs.inside.Parts.{block_faults, first_part_faults};
-ghost use Rattle.est_types.specs.inside.Parts.{transition_faults, transitions_faults};
-ghost use Rattle.est_types.specs.inside.Parts.{group_faults, groups_faults, body_faults};
-ghost use Rattle.est_types.specs.inside.Parts.{routine_faults};
+ghost use Rattle.est_scope.specs.LeastSoFar.{least_with};
+ghost use Rattle.est_types.specs.DeclarationFaults.{is_function, scalars_faults};
+ghost use Rattle.est_types.specs.DeclarationFaults.{first_state_faults};
+ghost use Rattle.est_types.specs.DeclarationFaults.{part_faults, parts_faults};
+ghost use Rattle.est_types.specs.inside.DeclarationParts.{block_faults, first_part_faults};
+ghost use Rattle.est_types.specs.inside.DeclarationParts.{transition_faults, transitions_faults};
+ghost use Rattle.est_types.specs.inside.DeclarationParts.{group_faults, groups_faults, body_faults};
+ghost use Rattle.est_types.specs.inside.DeclarationParts.{routine_faults};
 
 use crate::modules::{check_channel, check_header, check_modvars, check_points};
 use crate::sections::{

@@ -2,12 +2,13 @@
 #![tactic(auto, using(est_scope::proofs::LeastLaws::least_append))]
 
 ghost use Rattle.std.specs.Prelude.{◌≡◌, OnOk};
-ghost use Rattle.est_scope.specs.Least.{least_with};
-ghost use Rattle.est_types.specs.Faults.{const_faults, consts_faults, typedef_faults};
-ghost use Rattle.est_types.specs.Faults.{typedefs_faults, var_faults, vars_faults};
-ghost use Rattle.est_types.specs.Faults.{stateset_faults, statesets_faults, word_place};
-ghost use Rattle.est_types.specs.Faults.{formal_faults, formals_faults, result_faults};
-ghost use Rattle.est_types.specs.Faults.{chosen_faults, any_faults, clause_faults, clauses_faults};
+ghost use Rattle.est_scope.specs.LeastSoFar.{least_with};
+ghost use Rattle.est_types.specs.DeclarationFaults.{const_faults, consts_faults, typedef_faults};
+ghost use Rattle.est_types.specs.DeclarationFaults.{typedefs_faults, var_faults, vars_faults};
+ghost use Rattle.est_types.specs.DeclarationFaults.{stateset_faults, statesets_faults, word_place};
+ghost use Rattle.est_types.specs.DeclarationFaults.{formal_faults, formals_faults, result_faults};
+ghost use Rattle.est_types.specs.DeclarationFaults.{chosen_faults, any_faults};
+ghost use Rattle.est_types.specs.DeclarationFaults.{clause_faults, clauses_faults};
 
 use est_kinds::constants::check_constant;
 use est_kinds::names::check_type;

@@ -2,8 +2,9 @@
 
 ghost use Rattle.std.specs.Prelude.{◌≡◌};
 ghost use Rattle.est_scope.specs.Outline.{entry_at};
-ghost use Rattle.est_types.specs.Faults.{scalars_in, scalars_by, names_scalars, vars_scalars};
-ghost use Rattle.est_types.specs.inside.Parts.{parts_scalars, have_states, has_first};
+ghost use Rattle.est_types.specs.DeclarationFaults.{scalars_in, scalars_by};
+ghost use Rattle.est_types.specs.DeclarationFaults.{names_scalars, vars_scalars};
+ghost use Rattle.est_types.specs.inside.DeclarationParts.{parts_scalars, have_states, has_first};
 
 use est_scope::outline::Outline;
 use est_syntax::body::{FirstPart, Part};

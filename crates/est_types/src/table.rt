@@ -5,9 +5,9 @@ ghost use Rattle.est_kinds.specs.Constants.{value_by};
 ghost use Rattle.std.specs.Option.{option_copied};
 ghost use Rattle.est_syntax.specs.Least.{IsIn, IsLeast};
 ghost use Rattle.est_scope.specs.Outline.{meant};
-ghost use Rattle.est_scope.specs.Least.{least_with};
+ghost use Rattle.est_scope.specs.LeastSoFar.{least_with};
 ghost use Rattle.est_outline.specs.Bodies.{outline_of};
-ghost use Rattle.est_types.specs.Faults.{parts_faults, declaration_faults};
+ghost use Rattle.est_types.specs.DeclarationFaults.{parts_faults, declaration_faults};
 ghost use Rattle.est_types.specs.Table.{declaration, kind_of, ordinal_by, constant_of, dims_at};
 
 use crate::parts::check_parts;

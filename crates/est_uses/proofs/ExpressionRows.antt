@@ -1,20 +1,53 @@
 -- What stands in a list, a box or an option looks up the same as within an expression.
 use Rattle.std.proofs.Common.{◌≡◌, refl, sym, ap, ◌∙◌, ℕ, List, ◌∷◌, ◌++◌}
-use Rattle.est_syntax.specs.declared.expression.Expr.{Expr, Expr', out-Expr, outs-Expr', Held-Expr-relation, Expr-relation-None', Expr-relation-Some', view-Expr-relation}
-use Rattle.est_syntax.specs.declared.expression.Factor.{Factor, Row_of-Expr, end_of-Expr, more_of-Expr, items-the_row-Expr, items_hidden-the_row-Expr-4, Row_of-Member, end_of-Member, more_of-Member, items-the_row-Member, items_hidden-the_row-Member-2, Row_of-Selector, end_of-Selector, more_of-Selector, items-the_row-Selector, items_hidden-the_row-Selector-3}
-use Rattle.est_syntax.specs.declared.expression.Factor.TheBlock.{hidden-the_row-Expr-0, hidden-the_row-Factor-1, hidden-the_row-Member-2, hidden-the_row-Selector-3, hidden-the_row-Expr-4}
-use Rattle.est_syntax.specs.declared.expression.Factor.TheOpen.{Expr-F, Member-F, Relation-F, Simple-F, SumStep-F, Term-F}
+use Rattle.est_syntax.specs.declared.expression.Expr.{Expr, Expr', out-Expr, outs-Expr'}
+use Rattle.est_syntax.specs.declared.expression.Expr.{Held-Expr-relation, Expr-relation-None'}
+use Rattle.est_syntax.specs.declared.expression.Expr.{Expr-relation-Some', view-Expr-relation}
+use Rattle.est_syntax.specs.declared.expression.Factor.{Factor, Row_of-Expr, end_of-Expr}
+use Rattle.est_syntax.specs.declared.expression.Factor.{more_of-Expr, items-the_row-Expr}
+use Rattle.est_syntax.specs.declared.expression.Factor.{items_hidden-the_row-Expr-4}
+use Rattle.est_syntax.specs.declared.expression.Factor.{Row_of-Member, end_of-Member}
+use Rattle.est_syntax.specs.declared.expression.Factor.{more_of-Member, items-the_row-Member}
+use Rattle.est_syntax.specs.declared.expression.Factor.{items_hidden-the_row-Member-2}
+use Rattle.est_syntax.specs.declared.expression.Factor.{Row_of-Selector, end_of-Selector}
+use Rattle.est_syntax.specs.declared.expression.Factor.{more_of-Selector, items-the_row-Selector}
+use Rattle.est_syntax.specs.declared.expression.Factor.{items_hidden-the_row-Selector-3}
+use Rattle.est_syntax.specs.declared.expression.Factor.TheBlock.{hidden-the_row-Expr-0}
+use Rattle.est_syntax.specs.declared.expression.Factor.TheBlock.{hidden-the_row-Factor-1}
+use Rattle.est_syntax.specs.declared.expression.Factor.TheBlock.{hidden-the_row-Member-2}
+use Rattle.est_syntax.specs.declared.expression.Factor.TheBlock.{hidden-the_row-Selector-3}
+use Rattle.est_syntax.specs.declared.expression.Factor.TheBlock.{hidden-the_row-Expr-4}
+use Rattle.est_syntax.specs.declared.expression.Factor.TheOpen.{Expr-F, Member-F, Relation-F}
+use Rattle.est_syntax.specs.declared.expression.Factor.TheOpen.{Simple-F, SumStep-F, Term-F}
 use Rattle.est_syntax.specs.declared.expression.Factor.TheVariants as factor
-use Rattle.est_syntax.specs.declared.expression.Member.{Member, Member', out-Member, outs-Member', Held-Member-high, Member-high-None', Member-high-Some', view-Member-high}
+use Rattle.est_syntax.specs.declared.expression.Member.{Member, Member', out-Member, outs-Member'}
+use Rattle.est_syntax.specs.declared.expression.Member.{Held-Member-high, Member-high-None'}
+use Rattle.est_syntax.specs.declared.expression.Member.{Member-high-Some', view-Member-high}
 use Rattle.est_syntax.specs.declared.expression.ProductStep.{ProductStep}
-use Rattle.est_syntax.specs.declared.expression.Relation.{Relation, Relation', out-Relation, outs-Relation'}
+use Rattle.est_syntax.specs.declared.expression.Relation.{Relation, Relation'}
+use Rattle.est_syntax.specs.declared.expression.Relation.{out-Relation, outs-Relation'}
 use Rattle.est_syntax.specs.declared.expression.Selector.{Selector}
 use Rattle.est_syntax.specs.declared.expression.Selector.TheVariants as selector
-use Rattle.est_syntax.specs.declared.expression.Simple.{Simple, Simple', out-Simple, outs-Simple', Row_of-SumStep, end_of-SumStep, more_of-SumStep, items-the_row-SumStep, items_shown-the_row-SumStep-5}
-use Rattle.est_syntax.specs.declared.expression.SumStep.{SumStep, SumStep', out-SumStep, outs-SumStep'}
-use Rattle.est_syntax.specs.declared.expression.Term.{Term, Term', out-Term, outs-Term', Row_of-ProductStep, end_of-ProductStep, more_of-ProductStep, items-the_row-ProductStep, items_shown-the_row-ProductStep-6}
+use Rattle.est_syntax.specs.declared.expression.Simple.{Simple, Simple', out-Simple, outs-Simple'}
+use Rattle.est_syntax.specs.declared.expression.Simple.{Row_of-SumStep, end_of-SumStep}
+use Rattle.est_syntax.specs.declared.expression.Simple.{more_of-SumStep, items-the_row-SumStep}
+use Rattle.est_syntax.specs.declared.expression.Simple.{items_shown-the_row-SumStep-5}
+use Rattle.est_syntax.specs.declared.expression.SumStep.{SumStep, SumStep'}
+use Rattle.est_syntax.specs.declared.expression.SumStep.{out-SumStep, outs-SumStep'}
+use Rattle.est_syntax.specs.declared.expression.Term.{Term, Term', out-Term, outs-Term'}
+use Rattle.est_syntax.specs.declared.expression.Term.{Row_of-ProductStep, end_of-ProductStep}
+use Rattle.est_syntax.specs.declared.expression.Term.{more_of-ProductStep}
+use Rattle.est_syntax.specs.declared.expression.Term.{items-the_row-ProductStep}
+use Rattle.est_syntax.specs.declared.expression.Term.{items_shown-the_row-ProductStep-6}
 use Rattle.est_syntax.specs.declared.name.Used.{Used}
-use Rattle.est_uses.specs.Expressions.{expr_names, relation_held, relation_names, simple_names, sum_row, sum_step_names, term_names, product_row, factor_names, expr_box, factor_box, exprs_row, member_names, high_held, members_row, selector_names, selectors_row, exprs_names, option_relation_names, option_expr_names, sum_steps_names, product_steps_names, members_names, selectors_names}
+use Rattle.est_uses.specs.NamesInExpressions.{expr_names, relation_held, relation_names}
+use Rattle.est_uses.specs.NamesInExpressions.{simple_names, sum_row, sum_step_names, term_names}
+use Rattle.est_uses.specs.NamesInExpressions.{product_row, factor_names, expr_box, factor_box}
+use Rattle.est_uses.specs.NamesInExpressions.{exprs_row, member_names, high_held, members_row}
+use Rattle.est_uses.specs.NamesInExpressions.{selector_names, selectors_row, exprs_names}
+use Rattle.est_uses.specs.NamesInExpressions.{option_relation_names, option_expr_names}
+use Rattle.est_uses.specs.NamesInExpressions.{sum_steps_names, product_steps_names}
+use Rattle.est_uses.specs.NamesInExpressions.{members_names, selectors_names}
 
 pub expr_hidden : (e : Expr) → expr_box (hidden-the_row-Expr-0 e) ≡ expr_names e
 unfolding hidden-the_row-Expr-0 denote.Hole.Carrier.hidden
@@ -70,8 +103,7 @@ set_at f ms place h = ap factor_names h ∙ members_hidden ms
 
 pub variable_at : (f : Factor) (name : Used) (path : List Selector) (place : ℕ)
     → f ≡ factor.Variable name path place → factor_names f ≡ name ∷ selectors_names path
-variable_at f name path place h =
-    ap factor_names h ∙ ap (λ l. name ∷ l) (selectors_hidden path)
+variable_at f name path place h = ap factor_names h ∙ ap (λ l. name ∷ l) (selectors_hidden path)
 
 pub call_at : (f : Factor) (name : Used) (es : List Expr) (place : ℕ)
     → f ≡ factor.Call name es place → factor_names f ≡ name ∷ exprs_names es
@@ -150,4 +182,17 @@ member_out (Member' low held) =
     (sym (outs-Member' low held))
 
 -- What the functions over expressions need.
-pub ruleset rows = (expr_out, relation_out, simple_out, sum_step_out, term_out, member_out, group_at, not_at, set_at, variable_at, call_at, index_at)
+pub ruleset rows = (
+  expr_out,
+  relation_out,
+  simple_out,
+  sum_step_out,
+  term_out,
+  member_out,
+  group_at,
+  not_at,
+  set_at,
+  variable_at,
+  call_at,
+  index_at,
+)

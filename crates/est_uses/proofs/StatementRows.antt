@@ -3,13 +3,24 @@ use Rattle.std.proofs.Common.{◌≡◌, refl, ap, ◌∙◌, ℕ, Bool, List, �
 use Rattle.est_syntax.specs.declared.expression.Expr.{Expr}
 use Rattle.est_syntax.specs.declared.name.Used.{Used}
 use Rattle.est_syntax.specs.declared.statement.Arm.{Arm}
-use Rattle.est_syntax.specs.declared.statement.Statement.{Statement, Row_of-Statement, end_of-Statement, more_of-Statement, items-the_row-Statement, items_hidden-the_row-Statement-0, Row_of-Arm, end_of-Arm, more_of-Arm, items-the_row-Arm, items_hidden-the_row-Arm-2, back-Statement-If-2}
-use Rattle.est_syntax.specs.declared.statement.Statement.TheBlock.{hidden-the_row-Statement-0, hidden-the_row-Statement-1, hidden-the_row-Arm-2}
+use Rattle.est_syntax.specs.declared.statement.Statement.{Statement, Row_of-Statement}
+use Rattle.est_syntax.specs.declared.statement.Statement.{end_of-Statement, more_of-Statement}
+use Rattle.est_syntax.specs.declared.statement.Statement.{items-the_row-Statement}
+use Rattle.est_syntax.specs.declared.statement.Statement.{items_hidden-the_row-Statement-0}
+use Rattle.est_syntax.specs.declared.statement.Statement.{Row_of-Arm, end_of-Arm, more_of-Arm}
+use Rattle.est_syntax.specs.declared.statement.Statement.{items-the_row-Arm}
+use Rattle.est_syntax.specs.declared.statement.Statement.{items_hidden-the_row-Arm-2}
+use Rattle.est_syntax.specs.declared.statement.Statement.{back-Statement-If-2}
+use Rattle.est_syntax.specs.declared.statement.Statement.TheBlock.{hidden-the_row-Statement-0}
+use Rattle.est_syntax.specs.declared.statement.Statement.TheBlock.{hidden-the_row-Statement-1}
+use Rattle.est_syntax.specs.declared.statement.Statement.TheBlock.{hidden-the_row-Arm-2}
 use Rattle.est_syntax.specs.declared.statement.Statement.TheVariants as statement
 use Rattle.est_syntax.specs.declared.type_text.TypeText.{TypeText}
-use Rattle.est_uses.specs.Expressions.{expr_names}
-use Rattle.est_uses.specs.Statements.{statement_names, statement_box, second_held, statements_row, arms_row, option_statement_names, statements_names, arm_names, arms_names}
-use Rattle.est_uses.specs.Texts.{text_names}
+use Rattle.est_uses.specs.NamesInExpressions.{expr_names}
+use Rattle.est_uses.specs.NamesInStatements.{statement_names, statement_box, second_held}
+use Rattle.est_uses.specs.NamesInStatements.{statements_row, arms_row, option_statement_names}
+use Rattle.est_uses.specs.NamesInStatements.{statements_names, arm_names, arms_names}
+use Rattle.est_uses.specs.NamesInTexts.{text_names}
 
 pub statement_hidden : (s : Statement)
     → statement_box (hidden-the_row-Statement-1 s) ≡ statement_names s

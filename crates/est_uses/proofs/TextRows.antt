@@ -1,10 +1,18 @@
 -- Texts that stand in a list or a box look up the same as within a text.
 use Rattle.std.proofs.Common.{◌≡◌, refl, ap, ◌∙◌, ℕ, List, ◌++◌}
-use Rattle.est_syntax.specs.declared.type_text.TypeText.{TypeText, Row_of-TypeText, end_of-TypeText, more_of-TypeText, items-the_row-TypeText, items_hidden-the_row-TypeText-0, Row_of-VarDef, end_of-VarDef, more_of-VarDef, items-the_row-VarDef, items_hidden-the_row-VarDef-2}
-use Rattle.est_syntax.specs.declared.type_text.TypeText.TheBlock.{hidden-the_row-TypeText-0, hidden-the_row-TypeText-1, hidden-the_row-VarDef-2}
+use Rattle.est_syntax.specs.declared.type_text.TypeText.{TypeText, Row_of-TypeText, end_of-TypeText}
+use Rattle.est_syntax.specs.declared.type_text.TypeText.{more_of-TypeText, items-the_row-TypeText}
+use Rattle.est_syntax.specs.declared.type_text.TypeText.{items_hidden-the_row-TypeText-0}
+use Rattle.est_syntax.specs.declared.type_text.TypeText.{Row_of-VarDef, end_of-VarDef}
+use Rattle.est_syntax.specs.declared.type_text.TypeText.{more_of-VarDef, items-the_row-VarDef}
+use Rattle.est_syntax.specs.declared.type_text.TypeText.{items_hidden-the_row-VarDef-2}
+use Rattle.est_syntax.specs.declared.type_text.TypeText.TheBlock.{hidden-the_row-TypeText-0}
+use Rattle.est_syntax.specs.declared.type_text.TypeText.TheBlock.{hidden-the_row-TypeText-1}
+use Rattle.est_syntax.specs.declared.type_text.TypeText.TheBlock.{hidden-the_row-VarDef-2}
 use Rattle.est_syntax.specs.declared.type_text.TypeText.TheVariants as text
 use Rattle.est_syntax.specs.declared.type_text.VarDef.{VarDef}
-use Rattle.est_uses.specs.Texts.{text_names, text_box, texts_row, fields_row, texts_names, var_defs_names}
+use Rattle.est_uses.specs.NamesInTexts.{text_names, text_box, texts_row}
+use Rattle.est_uses.specs.NamesInTexts.{fields_row, texts_names, var_defs_names}
 
 pub texts_listed : (n : _) (row : Row_of-TypeText n)
     → texts_row row ≡ texts_names (items-the_row-TypeText n row)

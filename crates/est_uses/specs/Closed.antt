@@ -1,7 +1,8 @@
 -- Whether a routine names nothing that belongs to one module alone, so that nested bodies may call
 -- it: variables, parameters, exports, interaction points and module variables of a body (ISO 9074,
 -- scope of identifiers).
-use Rattle.std.specs.Prelude.{ℕ, Bool, true, nat_lt, nat_eq, List, Option, Some, None, if◌then◌else◌}
+use Rattle.std.specs.Prelude.{ℕ, Bool, true, nat_lt, nat_eq, List}
+use Rattle.std.specs.Prelude.{Option, Some, None, if◌then◌else◌}
 use Rattle.std.specs.List.{list_all}
 use Rattle.est_syntax.specs.Names.{spelled}
 use Rattle.est_syntax.specs.declared.name.Used.{Used}
@@ -9,7 +10,8 @@ use Rattle.est_syntax.specs.declared.routine.Routine.{Routine, out-Routine}
 use Rattle.est_scope.specs.Outline.{Outline, entry_at, meant}
 use Rattle.est_scope.specs.declared.declaration.Entry.{Entry}
 use Rattle.est_scope.specs.declared.declaration.Meant.{Meant}
-use Rattle.est_scope.specs.declared.declaration.Meant.TheVariants.{Nothing, Predeclared, Unseen, Seen}
+use Rattle.est_scope.specs.declared.declaration.Meant.TheVariants.{Nothing, Predeclared}
+use Rattle.est_scope.specs.declared.declaration.Meant.TheVariants.{Unseen, Seen}
 use Rattle.est_scope.specs.declared.declaration.Sort.{Sort}
 use Rattle.est_scope.specs.declared.declaration.Sort.TheVariants as sort
 use Rattle.est_uses.specs.Routines.{routine_names}

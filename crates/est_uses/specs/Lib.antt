@@ -1,5 +1,5 @@
 pub mod Closed
-pub mod Expressions
+pub mod NamesInExpressions
 pub mod Routines
-pub mod Statements
-pub mod Texts
+pub mod NamesInStatements
+pub mod NamesInTexts

@@ -8,8 +8,8 @@ use Rattle.est_syntax.specs.declared.name.Used.{Used}
 use Rattle.est_syntax.specs.declared.routine.Formal.{Formal}
 use Rattle.est_syntax.specs.declared.routine.Routine.{Routine, out-Routine}
 use Rattle.est_syntax.specs.declared.type_text.TypeDef.{TypeDef}
-use Rattle.est_uses.specs.Statements.{statements_names}
-use Rattle.est_uses.specs.Texts.{constant_names, text_names, var_defs_names}
+use Rattle.est_uses.specs.NamesInStatements.{statements_names}
+use Rattle.est_uses.specs.NamesInTexts.{constant_names, text_names, var_defs_names}
 
 -- A constant's definition looks up what its value does.
 abbrev pub const_def_names : ConstDef → List Used

@@ -3,12 +3,13 @@
 
 ghost use Rattle.std.specs.Prelude.{◌≡◌};
 ghost use Rattle.est_uses.specs.Closed.{all_free};
-ghost use Rattle.est_uses.specs.Expressions.{expr_names, exprs_names, relation_names, simple_names};
-ghost use Rattle.est_uses.specs.Expressions.{sum_step_names, sum_steps_names, term_names};
-ghost use Rattle.est_uses.specs.Expressions.{product_step_names, product_steps_names};
-ghost use Rattle.est_uses.specs.Expressions.{factor_names, member_names, members_names};
-ghost use Rattle.est_uses.specs.Expressions.{selector_names, selectors_names};
-ghost use Rattle.est_uses.specs.Expressions.{access_names, end_names};
+ghost use Rattle.est_uses.specs.NamesInExpressions.{expr_names, exprs_names};
+ghost use Rattle.est_uses.specs.NamesInExpressions.{relation_names, simple_names};
+ghost use Rattle.est_uses.specs.NamesInExpressions.{sum_step_names, sum_steps_names, term_names};
+ghost use Rattle.est_uses.specs.NamesInExpressions.{product_step_names, product_steps_names};
+ghost use Rattle.est_uses.specs.NamesInExpressions.{factor_names, member_names, members_names};
+ghost use Rattle.est_uses.specs.NamesInExpressions.{selector_names, selectors_names};
+ghost use Rattle.est_uses.specs.NamesInExpressions.{access_names, end_names};
 
 use crate::free::is_free;
 use est_scope::outline::Outline;

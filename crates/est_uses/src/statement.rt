@@ -3,12 +3,12 @@
 
 ghost use Rattle.std.specs.Prelude.{◌≡◌, ◌∷◌, ◌++◌};
 ghost use Rattle.est_uses.specs.Closed.{all_free};
-ghost use Rattle.est_uses.specs.Expressions.{expr_names};
-ghost use Rattle.est_uses.specs.Statements.{sending_names, sendings_names};
-ghost use Rattle.est_uses.specs.Statements.{link_names, plain_names, statement_names};
-ghost use Rattle.est_uses.specs.Statements.{option_statement_names, statements_names};
-ghost use Rattle.est_uses.specs.Statements.{arm_names, arms_names};
-ghost use Rattle.est_uses.specs.Texts.{text_names};
+ghost use Rattle.est_uses.specs.NamesInExpressions.{expr_names};
+ghost use Rattle.est_uses.specs.NamesInStatements.{sending_names, sendings_names};
+ghost use Rattle.est_uses.specs.NamesInStatements.{link_names, plain_names, statement_names};
+ghost use Rattle.est_uses.specs.NamesInStatements.{option_statement_names, statements_names};
+ghost use Rattle.est_uses.specs.NamesInStatements.{arm_names, arms_names};
+ghost use Rattle.est_uses.specs.NamesInTexts.{text_names};
 
 use crate::expression::{access, end_point, expr, exprs, selectors};
 use crate::free::is_free;

@@ -3,8 +3,9 @@
 
 ghost use Rattle.std.specs.Prelude.{◌≡◌};
 ghost use Rattle.est_uses.specs.Closed.{all_free};
-ghost use Rattle.est_uses.specs.Texts.{constant_names, constants_names, text_names, texts_names};
-ghost use Rattle.est_uses.specs.Texts.{var_def_names, var_defs_names};
+ghost use Rattle.est_uses.specs.NamesInTexts.{constant_names, constants_names};
+ghost use Rattle.est_uses.specs.NamesInTexts.{text_names, texts_names};
+ghost use Rattle.est_uses.specs.NamesInTexts.{var_def_names, var_defs_names};
 
 use crate::free::is_free;
 use est_scope::outline::Outline;

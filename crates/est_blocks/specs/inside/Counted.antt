@@ -2,7 +2,7 @@
 use Rattle.std.specs.Prelude.{ℕ, List, [], ◌∷◌, length}
 use Rattle.est_syntax.specs.declared.body.Body.{Body, out-Body}
 use Rattle.est_syntax.specs.declared.transition.Group.{Group, out-Group}
-use Rattle.est_kinds.specs.Texts.{added}
+use Rattle.est_kinds.specs.TypeTexts.{added}
 use Rattle.est_blocks.specs.Counts.{bodies, transitions}
 
 abbrev pub body_bodies : Body → ℕ

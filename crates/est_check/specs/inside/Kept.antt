@@ -1,7 +1,7 @@
 -- What is kept of a specification that breaks no rule.
 use Rattle.std.specs.Prelude.{◌≡◌}
 use Rattle.est_syntax.specs.declared.specification.Spec.{Spec}
-use Rattle.est_blocks.specs.Answers.{IsGood}
+use Rattle.est_blocks.specs.LeastFault.{IsGood}
 use Rattle.est_blocks.specs.Counts.{counts_of}
 use Rattle.est_skeleton.specs.Ports.{ports_of, body_started, header_meant}
 use Rattle.est_skeleton.specs.Skeleton.{IsSkeleton}

@@ -4,7 +4,7 @@ use Rattle.est_syntax.specs.declared.type_text.TypeText.{TypeText, out-TypeText}
 use Rattle.est_reader.specs.declared.reader.Reader.{Reader}
 use Rattle.est_reader.specs.declared.outcome.Outcome.TheVariants.{Well}
 use Rattle.est_reader.specs.Going.{Goes}
-use Rattle.est_productions.specs.Grammar.{structure}
+use Rattle.est_productions.specs.Productions.{structure}
 use Rattle.est_productions.specs.Nodes.{View, type_text, structured}
 use Rattle.est_productions.specs.Syntax.{estelle}
 

@@ -14,8 +14,7 @@ side_signals s Second = s.second
 
 -- the sides are those of a channel, by the place of its name
 abbrev pub IsKnown : Outline → ℕ → Sides → Type 0
-IsKnown o channel sides =
-    (r : Role) → side_signals sides r ≡ signals_in o r (names_of o channel)
+IsKnown o channel sides = (r : Role) → side_signals sides r ≡ signals_in o r (names_of o channel)
 
 -- and each in a list is
 abbrev pub AreKnown : Outline → List (ℕ × Sides) → Type 0

@@ -4,7 +4,8 @@ use Rattle.est_syntax.specs.declared.body.FirstPart.{FirstPart}
 use Rattle.est_syntax.specs.declared.body.Part.{Part}
 use Rattle.est_syntax.specs.declared.body.Part.TheVariants as part
 use Rattle.est_syntax.specs.declared.specification.Spec.{Spec}
-use Rattle.est_skeleton.specs.Skeleton.{IsPlainChannel, IsPlainHeader, IsPlainVariable, IsInit, IsPlainFirst, IsPlainBody}
+use Rattle.est_skeleton.specs.Skeleton.{IsPlainChannel, IsPlainHeader, IsPlainVariable}
+use Rattle.est_skeleton.specs.Skeleton.{IsInit, IsPlainFirst, IsPlainBody}
 
 -- an initialize part of a skeleton, if any
 abbrev pub IsFirst : Option FirstPart → Type 0

@@ -18,8 +18,8 @@ use Rattle.est_tool.specs.Statuses.{replay_status}
 use Rattle.est_tool.specs.Seen.{Seen}
 use Rattle.est_tool.specs.Ends.{End, reported, numbers_of, Ends}
 use Rattle.est_tool.specs.Started.{Starts}
-use Rattle.est_tool.specs.Words.{Request, Asks, bytes_of}
-use Rattle.est_tool.specs.inside.Steps.{IsStop, IsQuiet}
+use Rattle.est_tool.specs.Requests.{Request, Asks, bytes_of}
+use Rattle.est_tool.specs.inside.Reads.{IsStop, IsQuiet}
 
 -- a command ends with a report, or stops before
 abbrev pub IsMade : (End → Type 0) → Result Report Stop → Type 0

@@ -1,12 +1,13 @@
 -- What a function writes.
 use Rattle.std.specs.Prelude.{◌≡◌, ◌≢◌, ℕ, List, Option, Result, Ok, Err, string_bytes}
-use Rattle.est_edge.specs.Counts.{Rose}
+use Rattle.est_edge.specs.FaultCounts.{Rose}
 use Rattle.est_edge.specs.Pieces.{appended, IsPrefix}
 use Rattle.est_tool.specs.declared.report.Report.{Report}
 use Rattle.est_tool.specs.declared.stop.Stop.{Stop}
 use Rattle.est_tool.specs.declared.stop.Stop.TheVariants as stop
 use Rattle.est_tool.specs.declared.status.Status.{Status}
-use Rattle.est_tool.specs.declared.status.Status.TheVariants.{Usage, ReadFault, WriteFault, OutOfMemory}
+use Rattle.est_tool.specs.declared.status.Status.TheVariants.{Usage, ReadFault}
+use Rattle.est_tool.specs.declared.status.Status.TheVariants.{WriteFault, OutOfMemory}
 use Rattle.est_tool.specs.Seen.{Sent}
 use Rattle.est_tool.specs.Ends.{End, reported, unread}
 
@@ -40,8 +41,7 @@ IsDelivered (Ok report) status before after =
 IsDelivered (Err (stop.Refused report)) status before after =
     IsSent report.status (string_bytes report.text) status before after
 IsDelivered (Err stop.ReadFault) status before after = (status ≡ ReadFault) × (after ≡ before)
-IsDelivered (Err stop.OutOfMemory) status before after =
-    (status ≡ OutOfMemory) × (after ≡ before)
+IsDelivered (Err stop.OutOfMemory) status before after = (status ≡ OutOfMemory) × (after ≡ before)
 
 -- a fault of the output is the answer, and the answer is none where no fault was
 pub record AnswersOutput (output : Sent) (status : Status) : Type 0 where

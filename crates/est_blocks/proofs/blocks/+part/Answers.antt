@@ -1,7 +1,9 @@
 use Rattle.std.proofs.Common.{refl}
 use Rattle.est_scope.proofs.LeastLaws.{least_loop}
-use Rattle.est_blocks.specs.Blocks.{parts_faults, part_faults}
+use Rattle.est_blocks.specs.BlockFaults.{parts_faults, part_faults}
 use Rattle.est_blocks.proofs.blocks.+part.Goals as goal
 
 pub check_parts-loop-part-preserved : goal.check_parts-loop-part-preserved
-check_parts-loop-part-preserved t c = least_loop (parts_faults c.args.outline.now) (part_faults c.args.outline.now) _ _ _ _ _ _ (λ y ys. refl) c.loop-part-test.true c.part-item.is c.in_ok-check_part.ensures c.loop-part.invariant
+check_parts-loop-part-preserved t c = least_loop (parts_faults c.args.outline.now)
+    (part_faults c.args.outline.now) _ _ _ _ _ _ (λ y ys. refl) c.loop-part-test.true c.part-item.is
+    c.in_ok-check_part.ensures c.loop-part.invariant

@@ -4,4 +4,6 @@ use Rattle.est_blocks.specs.Clauses.{states_faults, state_faults}
 use Rattle.est_blocks.proofs.clauses.check_states.Goals as goal
 
 pub loop-used-preserved : goal.loop-used-preserved
-loop-used-preserved c = least_loop (states_faults c.args.outline.now) (state_faults c.args.outline.now) _ _ _ _ _ _ (λ y ys. refl) c.loop-used-test.true c.used-item.is c.check_state.ensures c.loop-used.invariant
+loop-used-preserved c = least_loop (states_faults c.args.outline.now)
+    (state_faults c.args.outline.now) _ _ _ _ _ _ (λ y ys. refl) c.loop-used-test.true
+    c.used-item.is c.check_state.ensures c.loop-used.invariant

@@ -5,5 +5,6 @@ use Rattle.est_blocks.proofs.counts.names_elements.Goals as goal
 
 pub loop-i-preserved : goal.loop-i-preserved
 loop-i-preserved c =
-    let step = elements_at c.args.outline.now c.args.names.now (c.loop-i.i - 1) (c.entry.result.0.now, c.entry.result.1) c.entry.ensures in
+    let step = elements_at c.args.outline.now c.args.names.now (c.loop-i.i - 1)
+    (c.entry.result.0.now, c.entry.result.1) c.entry.ensures in
     grind (arith, common_steps, step)

@@ -6,7 +6,8 @@ use Rattle.est_edge.proofs.whole.read_whole.Goals as goal
 
 pub turns-preserved : goal.turns-preserved
 turns-preserved g c =
-    let grown : c.extend_from_slice.new.self.items ≡ c.turns.bytes.items ++ take c.in-Ok.n c.more.new.into = grind (arith, common_steps) in
+    let grown : c.extend_from_slice.new.self.items ≡ c.turns.bytes.items ++ take c.in-Ok.n
+    c.more.new.into = grind (arith, common_steps) in
     record {
       within = omega (arith, c.len-in-turns.ensures, c.if-len-limit.false);
       progress = grind (arith, common_steps);
@@ -16,7 +17,8 @@ turns-preserved g c =
       asked = grind (arith, common_steps);
       reads = c.more.ensures.reads c.args.name.now c.turns.invariant.reads;
       taken = grind (arith, common_steps, grown);
-      front = rw grown (TakesOff-next _ _ _ c.turns.bytes.items (take c.in-Ok.n c.more.new.into) c.turns.invariant.front c.in-Ok.ensures.piece);
+      front = rw grown (TakesOff-next _ _ _ c.turns.bytes.items (take c.in-Ok.n c.more.new.into)
+          c.turns.invariant.front c.in-Ok.ensures.piece);
     }
 
 pub returns-in_err-map_err-clause-told : goal.returns-in_err-map_err-clause-told
@@ -41,13 +43,16 @@ pub returns-in-Err-clause-counts : goal.returns-in-Err-clause-counts
 returns-in-Err-clause-counts g c = AllGoOn-then c.turns.invariant.quiet c.more.ensures.counts
 
 pub returns-in-Err-clause-faults : goal.returns-in-Err-clause-faults
-returns-in-Err-clause-faults g c = rose_then c.turns.invariant.quiet c.args.name.now (c.in-Err.ensures.failed c.args.name.now c.turns.invariant.reads)
+returns-in-Err-clause-faults g c = rose_then c.turns.invariant.quiet c.args.name.now
+    (c.in-Err.ensures.failed c.args.name.now c.turns.invariant.reads)
 
 pub returns-then-len-limit-clause-told : goal.returns-then-len-limit-clause-told
 returns-then-len-limit-clause-told g c = SameTold-then c.turns.invariant.same c.more.ensures.told
 
 pub returns-then-len-limit-clause-counts : goal.returns-then-len-limit-clause-counts
-returns-then-len-limit-clause-counts g c = AllGoOn-then c.turns.invariant.quiet c.more.ensures.counts
+returns-then-len-limit-clause-counts g c = AllGoOn-then c.turns.invariant.quiet
+    c.more.ensures.counts
 
 pub returns-then-len-limit-clause-faults : goal.returns-then-len-limit-clause-faults
-returns-then-len-limit-clause-faults g c = AllStay-then c.turns.invariant.quiet c.in-Ok.ensures.quiet
+returns-then-len-limit-clause-faults g c = AllStay-then c.turns.invariant.quiet
+    c.in-Ok.ensures.quiet

@@ -1,5 +1,5 @@
 use Rattle.std.proofs.Common.{◌≡◌, ◌≤◌, [], ◌∷◌, ◌++◌, length, vec_len}
-use Rattle.est_edge.specs.Counts.{AllStay}
+use Rattle.est_edge.specs.FaultCounts.{AllStay}
 use Rattle.est_edge.specs.Pieces.{SameTold, TakesOff}
 use Rattle.est_edge.proofs.whole.read_whole.Given as goal
 

@@ -7,13 +7,20 @@ use Rattle.est_edge.proofs.whole.write_whole.Goals as goal
 pub returns-in_err-done-clause-err : goal.returns-in_err-done-clause-err
 returns-in_err-done-clause-err g c =
     let p = err_from_is_err_and c.from_residual.result c.from_residual.ensures.1 in
-    rw p.1 (take c.loop-done.done c.args.bytes.now, IsPrefix-take _ _, c.in_err-done.ensures.err ∙ c.loop-done.invariant.written)
+    rw p.1 (
+      take c.loop-done.done c.args.bytes.now,
+      IsPrefix-take _ _,
+      c.in_err-done.ensures.err
+          ∙ c.loop-done.invariant.written,
+    )
 
 pub loop-done-preserved : goal.loop-done-preserved
 loop-done-preserved g c = record {
-  within = next_within c.args.bytes.now c.loop-done.done c.in_ok-done.field-0 c.loop-done.invariant.within c.in_ok-done.ensures.within;
+  within = next_within c.args.bytes.now c.loop-done.done c.in_ok-done.field-0
+      c.loop-done.invariant.within c.in_ok-done.ensures.within;
   quiet = c.in_ok-done.ensures.quiet ∙ c.loop-done.invariant.quiet;
-  written = appended-next _ _ _ c.args.bytes.now c.loop-done.done c.in_ok-done.field-0 c.loop-done.invariant.written c.in_ok-done.ensures.piece;
+  written = appended-next _ _ _ c.args.bytes.now c.loop-done.done c.in_ok-done.field-0
+      c.loop-done.invariant.written c.in_ok-done.ensures.piece;
 }
 
 pub returns-in_err-done-clause-count : goal.returns-in_err-done-clause-count

@@ -6,7 +6,8 @@ abbrev pub invariant-loop-done : goal.invariant-loop-done
 invariant-loop-done g l = record {
   within : l.done ≤ length l.bytes;
   quiet : g.K.Sink.faults l.sink ≡ g.K.Sink.faults l.initial.sink;
-  written : g.K.Sink.written l.sink ≡ appended (g.K.Sink.written l.initial.sink) (take l.done l.bytes);
+  written : g.K.Sink.written l.sink ≡ appended (g.K.Sink.written l.initial.sink)
+      (take l.done l.bytes);
 }
 
 abbrev pub decreases-loop-done : goal.decreases-loop-done

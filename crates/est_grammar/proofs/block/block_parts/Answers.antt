@@ -10,10 +10,14 @@ pub loop-reader-init : goal.loop-reader-init
 loop-reader-init c = rw c.new-items.ensures (no_part K)
 
 pub loop-reader-preserved : goal.loop-reader-preserved
-loop-reader-preserved c = more_parts_by K _ tokens.block_part_tokens refl refl refl c.loop-reader-test.ensures c.loop-reader.invariant c.block_part-next.ensures c.keep.ensures.still (λ w. rw (c.keep.ensures.added w, map-append) refl)
+loop-reader-preserved c = more_parts_by K _ tokens.block_part_tokens refl refl refl
+    c.loop-reader-test.ensures c.loop-reader.invariant c.block_part-next.ensures
+    c.keep.ensures.still (λ w. rw (c.keep.ensures.added w, map-append) refl)
 
 pub loop-reader-smaller : goal.loop-reader-smaller
-loop-reader-smaller c = lessens_by K tokens.block_part_tokens refl c.loop-reader-test.ensures c.block_part-next.ensures c.keep.ensures.still
+loop-reader-smaller c = lessens_by K tokens.block_part_tokens refl c.loop-reader-test.ensures
+    c.block_part-next.ensures c.keep.ensures.still
 
 pub returns : goal.returns
-returns c = all_parts K tokens.block_part_tokens refl refl c.loop-reader-test.ensures c.loop-reader.invariant
+returns c = all_parts K tokens.block_part_tokens refl refl c.loop-reader-test.ensures
+    c.loop-reader.invariant

@@ -3,13 +3,14 @@ use Rattle.est_language.specs.Grammar.{rep}
 use Rattle.est_reader.specs.Moving.{weight}
 use Rattle.est_reader.proofs.Steps.{left_of}
 use Rattle.est_reader.proofs.Turns.{Turning, Each}
-use Rattle.est_productions.specs.Grammar as grammar
+use Rattle.est_productions.specs.Productions as grammar
 use Rattle.est_productions.specs.Nodes as node
 use Rattle.est_productions.proofs.Fits.{K}
 use Rattle.est_grammar.proofs.body.+body.Given as goal
 
 abbrev pub invariant-body_parts-loop-reader : goal.invariant-body_parts-loop-reader
-invariant-body_parts-loop-reader l = Turning K (rep grammar.body_part) (rep grammar.body_part) l.fn.reader (Each K (map node.a_body_part l.items)) l.reader
+invariant-body_parts-loop-reader l = Turning K (rep grammar.body_part) (rep grammar.body_part)
+    l.fn.reader (Each K (map node.a_body_part l.items)) l.reader
 
 abbrev pub decreases-body_parts-loop-reader : goal.decreases-body_parts-loop-reader
 decreases-body_parts-loop-reader l = left_of l.reader

@@ -8,7 +8,9 @@ use Rattle.est_productions.proofs.Fits.{K}
 use Rattle.est_grammar.proofs.body.first_state.Goals as goal
 
 pub returns-then-not-sees : goal.returns-then-not-sees
-returns-then-not-sees c = opt_out K (kind (Reserved words.To) ∷ []) refl refl (c.if-not-sees.ensures, tt)
+returns-then-not-sees c = opt_out K (kind (Reserved words.To) ∷ []) refl refl
+    (c.if-not-sees.ensures, tt)
 
 pub returns : goal.returns
-returns c = opt_in K (kind (Reserved words.To)) refl refl c.if-not-sees.ensures (take K c.word.ensures (name_goes K c.name.ensures))
+returns c = opt_in K (kind (Reserved words.To)) refl refl c.if-not-sees.ensures
+    (take K c.word.ensures (name_goes K c.name.ensures))

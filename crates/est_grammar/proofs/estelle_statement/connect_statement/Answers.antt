@@ -8,4 +8,8 @@ use Rattle.est_grammar.proofs.Made as made
 use Rattle.est_grammar.proofs.estelle_statement.connect_statement.Goals as goal
 
 pub returns : goal.returns
-returns c = part (made.connect_made _ _ _) (rule_goes K (here_goes K (opt_in K (kind (Reserved words.Connect)) refl refl c.requires (chosen K 11 (kind (Reserved words.Connect)) refl c.requires (take K c.word.ensures (then K refl c.end_point-one.ensures (take K c.word-2.ensures c.end_point-other.ensures)))))))
+returns c = part (made.connect_made _ _ _)
+    (rule_goes K (here_goes K (opt_in K (kind (Reserved words.Connect)) refl refl c.requires
+    (chosen K 11 (kind (Reserved words.Connect)) refl c.requires
+    (take K c.word.ensures (then K refl c.end_point-one.ensures
+    (take K c.word-2.ensures c.end_point-other.ensures)))))))

@@ -8,4 +8,7 @@ use Rattle.est_grammar.proofs.Made as made
 use Rattle.est_grammar.proofs.estelle_statement.detach_statement.Goals as goal
 
 pub returns : goal.returns
-returns c = part (made.detach_made _ _) (rule_goes K (here_goes K (opt_in K (kind (Reserved words.Detach)) refl refl c.requires (chosen K 14 (kind (Reserved words.Detach)) refl c.requires (take K c.word.ensures c.end_point-end.ensures)))))
+returns c = part (made.detach_made _ _)
+    (rule_goes K (here_goes K (opt_in K (kind (Reserved words.Detach)) refl refl c.requires
+    (chosen K 14 (kind (Reserved words.Detach)) refl c.requires
+    (take K c.word.ensures c.end_point-end.ensures)))))

@@ -8,4 +8,6 @@ use Rattle.est_grammar.proofs.Made as made
 use Rattle.est_grammar.proofs.estelle_statement.init_statement.Goals as goal
 
 pub returns : goal.returns
-returns c = part (rw c.init.ensures.same (made.init_made _ _ _ _)) (rule_goes K (here_goes K (opt_in K (kind (Reserved words.Init)) refl refl c.requires (chosen K 9 (kind (Reserved words.Init)) refl c.requires c.init.ensures.goes))))
+returns c = part (rw c.init.ensures.same (made.init_made _ _ _ _))
+    (rule_goes K (here_goes K (opt_in K (kind (Reserved words.Init)) refl refl c.requires
+    (chosen K 9 (kind (Reserved words.Init)) refl c.requires c.init.ensures.goes))))

@@ -8,4 +8,7 @@ use Rattle.est_grammar.proofs.Made as made
 use Rattle.est_grammar.proofs.estelle_statement.output_statement.Goals as goal
 
 pub returns : goal.returns
-returns c = part (made.output_made _ _) (rule_goes K (here_goes K (opt_in K (kind (Reserved words.Output)) refl refl c.requires (chosen K 8 (kind (Reserved words.Output)) refl c.requires (take K c.word.ensures c.sendings-sendings.ensures)))))
+returns c = part (made.output_made _ _)
+    (rule_goes K (here_goes K (opt_in K (kind (Reserved words.Output)) refl refl c.requires
+    (chosen K 8 (kind (Reserved words.Output)) refl c.requires
+    (take K c.word.ensures c.sendings-sendings.ensures)))))

@@ -8,4 +8,7 @@ use Rattle.est_grammar.proofs.Made as made
 use Rattle.est_grammar.proofs.estelle_statement.release_statement.Goals as goal
 
 pub returns : goal.returns
-returns c = part (made.release_made _ _) (rule_goes K (here_goes K (opt_in K (kind (Reserved words.Release)) refl refl c.requires (chosen K 10 (kind (Reserved words.Release)) refl c.requires (take K c.word.ensures c.access-target.ensures)))))
+returns c = part (made.release_made _ _)
+    (rule_goes K (here_goes K (opt_in K (kind (Reserved words.Release)) refl refl c.requires
+    (chosen K 10 (kind (Reserved words.Release)) refl c.requires
+    (take K c.word.ensures c.access-target.ensures)))))

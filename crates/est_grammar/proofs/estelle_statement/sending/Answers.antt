@@ -5,4 +5,7 @@ use Rattle.est_productions.proofs.Fits.{K}
 use Rattle.est_grammar.proofs.estelle_statement.sending.Goals as goal
 
 pub returns : goal.returns
-returns c = part refl (rule_goes K (then K refl c.access-at.ensures (take K c.symbol.ensures (then K refl (name_goes K c.name-signal.ensures) c.arguments-arguments.ensures))))
+returns c =
+    part refl (rule_goes K (then K refl c.access-at.ensures
+    (take K c.symbol.ensures (then K refl (name_goes K c.name-signal.ensures)
+    c.arguments-arguments.ensures))))

@@ -3,13 +3,15 @@ use Rattle.est_lexer.specs.declared.kind.Symbol.TheVariants as symbols
 use Rattle.est_language.specs.Grammar.{rule, rep}
 use Rattle.est_reader.proofs.Steps.{left_of}
 use Rattle.est_reader.proofs.Turns.{Turning, Each}
-use Rattle.est_productions.specs.Grammar as grammar
+use Rattle.est_productions.specs.Productions as grammar
 use Rattle.est_productions.specs.Nodes as node
 use Rattle.est_productions.proofs.Fits.{K}
 use Rattle.est_grammar.proofs.estelle_statement.sendings.Given as goal
 
 abbrev pub invariant-loop-reader : goal.invariant-loop-reader
-invariant-loop-reader l = Turning K (grammar.separated symbols.Comma (rule grammar.sending)) (rep (grammar.symbol symbols.Comma (rule grammar.sending))) l.fn.reader (Each K (map node.a_sending l.items)) l.reader
+invariant-loop-reader l = Turning K (grammar.separated symbols.Comma (rule grammar.sending))
+    (rep (grammar.symbol symbols.Comma (rule grammar.sending))) l.fn.reader
+    (Each K (map node.a_sending l.items)) l.reader
 
 abbrev pub decreases-loop-reader : goal.decreases-loop-reader
 decreases-loop-reader l = left_of l.reader

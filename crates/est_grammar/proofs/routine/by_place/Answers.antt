@@ -7,7 +7,9 @@ use Rattle.est_productions.proofs.Fits.{K}
 use Rattle.est_grammar.proofs.routine.by_place.Goals as goal
 
 pub returns-then-not-sees : goal.returns-then-not-sees
-returns-then-not-sees c = opt_out K (kind (Reserved words.Var) ∷ []) refl refl (c.if-not-sees.ensures, tt)
+returns-then-not-sees c = opt_out K (kind (Reserved words.Var) ∷ []) refl refl
+    (c.if-not-sees.ensures, tt)
 
 pub returns : goal.returns
-returns c = opt_in K (kind (Reserved words.Var)) refl refl c.if-not-sees.ensures (last K c.word.ensures)
+returns c = opt_in K (kind (Reserved words.Var)) refl refl c.if-not-sees.ensures
+    (last K c.word.ensures)

@@ -7,7 +7,9 @@ use Rattle.est_productions.proofs.Fits.{K}
 use Rattle.est_grammar.proofs.routine.pure_word.Goals as goal
 
 pub returns-then-sees : goal.returns-then-sees
-returns-then-sees c = skip_goes K (opt_in K (kind (Reserved words.Pure)) refl refl c.if-sees.ensures (last K c.word.ensures))
+returns-then-sees c = skip_goes K (opt_in K (kind (Reserved words.Pure)) refl refl c.if-sees.ensures
+    (last K c.word.ensures))
 
 pub returns-else-sees : goal.returns-else-sees
-returns-else-sees c = skip_goes K (opt_out K (kind (Reserved words.Pure) ∷ []) refl refl (c.if-sees.ensures, tt))
+returns-else-sees c = skip_goes K (opt_out K (kind (Reserved words.Pure) ∷ []) refl refl
+    (c.if-sees.ensures, tt))

@@ -7,7 +7,9 @@ use Rattle.est_productions.proofs.Fits.{K}
 use Rattle.est_grammar.proofs.specification.default_queue.Goals as goal
 
 pub returns-then-not-sees : goal.returns-then-not-sees
-returns-then-not-sees c = opt_out K (kind (Reserved words.Default) ∷ []) refl refl (c.if-not-sees.ensures, tt)
+returns-then-not-sees c = opt_out K (kind (Reserved words.Default) ∷ []) refl refl
+    (c.if-not-sees.ensures, tt)
 
 pub returns : goal.returns
-returns c = opt_in K (kind (Reserved words.Default)) refl refl c.if-not-sees.ensures (take K c.word.ensures (then K refl c.queue-queue.ensures (last K c.symbol.ensures)))
+returns c = opt_in K (kind (Reserved words.Default)) refl refl c.if-not-sees.ensures
+    (take K c.word.ensures (then K refl c.queue-queue.ensures (last K c.symbol.ensures)))

@@ -8,7 +8,10 @@ use Rattle.est_productions.proofs.Fits.{K}
 use Rattle.est_grammar.proofs.specification.time_scale.Goals as goal
 
 pub returns-then-not-sees : goal.returns-then-not-sees
-returns-then-not-sees c = opt_out K (kind (Reserved words.Timescale) ∷ []) refl refl (c.if-not-sees.ensures, tt)
+returns-then-not-sees c = opt_out K (kind (Reserved words.Timescale) ∷ []) refl refl
+    (c.if-not-sees.ensures, tt)
 
 pub returns : goal.returns
-returns c = opt_in K (kind (Reserved words.Timescale)) refl refl c.if-not-sees.ensures (take K c.word.ensures (then K refl (name_goes K c.name-scale.ensures) (last K c.symbol.ensures)))
+returns c = opt_in K (kind (Reserved words.Timescale)) refl refl c.if-not-sees.ensures
+    (take K c.word.ensures (then K refl (name_goes K c.name-scale.ensures)
+    (last K c.symbol.ensures)))

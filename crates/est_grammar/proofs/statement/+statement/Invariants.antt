@@ -6,19 +6,22 @@ use Rattle.est_reader.specs.Tests.{kind}
 use Rattle.est_reader.specs.Moving.{weight}
 use Rattle.est_reader.proofs.Steps.{left_of}
 use Rattle.est_reader.proofs.Turns.{Turning, Each}
-use Rattle.est_productions.specs.Grammar as grammar
+use Rattle.est_productions.specs.Productions as grammar
 use Rattle.est_productions.specs.Nodes as node
 use Rattle.est_productions.proofs.Fits.{K}
 use Rattle.est_grammar.proofs.statement.+statement.Given as goal
 
 abbrev pub invariant-statements-loop-reader : goal.invariant-statements-loop-reader
-invariant-statements-loop-reader l = Turning K (grammar.separated symbols.Semicolon (rule grammar.statement)) (rep (grammar.symbol symbols.Semicolon (rule grammar.statement))) l.fn.reader (Each K (map node.a_statement l.items)) l.reader
+invariant-statements-loop-reader l = Turning K (grammar.separated symbols.Semicolon
+    (rule grammar.statement)) (rep (grammar.symbol symbols.Semicolon (rule grammar.statement)))
+    l.fn.reader (Each K (map node.a_statement l.items)) l.reader
 
 abbrev pub decreases-statements-loop-reader : goal.decreases-statements-loop-reader
 decreases-statements-loop-reader l = left_of l.reader
 
 abbrev pub invariant-arms-loop-reader : goal.invariant-arms-loop-reader
-invariant-arms-loop-reader l = Turning K grammar.arms (ended (kind (Special symbols.Semicolon)) (rule grammar.arm)) l.fn.reader (Each K (map node.an_arm l.items)) l.reader
+invariant-arms-loop-reader l = Turning K grammar.arms (ended (kind (Special symbols.Semicolon))
+    (rule grammar.arm)) l.fn.reader (Each K (map node.an_arm l.items)) l.reader
 
 abbrev pub decreases-arms-loop-reader : goal.decreases-arms-loop-reader
 decreases-arms-loop-reader l = left_of l.reader

@@ -9,13 +9,19 @@ use Rattle.est_productions.proofs.Fits.{K}
 use Rattle.est_grammar.proofs.statement.constants.Goals as goal
 
 pub loop-reader-init : goal.loop-reader-init
-loop-reader-init c = one_part K refl c.constant-first.ensures c.keep.ensures.still (λ w. rw (c.keep.ensures.added w, c.new-items.ensures) refl)
+loop-reader-init c = one_part K refl c.constant-first.ensures c.keep.ensures.still
+    (λ w. rw (c.keep.ensures.added w, c.new-items.ensures) refl)
 
 pub loop-reader-preserved : goal.loop-reader-preserved
-loop-reader-preserved c = more_parts K _ (kind (Special symbols.Comma)) refl refl refl c.loop-reader-test.ensures c.loop-reader.invariant (take K c.symbol.ensures c.constant-next.ensures) c.keep-in-loop-reader.ensures.still (λ w. rw (c.keep-in-loop-reader.ensures.added w, map-append) refl)
+loop-reader-preserved c = more_parts K _ (kind (Special symbols.Comma)) refl refl refl
+    c.loop-reader-test.ensures c.loop-reader.invariant
+    (take K c.symbol.ensures c.constant-next.ensures) c.keep-in-loop-reader.ensures.still
+    (λ w. rw (c.keep-in-loop-reader.ensures.added w, map-append) refl)
 
 pub loop-reader-smaller : goal.loop-reader-smaller
-loop-reader-smaller c = lessens K refl c.loop-reader-test.ensures (take K c.symbol.ensures c.constant-next.ensures) c.keep-in-loop-reader.ensures.still
+loop-reader-smaller c = lessens K refl c.loop-reader-test.ensures
+    (take K c.symbol.ensures c.constant-next.ensures) c.keep-in-loop-reader.ensures.still
 
 pub returns : goal.returns
-returns c = (all_parts K (kind (Special symbols.Comma) ∷ []) refl refl (c.loop-reader-test.ensures, tt) c.loop-reader.invariant)
+returns c = (all_parts K (kind (Special symbols.Comma) ∷ []) refl refl
+    (c.loop-reader-test.ensures, tt) c.loop-reader.invariant)

@@ -8,7 +8,9 @@ use Rattle.est_productions.proofs.Fits.{K}
 use Rattle.est_grammar.proofs.statement.path.Goals as goal
 
 pub returns-then-sees_selector : goal.returns-then-sees_selector
-returns-then-sees_selector c = goes_still (opt_in_by K tokens.selector_tokens refl refl c.if-sees_selector.ensures c.selectors.ensures) still_here (λ w. let f = filled node.a_selector _ c.selectors.ensures w in rw f.2 refl)
+returns-then-sees_selector c = goes_still (opt_in_by K tokens.selector_tokens refl refl
+    c.if-sees_selector.ensures c.selectors.ensures) still_here (λ w. let f = filled node.a_selector
+    _ c.selectors.ensures w in rw f.2 refl)
 
 pub returns : goal.returns
 returns c = rw c.new.ensures (opt_out K tokens.selector_tokens refl refl c.if-sees_selector.ensures)

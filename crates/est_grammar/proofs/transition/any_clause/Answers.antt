@@ -7,4 +7,6 @@ use Rattle.est_productions.proofs.Fits.{K}
 use Rattle.est_grammar.proofs.transition.any_clause.Goals as goal
 
 pub returns : goal.returns
-returns c = part refl (rule_goes K (here_goes K (chosen K 4 (kind (Reserved words.Any)) refl c.requires (take K c.word.ensures (then K refl c.params-names.ensures (last K c.word-2.ensures))))))
+returns c =
+    part refl (rule_goes K (here_goes K (chosen K 4 (kind (Reserved words.Any)) refl c.requires
+    (take K c.word.ensures (then K refl c.params-names.ensures (last K c.word-2.ensures))))))

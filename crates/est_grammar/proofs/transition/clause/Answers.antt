@@ -7,4 +7,21 @@ use Rattle.est_productions.proofs.Fits.{K}
 use Rattle.est_grammar.proofs.transition.clause.Goals as goal
 
 pub returns : goal.returns
-returns c = part refl (rule_goes K (here_goes K (first_else K (kind (Reserved words.To) ∷ kind (Reserved words.When) ∷ kind (Reserved words.Provided) ∷ kind (Reserved words.Any) ∷ kind (Reserved words.Priority) ∷ kind (Reserved words.Delay) ∷ []) refl refl refl refl (c.if-sees.ensures, (c.if-sees-2.ensures, (c.if-sees-3.ensures, (c.if-sees-4.ensures, (c.if-sees-5.ensures, (c.if-sees-6.ensures, tt)))))) (take K c.word.ensures c.idents-states.ensures))))
+returns c =
+    part refl (rule_goes K (here_goes K
+    (first_else K (kind (Reserved words.To) ∷ kind (Reserved words.When) ∷ kind
+    (Reserved words.Provided) ∷ kind (Reserved words.Any) ∷ kind (Reserved words.Priority) ∷ kind
+    (Reserved words.Delay) ∷ []) refl refl refl refl (
+      c.if-sees.ensures,
+      (
+        c.if-sees-2.ensures,
+        (
+          c.if-sees-3.ensures,
+          (
+            c.if-sees-4.ensures,
+            (c.if-sees-5.ensures, (c.if-sees-6.ensures, tt)),
+          ),
+        ),
+      ),
+    )
+    (take K c.word.ensures c.idents-states.ensures))))

@@ -8,7 +8,15 @@ use Rattle.est_productions.proofs.Fits.{K}
 use Rattle.est_grammar.proofs.transition.delay_clause.Goals as goal
 
 pub returns-in-Some : goal.returns-in-Some
-returns-in-Some c = part_still (rule_goes K (here_goes K (chosen K 6 (kind (Reserved words.Delay)) refl c.requires (take K c.word.ensures (take K c.symbol.ensures (then K refl c.expr-least.ensures (then K refl c.later_bound-most.ensures (last K c.symbol-2.ensures)))))))) c.boxed.ensures.still (λ w. rw (box_holds c.in-Some.is c.boxed.ensures.boxed w) refl)
+returns-in-Some c =
+    part_still (rule_goes K (here_goes K (chosen K 6 (kind (Reserved words.Delay)) refl c.requires
+    (take K c.word.ensures (take K c.symbol.ensures (then K refl c.expr-least.ensures
+    (then K refl c.later_bound-most.ensures (last K c.symbol-2.ensures)))))))) c.boxed.ensures.still
+    (λ w. rw (box_holds c.in-Some.is c.boxed.ensures.boxed w) refl)
 
 pub returns-in-None : goal.returns-in-None
-returns-in-None c = part_still (rule_goes K (here_goes K (chosen K 6 (kind (Reserved words.Delay)) refl c.requires (take K c.word.ensures (take K c.symbol.ensures (then K refl c.expr-least.ensures (then K refl c.later_bound-most.ensures (last K c.symbol-2.ensures)))))))) c.boxed.ensures.still (λ w. absurd (no_box c.in-None.is c.boxed.ensures.boxed w))
+returns-in-None c =
+    part_still (rule_goes K (here_goes K (chosen K 6 (kind (Reserved words.Delay)) refl c.requires
+    (take K c.word.ensures (take K c.symbol.ensures (then K refl c.expr-least.ensures
+    (then K refl c.later_bound-most.ensures (last K c.symbol-2.ensures)))))))) c.boxed.ensures.still
+    (λ w. absurd (no_box c.in-None.is c.boxed.ensures.boxed w))

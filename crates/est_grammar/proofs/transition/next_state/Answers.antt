@@ -8,7 +8,9 @@ use Rattle.est_productions.proofs.Fits.{K}
 use Rattle.est_grammar.proofs.transition.next_state.Goals as goal
 
 pub returns-then-sees : goal.returns-then-sees
-returns-then-sees c = chosen K 1 (kind (Reserved words.Same)) refl c.if-sees.ensures (last K c.word.ensures)
+returns-then-sees c = chosen K 1 (kind (Reserved words.Same)) refl c.if-sees.ensures
+    (last K c.word.ensures)
 
 pub returns : goal.returns
-returns c = first_else K (kind (Reserved words.Same) ∷ []) refl refl refl refl (c.if-sees.ensures, tt) (name_goes K c.name.ensures)
+returns c = first_else K (kind (Reserved words.Same) ∷ []) refl refl refl refl
+    (c.if-sees.ensures, tt) (name_goes K c.name.ensures)

@@ -7,4 +7,6 @@ use Rattle.est_productions.proofs.Fits.{K}
 use Rattle.est_grammar.proofs.transition.priority_clause.Goals as goal
 
 pub returns : goal.returns
-returns c = part refl (rule_goes K (here_goes K (chosen K 5 (kind (Reserved words.Priority)) refl c.requires (take K c.word.ensures c.constant-value.ensures))))
+returns c =
+    part refl (rule_goes K (here_goes K (chosen K 5 (kind (Reserved words.Priority)) refl c.requires
+    (take K c.word.ensures c.constant-value.ensures))))

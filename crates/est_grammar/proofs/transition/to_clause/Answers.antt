@@ -7,4 +7,6 @@ use Rattle.est_productions.proofs.Fits.{K}
 use Rattle.est_grammar.proofs.transition.to_clause.Goals as goal
 
 pub returns : goal.returns
-returns c = part refl (rule_goes K (here_goes K (chosen K 1 (kind (Reserved words.To)) refl c.requires (take K c.word.ensures c.next_state-state.ensures))))
+returns c =
+    part refl (rule_goes K (here_goes K (chosen K 1 (kind (Reserved words.To)) refl c.requires
+    (take K c.word.ensures c.next_state-state.ensures))))

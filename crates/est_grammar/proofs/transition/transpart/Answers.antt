@@ -4,4 +4,5 @@ use Rattle.est_grammar.proofs.Made as made
 use Rattle.est_grammar.proofs.transition.transpart.Goals as goal
 
 pub returns : goal.returns
-returns c = part (made.group_made _) (rule_goes K (take K c.word.ensures c.transitions-transitions.ensures))
+returns c = part (made.group_made _)
+    (rule_goes K (take K c.word.ensures c.transitions-transitions.ensures))

@@ -8,4 +8,7 @@ use Rattle.est_productions.proofs.Fits.{K}
 use Rattle.est_grammar.proofs.transition.when_clause.Goals as goal
 
 pub returns : goal.returns
-returns c = part refl (rule_goes K (here_goes K (chosen K 2 (kind (Reserved words.When)) refl c.requires (take K c.word.ensures (then K refl c.access-at.ensures (take K c.symbol.ensures (name_goes K c.name-signal.ensures)))))))
+returns c =
+    part refl (rule_goes K (here_goes K (chosen K 2 (kind (Reserved words.When)) refl c.requires
+    (take K c.word.ensures (then K refl c.access-at.ensures
+    (take K c.symbol.ensures (name_goes K c.name-signal.ensures)))))))

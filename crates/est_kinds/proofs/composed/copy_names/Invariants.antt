@@ -3,4 +3,5 @@ use Rattle.est_syntax.specs.declared.name.Used.{Used}
 use Rattle.est_kinds.proofs.composed.copy_names.Given as goal
 
 abbrev pub invariant-loop-used : goal.invariant-loop-used
-invariant-loop-used l = l.copies ++ map (λ (u : Used). u.name) (drop l.used-index l.names) ≡ map (λ (u : Used). u.name) l.names
+invariant-loop-used l = l.copies ++ map (λ (u : Used). u.name) (drop l.used-index l.names)
+    ≡ map (λ (u : Used). u.name) l.names

@@ -6,4 +6,7 @@ pub loop-end-init : goal.loop-end-init
 loop-end-init c = record { between = nothing _; inside = c.requires }
 
 pub loop-end-preserved : goal.loop-end-preserved
-loop-end-preserved c = record { between = between_append c.loop-end.invariant.between c.in-Some.ensures.between; inside = c.in-Some.ensures.inside }
+loop-end-preserved c = record {
+  between = between_append c.loop-end.invariant.between c.in-Some.ensures.between;
+  inside = c.in-Some.ensures.inside;
+}

@@ -3,7 +3,10 @@ use Rattle.est_lexer.specs.Between.{IsBetween}
 use Rattle.est_lexer.proofs.between.begin_from.Given as goal
 
 abbrev pub invariant-loop-end : goal.invariant-loop-end
-invariant-loop-end l = record { between : IsBetween l.text l.from l.place; inside : l.place ≤ length l.text }
+invariant-loop-end l = record {
+  between : IsBetween l.text l.from l.place;
+  inside : l.place ≤ length l.text;
+}
 
 abbrev pub decreases-loop-end : goal.decreases-loop-end
 decreases-loop-end l = length l.text - l.place

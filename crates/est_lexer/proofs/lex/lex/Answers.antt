@@ -8,7 +8,11 @@ invariant_of-result c =
     let tokens : IsTokenList c.args.text.now c.in_ok-list.list.items = c.in_ok-list.ensures in
     record {
       short = c.requires;
-      few = omega (arith, tokens_few c.args.text.now 0 c.in_ok-list.list.items (omega arith) tokens);
+      few = omega (
+        arith,
+        tokens_few c.args.text.now 0 c.in_ok-list.list.items (omega arith)
+            tokens,
+      );
       inside = tokens_inside c.args.text.now 0 c.in_ok-list.list.items tokens;
       kinds = token_kinds c.args.text.now 0 c.in_ok-list.list.items tokens;
     }

@@ -5,7 +5,8 @@ use Rattle.est_lexer.proofs.lex.token_list.Given as goal
 
 abbrev pub invariant-loop-tokens : goal.invariant-loop-tokens
 invariant-loop-tokens l = record {
-  onward : (more : List Token) → AreTokensFrom l.text l.from more → AreTokensFrom l.text 0 (l.tokens.items ++ more);
+  onward : (more : List Token) → AreTokensFrom l.text l.from more
+      → AreTokensFrom l.text 0 (l.tokens.items ++ more);
   inside : l.from ≤ length l.text;
 }
 

@@ -5,7 +5,8 @@ use Rattle.est_lexer.proofs.scan.digits_end.Given as goal
 
 abbrev pub invariant-loop-end : goal.invariant-loop-end
 invariant-loop-end l = record {
-  value : l.end + prefix_len is_ascii_digit (drop l.end l.text) ≡ l.from + prefix_len is_ascii_digit (drop l.from l.text);
+  value : l.end + prefix_len is_ascii_digit (drop l.end l.text) ≡ l.from + prefix_len is_ascii_digit
+      (drop l.from l.text);
   inside : l.end ≤ length l.text;
 }
 

@@ -5,7 +5,8 @@ use Rattle.est_lexer.proofs.scan.name_end.Given as goal
 
 abbrev pub invariant-loop-end : goal.invariant-loop-end
 invariant-loop-end l = record {
-  value : l.end + prefix_len is_identifier_part (drop l.end l.text) ≡ l.from + prefix_len is_identifier_part (drop l.from l.text);
+  value : l.end + prefix_len is_identifier_part (drop l.end l.text) ≡ l.from + prefix_len
+      is_identifier_part (drop l.from l.text);
   inside : l.end ≤ length l.text;
 }
 

@@ -4,4 +4,6 @@ use Rattle.est_lexer.specs.Scanning.{rows}
 use Rattle.est_lexer.proofs.table.find_prefix.Given as goal
 
 abbrev pub invariant-loop-symbol : goal.invariant-loop-symbol
-invariant-loop-symbol l = find (λ w. starts_with nat_eq l.rest w.0) (drop l.symbol-index (rows l.symbols)) ≡ find (λ w. starts_with nat_eq l.rest w.0) (rows l.symbols)
+invariant-loop-symbol l = find (λ w. starts_with nat_eq l.rest w.0)
+    (drop l.symbol-index (rows l.symbols)) ≡ find (λ w. starts_with nat_eq l.rest w.0)
+    (rows l.symbols)

@@ -7,4 +7,5 @@ use Rattle.est_lexer.proofs.table.word_or_identifier.Goals as goal
 
 pub returns : goal.returns
 unfolding word_kind words
-returns c = c.unwrap_or.ensures ∙ ap (λ (kind : Option TokenKind). unwrap_or kind Identifier) c.find_by_letter.ensures
+returns c = c.unwrap_or.ensures ∙ ap (λ (kind : Option TokenKind). unwrap_or kind Identifier)
+    c.find_by_letter.ensures

@@ -3,4 +3,5 @@ use Rattle.est_outline.specs.Lasts.{vars_last}
 use Rattle.est_outline.proofs.lasts.+last.Given as goal
 
 abbrev pub invariant-vars_last-loop-var : goal.invariant-vars_last-loop-var
-invariant-vars_last-loop-var l = vars_last (drop l.var-index l.vars) l.last ≡ vars_last l.vars l.fn.last
+invariant-vars_last-loop-var l = vars_last (drop l.var-index l.vars) l.last ≡ vars_last l.vars
+    l.fn.last

@@ -5,5 +5,6 @@ use Rattle.est_outline.proofs.modules.count_before.Given as goal
 abbrev pub invariant-loop-export : goal.invariant-loop-export
 invariant-loop-export l =
     (l.count ≡ l.export-index)
-    × (take l.export-index l.exports ++ before (drop l.export-index l.exports) l.place ≡ before l.exports l.place)
+    × (take l.export-index l.exports ++ before (drop l.export-index l.exports) l.place
+    ≡ before l.exports l.place)
     × (after (drop l.export-index l.exports) l.place ≡ after l.exports l.place)

@@ -3,4 +3,5 @@ use Rattle.est_outline.specs.Declares.{points_declare}
 use Rattle.est_outline.proofs.modules.points.Given as goal
 
 abbrev pub invariant-loop-item : goal.invariant-loop-item
-invariant-loop-item l = points_declare l.within (drop l.item-index l.items) l.outline ≡ points_declare l.within l.items l.fn.outline
+invariant-loop-item l = points_declare l.within (drop l.item-index l.items) l.outline
+    ≡ points_declare l.within l.items l.fn.outline

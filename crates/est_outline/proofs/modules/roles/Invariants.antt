@@ -3,4 +3,5 @@ use Rattle.est_outline.specs.Declares.{roles_put}
 use Rattle.est_outline.proofs.modules.roles.Given as goal
 
 abbrev pub invariant-loop-used : goal.invariant-loop-used
-invariant-loop-used l = roles_put l.region (drop l.used-index l.names) l.role l.outline ≡ roles_put l.region l.names l.fn.role l.fn.outline
+invariant-loop-used l = roles_put l.region (drop l.used-index l.names) l.role l.outline
+    ≡ roles_put l.region l.names l.fn.role l.fn.outline

@@ -3,4 +3,5 @@ use Rattle.est_outline.specs.Bodies.{clauses_declare}
 use Rattle.est_outline.proofs.transitions.clauses.Given as goal
 
 abbrev pub invariant-loop-clause : goal.invariant-loop-clause
-invariant-loop-clause l = clauses_declare l.within (drop l.clause-index l.clauses) (l.context, l.outline) ≡ clauses_declare l.within l.clauses (l.fn.context, l.fn.outline)
+invariant-loop-clause l = clauses_declare l.within (drop l.clause-index l.clauses)
+    (l.context, l.outline) ≡ clauses_declare l.within l.clauses (l.fn.context, l.fn.outline)

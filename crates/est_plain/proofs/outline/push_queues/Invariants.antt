@@ -7,4 +7,5 @@ use Rattle.est_plain.proofs.outline.push_queues.Given as goal
 abbrev pub invariant-loop-used : goal.invariant-loop-used
 invariant-loop-used l =
     let declared : Used → Declared = λ u. record { name = u.name; point = l.point } in
-    l.into.items ≡ l.initial.into.items ++ map (queue_for l.spec) (map declared (take l.used-index l.used-items))
+    l.into.items ≡ l.initial.into.items ++ map (queue_for l.spec)
+    (map declared (take l.used-index l.used-items))

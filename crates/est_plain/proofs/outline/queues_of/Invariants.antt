@@ -5,4 +5,5 @@ use Rattle.est_plain.specs.PlainSituation.{queue_for}
 use Rattle.est_plain.proofs.outline.queues_of.Given as goal
 
 abbrev pub invariant-loop-point : goal.invariant-loop-point
-invariant-loop-point l = l.queues.items ≡ map (queue_for l.spec) (flat_map declared_in (take l.point-index l.point-items))
+invariant-loop-point l = l.queues.items ≡ map (queue_for l.spec)
+    (flat_map declared_in (take l.point-index l.point-items))

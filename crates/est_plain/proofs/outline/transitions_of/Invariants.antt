@@ -5,4 +5,5 @@ use Rattle.est_plain.specs.PlainSituation.{referred}
 use Rattle.est_plain.proofs.outline.transitions_of.Given as goal
 
 abbrev pub invariant-loop-group : goal.invariant-loop-group
-invariant-loop-group l = referred l.transitions.items ≡ flat_map (λ (g : Group). (out-Group g).transitions) (take l.group-index l.group-items)
+invariant-loop-group l = referred l.transitions.items
+    ≡ flat_map (λ (g : Group). (out-Group g).transitions) (take l.group-index l.group-items)

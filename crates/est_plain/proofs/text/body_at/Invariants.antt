@@ -5,4 +5,6 @@ use Rattle.est_meaning.specs.Text.{body_in}
 use Rattle.est_plain.proofs.text.body_at.Given as goal
 
 abbrev pub invariant-loop-part : goal.invariant-loop-part
-invariant-loop-part l = find (λ (b : Body). nat_eq l.place (out-Body b).name.place) (filter_map body_in l.spec.parts) ≡ find (λ (b : Body). nat_eq l.place (out-Body b).name.place) (filter_map body_in (drop l.part-index l.part-items))
+invariant-loop-part l = find (λ (b : Body). nat_eq l.place (out-Body b).name.place)
+    (filter_map body_in l.spec.parts) ≡ find (λ (b : Body). nat_eq l.place (out-Body b).name.place)
+    (filter_map body_in (drop l.part-index l.part-items))

@@ -5,4 +5,6 @@ use Rattle.est_productions.proofs.Fits.{K}
 use Rattle.est_productions.proofs.access.access.Goals as goal
 
 pub returns : goal.returns
-returns c = part refl (rule_goes K (then K refl (name_goes K c.name-name.ensures) c.subscripts_given-index.ensures))
+returns c =
+    part refl (rule_goes K (then K refl (name_goes K c.name-name.ensures)
+    c.subscripts_given-index.ensures))

@@ -7,7 +7,9 @@ use Rattle.est_productions.proofs.Fits.{K}
 use Rattle.est_productions.proofs.access.access_given.Goals as goal
 
 pub returns-then-not-sees : goal.returns-then-not-sees
-returns-then-not-sees c = opt_out K (kind (Special symbols.Period) ∷ []) refl refl (c.if-not-sees.ensures, tt)
+returns-then-not-sees c = opt_out K (kind (Special symbols.Period) ∷ []) refl refl
+    (c.if-not-sees.ensures, tt)
 
 pub returns : goal.returns
-returns c = opt_in K (kind (Special symbols.Period)) refl refl c.if-not-sees.ensures (take K c.symbol.ensures c.access.ensures)
+returns c = opt_in K (kind (Special symbols.Period)) refl refl c.if-not-sees.ensures
+    (take K c.symbol.ensures c.access.ensures)

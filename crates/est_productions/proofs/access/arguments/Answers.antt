@@ -9,7 +9,10 @@ use Rattle.est_productions.proofs.Made as made
 use Rattle.est_productions.proofs.access.arguments.Goals as goal
 
 pub returns-then-sees : goal.returns-then-sees
-returns-then-sees c = goes_still (opt_in K (kind (Special symbols.LeftParenthesis)) refl refl c.if-sees.ensures c.called.ensures) still_here (λ w. let f = made.some_exprs _ _ _ c.called.ensures w in rw f.2 refl)
+returns-then-sees c = goes_still (opt_in K (kind (Special symbols.LeftParenthesis)) refl refl
+    c.if-sees.ensures c.called.ensures) still_here (λ w. let f = made.some_exprs _ _ _
+    c.called.ensures w in rw f.2 refl)
 
 pub returns : goal.returns
-returns c = rw c.new.ensures (opt_out K (kind (Special symbols.LeftParenthesis) ∷ []) refl refl (c.if-sees.ensures, tt))
+returns c = rw c.new.ensures (opt_out K (kind (Special symbols.LeftParenthesis) ∷ []) refl refl
+    (c.if-sees.ensures, tt))

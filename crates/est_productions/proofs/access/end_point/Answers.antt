@@ -4,4 +4,5 @@ use Rattle.est_productions.proofs.Fits.{K}
 use Rattle.est_productions.proofs.access.end_point.Goals as goal
 
 pub returns : goal.returns
-returns c = part refl (rule_goes K (then K refl c.access-first.ensures c.access_given-second.ensures))
+returns c =
+    part refl (rule_goes K (then K refl c.access-first.ensures c.access_given-second.ensures))

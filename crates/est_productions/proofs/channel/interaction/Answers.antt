@@ -5,4 +5,6 @@ use Rattle.est_productions.proofs.Fits.{K}
 use Rattle.est_productions.proofs.channel.interaction.Goals as goal
 
 pub returns : goal.returns
-returns c = part refl (rule_goes K (then K refl (name_goes K c.name-name.ensures) (then K refl c.parameters-params.ensures (last K c.symbol.ensures))))
+returns c =
+    part refl (rule_goes K (then K refl (name_goes K c.name-name.ensures)
+    (then K refl c.parameters-params.ensures (last K c.symbol.ensures))))

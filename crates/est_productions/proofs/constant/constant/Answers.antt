@@ -9,7 +9,10 @@ use Rattle.est_productions.proofs.Made as made
 use Rattle.est_productions.proofs.constant.constant.Goals as goal
 
 pub returns-then-not-sees : goal.returns-then-not-sees
-returns-then-not-sees c = part refl (rule_goes K (goes_as (made.unnamed_constant _) (first_else K (kind Identifier ∷ []) refl refl refl refl (c.if-not-sees.ensures, tt) c.unnamed.ensures)))
+returns-then-not-sees c =
+    part refl (rule_goes K (goes_as (made.unnamed_constant _) (first_else K (kind Identifier ∷ [])
+    refl refl refl refl (c.if-not-sees.ensures, tt) c.unnamed.ensures)))
 
 pub returns : goal.returns
-returns c = part refl (rule_goes K (chosen K 1 (kind Identifier) refl c.if-not-sees.ensures (here_goes K (name_goes K c.name-name.ensures))))
+returns c = part refl (rule_goes K (chosen K 1 (kind Identifier) refl c.if-not-sees.ensures
+    (here_goes K (name_goes K c.name-name.ensures))))

@@ -7,7 +7,9 @@ use Rattle.est_productions.proofs.Fits.{K}
 use Rattle.est_productions.proofs.constant.plus_or_minus.Goals as goal
 
 pub returns-then-sees : goal.returns-then-sees
-returns-then-sees c = chosen K 1 (kind (Special symbols.Minus)) refl c.if-sees.ensures (last K c.symbol.ensures)
+returns-then-sees c = chosen K 1 (kind (Special symbols.Minus)) refl c.if-sees.ensures
+    (last K c.symbol.ensures)
 
 pub returns : goal.returns
-returns c = first_else K (kind (Special symbols.Minus) ∷ []) refl refl refl refl (c.if-sees.ensures, tt) (last K c.symbol-2.ensures)
+returns c = first_else K (kind (Special symbols.Minus) ∷ []) refl refl refl refl
+    (c.if-sees.ensures, tt) (last K c.symbol-2.ensures)

@@ -8,7 +8,11 @@ use Rattle.est_productions.proofs.Fits.{K}
 use Rattle.est_productions.proofs.constant.unnamed.Goals as goal
 
 pub returns-then-sees : goal.returns-then-sees
-returns-then-sees c = here_goes K (chosen K 2 (kind Character) refl c.if-sees.ensures (character_goes K c.character-code.ensures))
+returns-then-sees c = here_goes K (chosen K 2 (kind Character) refl c.if-sees.ensures
+    (character_goes K c.character-code.ensures))
 
 pub returns : goal.returns
-returns c = here_goes K (first_else K (kind Character ∷ kind (Special symbols.Plus) ∷ kind (Special symbols.Minus) ∷ []) refl refl refl refl (c.if-sees.ensures, (c.if-sees-2.ensures, (c.if-sees-3.ensures, tt))) (value_goes K c.value-number.ensures))
+returns c = here_goes K (first_else K (kind Character ∷ kind (Special symbols.Plus) ∷ kind
+    (Special symbols.Minus) ∷ []) refl refl refl refl
+    (c.if-sees.ensures, (c.if-sees-2.ensures, (c.if-sees-3.ensures, tt)))
+    (value_goes K c.value-number.ensures))

@@ -5,4 +5,6 @@ use Rattle.est_productions.proofs.Fits.{K}
 use Rattle.est_productions.proofs.declaration.constdef.Goals as goal
 
 pub returns : goal.returns
-returns c = part refl (rule_goes K (then K refl (name_goes K c.name-name.ensures) (take K c.symbol.ensures (then K refl c.constant-value.ensures (last K c.symbol-2.ensures)))))
+returns c =
+    part refl (rule_goes K (then K refl (name_goes K c.name-name.ensures)
+    (take K c.symbol.ensures (then K refl c.constant-value.ensures (last K c.symbol-2.ensures)))))

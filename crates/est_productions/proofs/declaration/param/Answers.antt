@@ -5,4 +5,6 @@ use Rattle.est_productions.proofs.Made as made
 use Rattle.est_productions.proofs.declaration.param.Goals as goal
 
 pub returns : goal.returns
-returns c = part (made.parameter_made _ _) (rule_goes K (then K refl c.idents-names.ensures (take K c.symbol.ensures (part refl c.shorttype-text.ensures))))
+returns c = part (made.parameter_made _ _)
+    (rule_goes K (then K refl c.idents-names.ensures
+    (take K c.symbol.ensures (part refl c.shorttype-text.ensures))))

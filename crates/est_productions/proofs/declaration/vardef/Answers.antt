@@ -5,4 +5,6 @@ use Rattle.est_productions.proofs.Made as made
 use Rattle.est_productions.proofs.declaration.vardef.Goals as goal
 
 pub returns : goal.returns
-returns c = part (made.variable_made _ _) (rule_goes K (then K refl c.idents-names.ensures (take K c.symbol.ensures (then K refl c.typetext-text.ensures (last K c.symbol-2.ensures)))))
+returns c = part (made.variable_made _ _)
+    (rule_goes K (then K refl c.idents-names.ensures
+    (take K c.symbol.ensures (then K refl c.typetext-text.ensures (last K c.symbol-2.ensures)))))

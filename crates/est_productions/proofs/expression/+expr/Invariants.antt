@@ -4,37 +4,44 @@ use Rattle.est_language.specs.Grammar.{rule, rep}
 use Rattle.est_reader.specs.Moving.{weight}
 use Rattle.est_reader.proofs.Steps.{left_of}
 use Rattle.est_reader.proofs.Turns.{Turning, Each}
-use Rattle.est_productions.specs.Grammar as grammar
+use Rattle.est_productions.specs.Productions as grammar
 use Rattle.est_productions.specs.Nodes as node
 use Rattle.est_productions.proofs.Fits.{K}
 use Rattle.est_productions.proofs.expression.+expr.Given as goal
 
 abbrev pub invariant-exprs-loop-reader : goal.invariant-exprs-loop-reader
-invariant-exprs-loop-reader l = Turning K (grammar.separated symbols.Comma (rule grammar.expr)) (rep (grammar.symbol symbols.Comma (rule grammar.expr))) l.fn.reader (Each K (map node.an_expr l.items)) l.reader
+invariant-exprs-loop-reader l = Turning K (grammar.separated symbols.Comma (rule grammar.expr))
+    (rep (grammar.symbol symbols.Comma (rule grammar.expr))) l.fn.reader
+    (Each K (map node.an_expr l.items)) l.reader
 
 abbrev pub decreases-exprs-loop-reader : goal.decreases-exprs-loop-reader
 decreases-exprs-loop-reader l = left_of l.reader
 
 abbrev pub invariant-sum_steps-loop-reader : goal.invariant-sum_steps-loop-reader
-invariant-sum_steps-loop-reader l = Turning K (rep grammar.sum_step) (rep grammar.sum_step) l.fn.reader (Each K (map node.a_sum_step l.items)) l.reader
+invariant-sum_steps-loop-reader l = Turning K (rep grammar.sum_step) (rep grammar.sum_step)
+    l.fn.reader (Each K (map node.a_sum_step l.items)) l.reader
 
 abbrev pub decreases-sum_steps-loop-reader : goal.decreases-sum_steps-loop-reader
 decreases-sum_steps-loop-reader l = left_of l.reader
 
 abbrev pub invariant-product_steps-loop-reader : goal.invariant-product_steps-loop-reader
-invariant-product_steps-loop-reader l = Turning K (rep grammar.product_step) (rep grammar.product_step) l.fn.reader (Each K (map node.a_product_step l.items)) l.reader
+invariant-product_steps-loop-reader l = Turning K (rep grammar.product_step)
+    (rep grammar.product_step) l.fn.reader (Each K (map node.a_product_step l.items)) l.reader
 
 abbrev pub decreases-product_steps-loop-reader : goal.decreases-product_steps-loop-reader
 decreases-product_steps-loop-reader l = left_of l.reader
 
 abbrev pub invariant-members-loop-reader : goal.invariant-members-loop-reader
-invariant-members-loop-reader l = Turning K (grammar.separated symbols.Comma (rule grammar.member)) (rep (grammar.symbol symbols.Comma (rule grammar.member))) l.fn.reader (Each K (map node.a_member l.items)) l.reader
+invariant-members-loop-reader l = Turning K (grammar.separated symbols.Comma (rule grammar.member))
+    (rep (grammar.symbol symbols.Comma (rule grammar.member))) l.fn.reader
+    (Each K (map node.a_member l.items)) l.reader
 
 abbrev pub decreases-members-loop-reader : goal.decreases-members-loop-reader
 decreases-members-loop-reader l = left_of l.reader
 
 abbrev pub invariant-selectors-loop-reader : goal.invariant-selectors-loop-reader
-invariant-selectors-loop-reader l = Turning K (grammar.several (rule grammar.selector)) (rep (rule grammar.selector)) l.fn.reader (Each K (map node.a_selector l.items)) l.reader
+invariant-selectors-loop-reader l = Turning K (grammar.several (rule grammar.selector))
+    (rep (rule grammar.selector)) l.fn.reader (Each K (map node.a_selector l.items)) l.reader
 
 abbrev pub decreases-selectors-loop-reader : goal.decreases-selectors-loop-reader
 decreases-selectors-loop-reader l = left_of l.reader

@@ -9,7 +9,11 @@ use Rattle.est_productions.proofs.Made as made
 use Rattle.est_productions.proofs.expression.literal.Goals as goal
 
 pub returns-then-sees : goal.returns-then-sees
-returns-then-sees c = part (made.character_made _ _) (rule_goes K (here_goes K (chosen K 1 (kind Character) refl c.if-sees.ensures (character_goes K c.character-code.ensures))))
+returns-then-sees c = part (made.character_made _ _)
+    (rule_goes K (here_goes K (chosen K 1 (kind Character) refl c.if-sees.ensures
+    (character_goes K c.character-code.ensures))))
 
 pub returns : goal.returns
-returns c = part (made.number_made _ _) (rule_goes K (here_goes K (first_else K (kind Character ∷ tokens.bracket_tokens) refl refl refl refl (c.if-sees.ensures, c.requires) (value_goes K c.value-number.ensures))))
+returns c = part (made.number_made _ _)
+    (rule_goes K (here_goes K (first_else K (kind Character ∷ tokens.bracket_tokens) refl refl refl
+    refl (c.if-sees.ensures, c.requires) (value_goes K c.value-number.ensures))))

@@ -7,10 +7,14 @@ use Rattle.est_productions.proofs.Fits.{K}
 use Rattle.est_productions.proofs.expression.sign.Goals as goal
 
 pub returns-then-sees : goal.returns-then-sees
-returns-then-sees c = opt_in K (kind (Special symbols.Plus)) refl refl c.if-sees.ensures (chosen K 0 (kind (Special symbols.Plus)) refl c.if-sees.ensures (last K c.symbol.ensures))
+returns-then-sees c = opt_in K (kind (Special symbols.Plus)) refl refl c.if-sees.ensures
+    (chosen K 0 (kind (Special symbols.Plus)) refl c.if-sees.ensures (last K c.symbol.ensures))
 
 pub returns-then-sees-2 : goal.returns-then-sees-2
-returns-then-sees-2 c = opt_in K (kind (Special symbols.Minus)) refl refl c.if-sees-2.ensures (chosen K 1 (kind (Special symbols.Minus)) refl c.if-sees-2.ensures (last K c.symbol-then-sees-2.ensures))
+returns-then-sees-2 c = opt_in K (kind (Special symbols.Minus)) refl refl c.if-sees-2.ensures
+    (chosen K 1 (kind (Special symbols.Minus)) refl c.if-sees-2.ensures
+    (last K c.symbol-then-sees-2.ensures))
 
 pub returns : goal.returns
-returns c = opt_out K (kind (Special symbols.Plus) ∷ kind (Special symbols.Minus) ∷ []) refl refl (c.if-sees.ensures, (c.if-sees-2.ensures, tt))
+returns c = opt_out K (kind (Special symbols.Plus) ∷ kind (Special symbols.Minus) ∷ []) refl refl
+    (c.if-sees.ensures, (c.if-sees-2.ensures, tt))

@@ -7,7 +7,9 @@ use Rattle.est_productions.proofs.Fits.{K}
 use Rattle.est_productions.proofs.header.attribute.Goals as goal
 
 pub returns-then-sees : goal.returns-then-sees
-returns-then-sees c = chosen K 1 (kind (Reserved words.Activity)) refl c.if-sees.ensures (last K c.word.ensures)
+returns-then-sees c = chosen K 1 (kind (Reserved words.Activity)) refl c.if-sees.ensures
+    (last K c.word.ensures)
 
 pub returns : goal.returns
-returns c = first_else K (kind (Reserved words.Activity) ∷ []) refl refl refl refl (c.if-sees.ensures, tt) (last K c.word-2.ensures)
+returns c = first_else K (kind (Reserved words.Activity) ∷ []) refl refl refl refl
+    (c.if-sees.ensures, tt) (last K c.word-2.ensures)

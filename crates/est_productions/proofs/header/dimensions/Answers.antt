@@ -9,7 +9,10 @@ use Rattle.est_productions.proofs.Made as made
 use Rattle.est_productions.proofs.header.dimensions.Goals as goal
 
 pub returns-then-sees : goal.returns-then-sees
-returns-then-sees c = goes_still (opt_in K (kind (Reserved words.Array)) refl refl c.if-sees.ensures (here_goes K c.dims.ensures)) still_here (λ w. let f = made.some_dims _ c.dims.ensures w in rw f.2 refl)
+returns-then-sees c = goes_still (opt_in K (kind (Reserved words.Array)) refl refl c.if-sees.ensures
+    (here_goes K c.dims.ensures)) still_here (λ w. let f = made.some_dims _ c.dims.ensures w in rw
+    f.2 refl)
 
 pub returns : goal.returns
-returns c = rw c.new.ensures (opt_out K (kind (Reserved words.Array) ∷ []) refl refl (c.if-sees.ensures, tt))
+returns c = rw c.new.ensures (opt_out K (kind (Reserved words.Array) ∷ []) refl refl
+    (c.if-sees.ensures, tt))

@@ -4,4 +4,7 @@ use Rattle.est_productions.proofs.Fits.{K}
 use Rattle.est_productions.proofs.header.dims.Goals as goal
 
 pub returns : goal.returns
-returns c = rule_goes K (take K c.word.ensures (take K c.symbol.ensures (then K refl c.shorttypes-index.ensures (take K c.symbol-2.ensures (last K c.word-2.ensures)))))
+returns c =
+    rule_goes K (take K c.word.ensures
+    (take K c.symbol.ensures (then K refl c.shorttypes-index.ensures
+    (take K c.symbol-2.ensures (last K c.word-2.ensures)))))

@@ -5,4 +5,8 @@ use Rattle.est_productions.proofs.Fits.{K}
 use Rattle.est_productions.proofs.header.header.Goals as goal
 
 pub returns : goal.returns
-returns c = part refl (rule_goes K (take K c.word.ensures (then K refl (name_goes K c.name-name.ensures) (then K refl c.attribute-system.ensures (then K refl c.parameters-params.ensures (take K c.symbol.ensures (then K refl c.sections-points.ensures (take K c.word-2.ensures (last K c.symbol-2.ensures)))))))))
+returns c =
+    part refl (rule_goes K (take K c.word.ensures (then K refl (name_goes K c.name-name.ensures)
+    (then K refl c.attribute-system.ensures (then K refl c.parameters-params.ensures
+    (take K c.symbol.ensures (then K refl c.sections-points.ensures
+    (take K c.word-2.ensures (last K c.symbol-2.ensures)))))))))

@@ -7,4 +7,12 @@ use Rattle.est_productions.proofs.Made as made
 use Rattle.est_productions.proofs.header.modvar.Goals as goal
 
 pub returns : goal.returns
-returns c = let rest = take K c.symbol.ensures (then K refl c.dimensions-dims.ensures (then K refl (name_goes K c.name-header.ensures) (last K c.symbol-2.ensures))) in part_still (rule_goes K (here_goes K (then K refl c.idents-names.ensures rest))) still_here (λ w. rw (c.declared_at-place.ensures, made.beginning_is _ _ _ _ (made.first_at _ c.idents-names.ensures (went_well rest w)), made.dimensions_are _ _ _) refl)
+returns c = let rest = take K c.symbol.ensures (then K refl c.dimensions-dims.ensures
+    (then K refl (name_goes K c.name-header.ensures) (last K c.symbol-2.ensures))) in part_still
+    (rule_goes K (here_goes K (then K refl c.idents-names.ensures rest))) still_here
+    (λ w. rw (
+      c.declared_at-place.ensures,
+      made.beginning_is _ _ _ _
+          (made.first_at _ c.idents-names.ensures (went_well rest w)),
+      made.dimensions_are _ _ _,
+    ) refl)

@@ -9,10 +9,13 @@ pub loop-reader-init : goal.loop-reader-init
 loop-reader-init c = first_added K refl c.point-first.ensures c.keep.ensures
 
 pub loop-reader-preserved : goal.loop-reader-preserved
-loop-reader-preserved c = next_added K (kind Identifier) refl refl refl c.loop-reader-test.ensures c.loop-reader.invariant c.point-next.ensures c.keep-in-loop-reader.ensures
+loop-reader-preserved c = next_added K (kind Identifier) refl refl refl c.loop-reader-test.ensures
+    c.loop-reader.invariant c.point-next.ensures c.keep-in-loop-reader.ensures
 
 pub loop-reader-smaller : goal.loop-reader-smaller
-loop-reader-smaller c = lessens K refl c.loop-reader-test.ensures c.point-next.ensures c.keep-in-loop-reader.ensures.still
+loop-reader-smaller c = lessens K refl c.loop-reader-test.ensures c.point-next.ensures
+    c.keep-in-loop-reader.ensures.still
 
 pub returns : goal.returns
-returns c = all_added K (kind Identifier ∷ []) refl refl (c.loop-reader-test.ensures, tt) c.loop-reader.invariant
+returns c = all_added K (kind Identifier ∷ []) refl refl (c.loop-reader-test.ensures, tt)
+    c.loop-reader.invariant

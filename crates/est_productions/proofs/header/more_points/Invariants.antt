@@ -1,13 +1,14 @@
 use Rattle.est_language.specs.Grammar.{rule, rep}
 use Rattle.est_reader.proofs.Steps.{left_of}
 use Rattle.est_reader.proofs.Turns.{Adding}
-use Rattle.est_productions.specs.Grammar as grammar
+use Rattle.est_productions.specs.Productions as grammar
 use Rattle.est_productions.specs.Nodes as node
 use Rattle.est_productions.proofs.Fits.{K}
 use Rattle.est_productions.proofs.header.more_points.Given as goal
 
 abbrev pub invariant-loop-reader : goal.invariant-loop-reader
-invariant-loop-reader l = Adding K node.a_point (grammar.several (rule grammar.point)) (rep (rule grammar.point)) l.fn.reader l.fn.items l.items l.reader
+invariant-loop-reader l = Adding K node.a_point (grammar.several (rule grammar.point))
+    (rep (rule grammar.point)) l.fn.reader l.fn.items l.items l.reader
 
 abbrev pub decreases-loop-reader : goal.decreases-loop-reader
 decreases-loop-reader l = left_of l.reader

@@ -7,7 +7,9 @@ use Rattle.est_productions.proofs.Fits.{K}
 use Rattle.est_productions.proofs.header.queue.Goals as goal
 
 pub returns-then-sees : goal.returns-then-sees
-returns-then-sees c = rule_goes K (chosen K 1 (kind (Reserved words.Common)) refl c.if-sees.ensures (take K c.word.ensures (last K c.word-then-sees.ensures)))
+returns-then-sees c = rule_goes K (chosen K 1 (kind (Reserved words.Common)) refl c.if-sees.ensures
+    (take K c.word.ensures (last K c.word-then-sees.ensures)))
 
 pub returns : goal.returns
-returns c = rule_goes K (first_else K (kind (Reserved words.Common) ∷ []) refl refl refl refl (c.if-sees.ensures, tt) (take K c.word-2.ensures (last K c.word-3.ensures)))
+returns c = rule_goes K (first_else K (kind (Reserved words.Common) ∷ []) refl refl refl refl
+    (c.if-sees.ensures, tt) (take K c.word-2.ensures (last K c.word-3.ensures)))

@@ -3,13 +3,15 @@ use Rattle.est_language.specs.Grammar.{rep, alt}
 use Rattle.est_language.specs.Shown.{nodes}
 use Rattle.est_reader.proofs.Steps.{left_of}
 use Rattle.est_reader.proofs.Turns.{Turning, Sections}
-use Rattle.est_productions.specs.Grammar as grammar
+use Rattle.est_productions.specs.Productions as grammar
 use Rattle.est_productions.specs.Nodes as node
 use Rattle.est_productions.proofs.Fits.{K}
 use Rattle.est_productions.proofs.header.sections.Given as goal
 
 abbrev pub invariant-loop-reader : goal.invariant-loop-reader
-invariant-loop-reader l = Turning K (rep (alt grammar.points grammar.exports)) (rep (alt grammar.points grammar.exports)) l.fn.reader (Sections K nodes nodes (map node.a_point l.points) (map node.an_export l.exports)) l.reader
+invariant-loop-reader l = Turning K (rep (alt grammar.points grammar.exports))
+    (rep (alt grammar.points grammar.exports)) l.fn.reader
+    (Sections K nodes nodes (map node.a_point l.points) (map node.an_export l.exports)) l.reader
 
 abbrev pub decreases-loop-reader : goal.decreases-loop-reader
 decreases-loop-reader l = left_of l.reader

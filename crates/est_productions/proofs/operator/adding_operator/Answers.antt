@@ -8,10 +8,13 @@ use Rattle.est_productions.proofs.Fits.{K}
 use Rattle.est_productions.proofs.operator.adding_operator.Goals as goal
 
 pub returns-then-sees : goal.returns-then-sees
-returns-then-sees c = chosen K 1 (kind (Special symbols.Minus)) refl c.if-sees.ensures (last K c.symbol.ensures)
+returns-then-sees c = chosen K 1 (kind (Special symbols.Minus)) refl c.if-sees.ensures
+    (last K c.symbol.ensures)
 
 pub returns-then-sees-2 : goal.returns-then-sees-2
-returns-then-sees-2 c = chosen K 2 (kind (Reserved words.Or)) refl c.if-sees-2.ensures (last K c.word.ensures)
+returns-then-sees-2 c = chosen K 2 (kind (Reserved words.Or)) refl c.if-sees-2.ensures
+    (last K c.word.ensures)
 
 pub returns : goal.returns
-returns c = first_else K (kind (Special symbols.Minus) ∷ kind (Reserved words.Or) ∷ []) refl refl refl refl (c.if-sees.ensures, (c.if-sees-2.ensures, tt)) (last K c.symbol-2.ensures)
+returns c = first_else K (kind (Special symbols.Minus) ∷ kind (Reserved words.Or) ∷ []) refl refl
+    refl refl (c.if-sees.ensures, (c.if-sees-2.ensures, tt)) (last K c.symbol-2.ensures)

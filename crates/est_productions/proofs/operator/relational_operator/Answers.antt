@@ -8,22 +8,43 @@ use Rattle.est_productions.proofs.Fits.{K}
 use Rattle.est_productions.proofs.operator.relational_operator.Goals as goal
 
 pub returns-then-sees : goal.returns-then-sees
-returns-then-sees c = chosen K 1 (kind (Special symbols.Unequal)) refl c.if-sees.ensures (last K c.symbol.ensures)
+returns-then-sees c = chosen K 1 (kind (Special symbols.Unequal)) refl c.if-sees.ensures
+    (last K c.symbol.ensures)
 
 pub returns-then-sees-2 : goal.returns-then-sees-2
-returns-then-sees-2 c = chosen K 2 (kind (Special symbols.Below)) refl c.if-sees-2.ensures (last K c.symbol-then-sees-2.ensures)
+returns-then-sees-2 c = chosen K 2 (kind (Special symbols.Below)) refl c.if-sees-2.ensures
+    (last K c.symbol-then-sees-2.ensures)
 
 pub returns-then-sees-3 : goal.returns-then-sees-3
-returns-then-sees-3 c = chosen K 3 (kind (Special symbols.AtMost)) refl c.if-sees-3.ensures (last K c.symbol-then-sees-3.ensures)
+returns-then-sees-3 c = chosen K 3 (kind (Special symbols.AtMost)) refl c.if-sees-3.ensures
+    (last K c.symbol-then-sees-3.ensures)
 
 pub returns-then-sees-4 : goal.returns-then-sees-4
-returns-then-sees-4 c = chosen K 4 (kind (Special symbols.Above)) refl c.if-sees-4.ensures (last K c.symbol-then-sees-4.ensures)
+returns-then-sees-4 c = chosen K 4 (kind (Special symbols.Above)) refl c.if-sees-4.ensures
+    (last K c.symbol-then-sees-4.ensures)
 
 pub returns-then-sees-5 : goal.returns-then-sees-5
-returns-then-sees-5 c = chosen K 5 (kind (Special symbols.AtLeast)) refl c.if-sees-5.ensures (last K c.symbol-then-sees-5.ensures)
+returns-then-sees-5 c = chosen K 5 (kind (Special symbols.AtLeast)) refl c.if-sees-5.ensures
+    (last K c.symbol-then-sees-5.ensures)
 
 pub returns-then-sees-6 : goal.returns-then-sees-6
-returns-then-sees-6 c = chosen K 6 (kind (Reserved words.In)) refl c.if-sees-6.ensures (last K c.word.ensures)
+returns-then-sees-6 c = chosen K 6 (kind (Reserved words.In)) refl c.if-sees-6.ensures
+    (last K c.word.ensures)
 
 pub returns : goal.returns
-returns c = first_else K (kind (Special symbols.Unequal) ∷ kind (Special symbols.Below) ∷ kind (Special symbols.AtMost) ∷ kind (Special symbols.Above) ∷ kind (Special symbols.AtLeast) ∷ kind (Reserved words.In) ∷ []) refl refl refl refl (c.if-sees.ensures, (c.if-sees-2.ensures, (c.if-sees-3.ensures, (c.if-sees-4.ensures, (c.if-sees-5.ensures, (c.if-sees-6.ensures, tt)))))) (last K c.symbol-2.ensures)
+returns c = first_else K (kind (Special symbols.Unequal) ∷ kind (Special symbols.Below) ∷ kind
+    (Special symbols.AtMost) ∷ kind (Special symbols.Above) ∷ kind (Special symbols.AtLeast) ∷ kind
+    (Reserved words.In) ∷ []) refl refl refl refl (
+      c.if-sees.ensures,
+      (
+        c.if-sees-2.ensures,
+        (
+          c.if-sees-3.ensures,
+          (
+            c.if-sees-4.ensures,
+            (c.if-sees-5.ensures, (c.if-sees-6.ensures, tt)),
+          ),
+        ),
+      ),
+    )
+    (last K c.symbol-2.ensures)

@@ -6,19 +6,22 @@ use Rattle.est_reader.specs.Tests.{kind}
 use Rattle.est_reader.specs.Moving.{weight}
 use Rattle.est_reader.proofs.Steps.{left_of}
 use Rattle.est_reader.proofs.Turns.{Turning, Each}
-use Rattle.est_productions.specs.Grammar as grammar
+use Rattle.est_productions.specs.Productions as grammar
 use Rattle.est_productions.specs.Nodes as node
 use Rattle.est_productions.proofs.Fits.{K}
 use Rattle.est_productions.proofs.type_text.+type_text.Given as goal
 
 abbrev pub invariant-typetexts-loop-reader : goal.invariant-typetexts-loop-reader
-invariant-typetexts-loop-reader l = Turning K (grammar.separated symbols.Comma (rule grammar.typetext)) (rep (grammar.symbol symbols.Comma (rule grammar.typetext))) l.fn.reader (Each K (map node.a_type l.items)) l.reader
+invariant-typetexts-loop-reader l = Turning K (grammar.separated symbols.Comma
+    (rule grammar.typetext)) (rep (grammar.symbol symbols.Comma (rule grammar.typetext)))
+    l.fn.reader (Each K (map node.a_type l.items)) l.reader
 
 abbrev pub decreases-typetexts-loop-reader : goal.decreases-typetexts-loop-reader
 decreases-typetexts-loop-reader l = left_of l.reader
 
 abbrev pub invariant-fields-loop-reader : goal.invariant-fields-loop-reader
-invariant-fields-loop-reader l = Turning K grammar.fields (ended (kind (Special symbols.Semicolon)) grammar.field) l.fn.reader (Each K (map node.a_field l.items)) l.reader
+invariant-fields-loop-reader l = Turning K grammar.fields (ended (kind (Special symbols.Semicolon))
+    grammar.field) l.fn.reader (Each K (map node.a_field l.items)) l.reader
 
 abbrev pub decreases-fields-loop-reader : goal.decreases-fields-loop-reader
 decreases-fields-loop-reader l = left_of l.reader

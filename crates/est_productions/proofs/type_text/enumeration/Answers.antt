@@ -8,4 +8,7 @@ use Rattle.est_productions.proofs.Made as made
 use Rattle.est_productions.proofs.type_text.enumeration.Goals as goal
 
 pub returns : goal.returns
-returns c = part (made.names_made _ _) (rule_goes K (chosen K 1 (kind (Special symbols.LeftParenthesis)) refl c.requires (here_goes K (take K c.symbol.ensures (then K refl c.idents-names.ensures (last K c.symbol-2.ensures))))))
+returns c = part (made.names_made _ _)
+    (rule_goes K (chosen K 1 (kind (Special symbols.LeftParenthesis)) refl c.requires
+    (here_goes K (take K c.symbol.ensures (then K refl c.idents-names.ensures
+    (last K c.symbol-2.ensures))))))

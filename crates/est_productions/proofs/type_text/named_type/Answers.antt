@@ -10,7 +10,14 @@ use Rattle.est_productions.proofs.Made as made
 use Rattle.est_productions.proofs.type_text.named_type.Goals as goal
 
 pub returns-then-not-sees : goal.returns-then-not-sees
-returns-then-not-sees c = goes_is (made.named_at c.name-name.ensures) (rule_goes K (chosen K 1 (kind Identifier) refl c.requires (here_goes K (then K refl (name_goes K c.name-name.ensures) (opt_out K (kind (Special symbols.DoublePeriod) ∷ []) refl refl (c.if-not-sees.ensures, tt))))))
+returns-then-not-sees c = goes_is (made.named_at c.name-name.ensures)
+    (rule_goes K (chosen K 1 (kind Identifier) refl c.requires
+    (here_goes K (then K refl (name_goes K c.name-name.ensures)
+    (opt_out K (kind (Special symbols.DoublePeriod) ∷ []) refl refl (c.if-not-sees.ensures, tt))))))
 
 pub returns : goal.returns
-returns c = goes_is (sym (made.range_made _ _)) (rule_goes K (chosen K 1 (kind Identifier) refl c.requires (here_goes K (then K refl (name_goes K c.name-name.ensures) (opt_in K (kind (Special symbols.DoublePeriod)) refl refl c.if-not-sees.ensures (take K c.symbol.ensures c.constant-high.ensures))))))
+returns c = goes_is (sym (made.range_made _ _))
+    (rule_goes K (chosen K 1 (kind Identifier) refl c.requires
+    (here_goes K (then K refl (name_goes K c.name-name.ensures)
+    (opt_in K (kind (Special symbols.DoublePeriod)) refl refl c.if-not-sees.ensures
+    (take K c.symbol.ensures c.constant-high.ensures))))))

@@ -8,4 +8,7 @@ use Rattle.est_productions.proofs.Made as made
 use Rattle.est_productions.proofs.type_text.shorttype.Goals as goal
 
 pub returns : goal.returns
-returns c = goes_is (sym (made.range_made _ _)) (rule_goes K (goes_as (made.unnamed_range _ _) (first_else K (kind Identifier ∷ []) refl refl refl refl (c.if-sees.ensures, tt) (then K refl c.unnamed-low.ensures (take K c.symbol.ensures c.constant-high.ensures)))))
+returns c = goes_is (sym (made.range_made _ _))
+    (rule_goes K (goes_as (made.unnamed_range _ _) (first_else K (kind Identifier ∷ []) refl refl
+    refl refl (c.if-sees.ensures, tt) (then K refl c.unnamed-low.ensures
+    (take K c.symbol.ensures c.constant-high.ensures)))))

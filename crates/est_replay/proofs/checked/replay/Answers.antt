@@ -8,9 +8,13 @@ pub replay_in-requires : goal.replay_in-requires
 replay_in-requires c =
     let s = rw c.in-Ready.is at c.in_ok-started.ensures in
     record {
-      start = λ spec speaks. starts_so c.args.limits.now.statements c.in-Ready.world.limit spec _ c.in-Ready.outs c.as_slice.result.now s.1.limit_is c.as_slice.ensures (s.1.start spec speaks);
+      start = λ spec speaks. starts_so c.args.limits.now.statements c.in-Ready.world.limit spec _
+          c.in-Ready.outs c.as_slice.result.now s.1.limit_is c.as_slice.ensures
+          (s.1.start spec speaks);
       room = (let u = s.1.unfired in omega arith);
-      allowed = λ spec speaks. subst (λ x. IsAllowedTrace x c.as_slice-in-Ready.result.now) (sym s.0 ∙ speaks) (subst (λ es. IsAllowedTrace c.args.checked.now es) (sym c.as_slice-in-Ready.ensures) c.requires.allowed);
+      allowed = λ spec speaks. subst (λ x. IsAllowedTrace x c.as_slice-in-Ready.result.now) (sym s.0
+          ∙ speaks) (subst (λ es. IsAllowedTrace c.args.checked.now es)
+          (sym c.as_slice-in-Ready.ensures) c.requires.allowed);
       few = subst (λ ms. length ms < 4294967295) (sym c.as_slice-in-Ready-2.ensures) c.requires.few;
     }
 
@@ -21,9 +25,14 @@ returns-in-Ready c =
     let claim = c.args.explanation.now.claim in
     if_ok_alike _ _ c.replay_in.result
     (λ a h.
-    let found : IsReplay limits.statements limits.silent c.args.checked.now c.as_slice-in-Ready.result.now c.as_slice-in-Ready-2.result.now claim a =
-    answers_from limits.statements c.in-Ready.world.limit limits.silent c.args.checked.now c.as_slice-in-Ready.result.now _ c.in-Ready.outs c.as_slice.result.now c.as_slice-in-Ready-2.result.now claim a
+    let found : IsReplay limits.statements limits.silent c.args.checked.now
+    c.as_slice-in-Ready.result.now c.as_slice-in-Ready-2.result.now claim a =
+    answers_from limits.statements c.in-Ready.world.limit limits.silent c.args.checked.now
+    c.as_slice-in-Ready.result.now _ c.in-Ready.outs c.as_slice.result.now
+    c.as_slice-in-Ready-2.result.now claim a
     s.1.limit_is c.as_slice.ensures (s.1.start c.args.checked.now s.0) (h c.args.checked.now s.0) in
-    subst (λ ms. IsReplay limits.statements limits.silent c.args.checked.now c.args.trace.now ms claim a) c.as_slice-in-Ready-2.ensures
-    (subst (λ es. IsReplay limits.statements limits.silent c.args.checked.now es c.as_slice-in-Ready-2.result.now claim a) c.as_slice-in-Ready.ensures found))
+    subst (λ ms. IsReplay limits.statements limits.silent c.args.checked.now c.args.trace.now ms
+    claim a) c.as_slice-in-Ready-2.ensures
+    (subst (λ es. IsReplay limits.statements limits.silent c.args.checked.now es
+    c.as_slice-in-Ready-2.result.now claim a) c.as_slice-in-Ready.ensures found))
     c.replay_in.ensures.answer

@@ -7,4 +7,5 @@ use Rattle.est_replay.proofs.explanation.firing.Goals as goal
 pub returns : goal.returns
 returns c =
     then known refl (number_goes known c.number-instance.ensures)
-    (then known refl (number_goes known c.number-transition.ensures) (number_goes known c.number-choice.ensures))
+    (then known refl (number_goes known c.number-transition.ensures)
+    (number_goes known c.number-choice.ensures))

@@ -2,13 +2,14 @@ use Rattle.std.proofs.Common.{map}
 use Rattle.est_language.specs.Grammar.{rep}
 use Rattle.est_reader.proofs.Steps.{left_of}
 use Rattle.est_reader.proofs.Turns.{Turning, Each}
-use Rattle.est_replay.specs.Grammar.{move}
-use Rattle.est_replay.specs.Nodes.{a_move}
+use Rattle.est_replay.specs.ExplanationGrammar.{move}
+use Rattle.est_replay.specs.ExplanationNodes.{a_move}
 use Rattle.est_replay.proofs.Explaining.{known}
 use Rattle.est_replay.proofs.explanation.moves.Given as goal
 
 abbrev pub invariant-loop-reader : goal.invariant-loop-reader
-invariant-loop-reader l = Turning known (rep move) (rep move) l.fn.reader (Each known (map a_move l.moves)) l.reader
+invariant-loop-reader l = Turning known (rep move) (rep move) l.fn.reader
+    (Each known (map a_move l.moves)) l.reader
 
 abbrev pub decreases-loop-reader : goal.decreases-loop-reader
 decreases-loop-reader l = left_of l.reader

@@ -7,4 +7,5 @@ use Rattle.est_replay.proofs.explanation.whole_explanation.Goals as goal
 pub returns : goal.returns
 returns c =
     part refl (take known c.take_word.ensures (take known (number_takes c.number-version.ensures)
-    (then known refl c.moves-moves.ensures (take known c.take_word-2.ensures (number_goes known c.number-claim.ensures)))))
+    (then known refl c.moves-moves.ensures (take known c.take_word-2.ensures
+    (number_goes known c.number-claim.ensures)))))

@@ -13,7 +13,12 @@ returns c =
     let asked = c.args.asked in
     let rest : take (length trace - so) (drop so trace) ≡ drop so trace = take_rest trace so in
     let few : take c.min-compared.result outs ≡ take (asked - so) outs =
-    ap (λ n. take n outs) (c.min-compared.ensures ∙ min_comm (length outs) c.saturating_sub.result ∙ ap (λ n. min n (length outs)) c.saturating_sub.ensures) ∙ take_min (asked - so) outs in (
-      λ r. agrees_on trace outs so asked c.requires (subst (λ w. IsPrefix w (drop so trace)) few (subst (λ w. IsPrefix (take c.min-compared.result outs) w) rest (c.begins_with.ensures.0 r))),
-      λ p. c.begins_with.ensures.1 (subst (λ w. IsPrefix (take c.min-compared.result outs) w) (sym rest) (subst (λ w. IsPrefix w (drop so trace)) (sym few) (agrees_back trace outs so asked c.requires p))),
+    ap (λ n. take n outs) (c.min-compared.ensures ∙ min_comm (length outs) c.saturating_sub.result
+    ∙ ap (λ n. min n (length outs)) c.saturating_sub.ensures) ∙ take_min (asked - so) outs in (
+      λ r. agrees_on trace outs so asked c.requires (subst (λ w. IsPrefix w (drop so trace)) few
+          (subst (λ w. IsPrefix (take c.min-compared.result outs) w) rest
+          (c.begins_with.ensures.0 r))),
+      λ p. c.begins_with.ensures.1 (subst (λ w. IsPrefix (take c.min-compared.result outs) w)
+          (sym rest) (subst (λ w. IsPrefix w (drop so trace)) (sym few)
+          (agrees_back trace outs so asked c.requires p))),
     )

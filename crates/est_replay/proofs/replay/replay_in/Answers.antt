@@ -11,7 +11,8 @@ replay_moves-requires g c κs within = (
     (
       c.requires.few,
       (
-        ∥∥₁_elim (g.met.W.World.spoken c.args.world.now) le_prop (λ s. (c.requires.allowed s.0 s.1).few),
+        ∥∥₁_elim (g.met.W.World.spoken c.args.world.now) le_prop
+            (λ s. (c.requires.allowed s.0 s.1).few),
         λ spec speaks. record {
           suits = record {
             spec_is = refl;

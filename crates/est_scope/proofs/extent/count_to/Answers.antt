@@ -7,5 +7,6 @@ use Rattle.est_scope.proofs.extent.count_to.Goals as goal
 pub returns-clause-count : goal.returns-clause-count
 returns-clause-count c =
     let parted = IsPartitionedBy-leb (λ (e : Extent). e.from) _ c.args.place c.requires in
-    let point = IsPartitionPoint-from_clause (λ (e : Extent). leb e.from c.args.place) _ _ c.partition_point.ensures.partitioned parted (λ a r q k. search rules) in
+    let point = IsPartitionPoint-from_clause (λ (e : Extent). leb e.from c.args.place) _ _
+    c.partition_point.ensures.partitioned parted (λ a r q k. search rules) in
     (λ k d l h. leb-true _ _ (point.0 k d l h), λ k d l h. below_leb _ _ (point.1 k d l h))

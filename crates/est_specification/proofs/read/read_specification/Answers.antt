@@ -1,4 +1,4 @@
-use Rattle.est_lexer.specs.Places.{text_of, tokens_of}
+use Rattle.est_lexer.specs.Offsets.{text_of, tokens_of}
 use Rattle.est_specification.proofs.Refused.{good, refused}
 use Rattle.est_specification.proofs.Small.{sentence_is_small}
 use Rattle.est_specification.proofs.read.read_specification.Goals as goal
@@ -8,10 +8,12 @@ check-requires c = sentence_is_small _ _ c.in_ok-tree.tree c.in_ok-tree.ensures.
 
 pub returns-in_err-check : goal.returns-in_err-check
 returns-in_err-check c =
-    refused (text_of c.args.tokens.now) (tokens_of c.args.tokens.now) c.in_ok-tree.tree c.in_err-check.field-0.0 _ c.in_ok-tree.ensures.tree
+    refused (text_of c.args.tokens.now) (tokens_of c.args.tokens.now) c.in_ok-tree.tree
+    c.in_err-check.field-0.0 _ c.in_ok-tree.ensures.tree
     c.in_err-check.ensures.fault c.from_residual-in_err-check.ensures
 
 pub returns : goal.returns
 returns c =
-    good (text_of c.args.tokens.now) (tokens_of c.args.tokens.now) c.in_ok-tree.tree c.in_ok-check.field-0 c.in_ok-tree.ensures.tree
+    good (text_of c.args.tokens.now) (tokens_of c.args.tokens.now) c.in_ok-tree.tree
+    c.in_ok-check.field-0 c.in_ok-tree.ensures.tree
     c.in_ok-check.ensures.good

@@ -1,7 +1,9 @@
 use Rattle.std.proofs.Common.{◌≡◌, drop}
-use Rattle.est_scope.specs.Least.{least_with}
+use Rattle.est_scope.specs.LeastSoFar.{least_with}
 use Rattle.est_statements.specs.Signals.{sendings_faults}
 use Rattle.est_statements.proofs.signals.check_sendings.Given as goal
 
 abbrev pub invariant-loop-sending : goal.invariant-loop-sending
-invariant-loop-sending l = least_with l.least.at (sendings_faults l.outline (drop l.sending-index l.sendings)) ≡ least_with l.fn.least.at (sendings_faults l.outline l.sendings)
+invariant-loop-sending l = least_with l.least.at
+    (sendings_faults l.outline (drop l.sending-index l.sendings)) ≡ least_with l.fn.least.at
+    (sendings_faults l.outline l.sendings)

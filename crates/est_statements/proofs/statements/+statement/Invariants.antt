@@ -1,10 +1,15 @@
 use Rattle.std.proofs.Common.{◌≡◌, drop}
-use Rattle.est_scope.specs.Least.{least_with}
+use Rattle.est_scope.specs.LeastSoFar.{least_with}
 use Rattle.est_statements.specs.Statements.{statements_faults, arms_faults}
 use Rattle.est_statements.proofs.statements.+statement.Given as goal
 
-abbrev pub invariant-check_statements-loop-statement : goal.invariant-check_statements-loop-statement
-invariant-check_statements-loop-statement l = least_with l.least.at (statements_faults l.outline l.function l.loops (drop l.statement-index l.statements)) ≡ least_with l.fn.least.at (statements_faults l.outline l.function l.loops l.statements)
+abbrev pub invariant-check_statements-loop-statement :
+    goal.invariant-check_statements-loop-statement
+invariant-check_statements-loop-statement l = least_with l.least.at (statements_faults l.outline
+    l.function l.loops (drop l.statement-index l.statements)) ≡ least_with l.fn.least.at
+    (statements_faults l.outline l.function l.loops l.statements)
 
 abbrev pub invariant-check_arms-loop-arm : goal.invariant-check_arms-loop-arm
-invariant-check_arms-loop-arm l = least_with l.least.at (arms_faults l.outline l.function l.loops l.host l.chosen (drop l.arm-index l.arms)) ≡ least_with l.fn.least.at (arms_faults l.outline l.function l.loops l.host l.fn.chosen l.arms)
+invariant-check_arms-loop-arm l = least_with l.least.at (arms_faults l.outline l.function l.loops
+    l.host l.chosen (drop l.arm-index l.arms)) ≡ least_with l.fn.least.at
+    (arms_faults l.outline l.function l.loops l.host l.fn.chosen l.arms)

@@ -1,4 +1,4 @@
-use Rattle.est_tool.specs.Texts.{OfExplanation, RefusesExplanation}
+use Rattle.est_tool.specs.FileTexts.{OfExplanation, RefusesExplanation}
 use Rattle.std.proofs.Common.{[], ◌∷◌}
 use Rattle.est_tool.specs.Ends.{at_explanation}
 use Rattle.est_tool.specs.Started.{three}
@@ -7,11 +7,15 @@ use Rattle.est_tool.proofs.commands.replay_explanation.Goals as goal
 
 pub returns-in_err-explanation : goal.returns-in_err-explanation
 returns-in_err-explanation g c =
-    stops_at OfExplanation RefusesExplanation (_ ∷ _ ∷ []) _ _ c.from_residual.result _ c.from_residual.ensures c.in_err-explanation.ensures.reads
-    (three _ _ c.requires.checked c.requires.traced) (λ end at. at_explanation _ _ end c.requires.checked c.requires.traced at)
+    stops_at OfExplanation RefusesExplanation (_ ∷ _ ∷ []) _ _ c.from_residual.result _
+    c.from_residual.ensures c.in_err-explanation.ensures.reads
+    (three _ _ c.requires.checked c.requires.traced) (λ end at. at_explanation _ _ end
+    c.requires.checked c.requires.traced at)
 
 pub returns : goal.returns
 returns g c =
-    ends_work OfExplanation RefusesExplanation (_ ∷ _ ∷ []) _ _ _ c.judged.result _ c.in_ok-explanation.ensures.reads c.judged.ensures
+    ends_work OfExplanation RefusesExplanation (_ ∷ _ ∷ []) _ _ _ c.judged.result _
+    c.in_ok-explanation.ensures.reads c.judged.ensures
     (three _ _ c.requires.checked c.requires.traced)
-    (replay_reports _ _ _ _ _ _ _ _ _ c.requires.checked c.requires.traced c.in_ok-explanation.ensures.reads.good)
+    (replay_reports _ _ _ _ _ _ _ _ _ c.requires.checked c.requires.traced
+    c.in_ok-explanation.ensures.reads.good)

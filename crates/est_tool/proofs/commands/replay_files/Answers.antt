@@ -1,4 +1,4 @@
-use Rattle.est_tool.specs.Texts.{OfSpecification, RefusesSpecification}
+use Rattle.est_tool.specs.FileTexts.{OfSpecification, RefusesSpecification}
 use Rattle.std.proofs.Common.{[]}
 use Rattle.est_tool.specs.Ends.{at_specification}
 use Rattle.est_tool.specs.Started.{one}
@@ -7,12 +7,15 @@ use Rattle.est_tool.proofs.commands.replay_files.Goals as goal
 
 pub returns-in_err-checked : goal.returns-in_err-checked
 returns-in_err-checked g c =
-    stops_at OfSpecification RefusesSpecification [] _ _ c.from_residual.result _ c.from_residual.ensures c.in_err-checked.ensures one (λ end at. at_specification end at)
+    stops_at OfSpecification RefusesSpecification [] _ _ c.from_residual.result _
+    c.from_residual.ensures c.in_err-checked.ensures one (λ end at. at_specification end at)
 
 pub returns-in-Skeleton : goal.returns-in-Skeleton
-returns-in-Skeleton g c = goes_on OfSpecification RefusesSpecification [] _ _ _ _ _ c.replay_trace.result c.in_ok-checked.ensures c.replay_trace.ensures
+returns-in-Skeleton g c = goes_on OfSpecification RefusesSpecification [] _ _ _ _ _
+    c.replay_trace.result c.in_ok-checked.ensures c.replay_trace.ensures
 
 pub returns-in-Whole : goal.returns-in-Whole
 returns-in-Whole g c =
-    ends_work OfSpecification RefusesSpecification [] _ _ _ c.unbuilt.result _ c.in_ok-checked.ensures c.unbuilt.ensures one
+    ends_work OfSpecification RefusesSpecification [] _ _ _ c.unbuilt.result _
+    c.in_ok-checked.ensures c.unbuilt.ensures one
     (unbuilt_reports _ _ _ _ _ _ _ _ c.in-Whole.is c.in_ok-checked.ensures.good)

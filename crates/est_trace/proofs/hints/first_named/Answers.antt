@@ -8,10 +8,14 @@ pub returns-then-is_named : goal.returns-then-is_named
 returns-then-is_named c =
     let xs = c.args.signals.now in
     let x = c.index-signals-number.result in
-    let e = slice_get_read xs (length xs) c.loop-number.number x refl c.loop-number-test.true c.index-signals-number.is in
-    number_is signal_name xs c.args.name.now c.loop-number.number x e (sym c.is_named.ensures ∙ c.if-is_named.true)
+    let e = slice_get_read xs (length xs) c.loop-number.number x refl c.loop-number-test.true
+    c.index-signals-number.is in
+    number_is signal_name xs c.args.name.now c.loop-number.number x e (sym c.is_named.ensures
+    ∙ c.if-is_named.true)
 
 pub returns : goal.returns
 returns c =
     let xs = c.args.signals.now in
-    no_number signal_name xs c.args.name.now (none_of (λ x. bytes_eq (signal_name x) c.args.name.now) xs c.loop-number.number c.loop-number-test.false c.loop-number.invariant)
+    no_number signal_name xs c.args.name.now
+    (none_of (λ x. bytes_eq (signal_name x) c.args.name.now) xs c.loop-number.number
+    c.loop-number-test.false c.loop-number.invariant)

@@ -4,4 +4,5 @@ use Rattle.est_trace.specs.Directories.{signal_name}
 use Rattle.est_trace.proofs.hints.first_named.Given as goal
 
 abbrev pub invariant-loop-number : goal.invariant-loop-number
-invariant-loop-number l = list_any (λ x. bytes_eq (signal_name x) l.name) (take l.number l.signals) ≡ false
+invariant-loop-number l = list_any (λ x. bytes_eq (signal_name x) l.name) (take l.number l.signals)
+    ≡ false

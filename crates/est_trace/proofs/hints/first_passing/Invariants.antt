@@ -1,6 +1,6 @@
 use Rattle.std.proofs.Common.{◌≡◌, false, take}
 use Rattle.std.specs.List.{list_any}
-use Rattle.est_trace.specs.Grammar.{passes}
+use Rattle.est_trace.specs.TraceGrammar.{passes}
 use Rattle.est_trace.proofs.hints.first_passing.Given as goal
 
 abbrev pub invariant-loop-number : goal.invariant-loop-number

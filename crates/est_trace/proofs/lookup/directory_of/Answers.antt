@@ -16,22 +16,27 @@ add-requires c =
     let ports = c.as_slice-listed.result.now in
     let i = c.loop-port.port-index in
     let plain = subst ArePlain (sym c.as_slice-listed.ensures) c.requires in
-    let e = slice_get_read ports (length ports) i c.port-item.result refl c.loop-port-test.true c.port-item.is in
+    let e = slice_get_read ports (length ports) i c.port-item.result refl c.loop-port-test.true
+    c.port-item.is in
     ap (λ v. list_any (bytes_eq v) (names_in c.loop-port.names)) c.as_slice.ensures
-    ∙ (ap (list_any (bytes_eq (port_name c.port-item.result))) c.loop-port.invariant ∙ new_name port_name ports plain.different i c.port-item.result e)
+    ∙ (ap (list_any (bytes_eq (port_name c.port-item.result))) c.loop-port.invariant
+    ∙ new_name port_name ports plain.different i c.port-item.result e)
 
 pub loop-port-preserved : goal.loop-port-preserved
 loop-port-preserved c =
     let ports = c.as_slice-listed.result.now in
     let i = c.loop-port.port-index in
-    let e = slice_get_read ports (length ports) i c.port-item.result refl c.loop-port-test.true c.port-item.is in
+    let e = slice_get_read ports (length ports) i c.port-item.result refl c.loop-port-test.true
+    c.port-item.is in
     c.in_ok-add.ensures ∙ (ap (λ v. v ++ c.as_slice.result.now ∷ []) c.loop-port.invariant
-    ∙ (ap (λ v. map port_name (take i ports) ++ v ∷ []) c.as_slice.ensures ∙ sym (names_more port_name ports i c.port-item.result e)))
+    ∙ (ap (λ v. map port_name (take i ports) ++ v ∷ []) c.as_slice.ensures
+    ∙ sym (names_more port_name ports i c.port-item.result e)))
 
 pub returns-clause-directory : goal.returns-clause-directory
 returns-clause-directory c =
     let ports = c.as_slice-listed.result.now in
     record {
       plain = subst ArePlain (sym c.as_slice-listed.ensures) c.requires;
-      named = c.loop-port.invariant ∙ ap (map port_name) (take_all c.loop-port.port-index ports c.loop-port-test.false);
+      named = c.loop-port.invariant
+          ∙ ap (map port_name) (take_all c.loop-port.port-index ports c.loop-port-test.false);
     }

@@ -12,5 +12,6 @@ returns-clause-reads c =
 
 pub returns-clause-counts : goal.returns-clause-counts
 returns-clause-counts c =
-    trace_counted c.args.directory.now.ports.now c.take_word.ensures (number_takes c.number-version.ensures) c.events-found.ensures.reads.same
+    trace_counted c.args.directory.now.ports.now c.take_word.ensures
+    (number_takes c.number-version.ensures) c.events-found.ensures.reads.same
     c.events-found.ensures.counts c.take_word-2.ensures

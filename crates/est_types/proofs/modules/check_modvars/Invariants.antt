@@ -1,7 +1,9 @@
 use Rattle.std.proofs.Common.{◌≡◌, drop}
-use Rattle.est_scope.specs.Least.{least_with}
-use Rattle.est_types.specs.Faults.{modvars_faults}
+use Rattle.est_scope.specs.LeastSoFar.{least_with}
+use Rattle.est_types.specs.DeclarationFaults.{modvars_faults}
 use Rattle.est_types.proofs.modules.check_modvars.Given as goal
 
 abbrev pub invariant-loop-item : goal.invariant-loop-item
-invariant-loop-item l = least_with l.least.at (modvars_faults l.outline l.outer (drop l.item-index l.items)) ≡ least_with l.fn.least.at (modvars_faults l.outline l.outer l.items)
+invariant-loop-item l = least_with l.least.at (modvars_faults l.outline l.outer
+    (drop l.item-index l.items)) ≡ least_with l.fn.least.at (modvars_faults l.outline l.outer
+    l.items)

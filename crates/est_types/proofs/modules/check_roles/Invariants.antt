@@ -1,7 +1,9 @@
 use Rattle.std.proofs.Common.{◌≡◌, drop}
-use Rattle.est_scope.specs.Least.{least_with}
-use Rattle.est_types.specs.Faults.{roles_faults}
+use Rattle.est_scope.specs.LeastSoFar.{least_with}
+use Rattle.est_types.specs.DeclarationFaults.{roles_faults}
 use Rattle.est_types.proofs.modules.check_roles.Given as goal
 
 abbrev pub invariant-loop-used : goal.invariant-loop-used
-invariant-loop-used l = least_with l.least.at (roles_faults l.outline l.channel (drop l.used-index l.names)) ≡ least_with l.fn.least.at (roles_faults l.outline l.channel l.names)
+invariant-loop-used l = least_with l.least.at (roles_faults l.outline l.channel
+    (drop l.used-index l.names)) ≡ least_with l.fn.least.at (roles_faults l.outline l.channel
+    l.names)

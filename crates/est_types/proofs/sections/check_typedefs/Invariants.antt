@@ -1,7 +1,9 @@
 use Rattle.std.proofs.Common.{◌≡◌, drop}
-use Rattle.est_scope.specs.Least.{least_with}
-use Rattle.est_types.specs.Faults.{typedefs_faults}
+use Rattle.est_scope.specs.LeastSoFar.{least_with}
+use Rattle.est_types.specs.DeclarationFaults.{typedefs_faults}
 use Rattle.est_types.proofs.sections.check_typedefs.Given as goal
 
 abbrev pub invariant-loop-item : goal.invariant-loop-item
-invariant-loop-item l = least_with l.least.at (typedefs_faults l.outline (drop l.item-index l.items)) ≡ least_with l.fn.least.at (typedefs_faults l.outline l.items)
+invariant-loop-item l = least_with l.least.at
+    (typedefs_faults l.outline (drop l.item-index l.items)) ≡ least_with l.fn.least.at
+    (typedefs_faults l.outline l.items)

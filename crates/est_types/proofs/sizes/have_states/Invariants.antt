@@ -1,5 +1,5 @@
 use Rattle.std.proofs.Common.{◌≡◌, drop}
-use Rattle.est_types.specs.inside.Parts.{have_states}
+use Rattle.est_types.specs.inside.DeclarationParts.{have_states}
 use Rattle.est_types.proofs.sizes.have_states.Given as goal
 
 abbrev pub invariant-loop-part : goal.invariant-loop-part

@@ -1,6 +1,7 @@
 use Rattle.std.proofs.Common.{◌≡◌, drop}
 use Rattle.est_uses.specs.Closed.{all_free}
-use Rattle.est_uses.specs.Expressions.{exprs_names, members_names, product_steps_names, selectors_names, sum_steps_names}
+use Rattle.est_uses.specs.NamesInExpressions.{exprs_names, members_names, product_steps_names}
+use Rattle.est_uses.specs.NamesInExpressions.{selectors_names, sum_steps_names}
 use Rattle.est_uses.proofs.expression.+expression.Given as goal
 
 abbrev pub invariant-exprs-loop-one : goal.invariant-exprs-loop-one

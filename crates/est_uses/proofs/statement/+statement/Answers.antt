@@ -1,7 +1,7 @@
 use Rattle.std.proofs.Common.{sym, ◌∙◌, ◌++◌}
 use Rattle.est_uses.specs.Closed.{all_free}
-use Rattle.est_uses.specs.Expressions.{expr_names}
-use Rattle.est_uses.specs.Statements.{statement_names}
+use Rattle.est_uses.specs.NamesInExpressions.{expr_names}
+use Rattle.est_uses.specs.NamesInStatements.{statement_names}
 use Rattle.est_uses.proofs.Sequences.{both_free, first_bound}
 use Rattle.est_uses.proofs.StatementRows.{if_at}
 use Rattle.est_uses.proofs.statement.+statement.Goals as goal

@@ -1,6 +1,6 @@
 use Rattle.std.proofs.Common.{◌≡◌, drop}
 use Rattle.est_uses.specs.Closed.{all_free}
-use Rattle.est_uses.specs.Statements.{statements_names, arms_names}
+use Rattle.est_uses.specs.NamesInStatements.{statements_names, arms_names}
 use Rattle.est_uses.proofs.statement.+statement.Given as goal
 
 abbrev pub invariant-statements-loop-one : goal.invariant-statements-loop-one

@@ -1,6 +1,6 @@
 use Rattle.std.proofs.Common.{ap, sym, ◌∙◌}
-use Rattle.est_uses.specs.Expressions.{end_names}
-use Rattle.est_uses.specs.Statements.{link_names}
+use Rattle.est_uses.specs.NamesInExpressions.{end_names}
+use Rattle.est_uses.specs.NamesInStatements.{link_names}
 use Rattle.est_uses.proofs.Sequences.{both_free}
 use Rattle.est_uses.proofs.statement.link.Goals as goal
 

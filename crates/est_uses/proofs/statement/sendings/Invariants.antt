@@ -1,6 +1,6 @@
 use Rattle.std.proofs.Common.{◌≡◌, drop}
 use Rattle.est_uses.specs.Closed.{all_free}
-use Rattle.est_uses.specs.Statements.{sendings_names}
+use Rattle.est_uses.specs.NamesInStatements.{sendings_names}
 use Rattle.est_uses.proofs.statement.sendings.Given as goal
 
 abbrev pub invariant-loop-one : goal.invariant-loop-one

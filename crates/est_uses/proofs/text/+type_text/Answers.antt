@@ -1,6 +1,6 @@
 use Rattle.std.proofs.Common.{ap, sym, ◌∙◌}
 use Rattle.est_uses.specs.Closed.{all_free}
-use Rattle.est_uses.specs.Texts.{text_names, texts_names}
+use Rattle.est_uses.specs.NamesInTexts.{text_names, texts_names}
 use Rattle.est_uses.proofs.Sequences.{both_free, first_bound}
 use Rattle.est_uses.proofs.TextRows.{array_at}
 use Rattle.est_uses.proofs.text.+type_text.Goals as goal

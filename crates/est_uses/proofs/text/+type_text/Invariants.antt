@@ -1,6 +1,6 @@
 use Rattle.std.proofs.Common.{◌≡◌, drop}
 use Rattle.est_uses.specs.Closed.{all_free}
-use Rattle.est_uses.specs.Texts.{texts_names, var_defs_names}
+use Rattle.est_uses.specs.NamesInTexts.{texts_names, var_defs_names}
 use Rattle.est_uses.proofs.text.+type_text.Given as goal
 
 abbrev pub invariant-type_texts-loop-text : goal.invariant-type_texts-loop-text

@@ -1,6 +1,6 @@
 use Rattle.std.proofs.Common.{◌≡◌, drop}
 use Rattle.est_uses.specs.Closed.{all_free}
-use Rattle.est_uses.specs.Texts.{constants_names}
+use Rattle.est_uses.specs.NamesInTexts.{constants_names}
 use Rattle.est_uses.proofs.text.constants.Given as goal
 
 abbrev pub invariant-loop-one : goal.invariant-loop-one

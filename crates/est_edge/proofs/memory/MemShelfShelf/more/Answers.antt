@@ -1,7 +1,7 @@
 use Rattle.std.proofs.Common.{◌≡◌, ℕ, List, [], Option, Some, ap, ◌∙◌, ◌<◌, length, arith, drop}
 use Rattle.std.specs.Prelude.{unwrap_or}
 use Rattle.std.specs.Option.{option_and_then}
-use Rattle.est_edge.specs.Places.{bytes_at, name_at}
+use Rattle.est_edge.specs.MemoryFiles.{bytes_at, name_at}
 use Rattle.est_edge.specs.Memory.{started_name}
 use Rattle.est_edge.proofs.PieceLaws.{next_piece}
 use Rattle.est_edge.proofs.PlaceLaws.{name_at_there, raised_others}
@@ -14,7 +14,9 @@ returns-clause-piece c =
     let read : unwrap_or (option_and_then (bytes_at files) c.args.self.now.started) [] ≡ bytes =
     ap (λ (o : Option ℕ). unwrap_or (option_and_then (bytes_at files) o) []) c.in-Some.is
     ∙ ap (λ (o : Option (List ℕ)). unwrap_or o []) c.bytes_of.ensures in
-    rw read (next_piece bytes c.copy_from_slice.new.self (drop c.min-n.result c.args.into.now) c.args.self.now.taken c.min-n.result c.copy_from_slice.ensures.after (let least = c.min-n.ensures in omega arith))
+    rw read (next_piece bytes c.copy_from_slice.new.self (drop c.min-n.result c.args.into.now)
+    c.args.self.now.taken c.min-n.result c.copy_from_slice.ensures.after
+    (let least = c.min-n.ensures in omega arith))
 
 pub returns-then-fails-clause-one_count : goal.returns-then-fails-clause-one_count
 returns-then-fails-clause-one_count c =
@@ -24,5 +26,6 @@ returns-then-fails-clause-one_count c =
     let named : started_name c.args.self.now ≡ Some read.0 =
     ap (λ (o : Option ℕ). option_and_then (name_at files) o) c.in-Some.is ∙ read.1 in
     rw named (λ other apart.
-    raised_others files c.raise_at.new.files.items c.in-Some.place read.0 other c.args.self.now.missing.value
+    raised_others files c.raise_at.new.files.items c.in-Some.place read.0 other
+    c.args.self.now.missing.value
     c.raise_at.ensures (c.args.self.now.first c.in-Some.place c.in-Some.is read.0 read.1) apart)

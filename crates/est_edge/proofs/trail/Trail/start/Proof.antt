@@ -31,26 +31,48 @@ use Rattle.est_edge.proofs.trail.Trail.start.Statement.{statement}
 use Rattle.est_edge.proofs.trail.Trail.start.Code as code
 
 abbrev stayed : Stays f.ended.signature.params f.ended.kept
-stayed = (stay_dropped (RefOf (0 ∷ []) tt (plain (λ _. made.the_row)) (λ _. tt)) yes, (stay_dropped (StrRefOf (1 ∷ []) tt) yes, tt))
+stayed = (
+  stay_dropped (RefOf (0 ∷ []) tt (plain (λ _. made.the_row)) (λ _. tt)) yes,
+  (stay_dropped (StrRefOf (1 ∷ []) tt) yes, tt),
+)
 
 pub start_spec : {M : Type 1} → statement M
 start_spec 𝓤 𝓛 𝓜 𝓡 wired =
     let c = f.clauses 𝓛 𝓜.mem 𝓡.returns in
     let 𝓣 = tables 𝓤 𝓛.H 𝓜 𝓡 𝓡.env in
-    proved 𝓛 f.ended stayed c 𝓜 𝓡
-    (Goes-dropped 𝓛 2 (RefOf (0 ∷ []) tt (plain (λ _. made.the_row)) (λ _. tt)) yes (λ κs x n. refl), (Goes-dropped 𝓛 2 (StrRefOf (1 ∷ []) tt) yes (λ κs x n. refl), tt))
+    proved 𝓛 f.ended stayed c 𝓜 𝓡 (
+      Goes-dropped 𝓛 2 (RefOf (0 ∷ []) tt (plain (λ _. made.the_row)) (λ _. tt)) yes
+          (λ κs x n. refl),
+      (Goes-dropped 𝓛 2 (StrRefOf (1 ∷ []) tt) yes (λ κs x n. refl), tt),
+    )
     key code.function (code.unfolded 𝓤 𝓛.H 𝓜 𝓡 wired)
     (λ κs. (shr_vals, (shr_slice_vals, tt)))
-    (λ κs. (shr_Tells (named 0) κs.0 made.the_row, (such_Tells (ShrSlice (named 1) κs.1.0 (UInt w8)) (λ x. Utf8 x.now) (λ x cs. (tt, tt)) shr_slice_vals (shr_slice_Tells (named 1) κs.1.0 (UInt w8)), tt)))
+    (λ κs. (
+      shr_Tells (named 0) κs.0 made.the_row,
+      (
+        such_Tells (ShrSlice (named 1) κs.1.0 (UInt w8)) (λ x. Utf8 x.now) (λ x cs. (tt, tt))
+            shr_slice_vals (shr_slice_Tells (named 1) κs.1.0 (UInt w8)),
+        tt,
+      ),
+    ))
     (λ κs qs bounds a g are.
     let before : Val = vptr a.0.ref_ptr.0 a.0.ref_ptr.1 in
     let text : Val = slice_val a.1.0.ref_ptr (length a.1.0.now) in
-    let y : (walk_of 𝓛 f.ended stayed c).Ghost = ((κs, qs, bounds, a, (before ∷ [], (text ∷ [], tt))), g) in
-    let trail : (made.the_row).Denot = record { names = a.0.now.names ++ a.1.0.now ∷ []; asked = 0 } in
+    let y : (walk_of 𝓛 f.ended stayed c).Ghost =
+    ((κs, qs, bounds, a, (before ∷ [], (text ∷ [], tt))), g) in
+    let trail : (made.the_row).Denot = record {
+      names = a.0.now.names ++ a.1.0.now ∷ [];
+      asked = 0;
+    } in
     via 𝓤 _ (fst∗ 𝓤 _ (emp 𝓤)) (
-    qed 𝓛 (raw (alive 𝓛 f.signature κs qs) ∷ ‵ (owns (types_at f.signature.params κs) a (before ∷ [], (text ∷ [], tt))) ∷ []) ∵
-    enter ! 𝓣.C 𝓣.Λ code.function (before ∷ text ∷ []) _ $ alloc_all ! (λ l. pass_all ! refl ((tt, tt), ((tt, (tt, (record { fits = are.1.0.0.0.1.0 }, tt))), tt)) $
+    qed 𝓛 (raw (alive 𝓛 f.signature κs qs) ∷ ‵ (owns (types_at f.signature.params κs) a
+    (before ∷ [], (text ∷ [], tt))) ∷ []) ∵
+    enter ! 𝓣.C 𝓣.Λ code.function (before ∷ text ∷ []) _ $ alloc_all !
+    (λ l. pass_all ! refl ((tt, tt), ((tt, (tt, (record { fits = are.1.0.0.0.1.0 }, tt))), tt))
+    $
     sets ! (agg ! (no_more !)) refl (tt, tt) $ returns ! (look_at ! 0 refl) $ free_all ! refl $
-    pure_i ! (made.the_row.own_val trail (vstruct vnil ∷ [])) ((λ vss. (tt, tt)), tt) ((tt, (refl, tt)), tt) $
-    suffices ! _ (ends_at 𝓛 f.ended stayed c y (vstruct vnil) trail (tt, (tt, tt)) (tt, (tt, tt))) $ says ! (refl, refl) $
+    pure_i ! (made.the_row.own_val trail (vstruct vnil ∷ [])) ((λ vss. (tt, tt)), tt)
+    ((tt, (refl, tt)), tt) $
+    suffices ! _ (ends_at 𝓛 f.ended stayed c y (vstruct vnil) trail (tt, (tt, tt)) (tt, (tt, tt))) $
+    says ! (refl, refl) $
     nothing ! $ nothing ! $ fjoin ! $ nothing ! $ fjoin ! $ keep ! (2 ∷ 0 ∷ 1 ∷ []) $ done !)))

@@ -5,4 +5,5 @@ use Rattle.est_outline.proofs.context.ClauseKind.position.Given as goal
 abbrev pub invariant-loop-given : goal.invariant-loop-given
 invariant-loop-given l =
     (l.count ≡ l.given-index)
-    × (take l.given-index l.context ++ dropped l.self (drop l.given-index l.context) ≡ dropped l.self l.context)
+    × (take l.given-index l.context ++ dropped l.self (drop l.given-index l.context)
+    ≡ dropped l.self l.context)

@@ -8,6 +8,13 @@ use Rattle.est_scope.proofs.extent.Extents.extend.Goals as goal
 pub invariant_of-self-2 : goal.invariant_of-self-2
 invariant_of-self-2 c =
     let begins : last_from c.self.inside.list 0 ≤ c.later-from.result =
-    omega (arith, c.later-from.ensures, c.last_from.ensures, ap (λ es. last_from es 0) c.as_slice.ensures, later_is c.last_from.result c.args.place) in
+    omega (
+      arith,
+      c.later-from.ensures,
+      c.last_from.ensures,
+      ap (λ es. last_from es 0)
+          c.as_slice.ensures,
+      later_is c.last_from.result c.args.place,
+    ) in
     subst (λ es. IsNonDecreasingBy (λ (x : Extent). x.from) es) (sym c.in_ok-push.ensures.ok)
     (push_later c.self.inside.list _ c.self.invariant begins)

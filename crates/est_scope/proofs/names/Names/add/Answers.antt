@@ -9,9 +9,12 @@ use Rattle.est_scope.proofs.names.Names.add.Goals as goal
 
 pub returns : goal.returns
 returns c =
-    let key_is : c.in_ok-key.key.items ≡ c.args.name.now.bytes = c.in_ok-key.ensures.items ∙ c.as_slice.ensures
-    in ap (map {B = List ℕ × Standing} (λ e. (e.0.items, e.1))) (c.in_ok-insert.ensures.entries ∙ insert_entry-new _ c.self.inside.under c.in_ok-key.key c.args.standing
+    let key_is : c.in_ok-key.key.items ≡ c.args.name.now.bytes = c.in_ok-key.ensures.items
+    ∙ c.as_slice.ensures
+    in ap (map {B = List ℕ × Standing} (λ e. (e.0.items, e.1))) (c.in_ok-insert.ensures.entries
+    ∙ insert_entry-new _ c.self.inside.under c.in_ok-key.key c.args.standing
     (sym (lookup-map (λ k. k.items) (is_name c.in_ok-key.key.items) c.self.inside.under.entries)
-    ∙ ap (λ l. lookup (is_name c.in_ok-key.key.items) l) c.self.view_is ∙ ap (λ n. lookup (is_name n) c.args.self.now) key_is ∙ c.requires))
+    ∙ ap (λ l. lookup (is_name c.in_ok-key.key.items) l) c.self.view_is
+    ∙ ap (λ n. lookup (is_name n) c.args.self.now) key_is ∙ c.requires))
     ∙ map-push (λ k. k.items) c.self.inside.under.entries c.in_ok-key.key c.args.standing
     ∙ (λ i. c.self.view_is i ++ (key_is i, c.args.standing) ∷ [])

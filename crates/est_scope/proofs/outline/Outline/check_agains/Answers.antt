@@ -4,4 +4,6 @@ use Rattle.est_scope.proofs.LeastLaws.{least_loop}
 use Rattle.est_scope.proofs.outline.Outline.check_agains.Goals as goal
 
 pub loop-used-preserved : goal.loop-used-preserved
-loop-used-preserved c = least_loop (agains_faults c.args.self.now) (again_faults c.args.self.now) _ _ _ _ _ _ (λ y ys. refl) c.loop-used-test.true c.used-item.is c.check_again.ensures c.loop-used.invariant
+loop-used-preserved c = least_loop (agains_faults c.args.self.now) (again_faults c.args.self.now) _
+    _ _ _ _ _ (λ y ys. refl) c.loop-used-test.true c.used-item.is c.check_again.ensures
+    c.loop-used.invariant

@@ -9,4 +9,6 @@ returns-then-is_named c =
     let xs = c.args.signals.now in
     let i = get_or c.deref-number-items.result.now c.loop-number.number-index 0 in
     let x = c.index-signals-number.result in
-    number_is signal_name xs c.args.name.now i x (slice_get_read xs (length xs) i x refl c.if-number-signals.true c.index-signals-number.is) (sym c.is_named.ensures ∙ c.if-is_named.true)
+    number_is signal_name xs c.args.name.now i x (slice_get_read xs (length xs) i x refl
+    c.if-number-signals.true c.index-signals-number.is) (sym c.is_named.ensures
+    ∙ c.if-is_named.true)

@@ -1,0 +1,204 @@
+-- What a name in an expression stands for (ISO 7185, 6.5 and 6.7.1; ISO 9074, exported variables).
+use Rattle.std.specs.Prelude.{ℕ, ◌-◌, Bool, true, false, ◌||◌, ◌&&◌, not, nat_eq}
+use Rattle.std.specs.Prelude.{List, [], ◌∷◌, Option, Some, None, if◌then◌else◌, codes}
+use Rattle.est_syntax.specs.Names.{is_name, spelled}
+use Rattle.est_syntax.specs.Faults.{broken}
+use Rattle.est_syntax.specs.declared.kind.Kind.{Kind}
+use Rattle.est_syntax.specs.declared.name.Used.{Used}
+use Rattle.est_syntax.specs.declared.rule.Fault.{Fault}
+use Rattle.est_syntax.specs.declared.rule.Rule.TheVariants.{UnknownName, NotSeenHere}
+use Rattle.est_syntax.specs.declared.rule.Rule.TheVariants.{WrongSort, WrongNumber}
+use Rattle.est_scope.specs.declared.declaration.Entry.{Entry}
+use Rattle.est_scope.specs.declared.declaration.Measured.{Measured}
+use Rattle.est_scope.specs.declared.declaration.Meant.{Meant}
+use Rattle.est_scope.specs.declared.declaration.Meant.TheVariants.{Nothing, Predeclared}
+use Rattle.est_scope.specs.declared.declaration.Meant.TheVariants.{Unseen, Seen}
+use Rattle.est_scope.specs.declared.declaration.Section.{Section}
+use Rattle.est_scope.specs.declared.declaration.Section.TheVariants as section
+use Rattle.est_scope.specs.declared.declaration.Sort.{Sort}
+use Rattle.est_scope.specs.declared.declaration.Sort.TheVariants as sort
+use Rattle.est_scope.specs.Outline.{Outline, entry_at, nth}
+use Rattle.est_scope.specs.Uses.{meaning}
+use Rattle.est_kinds.specs.declared.value.Valued.{Valued}
+use Rattle.est_kinds.specs.Constants.{predeclared_constant}
+use Rattle.est_alike.specs.declared.types.Host.{Host}
+use Rattle.est_alike.specs.declared.types.Host.TheVariants as host
+use Rattle.est_alike.specs.Types.{Yielded, Ordinal, yields, host_in, type_of}
+use Rattle.est_expressions.specs.declared.operators.Wanted.{Wanted}
+use Rattle.est_expressions.specs.declared.operators.Wanted.TheVariants as wanted
+use Rattle.est_expressions.specs.declared.names.Required.{Required}
+use Rattle.est_expressions.specs.declared.names.Required.TheVariants as required
+use Rattle.est_expressions.specs.declared.names.Selected.{Selected}
+use Rattle.est_expressions.specs.declared.names.Selected.TheVariants as code
+
+-- What a name with some selectors stands for: nothing, where it breaks a rule; a value; a variable
+-- of a kind; the module variables that are declared at a place, before their subscripts; one of
+-- them; or one of which it is not known which, since a subscript breaks a rule.
+pub data Selection : Type 0 where
+  Broken : Selection
+  Value : Yielded → Selection
+  Component : Kind → Selection
+  Modules : ℕ → Selection
+  Module : ℕ → Selection
+  SomeModule : Selection
+
+-- what the program keeps says so
+abbrev pub selects : Selected → Selection
+selects code.Broken = Broken
+selects (code.Value t) = Value (yields t)
+selects (code.Component k) = Component k.now
+selects (code.Modules p) = Modules p
+selects (code.Module p) = Module p
+selects code.SomeModule = SomeModule
+
+-- the type of a declaration, where it has a kind
+abbrev pub type_in : Option Measured → Option Yielded
+type_in None = None
+type_in (Some m) = Some (type_of m.kind)
+
+-- what a call, an `init` or an `output` gives a value or a variable to
+abbrev pub is_parameter : Section → Bool
+is_parameter section.Parameter = true
+is_parameter section.Value = true
+is_parameter section.Place = true
+is_parameter section.Interaction = true
+is_parameter _ = false
+
+abbrev pub parameter_by : Option Entry → Option Entry
+parameter_by None = None
+parameter_by (Some e) = if is_parameter e.section then Some e else None
+
+abbrev pub parameter_at : Outline → Option ℕ → Option Entry
+parameter_at o None = None
+parameter_at o (Some p) = parameter_by (entry_at o p)
+
+-- the parameter that has this number, counted from 0, of what is declared at a place: its region
+-- begins with its parameters
+abbrev pub parameter : Outline → ℕ → ℕ → Option Entry
+parameter o place i = parameter_at o (nth o place i)
+
+abbrev pub is_there : Option Entry → Bool
+is_there None = false
+is_there (Some e) = true
+
+-- whether there is a parameter for each argument
+abbrev pub has_before : Outline → ℕ → ℕ → Bool
+has_before o place n = nat_eq n 0 || is_there (parameter o place (n - 1))
+
+-- whether there are as many parameters as this
+abbrev pub takes_so_many : Outline → ℕ → ℕ → Bool
+takes_so_many o place n = has_before o place n && not (is_there (parameter o place n))
+
+-- the type of a parameter
+abbrev pub parameter_type : Option Entry → Option Yielded
+parameter_type None = None
+parameter_type (Some e) = type_in e.kind
+
+-- the functions that are predeclared (ISO 7185, 6.6.6): those of integers alone, and all
+abbrev pub integer_function : List ℕ → Option Required
+integer_function name =
+    if is_name name (codes "abs") then Some required.Abs else
+    (if is_name name (codes "odd") then Some required.Odd else
+    (if is_name name (codes "sqr") then Some required.Sqr else None))
+
+abbrev pub required_function : List ℕ → Option Required
+required_function name =
+    if is_name name (codes "ord") then Some required.Ord else
+    (if is_name name (codes "chr") then Some required.Chr else
+    (if is_name name (codes "succ") then Some required.Succ else
+    (if is_name name (codes "pred") then Some required.Pred else integer_function name)))
+
+-- what they take and give
+abbrev pub argument_of : Required → Wanted
+argument_of required.Ord = wanted.Ordinal
+argument_of required.Succ = wanted.Ordinal
+argument_of required.Pred = wanted.Ordinal
+argument_of _ = wanted.Integer
+
+abbrev pub value_of : Required → Yielded → Yielded
+value_of required.Chr t = Ordinal host.Char
+value_of required.Odd t = Ordinal host.Boolean
+value_of required.Succ t = t
+value_of required.Pred t = t
+value_of _ t = Ordinal host.Integer
+
+-- a constant that is predeclared, of this host
+abbrev pub host_value : Option Host → Selection
+host_value None = Broken
+host_value (Some h) = Value (Ordinal h)
+
+abbrev pub predeclared_head : Option Valued → Selection
+predeclared_head None = Broken
+predeclared_head (Some v) = host_value (host_in v.host)
+
+-- a constant or the result of a function, where its kind is known
+abbrev pub value_head : Option Measured → Selection
+value_head None = Broken
+value_head (Some m) = Value (type_of m.kind)
+
+-- a variable
+abbrev pub variable_head : Option Measured → Selection
+variable_head None = Broken
+variable_head (Some m) = Component m.kind
+
+-- a module variable, or several
+abbrev pub module_head : Option (List Kind) → ℕ → Selection
+module_head None p = Broken
+module_head (Some []) p = Module p
+module_head (Some (k ∷ ks)) p = Modules p
+
+-- a function without arguments
+abbrev pub function_head : Bool → Option Measured → Selection
+function_head takes k = if takes then value_head k else Broken
+
+-- what a declaration is in an expression
+abbrev pub head_by : Outline → ℕ → Entry → Sort → Selection
+head_by o p e sort.Constant = value_head e.kind
+head_by o p e sort.Variable = variable_head e.kind
+head_by o p e sort.ModuleVariable = module_head e.dims p
+head_by o p e sort.Function = function_head (takes_so_many o p 0) e.kind
+head_by o p e _ = Broken
+
+abbrev pub head_in : Outline → ℕ → Option Entry → Selection
+head_in o p None = Broken
+head_in o p (Some e) = head_by o p e e.declared.sort
+
+-- what a name is in an expression
+abbrev pub head_meant : Outline → List ℕ → Meant → Selection
+head_meant o name Predeclared = predeclared_head (predeclared_constant name)
+head_meant o name (Seen p) = head_in o p (entry_at o p)
+head_meant o name _ = Broken
+
+abbrev pub head : Outline → Used → Selection
+head o u = head_meant o (spelled u) (meaning o u)
+
+-- what the name of something predeclared breaks
+abbrev pub function_faults : Option Required → ℕ → List Fault
+function_faults None place = broken place WrongSort
+function_faults (Some f) place = broken place WrongNumber
+
+abbrev pub predeclared_faults : Option Valued → List ℕ → ℕ → List Fault
+predeclared_faults None name place = function_faults (required_function name) place
+predeclared_faults (Some v) name place = []
+
+-- and that of a declaration
+abbrev pub sort_faults : Outline → ℕ → Sort → ℕ → List Fault
+sort_faults o p sort.Constant place = []
+sort_faults o p sort.Variable place = []
+sort_faults o p sort.ModuleVariable place = []
+sort_faults o p sort.Function place = if takes_so_many o p 0 then [] else broken place WrongNumber
+sort_faults o p _ place = broken place WrongSort
+
+abbrev pub entry_faults : Outline → ℕ → Option Entry → ℕ → List Fault
+entry_faults o p None place = broken place WrongSort
+entry_faults o p (Some e) place = sort_faults o p e.declared.sort place
+
+-- what a name breaks in an expression
+abbrev pub meant_faults : Outline → List ℕ → Meant → ℕ → List Fault
+meant_faults o name Nothing place = broken place UnknownName
+meant_faults o name Predeclared place = predeclared_faults (predeclared_constant name) name place
+meant_faults o name (Unseen p) place = broken place NotSeenHere
+meant_faults o name (Seen p) place = entry_faults o p (entry_at o p) place
+
+abbrev pub head_faults : Outline → Used → List Fault
+head_faults o u = meant_faults o (spelled u) (meaning o u) u.place

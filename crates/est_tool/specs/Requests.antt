@@ -1,0 +1,74 @@
+-- What the words of a call ask for.
+use Rattle.std.specs.Prelude.{◌≡◌, ◌≢◌, ℕ, ◌≤◌, List, [], ◌∷◌, length}
+use Rattle.std.specs.Prelude.{codes, map, String, string_bytes}
+use Rattle.std.specs.Global.{Global}
+use Rattle.std.specs.Str.Parse.{IsNumeral, digits_value}
+use Rattle.est_meaning.specs.declared.run.Limits.{Limits}
+use Rattle.est_tool.specs.declared.words.Command.{Command}
+use Rattle.est_tool.specs.declared.words.Command.TheVariants.{Check, Replay}
+
+-- the bytes of each word
+abbrev pub bytes_of : List (String Global) → List (List ℕ)
+bytes_of words = map string_bytes words
+
+-- What words ask for: to check a specification, or to replay an explanation of a trace, with the
+-- most silent firings in a row and the most statements of a block or guard.
+pub data Request : Type 0 where
+  check : (specification : List ℕ) → Request
+  replay : (specification trace explanation : List ℕ) (silent statements : ℕ) → Request
+
+-- the word is a decimal numeral of at most 20 digits, with this value, which is within the bounds
+pub record IsNumber (low high : ℕ) (word : List ℕ) (value : ℕ) : Type 0 where
+  pub numeral : IsNumeral 10 word
+  pub short : length word ≤ 20
+  pub valued : value ≡ digits_value 10 word
+  pub least : low ≤ value
+  pub most : value ≤ high
+
+-- the words for the limits of a replay: none, where these are 8 silent firings and 10,000
+-- statements, or a number for each
+pub data AreLimits (words : List (List ℕ)) : ℕ → ℕ → Type 0 where
+  left_out : words ≡ [] → AreLimits words 8 10000
+  given : (first second : List ℕ) (silent statements : ℕ) → words ≡ first ∷ second ∷ []
+      → IsNumber 0 1000 first silent → IsNumber 1 1000000 second statements
+      → AreLimits words silent statements
+
+-- The words ask for this: they are a command word, the names of its files, which are not empty, and
+-- for a replay its limits.
+pub data Asks (words : List (List ℕ)) : Request → Type 0 where
+  to_check : (specification : List ℕ) → words ≡ codes "check" ∷ specification ∷ []
+      → specification ≢ [] → Asks words (check specification)
+  to_replay : (specification trace explanation : List ℕ) (limits : List (List ℕ))
+      (silent statements : ℕ)
+      → words ≡ codes "replay" ∷ specification ∷ trace ∷ explanation ∷ limits
+      → specification ≢ [] → trace ≢ [] → explanation ≢ [] → AreLimits limits silent statements
+      → Asks words (replay specification trace explanation silent statements)
+
+-- the words ask for nothing that the program does
+abbrev pub AsksNothing : List (String Global) → Type 0
+AsksNothing words = (request : Request) → Asks (bytes_of words) request → ⊥
+
+-- the words ask to check the file that the second one names
+abbrev pub AsksToCheck : List (String Global) → Type 0
+AsksToCheck (command ∷ specification ∷ []) =
+    Asks (bytes_of (command ∷ specification ∷ [])) (check (string_bytes specification))
+AsksToCheck _ = ⊥
+
+-- the words ask to replay, within these limits, the files that the second, third and fourth one
+-- name
+abbrev pub AsksToReplay : Limits → List (String Global) → Type 0
+AsksToReplay limits (command ∷ specification ∷ trace ∷ explanation ∷ rest) =
+    Asks (bytes_of (command ∷ specification ∷ trace ∷ explanation ∷ rest))
+    (replay (string_bytes specification) (string_bytes trace) (string_bytes explanation)
+    limits.silent limits.statements)
+AsksToReplay limits _ = ⊥
+
+-- the most firings that are tried, where no word says how many; a replay tries those alone that its
+-- explanation names
+abbrev pub usual_budget : ℕ
+usual_budget = 1000000
+
+-- the words ask for this command, and the files that it is for are the words at their places
+abbrev pub IsCommand : List (String Global) → Command → Type 0
+IsCommand words Check = AsksToCheck words
+IsCommand words (Replay limits) = AsksToReplay limits words × (limits.budget ≡ usual_budget)

@@ -1,0 +1,284 @@
+-- The rules that the declarations of a specification break, at a declared name, within a section of
+-- declarations, or within the formals or the result of a routine (ISO 9074, constraints; ISO 7185,
+-- 6.2 to 6.6).
+use Rattle.std.specs.Prelude.{ℕ, ◌-◌, Bool, true, false, ◌&&◌, not, nat_lt, List}
+use Rattle.std.specs.Prelude.{[], ◌∷◌, ◌++◌, Option, Some, None, if◌then◌else◌}
+use Rattle.est_syntax.specs.Faults.{broken, broken_if}
+use Rattle.est_syntax.specs.declared.name.Used.{Used}
+use Rattle.est_syntax.specs.declared.constant.ConstDef.{ConstDef}
+use Rattle.est_syntax.specs.declared.type_text.VarDef.{VarDef}
+use Rattle.est_syntax.specs.declared.type_text.TypeDef.{TypeDef}
+use Rattle.est_syntax.specs.declared.channel.InteractionDef.{InteractionDef}
+use Rattle.est_syntax.specs.declared.channel.ByPart.{ByPart}
+use Rattle.est_syntax.specs.declared.channel.Channel.{Channel}
+use Rattle.est_syntax.specs.declared.header.Point.{Point}
+use Rattle.est_syntax.specs.declared.header.Header.{Header}
+use Rattle.est_syntax.specs.declared.header.ModvarDef.{ModvarDef}
+use Rattle.est_syntax.specs.declared.routine.Formal.{Formal}
+use Rattle.est_syntax.specs.declared.body.StateSet.{StateSet}
+use Rattle.est_syntax.specs.declared.transition.Clause.{Clause}
+use Rattle.est_syntax.specs.declared.transition.Clause.TheVariants as clause
+use Rattle.est_syntax.specs.declared.body.Part.{Part, Row_of-Part, end_of-Part, more_of-Part}
+use Rattle.est_syntax.specs.declared.body.Part.TheVariants as part
+use Rattle.est_syntax.specs.declared.body.Body.{Body', Row_of-Group, end_of-Group}
+use Rattle.est_syntax.specs.declared.body.Body.{more_of-Group, Held-Body-first}
+use Rattle.est_syntax.specs.declared.body.Part.TheBlock as first
+use Rattle.est_syntax.specs.declared.transition.Group.{Group', Row_of-Transition}
+use Rattle.est_syntax.specs.declared.transition.Group.{end_of-Transition, more_of-Transition}
+use Rattle.est_syntax.specs.declared.specification.Spec.{Spec}
+use Rattle.est_syntax.specs.declared.rule.Fault.{Fault}
+use Rattle.est_syntax.specs.declared.rule.Rule.TheVariants.{UnknownName, WrongSort}
+use Rattle.est_syntax.specs.declared.rule.Rule.TheVariants.{TooLarge, NotInFunction}
+use Rattle.est_syntax.specs.declared.rule.Rule.TheVariants.{NoFirstState, WrongAttribute}
+use Rattle.est_scope.specs.declared.declaration.Sort.TheVariants as sort
+use Rattle.est_scope.specs.declared.declaration.Entry.{Entry}
+use Rattle.est_scope.specs.declared.declaration.Measured.{Measured}
+use Rattle.est_scope.specs.declared.declaration.Member.{Member}
+use Rattle.est_scope.specs.declared.declaration.Member.TheVariants as member
+use Rattle.est_scope.specs.Outline.{Outline, entry_at}
+use Rattle.est_scope.specs.Uses.{use_faults, uses_faults, declaration_of, twice_faults}
+use Rattle.est_scope.specs.Uses.{twices_faults, again_faults, agains_faults}
+use Rattle.est_kinds.specs.Constants.{constant_faults}
+use Rattle.est_kinds.specs.TypeTexts.{text_faults, type_faults, added, most_scalars}
+use Rattle.est_kinds.specs.Dims.{dims_faults}
+use Rattle.est_outline.specs.Declares.{member_named}
+use Rattle.est_outline.specs.Bodies.{outline_of}
+
+-- constants
+abbrev pub const_faults : Outline → ConstDef → List Fault
+const_faults o c = twice_faults o c.name ++ constant_faults o c.value
+
+abbrev pub consts_faults : Outline → List ConstDef → List Fault
+consts_faults o [] = []
+consts_faults o (c ∷ cs) = const_faults o c ++ consts_faults o cs
+
+-- types
+abbrev pub typedef_faults : Outline → TypeDef → List Fault
+typedef_faults o t = twice_faults o t.name ++ text_faults o t.text
+
+abbrev pub typedefs_faults : Outline → List TypeDef → List Fault
+typedefs_faults o [] = []
+typedefs_faults o (t ∷ ts) = typedef_faults o t ++ typedefs_faults o ts
+
+-- variables, parameters or exports
+abbrev pub var_faults : Outline → VarDef → List Fault
+var_faults o v = twices_faults o v.names ++ text_faults o v.text
+
+abbrev pub vars_faults : Outline → List VarDef → List Fault
+vars_faults o [] = []
+vars_faults o (v ∷ vs) = var_faults o v ++ vars_faults o vs
+
+-- the use of a role, which is looked up in its channel
+abbrev pub role_used : Option Member → ℕ → List Fault
+role_used None place = broken place UnknownName
+role_used (Some (member.Role r)) place = []
+role_used (Some _) place = broken place WrongSort
+
+abbrev pub role_faults : Outline → ℕ → Used → List Fault
+role_faults o channel u = role_used (member_named o channel u) u.place
+
+abbrev pub roles_faults : Outline → ℕ → List Used → List Fault
+roles_faults o channel [] = []
+roles_faults o channel (u ∷ us) = role_faults o channel u ++ roles_faults o channel us
+
+-- channels
+abbrev pub interaction_faults : Outline → InteractionDef → List Fault
+interaction_faults o i = again_faults o i.name ++ vars_faults o i.params
+
+abbrev pub interactions_faults : Outline → List InteractionDef → List Fault
+interactions_faults o [] = []
+interactions_faults o (i ∷ is) = interaction_faults o i ++ interactions_faults o is
+
+abbrev pub by_faults : Outline → ℕ → ByPart → List Fault
+by_faults o channel b = roles_faults o channel b.roles ++ interactions_faults o b.interactions
+
+abbrev pub bys_faults : Outline → ℕ → List ByPart → List Fault
+bys_faults o channel [] = []
+bys_faults o channel (b ∷ bs) = by_faults o channel b ++ bys_faults o channel bs
+
+abbrev pub channel_faults : Outline → Channel → List Fault
+channel_faults o c =
+    twice_faults o c.name ++ agains_faults o c.roles ++ bys_faults o c.name.place c.by
+
+-- interaction points, whose role is looked up where their channel is one
+abbrev pub side_faults : Outline → Option ℕ → Used → List Fault
+side_faults o None role = []
+side_faults o (Some channel) role = role_faults o channel role
+
+abbrev pub point_faults : Outline → Point → List Fault
+point_faults o p =
+    twices_faults o p.names ++ dims_faults o p.dims p.place
+    ++ use_faults o sort.Channel p.channel
+    ++ side_faults o (declaration_of o sort.Channel p.channel) p.role
+
+abbrev pub points_faults : Outline → List Point → List Fault
+points_faults o [] = []
+points_faults o (p ∷ ps) = point_faults o p ++ points_faults o ps
+
+-- headers
+abbrev pub header_faults : Outline → Header → List Fault
+header_faults o h =
+    twice_faults o h.name ++ vars_faults o h.params ++ points_faults o h.points
+    ++ vars_faults o h.exports
+
+-- module variables: those of the specification are of systems, those of bodies are not
+abbrev pub is_system : Option Entry → Bool
+is_system None = false
+is_system (Some e) = e.system
+
+abbrev pub same_truth : Bool → Bool → Bool
+same_truth true b = b
+same_truth false b = not b
+
+abbrev pub attribute_faults : Outline → Bool → Option ℕ → ℕ → List Fault
+attribute_faults o outer None place = []
+attribute_faults o outer (Some p) place =
+    if same_truth outer (is_system (entry_at o p)) then [] else broken place WrongAttribute
+
+abbrev pub modvar_faults : Outline → Bool → ModvarDef → List Fault
+modvar_faults o outer m =
+    twices_faults o m.names ++ dims_faults o m.dims m.place
+    ++ use_faults o sort.Header m.header
+    ++ attribute_faults o outer (declaration_of o sort.Header m.header) m.header.place
+
+abbrev pub modvars_faults : Outline → Bool → List ModvarDef → List Fault
+modvars_faults o outer [] = []
+modvars_faults o outer (m ∷ ms) = modvar_faults o outer m ++ modvars_faults o outer ms
+
+-- state sets
+abbrev pub stateset_faults : Outline → StateSet → List Fault
+stateset_faults o s = twice_faults o s.name ++ uses_faults o sort.State s.states
+
+abbrev pub statesets_faults : Outline → List StateSet → List Fault
+statesets_faults o [] = []
+statesets_faults o (s ∷ ss) = stateset_faults o s ++ statesets_faults o ss
+
+-- formals: a function has none by place. The word `var` stands before the first name.
+abbrev pub word_place : List Used → ℕ
+word_place [] = 0
+word_place (u ∷ us) = u.place - 1
+
+abbrev pub formal_faults : Outline → Bool → Formal → List Fault
+formal_faults o function f =
+    twices_faults o f.names ++ type_faults o f.kind
+    ++ broken_if (function && f.by_place) (word_place f.names) NotInFunction
+
+abbrev pub formals_faults : Outline → Bool → List Formal → List Fault
+formals_faults o function [] = []
+formals_faults o function (f ∷ fs) = formal_faults o function f ++ formals_faults o function fs
+
+-- the result of a function
+abbrev pub result_faults : Outline → Option Used → List Fault
+result_faults o None = []
+result_faults o (Some u) = type_faults o u
+
+abbrev pub is_function : Option Used → Bool
+is_function None = false
+is_function (Some u) = true
+
+-- the `any` variables of a transition
+abbrev pub chosen_faults : Outline → VarDef → List Fault
+chosen_faults o v = twices_faults o v.names
+
+abbrev pub any_faults : Outline → List VarDef → List Fault
+any_faults o [] = []
+any_faults o (v ∷ vs) = chosen_faults o v ++ any_faults o vs
+
+abbrev pub clause_faults : Outline → Clause → List Fault
+clause_faults o (clause.Any names place) = any_faults o names
+clause_faults o _ = []
+
+abbrev pub clauses_faults : Outline → List Clause → List Fault
+clauses_faults o [] = []
+clauses_faults o (c ∷ cs) = clause_faults o c ++ clauses_faults o cs
+
+-- the scalars of variables, of those that have a kind
+abbrev pub scalars_in : Option Measured → ℕ
+scalars_in None = 0
+scalars_in (Some m) = m.scalars
+
+abbrev pub scalars_by : Option Entry → ℕ
+scalars_by None = 0
+scalars_by (Some e) = scalars_in e.kind
+
+abbrev pub names_scalars : Outline → ℕ → List Used → ℕ
+names_scalars o sum [] = sum
+names_scalars o sum (u ∷ us) = names_scalars o (added sum (scalars_by (entry_at o u.place))) us
+
+abbrev pub vars_scalars : Outline → ℕ → List VarDef → ℕ
+vars_scalars o sum [] = sum
+vars_scalars o sum (v ∷ vs) = vars_scalars o (names_scalars o sum v.names) vs
+
+-- the scalars of the `var` sections among parts
+abbrev pub row_scalars : Outline → ℕ → {n : _} → Row_of-Part n → ℕ
+row_scalars o sum end_of-Part = sum
+row_scalars o sum (more_of-Part (part.Vars vs) rest) = row_scalars o (vars_scalars o sum vs) rest
+row_scalars o sum (more_of-Part _ rest) = row_scalars o sum rest
+
+abbrev pub scalars_faults : ℕ → ℕ → List Fault
+scalars_faults scalars place = broken_if (nat_lt most_scalars scalars) place TooLarge
+
+-- a body that has states needs a first one
+abbrev pub row_has_states : {n : _} → Row_of-Part n → Bool
+row_has_states end_of-Part = false
+row_has_states (more_of-Part (part.States us) rest) = true
+row_has_states (more_of-Part _ rest) = row_has_states rest
+
+abbrev pub is_first : Option Used → Bool
+is_first None = false
+is_first (Some u) = true
+
+abbrev pub names_first : Held-Body-first → Bool
+names_first first.None' = false
+names_first (first.Some' to a parts statements place) = is_first to
+
+abbrev pub first_state_faults : Bool → Bool → ℕ → List Fault
+first_state_faults states named place = broken_if (states && not named) place NoFirstState
+
+-- What parts break: `outer` says that they are those of the specification.
+abbrev mutual
+  pub part_faults : Outline → Bool → Part → List Fault
+  part_faults o outer (part.Consts cs) = consts_faults o cs
+  part_faults o outer (part.Types ts) = typedefs_faults o ts
+  part_faults o outer (part.Channel c) = channel_faults o c
+  part_faults o outer (part.Header h) = header_faults o h
+  part_faults o outer (part.Body (Body' name header a parts f b groups)) =
+      twice_faults o name ++ row_faults o false parts
+      ++ first_faults o f ++ row_groups_faults o groups
+      ++ first_state_faults (row_has_states parts) (names_first f) name.place
+      ++ scalars_faults (row_scalars o 0 parts) name.place
+  part_faults o outer (part.Modvars ms) = modvars_faults o outer ms
+  part_faults o outer (part.Points ps) = points_faults o ps
+  part_faults o outer (part.Vars vs) = vars_faults o vs
+  part_faults o outer (part.States us) = twices_faults o us
+  part_faults o outer (part.StateSets ss) = statesets_faults o ss
+  part_faults o outer (part.Routine' name formals result a parts statements place) =
+      twice_faults o name ++ formals_faults o (is_function result) formals
+      ++ result_faults o result ++ row_faults o false parts
+      ++ scalars_faults (row_scalars o 0 parts) name.place
+
+  pub row_faults : Outline → Bool → {n : _} → Row_of-Part n → List Fault
+  row_faults o outer end_of-Part = []
+  row_faults o outer (more_of-Part p rest) = part_faults o outer p ++ row_faults o outer rest
+
+  pub first_faults : Outline → Held-Body-first → List Fault
+  first_faults o first.None' = []
+  first_faults o (first.Some' to a parts statements place) = row_faults o false parts
+
+  pub row_groups_faults : Outline → {n : _} → Row_of-Group n → List Fault
+  row_groups_faults o end_of-Group = []
+  row_groups_faults o (more_of-Group (Group' a transitions) rest) =
+      row_transitions_faults o transitions ++ row_groups_faults o rest
+
+  pub row_transitions_faults : Outline → {n : _} → Row_of-Transition n → List Fault
+  row_transitions_faults o end_of-Transition = []
+  row_transitions_faults o (more_of-Transition cs name a parts statements place rest) =
+      (clauses_faults o cs ++ row_faults o false parts) ++ row_transitions_faults o rest
+
+abbrev pub parts_faults : Outline → Bool → List Part → List Fault
+parts_faults o outer [] = []
+parts_faults o outer (p ∷ ps) = part_faults o outer p ++ parts_faults o outer ps
+
+-- all that the declarations of a specification break
+abbrev pub declaration_faults : Spec → List Fault
+declaration_faults s = parts_faults (outline_of s) true s.parts

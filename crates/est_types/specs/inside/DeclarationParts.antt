@@ -1,0 +1,68 @@
+-- What the parts of a body break, over lists.
+use Rattle.std.specs.Prelude.{ℕ, Bool, true, false, List, [], ◌∷◌, ◌++◌, Option, Some, None}
+use Rattle.est_syntax.specs.declared.rule.Fault.{Fault}
+use Rattle.est_syntax.specs.declared.body.Block.{Block}
+use Rattle.est_syntax.specs.declared.body.FirstPart.{FirstPart}
+use Rattle.est_syntax.specs.declared.body.Body.{Body, out-Body}
+use Rattle.est_syntax.specs.declared.body.Part.{Part}
+use Rattle.est_syntax.specs.declared.body.Part.TheVariants as part
+use Rattle.est_syntax.specs.declared.routine.Routine.{Routine, out-Routine}
+use Rattle.est_syntax.specs.declared.transition.Group.{Group, out-Group}
+use Rattle.est_syntax.specs.declared.transition.Transition.{Transition}
+use Rattle.est_scope.specs.Outline.{Outline}
+use Rattle.est_scope.specs.Uses.{twice_faults}
+use Rattle.est_types.specs.DeclarationFaults.{parts_faults, clauses_faults, formals_faults}
+use Rattle.est_types.specs.DeclarationFaults.{result_faults, is_function, vars_scalars}
+use Rattle.est_types.specs.DeclarationFaults.{scalars_faults, is_first, first_state_faults}
+
+-- the scalars of the `var` sections among parts
+abbrev pub parts_scalars : Outline → ℕ → List Part → ℕ
+parts_scalars o sum [] = sum
+parts_scalars o sum (part.Vars vs ∷ rest) = parts_scalars o (vars_scalars o sum vs) rest
+parts_scalars o sum (_ ∷ rest) = parts_scalars o sum rest
+
+abbrev pub have_states : List Part → Bool
+have_states [] = false
+have_states (part.States us ∷ rest) = true
+have_states (_ ∷ rest) = have_states rest
+
+abbrev pub has_first : Option FirstPart → Bool
+has_first None = false
+has_first (Some f) = is_first f.to
+
+abbrev pub block_faults : Outline → Block → List Fault
+block_faults o b = parts_faults o false b.parts
+
+abbrev pub first_part_faults : Outline → Option FirstPart → List Fault
+first_part_faults o None = []
+first_part_faults o (Some f) = block_faults o f.block
+
+abbrev pub transition_faults : Outline → Transition → List Fault
+transition_faults o t = clauses_faults o t.clauses ++ block_faults o t.block
+
+abbrev pub transitions_faults : Outline → List Transition → List Fault
+transitions_faults o [] = []
+transitions_faults o (t ∷ ts) = transition_faults o t ++ transitions_faults o ts
+
+abbrev pub group_faults : Outline → Group → List Fault
+group_faults o g = transitions_faults o (out-Group g).transitions
+
+abbrev pub groups_faults : Outline → List Group → List Fault
+groups_faults o [] = []
+groups_faults o (g ∷ gs) = group_faults o g ++ groups_faults o gs
+
+abbrev pub body_faults : Outline → Body → List Fault
+body_faults o b =
+    twice_faults o (out-Body b).name ++ parts_faults o false (out-Body b).parts
+    ++ first_part_faults o (out-Body b).first ++ groups_faults o (out-Body b).groups
+    ++ first_state_faults (have_states (out-Body b).parts) (has_first (out-Body b).first)
+    (out-Body b).name.place
+    ++ scalars_faults (parts_scalars o 0 (out-Body b).parts) (out-Body b).name.place
+
+abbrev pub routine_faults : Outline → Routine → List Fault
+routine_faults o r =
+    twice_faults o (out-Routine r).name
+    ++ formals_faults o (is_function (out-Routine r).result) (out-Routine r).formals
+    ++ result_faults o (out-Routine r).result
+    ++ parts_faults o false (out-Routine r).block.parts
+    ++ scalars_faults (parts_scalars o 0 (out-Routine r).block.parts) (out-Routine r).name.place
