@@ -1,7 +1,7 @@
 //! The least of the faults that are noted.
 
 ghost use Rattle.std.specs.Prelude.{◌≡◌};
-ghost use Rattle.est_syntax.specs.Least.{number, is_before};
+ghost use Rattle.est_syntax.specs.Least.{is_before};
 ghost use Rattle.est_scope.specs.LeastSoFar.{lesser, least_with};
 ghost use Rattle.est_syntax.specs.Faults.{broken, broken_if};
 
@@ -13,33 +13,7 @@ pub struct Least {
     pub at: Option<Fault>,
 }
 
-/// The number of a rule.
-fn number(rule: Rule) -> u8
-    ensures { result ≡ number rule }
-{
-    match rule {
-        Rule::UnknownName => 1,
-        Rule::DeclaredTwice => 2,
-        Rule::NotSeenHere => 3,
-        Rule::WrongSort => 4,
-        Rule::NumberTooLarge => 5,
-        Rule::WrongBounds => 6,
-        Rule::TooLarge => 7,
-        Rule::WrongKind => 8,
-        Rule::WrongNumber => 9,
-        Rule::NotWritable => 10,
-        Rule::NotInFunction => 11,
-        Rule::WrongDirection => 12,
-        Rule::DelayNotAlone => 13,
-        Rule::NoFirstState => 14,
-        Rule::WrongAttribute => 15,
-        Rule::WrongBody => 16,
-        Rule::WrongLink => 17,
-        Rule::CaseTwice => 18,
-    }
-}
-
-/// Whether one fault comes before another: by place, and at one place by the number of the rule.
+// Whether one fault comes before another: by place, and at one place by the number of the rule.
 fn is_before(one: Fault, other: Fault) -> bool
     ensures { result ≡ is_before one other }
 {
@@ -48,11 +22,11 @@ fn is_before(one: Fault, other: Fault) -> bool
     } else if other.place < one.place {
         false
     } else {
-        number(one.rule) < number(other.rule)
+        (one.rule as u8) < (other.rule as u8)
     }
 }
 
-/// The lesser of the least fault so far and another.
+// The lesser of the least fault so far and another.
 fn lesser(least: Option<Fault>, fault: Fault) -> Option<Fault>
     ensures { result ≡ lesser least fault }
 {

@@ -1,10 +1,14 @@
 -- Kinds that are well formed (ISO 7185, 6.4).
-use Rattle.std.specs.Prelude.{◌≡◌, ℕ, ◌<◌, ℤ, pos, negsuc, ◌≤ℤ◌, ◌<ℤ◌, Bool}
+use Rattle.std.specs.Prelude.{◌≡◌, ℕ, ◌<◌, ℤ, pos, neg_ℤ, ◌≤ℤ◌, ◌<ℤ◌, Bool}
 use Rattle.std.specs.Prelude.{true, false, IsTrue, List, length, slice_get, Some}
 use Rattle.est_syntax.specs.declared.name.Name.{Name}
 use Rattle.est_syntax.specs.declared.kind.Kind.{Kind, out-Kind}
 use Rattle.est_syntax.specs.declared.kind.Kind.TheOpen as kind
 use Rattle.est_syntax.specs.declared.kind.FieldKind.{FieldKind}
+
+-- the greatest integer of this profile (ISO 7185, 6.4.2.2 and 6.7.2.2)
+abbrev pub maxint : ℕ
+maxint = 2147483647
 
 -- what an ordinal kind that is no part of another holds: the integers of this profile, false and
 -- true, the characters, the constants of an enumeration from 0
@@ -12,7 +16,7 @@ abbrev pub Holds : Kind → ℤ → Type 0
 Holds host z = held (out-Kind host)
   where
     held : kind.Kind-F Kind FieldKind → Type 0
-    held kind.Integer = (negsuc 2147483646 ≤ℤ z) × (z ≤ℤ pos 2147483647)
+    held kind.Integer = (neg_ℤ (pos maxint) ≤ℤ z) × (z ≤ℤ pos maxint)
     held kind.Boolean = (pos 0 ≤ℤ z) × (z ≤ℤ pos 1)
     held kind.Char = (pos 0 ≤ℤ z) × (z ≤ℤ pos 127)
     held (kind.Enumeration place names) = (pos 0 ≤ℤ z) × (z <ℤ pos (length names))

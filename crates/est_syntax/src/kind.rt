@@ -3,6 +3,9 @@
 use crate::name::Name;
 use est_items::{Items, Shared};
 
+/// The greatest integer, in absolute value too (ISO 7185, 6.4.2.2 and 6.7.2.2).
+pub const MAXINT: u32 = 2147483647;
+
 /// Names in order.
 pub type Names = Items<Name>;
 
