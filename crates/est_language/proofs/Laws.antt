@@ -12,6 +12,7 @@ use Rattle.est_language.specs.Findings.{Found, Refused}
 use Rattle.est_language.proofs.Members.{In-left, In-right, and_left, and_right}
 use Rattle.est_language.proofs.Members
 use Rattle.est_language.proofs.Parts
+use Rattle.est_language.proofs.Repeats
 use Rattle.est_language.proofs.Trees
 use Rattle.std.proofs.lemmas.Option.{slice_get_past}
 
@@ -140,12 +141,12 @@ module _ {Token V T P : Type 0} {L : Language Token V T P} {S : Marks T P} (fits
 
   pub rep_out : {g : Grammar T P} {d a : ℕ} → can_be_empty S g ≡ false → a ≤ length s
       → (MeetsOne L.holds (slice_get s a) (can_begin S g) → ⊥) → Found L S s (rep g) d a a nothing
-  rep_out {g} {d} {a} e l n = Parts.rep_out_found L S fits s g d a e l n
+  rep_out {g} {d} {a} e l n = Repeats.rep_out_found L S fits s g d a e l n
 
   pub rep_refused : {g : Grammar T P} {d a i : ℕ} {w : Bool}
       → Apart L (can_go_on S g) (can_begin S g) → MeetsOne L.holds (slice_get s a) (can_begin S g)
       → Refused L S s g d a i w → Refused L S s (rep g) d a i w
-  rep_refused {g} {a = a} j e x = Parts.rep_refused_first L S fits s j
+  rep_refused {g} {a = a} j e x = Repeats.rep_refused_first L S fits s j
       (some_inside L s a (can_begin S g) e) e x
 
   pub deeper_found : {g : Grammar T P} {d a b : ℕ} {t : Shape V} → 0 < d
@@ -170,34 +171,34 @@ module _ {Token V T P : Type 0} {L : Language Token V T P} {S : Marks T P} (fits
 
   pub nearest_found : {g : Grammar T P} {d a b : ℕ} {t : Shape V} {k : T} → At L s a k
       → Found L S s g d (a + 1) b t → Found L S s (nearest k g) d a b (some t)
-  nearest_found {g} {d} {a} {b} {t} {k} e h = Parts.nearest_in_found L S fits s k
+  nearest_found {g} {d} {a} {b} {t} {k} e h = Repeats.nearest_in_found L S fits s k
       (at_inside L s a k e) e (subst (λ v. Found L S s g d v b t) (add-one a) h)
 
   pub nearest_refused : {g : Grammar T P} {d a i : ℕ} {w : Bool} {k : T} → At L s a k
       → Refused L S s g d (a + 1) i w → Refused L S s (nearest k g) d a i w
-  nearest_refused {g} {d} {a} {i} {w} {k} e h = Parts.nearest_refused L S fits s k
+  nearest_refused {g} {d} {a} {i} {w} {k} e h = Repeats.nearest_refused L S fits s k
       (at_inside L s a k e) e (subst (λ v. Refused L S s g d v i w) (add-one a) h)
 
   pub nearest_out : {g : Grammar T P} {d a : ℕ} {k : T} → a ≤ length s → (At L s a k → ⊥)
       → Found L S s (nearest k g) d a a nothing
-  nearest_out {g} {d} {a} {k} l h = Parts.nearest_out_found L S fits s g k d a l h
+  nearest_out {g} {d} {a} {k} l h = Repeats.nearest_out_found L S fits s g k d a l h
 
   pub ended_out : {g : Grammar T P} {d a : ℕ} {k : T} → a ≤ length s → (At L s a k → ⊥)
       → Found L S s (ended k g) d a a nothing
-  ended_out {g} {d} {a} {k} l h = Parts.ended_out_found L S fits s g k d a l h
+  ended_out {g} {d} {a} {k} l h = Repeats.ended_out_found L S fits s g k d a l h
 
   pub ended_last : {g : Grammar T P} {d a : ℕ} {k : T} → can_be_empty S g ≡ false → At L s a k
       → (MeetsOne L.holds (slice_get s (a + 1)) (can_begin S g) → ⊥)
       → Found L S s (ended k g) d a (a + 1) nothing
   ended_last {g} {d} {a} {k} f e h = subst (λ v. Found L S s (ended k g) d a v nothing)
-      (sym (add-one a)) (Parts.ended_last_found L S fits s g k d a f (at_inside L s a k e) e
+      (sym (add-one a)) (Repeats.ended_last_found L S fits s g k d a f (at_inside L s a k e) e
       (subst (λ v. MeetsOne L.holds (slice_get s v) (can_begin S g) → ⊥) (add-one a) h))
 
   pub ended_refused : {g : Grammar T P} {d a i : ℕ} {w : Bool} {k : T}
       → Apart L (k ∷ []) (can_go_on S g) → At L s a k
       → MeetsOne L.holds (slice_get s (a + 1)) (can_begin S g) → Refused L S s g d (a + 1) i w
       → Refused L S s (ended k g) d a i w
-  ended_refused {g} {d} {a} {i} {w} {k} o e m h = Parts.ended_refused_first L S fits s k
+  ended_refused {g} {d} {a} {i} {w} {k} o e m h = Repeats.ended_refused_first L S fits s k
       (λ v q m. o.none_meets v (inl q) m) (at_inside L s a k e) e (let l = some_inside L s (a + 1)
       (can_begin S g) m in omega arith)
       (subst (λ v. MeetsOne L.holds (slice_get s v) (can_begin S g)) (add-one a) m)
@@ -346,29 +347,29 @@ module _ {Token V T P : Type 0} {L : Language Token V T P} {S : Marks T P} (fits
 -- the turns of a loop
 abbrev pub Turns : {Token V T P : Type 0} (L : Language Token V T P) (S : Marks T P) → Fits L S
     → List Token → (whole rest : Grammar T P) → ℕ → ℕ → ℕ → List (Shape V) → Type 0
-Turns L S fits s whole rest d a b ts = Parts.Turns L S fits s whole rest d a b ts
+Turns L S fits s whole rest d a b ts = Repeats.Turns L S fits s whole rest d a b ts
 
 module _ {Token V T P : Type 0} {L : Language Token V T P} {S : Marks T P} (fits : Fits L S)
     {s : List Token} where
   pub turns_none : {g : Grammar T P} {d a : ℕ} → a ≤ length s → Turns L S fits s g g d a a []
-  turns_none {g} {d} {a} l = Parts.turns_none L S fits s g d a l
+  turns_none {g} {d} {a} l = Repeats.turns_none L S fits s g d a l
 
   pub turns_first : {g rest : Grammar T P} {d a b : ℕ} {t : Shape V}
       → Apart L (can_go_on S g) (can_begin S rest) → Found L S s g d a b t
       → Turns L S fits s (seq g rest) rest d a b (t ∷ [])
-  turns_first j x = Parts.turns_first L S fits s j x
+  turns_first j x = Repeats.turns_first L S fits s j x
 
   pub turns_more : {whole h : Grammar T P} {d a b c : ℕ} {ts : List (Shape V)} {t : Shape V}
       → Apart L (can_go_on S h) (can_begin S h) → can_be_empty S h ≡ false
       → Turns L S fits s whole (rep h) d a b ts → Found L S s h d b c t
       → Turns L S fits s whole (rep h) d a c (ts ++ t ∷ [])
-  turns_more j f x y = Parts.turns_more L S fits s j f x y
+  turns_more j f x y = Repeats.turns_more L S fits s j f x y
 
   -- one more turn of { k h } [ k ]
   pub turns_ended : {whole h : Grammar T P} {k : T} {d a b c : ℕ} {ts : List (Shape V)}
       {t : Shape V} → Apart L (k ∷ []) (can_go_on S h) → can_be_empty S h ≡ false → At L s b k
       → Turns L S fits s whole (ended k h) d a b ts → Found L S s h d (b + 1) c t
       → Turns L S fits s whole (ended k h) d a c (ts ++ t ∷ [])
-  turns_ended {h = h} {k} {d} {b = b} {c} {t = t} o f e x y = Parts.turns_ended L S fits s k
+  turns_ended {h = h} {k} {d} {b = b} {c} {t = t} o f e x y = Repeats.turns_ended L S fits s k
       (λ v q m. o.none_meets v (inl q) m) f (at_inside L s b k e) e x
       (subst (λ v. Found L S s h d v c t) (add-one b) y)

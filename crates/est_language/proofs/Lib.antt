@@ -2,6 +2,7 @@ pub mod Members
 pub mod Trees
 pub mod Opening
 pub mod Parts
+pub mod Repeats
 pub mod Laws
 pub mod Flat
 pub mod Exits

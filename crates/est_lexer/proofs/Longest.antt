@@ -11,7 +11,7 @@ use Rattle.est_lexer.specs.Between.{opening}
 use Rattle.est_lexer.specs.Spellings.{name_kind, is_identifier_part, is_character}
 use Rattle.est_lexer.specs.Spellings.{is_plain_character, kind_of, symbol_kind}
 use Rattle.est_lexer.specs.Words.{symbols}
-use Rattle.est_lexer.specs.Scanning.{IsBegin, IsTokenAt, IsBadAt}
+use Rattle.est_lexer.specs.inside.Scanning.{IsBegin, IsTokenAt, IsBadAt}
 use Rattle.est_lexer.specs.TokenList.{MayBegin, IsLongest, NoneBegins, digits_at, illegal}
 use Rattle.est_lexer.specs.declared.kind.Token.{Token}
 use Rattle.est_lexer.specs.declared.kind.TokenKind.{TokenKind}

@@ -11,7 +11,7 @@ use Rattle.std.specs.Char.{to_ascii_lowercase, is_ascii_alphabetic}
 use Rattle.std.proofs.lemmas.Bool.Decides.{nat_tests}
 use Rattle.std.proofs.lemmas.List.{get_or-map, length-map}
 use Rattle.std.proofs.lemmas.Slice.Eq.{bytes_eq-Decides}
-use Rattle.est_lexer.specs.Scanning.{rows, groups, all_of, is_by_letter}
+use Rattle.est_lexer.specs.inside.Scanning.{rows, groups, all_of, is_by_letter}
 use Rattle.est_lexer.specs.Words.{Word}
 use Rattle.est_lexer.specs.declared.kind.TokenKind.{TokenKind}
 

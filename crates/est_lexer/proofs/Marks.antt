@@ -45,7 +45,7 @@ pub between_onward : {text : List ℕ} {from to : ℕ} → IsBetween text from t
 between_onward (nothing place) = omega arith
 between_onward (blank from to b more) = omega (arith, between_onward more)
 between_onward (comment from middle to c more) =
-    omega (arith, between_onward more, c.ended.behind, c.ended.whole)
+    omega (arith, between_onward more, c.ended.onward, c.ended.whole)
 
 -- Where a first end was found after a mark, one comment stands.
 pub comment_between : (text : List ℕ) (place size : ℕ) (found : Option ℕ)

@@ -8,7 +8,7 @@ use Rattle.std.proofs.lemmas.List.{drop_more, get_or-drop, take_rest}
 use Rattle.est_lexer.specs.Between.{opening}
 use Rattle.est_lexer.specs.Spellings.{name_kind, is_identifier_part, is_plain_character, kind_of}
 use Rattle.est_lexer.specs.Words.{symbols}
-use Rattle.est_lexer.specs.Scanning.{IsBegin, IsTokenAt, IsBadAt}
+use Rattle.est_lexer.specs.inside.Scanning.{IsBegin, IsTokenAt, IsBadAt}
 use Rattle.est_lexer.specs.TokenList.{MayBegin, IsBadSpan, digits_at, many_digits}
 use Rattle.est_lexer.specs.declared.kind.Token.{Token}
 use Rattle.est_lexer.specs.declared.kind.TokenKind.{TokenKind}

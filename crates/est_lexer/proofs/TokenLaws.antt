@@ -5,7 +5,7 @@ use Rattle.std.specs.Char.{is_ascii_digit}
 use Rattle.est_lexer.specs.Between.{IsBetween}
 use Rattle.est_lexer.specs.Spellings.{kind_of}
 use Rattle.est_lexer.specs.Spans.{end_of, spelling}
-use Rattle.est_lexer.specs.Scanning.{IsTokenAt, IsBadAt}
+use Rattle.est_lexer.specs.inside.Scanning.{IsTokenAt, IsBadAt}
 use Rattle.est_lexer.specs.TokenList.{IsLongest, IsBadSpan, illegal, open_comment, many_digits}
 use Rattle.est_lexer.specs.TokenList.{AreTokensFrom, none_left, bad, next, digits_at, IsTokenList}
 use Rattle.std.proofs.lemmas.List.{append-nil}

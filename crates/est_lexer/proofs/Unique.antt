@@ -8,7 +8,7 @@ use Rattle.std.proofs.lemmas.Bool.Decides.{nat_tests}
 use Rattle.std.proofs.lemmas.List.{drop_more, drop_all, get_or_past}
 use Rattle.est_lexer.specs.Between.{is_blank, opening, closing, IsBetween}
 use Rattle.est_lexer.specs.Between.{IsComment, IsFirstEnd, nothing, blank, comment}
-use Rattle.est_lexer.specs.Scanning.{IsBegin}
+use Rattle.est_lexer.specs.inside.Scanning.{IsBegin}
 use Rattle.est_lexer.specs.Spans.{end_of, spelling}
 use Rattle.est_lexer.specs.Spellings.{kind_of}
 use Rattle.est_lexer.specs.TokenList.{IsLongest, IsBadSpan, illegal, open_comment, many_digits}
@@ -28,15 +28,15 @@ first_end_unique text from a b x y = of_order (cases_order x.mark y.mark)
         let sizes : closing text x.mark ≡ closing text y.mark = ap (λ (k : ℕ). closing text k) same
         in
         omega (arith, x.whole, y.whole)
-    of_order (inr (inl less)) = absurd (let none = y.first x.mark x.behind less in omega
+    of_order (inr (inl less)) = absurd (let none = y.first x.mark x.onward less in omega
         (arith, x.ends))
-    of_order (inr (inr more)) = absurd (let none = x.first y.mark y.behind more in omega
+    of_order (inr (inr more)) = absurd (let none = x.first y.mark y.onward more in omega
         (arith, y.ends))
 
 -- No comment that has an end begins where none does.
 no_comment_at_begin : (text : List ℕ) (from to : ℕ) → IsComment text from to → IsBegin text from → ⊥
 no_comment_at_begin text from to c begin =
-    let none = (begin.unended c.begins).none c.ended.mark c.ended.behind in
+    let none = (begin.unended c.begins).none c.ended.mark c.ended.onward in
     omega (arith, c.ended.ends)
 
 -- A blank begins no comment.

@@ -21,7 +21,7 @@ closing text place = if slice_index text place == byte "}" then 1 else if
 -- The first mark from a place on that ends a comment ends at `to`.
 pub record IsFirstEnd (text : List ℕ) (from to : ℕ) : Type 0 where
   pub mark : ℕ
-  pub behind : from ≤ mark
+  pub onward : from ≤ mark
   pub first : (place : ℕ) → from ≤ place → place < mark → closing text place ≡ 0
   pub ends : 0 < closing text mark
   pub whole : to ≡ mark + closing text mark

@@ -2,9 +2,9 @@ pub mod Between
 pub mod TokenLaws
 pub mod Lines
 pub mod Offsets
-pub mod Scanning
 pub mod Spans
 pub mod Spellings
 pub mod TokenList
 pub mod Words
 pub mod TokenKinds
+pub mod inside

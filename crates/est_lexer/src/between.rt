@@ -2,7 +2,7 @@
 
 ghost use Rattle.std.specs.Prelude.{◌≡◌, ◌≤◌, ◌<◌, ◌+◌, ℕ, length};
 ghost use Rattle.std.specs.Prelude.{slice_index, MatchOption, IfNone, IfSome};
-ghost use Rattle.est_lexer.specs.Scanning.{IsBegin};
+ghost use Rattle.est_lexer.specs.inside.Scanning.{IsBegin};
 ghost use Rattle.est_lexer.specs.Between.{is_blank, opening, closing};
 ghost use Rattle.est_lexer.specs.Between.{IsBetween, IsFirstEnd, IsUnended};
 

@@ -5,7 +5,7 @@ ghost use Rattle.std.specs.Prelude.{false, length, drop, slice_index, MatchResul
 ghost use Rattle.std.specs.Char.{is_ascii_alphabetic, is_ascii_digit};
 ghost use Rattle.std.specs.List.{prefix_len};
 ghost use Rattle.est_lexer.specs.Between.{opening};
-ghost use Rattle.est_lexer.specs.Scanning.{IsBegin, IsTokenAt, IsBadAt};
+ghost use Rattle.est_lexer.specs.inside.Scanning.{IsBegin, IsTokenAt, IsBadAt};
 ghost use Rattle.est_lexer.specs.Spellings.{is_identifier_part, is_plain_character};
 ghost use Rattle.est_lexer.specs.declared.kind.TokenKind.TheVariants.{Bad};
 

@@ -5,17 +5,17 @@ ghost use Rattle.std.specs.Prelude.{option_map, find, nat_eq, IsTrue};
 ghost use Rattle.std.specs.Char.{is_ascii_alphabetic};
 ghost use Rattle.std.specs.List.{starts_with};
 ghost use Rattle.std.specs.Str.{str_eq_ignore_ascii_case};
-ghost use Rattle.est_lexer.specs.Scanning.{rows, groups, all_of, is_by_letter};
+ghost use Rattle.est_lexer.specs.inside.Scanning.{rows, groups, all_of, is_by_letter};
 ghost use Rattle.est_lexer.specs.Spellings.{name_kind};
 ghost use Rattle.est_lexer.specs.Words.{symbols};
 
 use crate::kind::TokenKind::{LeftOut, Reserved};
 use crate::kind::{LeftOutToken, ReservedWord, Symbol, TokenKind};
 
-/// A word or a symbol: its spelling, in lower case, and its kind.
+// A word or a symbol: its spelling, in lower case, and its kind.
 type Word = (&'static [u8], TokenKind);
 
-/// The reserved and the left-out words by their first letter, from `a` to `z`.
+// The reserved and the left-out words by their first letter, from `a` to `z`.
 static WORDS: [&[Word]; 26] = [
     &[
         (b"activity", Reserved(ReservedWord::Activity)),
@@ -136,7 +136,7 @@ static WORDS: [&[Word]; 26] = [
     &[],
 ];
 
-/// The symbols and the left-out symbols, each before those that begin it.
+// The symbols and the left-out symbols, each before those that begin it.
 static SYMBOLS: [Word; 25] = [
     (b"...", LeftOut(LeftOutToken::Ellipsis)),
     (b"..", TokenKind::Symbol(Symbol::DoublePeriod)),

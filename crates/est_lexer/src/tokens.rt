@@ -66,7 +66,7 @@ impl Tokens<'_> {
             ≡ column_at (text_of self.now) (offset_at (tokens_of self.now) place) }
     {
         let before = &self.text[..self.offset(place)];
-        (line_behind(before), column_behind(before))
+        (line_after(before), column_after(before))
     }
 
     // Where the token of a place starts, or the last one ends.
@@ -86,7 +86,7 @@ impl Tokens<'_> {
 }
 
 // The line of the byte after these.
-fn line_behind(before: &[u8]) -> u32
+fn line_after(before: &[u8]) -> u32
     requires { length before.now ≤ MOST_BYTES }
     ensures { result ≡ 1 + count_by is_line_feed before.now }
 {
@@ -94,7 +94,7 @@ fn line_behind(before: &[u8]) -> u32
 }
 
 // The column of the byte after these.
-fn column_behind(before: &[u8]) -> u32
+fn column_after(before: &[u8]) -> u32
     requires { length before.now ≤ MOST_BYTES }
     ensures { result ≡ 1 + suffix_len (λ byte. not (is_line_feed byte)) before.now }
 {

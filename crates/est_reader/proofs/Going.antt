@@ -360,9 +360,7 @@ module _ {P N : Type 0} (K : Known P N) where
       (subst (λ r. Fails K.syntax tk (deeper (word k g)) d a r true) (sym (y.1 ∙ x.0))
       (laws.too_deep (K.fits (text_of tk)) x.1 s))
   deep_moves tk k g v a d b e c Wrong o' s x y = elim x [ ]
-  deep_moves tk k g v a d b e c NoMemory o' s x y =
-      subst (λ r. Does (Finds K.syntax tk (deeper (word k g)) d a v)
-      (Fails K.syntax tk (deeper (word k g)) d a) a Well c r) (sym y.0) tt
+  deep_moves tk k g v a d b e c NoMemory o' s x y = elim x [ ]
 
   pub deep : {k : Test} {g : Rule P} {A B C D : Reader} {d : ℕ} {v : View N} → Sees A k true
       → Opens A d B → Goes K.syntax g B v C → Closes d C D → Goes K.syntax (deeper (word k g)) A v D

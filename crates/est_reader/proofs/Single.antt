@@ -158,5 +158,6 @@ number_takes {A} {B} {low} {high} {v} x = record {
       ≡ v)) (Taken A.tokens.now (number low high) A.at)
       (NotThere A.tokens.now (number low high) A.at) (NotThere A.tokens.now (number low high) A.at)
       A.at B.at A.outcome B.outcome (λ w p. p.0) (λ w z q. q) x.takes;
+  unspent = x.unspent;
   same = x.same;
 }

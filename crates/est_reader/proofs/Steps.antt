@@ -10,7 +10,7 @@ use Rattle.est_reader.specs.declared.outcome.Outcome.{Outcome}
 use Rattle.est_reader.specs.declared.outcome.Outcome.TheVariants.{Well, Wrong, TooDeep, NoMemory}
 use Rattle.est_reader.specs.Tests.{Test, holds, stands, implies}
 use Rattle.est_reader.specs.Moving.{bit, Does, Seen, Sees, NoneSeen, OneSeen, Same, Taken}
-use Rattle.est_reader.specs.Moving.{NotThere, Takes, weight, OpensAt, Opens, Still}
+use Rattle.est_reader.specs.Moving.{NoneSpent, NotThere, Takes, weight, OpensAt, Opens, Still}
 
 -- what is done does more, or less
 pub onto : (P P' : ℕ → Type 0) (Q Q' : ℕ → Bool → Type 0) (a b : ℕ) (o o' : Outcome)
@@ -118,22 +118,23 @@ bit_small NoMemory = omega arith
 
 -- the parser's `open`, where there is a level
 pub opened_at : (tk : Tokens) (k : Test) (a b d : ℕ) (o o' : Outcome) → o ≡ Well
-    → stands tk a k ≡ true → (d ≡ 0 → ⊥) → Does (Taken tk k a) (NotThere tk k a) a o b o'
+    → stands tk a k ≡ true → (d ≡ 0 → ⊥) → NoneSpent o o'
+    → Does (Taken tk k a) (NotThere tk k a) a o b o'
     → OpensAt a d b (d - 1) o' × ((d - 1) * 2 + bit o' < d * 2 + bit o)
-opened_at tk k a b d Well Well w s n x = ((x.1, omega (arith, n)), omega (arith, n))
-opened_at tk k a b d Well Wrong w s n x = absurd (let e : stands tk a k ≡ false = x.0 in cc)
-opened_at tk k a b d Well TooDeep w s n x = absurd (let e : stands tk a k ≡ false = x.0 in cc)
-opened_at tk k a b d Well NoMemory w s n x = (tt, omega (arith, n))
-opened_at tk k a b d Wrong o' w s n x = absurd cc
-opened_at tk k a b d TooDeep o' w s n x = absurd cc
-opened_at tk k a b d NoMemory o' w s n x = absurd cc
+opened_at tk k a b d Well Well w s n m x = ((x.1, omega (arith, n)), omega (arith, n))
+opened_at tk k a b d Well Wrong w s n m x = absurd (let e : stands tk a k ≡ false = x.0 in cc)
+opened_at tk k a b d Well TooDeep w s n m x = absurd (let e : stands tk a k ≡ false = x.0 in cc)
+opened_at tk k a b d Well NoMemory w s n m x = absurd (let e : Well ≡ NoMemory = m refl in cc)
+opened_at tk k a b d Wrong o' w s n m x = absurd cc
+opened_at tk k a b d TooDeep o' w s n m x = absurd cc
+opened_at tk k a b d NoMemory o' w s n m x = absurd cc
 
 pub opened : {k : Test} {A B C : Reader} → Sees A k true → (A.levels ≡ 0 → ⊥) → Takes k A B
     → C.tokens.now ≡ B.tokens.now → C.at ≡ B.at → C.levels ≡ A.levels - 1 → C.outcome ≡ B.outcome
     → Opens A A.levels C
 opened {k} {A} {B} {C} s n x t p l o =
     let y = opened_at A.tokens.now k A.at B.at A.levels A.outcome B.outcome (sees_well s)
-    (sees_it s) n x.takes in
+    (sees_it s) n x.unspent x.takes in
     record {
       opens = subst (λ i. OpensAt A.at A.levels i C.levels C.outcome) (sym p)
           (subst (λ i. OpensAt A.at A.levels B.at i C.outcome) (sym l)

@@ -70,10 +70,15 @@ pub record Same (old new : Reader) : Type 0 where
   pub onward : old.at ≤ new.at
   pub sticky : bit new.outcome ≤ bit old.outcome
 
+-- memory did not run out on the way from one outcome to another
+abbrev pub NoneSpent : Outcome → Outcome → Type 0
+NoneSpent o o' = o' ≡ NoMemory → o ≡ NoMemory
+
 -- the token at the place is taken, where a test of it is met; else it is refused
 pub record Steps (met : Bool) (old new : Reader) : Type 0 where
   pub steps : Does (λ b. (met ≡ true) × (b ≡ old.at + 1))
       (λ b z. (met ≡ false) × (b ≡ old.at) × (z ≡ false)) old.at old.outcome new.at new.outcome
+  pub unspent : NoneSpent old.outcome new.outcome
   pub same : Same old new
 
 -- a token that meets the test is taken
@@ -88,6 +93,7 @@ NotThere tokens test a b z = (stands tokens a test ≡ false) × (b ≡ a) × (z
 pub record Takes (test : Test) (old new : Reader) : Type 0 where
   pub takes : Does (Taken old.tokens.now test old.at)
       (NotThere old.tokens.now test old.at) old.at old.outcome new.at new.outcome
+  pub unspent : NoneSpent old.outcome new.outcome
   pub same : Same old new
 
 -- an identifier is taken, and this is its name in lower case, with its place
@@ -108,6 +114,7 @@ pub record TakesNumber (low high : ℕ) (old : Reader) (value : ℕ) (new : Read
       (λ token. value_in (text_of old.tokens.now) token ≡ value))
       (NotThere old.tokens.now (number low high) old.at) old.at old.outcome new.at new.outcome
   pub bounded : value ≤ high
+  pub unspent : NoneSpent old.outcome new.outcome
   pub same : Same old new
 
 -- a number is taken, and this is its value
@@ -117,6 +124,7 @@ pub record TakesValue (old : Reader) (value : ℕ) (new : Reader) : Type 0 where
       × IsSomeAnd (slice_get (tokens_of old.tokens.now) old.at)
       (λ token. value_in (text_of old.tokens.now) token ≡ value))
       (NotThere old.tokens.now (kind Number) old.at) old.at old.outcome new.at new.outcome
+  pub unspent : NoneSpent old.outcome new.outcome
   pub same : Same old new
 
 -- a character constant is taken, and this is the code of its character
@@ -126,6 +134,7 @@ pub record TakesCharacter (old : Reader) (code : ℕ) (new : Reader) : Type 0 wh
       × IsSomeAnd (slice_get (tokens_of old.tokens.now) old.at)
       (λ token. code_in (text_of old.tokens.now) token ≡ code))
       (NotThere old.tokens.now (kind Character) old.at) old.at old.outcome new.at new.outcome
+  pub unspent : NoneSpent old.outcome new.outcome
   pub same : Same old new
 
 -- the identifier at the place is this in lower case, or none stands there
@@ -152,7 +161,7 @@ abbrev pub OpensAt : ℕ → ℕ → ℕ → ℕ → Outcome → Type 0
 OpensAt a d b e Well = (b ≡ a + 1) × (d ≡ e + 1)
 OpensAt a d b e Wrong = ⊥
 OpensAt a d b e TooDeep = (b ≡ a) × (d ≡ 0)
-OpensAt a d b e NoMemory = Unit {0}
+OpensAt a d b e NoMemory = ⊥
 
 -- a token is taken that opens a level, where there is one; the answer is how many levels there were
 pub record Opens (old : Reader) (levels : ℕ) (new : Reader) : Type 0 where

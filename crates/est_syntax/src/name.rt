@@ -5,7 +5,7 @@ ghost use Rattle.est_syntax.specs.Names.{is_predeclared};
 
 use est_items::Items;
 
-/// The predeclared names of the profile (ISO 7185, required identifiers).
+// The predeclared names of the profile (ISO 7185, required identifiers).
 static PREDECLARED: [&[u8]; 13] = [
     b"integer", b"boolean", b"char", b"false", b"true", b"maxint", b"ord", b"chr", b"succ",
     b"pred", b"abs", b"odd", b"sqr",

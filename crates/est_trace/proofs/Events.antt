@@ -11,7 +11,7 @@ use Rattle.est_language.specs.Marks.{MeetsOne, Apart, can_begin, can_go_on}
 use Rattle.est_language.specs.Findings.{Found}
 use Rattle.est_language.specs.Shown.{Shows, node, s_empty, s_pair, s_given, s_node}
 use Rattle.est_language.proofs.Laws as laws
-use Rattle.est_language.proofs.Parts as parts
+use Rattle.est_language.proofs.Repeats as repeats
 use Rattle.est_language.proofs.Flat.{flat, too_deep_any}
 use Rattle.est_syntax.specs.declared.ports.Signal.{Signal}
 use Rattle.est_syntax.specs.declared.ports.Port.{Port}
@@ -105,7 +105,7 @@ module _ (tokens : Tokens) (ports : List Port) where
     pub shapes : List Shape
     pub count : length shapes + e ≡ d
     pub tree : (c : ℕ) (u : Shape) → EventsTree e b c u → EventsTree d a c (nested shapes u)
-    pub context : parts.Context (traces (text_of tokens)) marks (fits (text_of tokens))
+    pub context : repeats.Context (traces (text_of tokens)) marks (fits (text_of tokens))
         (tokens_of tokens) (rule ports) (rule ports) d a e b (nested shapes)
     pub shows : (rest : List Event) (u : Shape) → Shows layer (node (some_events rest)) u
         → Shows layer (node (some_events (es ++ rest))) (nested shapes u)

@@ -1,7 +1,7 @@
 use Rattle.std.proofs.Common.{◌<◌, arith, refl, sym, subst}
 use Rattle.est_lexer.specs.Between.{opening, IsOpenComment}
 use Rattle.est_lexer.specs.declared.kind.Token.{Token}
-use Rattle.est_lexer.specs.Scanning.{IsBadAt}
+use Rattle.est_lexer.specs.inside.Scanning.{IsBadAt}
 use Rattle.est_lexer.specs.TokenList.{open_comment}
 use Rattle.est_lexer.proofs.scan.token_from.Goals as goal
 

@@ -1,6 +1,6 @@
 use Rattle.std.proofs.Common.{◌≡◌, drop, nat_eq}
 use Rattle.std.specs.List.{find, starts_with}
-use Rattle.est_lexer.specs.Scanning.{rows}
+use Rattle.est_lexer.specs.inside.Scanning.{rows}
 use Rattle.est_lexer.proofs.table.find_prefix.Given as goal
 
 abbrev pub invariant-loop-symbol : goal.invariant-loop-symbol

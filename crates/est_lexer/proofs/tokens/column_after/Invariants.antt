@@ -1,7 +1,7 @@
 use Rattle.std.proofs.Common.{◌≡◌, ◌≤◌, ◌+◌, take, not}
 use Rattle.std.specs.List.{suffix_len}
 use Rattle.est_lexer.specs.Lines.{is_line_feed}
-use Rattle.est_lexer.proofs.tokens.column_behind.Given as goal
+use Rattle.est_lexer.proofs.tokens.column_after.Given as goal
 
 abbrev pub invariant-loop-byte : goal.invariant-loop-byte
 invariant-loop-byte l = record {
