@@ -2,11 +2,11 @@
 
 ghost use Rattle.std.specs.Prelude.{map};
 ghost use Rattle.est_language.specs.Grammar.{rule, rep};
-ghost use Rattle.est_language.specs.Shown.{node as shown, nodes};
+ghost use Rattle.est_language.specs.Shown.{node, nodes};
 ghost use Rattle.est_reader.specs.Going.{Goes};
 ghost use Rattle.est_reader.specs.Moving.{SeesOne};
 ghost use Rattle.est_productions.specs.Productions as grammar;
-ghost use Rattle.est_productions.specs.Nodes as node;
+ghost use Rattle.est_productions.specs.Nodes as view;
 ghost use Rattle.est_productions.specs.Syntax.{estelle};
 ghost use Rattle.est_productions.specs.Tokens.{block_part_tokens};
 
@@ -19,7 +19,7 @@ use est_syntax::body::{Block, Part, Parts};
 /// block = { consts | types | vars } "begin" statements "end" .
 pub fn block(reader: &mut Reader) -> Block
     ensures { Goes estelle (rule grammar.block) reader.old
-        (shown (node.a_block result)) reader.new }
+        (node (view.a_block result)) reader.new }
 {
     let parts = block_parts(reader);
     let place = reader.at;
@@ -36,7 +36,7 @@ pub fn block(reader: &mut Reader) -> Block
 // { consts | types | vars }
 fn block_parts(reader: &mut Reader) -> Parts
     ensures { Goes estelle (rep grammar.block_part) reader.old
-        (nodes (map node.a_block_part result)) reader.new }
+        (nodes (map view.a_block_part result)) reader.new }
 {
     let mut items = Parts::new(reader.alloc);
     while begins_block_part(reader) {
@@ -62,7 +62,7 @@ fn begins_block_part(reader: &Reader) -> bool
 // consts | types | vars
 fn block_part(reader: &mut Reader) -> Part
     ensures { Goes estelle grammar.block_part reader.old
-        (shown (node.a_block_part result)) reader.new }
+        (node (view.a_block_part result)) reader.new }
 {
     if reader.sees(TokenKind::Reserved(ReservedWord::Type)) {
         return Part::Types(types(reader));

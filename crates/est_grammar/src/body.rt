@@ -2,7 +2,7 @@
 
 ghost use Rattle.std.specs.Prelude.{true, map};
 ghost use Rattle.est_language.specs.Grammar.{rule, rep};
-ghost use Rattle.est_language.specs.Shown.{node as shown, nodes};
+ghost use Rattle.est_language.specs.Shown.{node, nodes};
 ghost use Rattle.est_lexer.specs.declared.kind.ReservedWord.TheVariants as words;
 ghost use Rattle.est_lexer.specs.declared.kind.TokenKind.TheVariants.{Reserved};
 ghost use Rattle.est_syntax.specs.declared.body.Part.{out-Part};
@@ -10,7 +10,7 @@ ghost use Rattle.est_reader.specs.Going.{Goes};
 ghost use Rattle.est_reader.specs.Moving.{Sees, SeesOne};
 ghost use Rattle.est_reader.specs.Tests.{kind};
 ghost use Rattle.est_productions.specs.Productions as grammar;
-ghost use Rattle.est_productions.specs.Nodes as node;
+ghost use Rattle.est_productions.specs.Nodes as view;
 ghost use Rattle.est_productions.specs.Syntax.{estelle};
 ghost use Rattle.est_productions.specs.Tokens.{body_part_tokens, common_tokens};
 ghost use Rattle.est_productions.specs.Tokens.{own_tokens, routine_tokens};
@@ -33,7 +33,7 @@ use est_syntax::transition::Groups;
 #[cycle(body)]
 pub fn common(reader: &mut Reader) -> Part
     ensures { Goes estelle (rule grammar.common) reader.old
-        (node.common_part (out-Part result)) reader.new }
+        (view.common_part (out-Part result)) reader.new }
 {
     if reader.sees(TokenKind::Reserved(ReservedWord::Type)) {
         return Part::Types(types(reader));
@@ -97,7 +97,7 @@ pub fn begins_common(reader: &Reader) -> bool
 // own = "ip" point { point } | vars | "state" idents ";" | "stateset" stateset { stateset } .
 fn own(reader: &mut Reader) -> Part
     ensures { Goes estelle (rule grammar.own) reader.old
-        (node.own_part (out-Part result)) reader.new }
+        (view.own_part (out-Part result)) reader.new }
 {
     if reader.sees(TokenKind::Reserved(ReservedWord::Var)) {
         return Part::Vars(vars(reader));
@@ -135,7 +135,7 @@ fn begins_own(reader: &Reader) -> bool
 #[cycle(body)]
 fn body(reader: &mut Reader) -> Body
     requires { Sees reader.old (kind (Reserved words.Body)) true }
-    ensures { Goes estelle (rule grammar.body) reader.old (shown (node.a_body result)) reader.new }
+    ensures { Goes estelle (rule grammar.body) reader.old (node (view.a_body result)) reader.new }
 {
     let levels = reader.open(TokenKind::Reserved(ReservedWord::Body));
     let name = reader.name();
@@ -161,7 +161,7 @@ fn body(reader: &mut Reader) -> Body
 #[cycle(body)]
 fn body_parts(reader: &mut Reader) -> Parts
     ensures { Goes estelle (rep grammar.body_part) reader.old
-        (nodes (map node.a_body_part result)) reader.new }
+        (nodes (map view.a_body_part result)) reader.new }
 {
     let mut items = Parts::new(reader.alloc);
     while begins_body_part(reader) {
@@ -185,7 +185,7 @@ fn begins_body_part(reader: &Reader) -> bool
 #[cycle(body)]
 fn body_part(reader: &mut Reader) -> Part
     ensures { Goes estelle grammar.body_part reader.old
-        (shown (node.a_body_part result)) reader.new }
+        (node (view.a_body_part result)) reader.new }
 {
     if begins_own(reader) {
         return own(reader);
@@ -195,7 +195,7 @@ fn body_part(reader: &mut Reader) -> Part
 
 // [ "initialize" [ "to" ident ] block ";" ]
 fn first_part(reader: &mut Reader) -> Option<FirstPart>
-    ensures { Goes estelle grammar.first_part reader.old (node.first_part result) reader.new }
+    ensures { Goes estelle grammar.first_part reader.old (view.first_part result) reader.new }
 {
     if !reader.sees(TokenKind::Reserved(ReservedWord::Initialize)) {
         return None;
@@ -209,7 +209,7 @@ fn first_part(reader: &mut Reader) -> Option<FirstPart>
 
 // [ "to" ident ]
 fn first_state(reader: &mut Reader) -> Option<Used>
-    ensures { Goes estelle grammar.first_state reader.old (node.name_given result) reader.new }
+    ensures { Goes estelle grammar.first_state reader.old (view.name_given result) reader.new }
 {
     if !reader.sees(TokenKind::Reserved(ReservedWord::To)) {
         return None;
@@ -221,7 +221,7 @@ fn first_state(reader: &mut Reader) -> Option<Used>
 // { transpart }
 fn transparts(reader: &mut Reader) -> Groups
     ensures { Goes estelle (rep (rule grammar.transpart)) reader.old
-        (nodes (map node.a_group result)) reader.new }
+        (nodes (map view.a_group result)) reader.new }
 {
     let mut items = Groups::new(reader.alloc);
     while reader.sees(TokenKind::Reserved(ReservedWord::Trans)) {

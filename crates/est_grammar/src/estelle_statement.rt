@@ -2,14 +2,14 @@
 
 ghost use Rattle.std.specs.Prelude.{true, map};
 ghost use Rattle.est_language.specs.Grammar.{rule};
-ghost use Rattle.est_language.specs.Shown.{node as shown, nodes};
+ghost use Rattle.est_language.specs.Shown.{node, nodes};
 ghost use Rattle.est_lexer.specs.declared.kind.ReservedWord.TheVariants as words;
 ghost use Rattle.est_lexer.specs.declared.kind.TokenKind.TheVariants.{Reserved};
 ghost use Rattle.est_reader.specs.Going.{Goes};
 ghost use Rattle.est_reader.specs.Moving.{Sees, NoneSeen};
 ghost use Rattle.est_reader.specs.Tests.{kind};
 ghost use Rattle.est_productions.specs.Productions as grammar;
-ghost use Rattle.est_productions.specs.Nodes as node;
+ghost use Rattle.est_productions.specs.Nodes as view;
 ghost use Rattle.est_productions.specs.Syntax.{estelle};
 ghost use Rattle.est_productions.specs.Tokens.{pascal_tokens, unlinked_tokens};
 ghost use Rattle.est_grammar.specs.inside.Initialized.{Initializes};
@@ -24,7 +24,7 @@ use est_syntax::statement::{Sending, Sendings, Statement};
 pub fn estelle_statement(reader: &mut Reader) -> Statement
     requires { NoneSeen reader.old pascal_tokens }
     ensures { Goes estelle (rule grammar.statement) reader.old
-        (shown (node.a_statement result)) reader.new }
+        (node (view.a_statement result)) reader.new }
 {
     if reader.sees(TokenKind::Reserved(ReservedWord::Output)) {
         return output_statement(reader);
@@ -42,7 +42,7 @@ pub fn estelle_statement(reader: &mut Reader) -> Statement
 fn link_statement(reader: &mut Reader) -> Statement
     requires { NoneSeen reader.old unlinked_tokens }
     ensures { Goes estelle (rule grammar.statement) reader.old
-        (shown (node.a_statement result)) reader.new }
+        (node (view.a_statement result)) reader.new }
 {
     if reader.sees(TokenKind::Reserved(ReservedWord::Connect)) {
         return connect_statement(reader);
@@ -63,7 +63,7 @@ fn link_statement(reader: &mut Reader) -> Statement
 fn output_statement(reader: &mut Reader) -> Statement
     requires { Sees reader.old (kind (Reserved words.Output)) true }
     ensures { Goes estelle (rule grammar.statement) reader.old
-        (shown (node.a_statement result)) reader.new }
+        (node (view.a_statement result)) reader.new }
 {
     let place = reader.at;
     reader.word(ReservedWord::Output);
@@ -74,7 +74,7 @@ fn output_statement(reader: &mut Reader) -> Statement
 // sending { "," sending }
 fn sendings(reader: &mut Reader) -> Sendings
     ensures { Goes estelle (grammar.listed (rule grammar.sending)) reader.old
-        (nodes (map node.a_sending result)) reader.new }
+        (nodes (map view.a_sending result)) reader.new }
 {
     let first = sending(reader);
     let mut items = Sendings::new(reader.alloc);
@@ -90,7 +90,7 @@ fn sendings(reader: &mut Reader) -> Sendings
 // sending = access "." ident [ "(" exprs ")" ] .
 fn sending(reader: &mut Reader) -> Sending
     ensures { Goes estelle (rule grammar.sending) reader.old
-        (shown (node.a_sending result)) reader.new }
+        (node (view.a_sending result)) reader.new }
 {
     let at = access(reader);
     reader.symbol(Symbol::Period);
@@ -107,7 +107,7 @@ fn sending(reader: &mut Reader) -> Sending
 fn init_statement(reader: &mut Reader) -> Statement
     requires { Sees reader.old (kind (Reserved words.Init)) true }
     ensures { Goes estelle (rule grammar.statement) reader.old
-        (shown (node.a_statement result)) reader.new }
+        (node (view.a_statement result)) reader.new }
 {
     init(reader)
 }
@@ -134,7 +134,7 @@ pub fn init(reader: &mut Reader) -> Statement
 fn release_statement(reader: &mut Reader) -> Statement
     requires { Sees reader.old (kind (Reserved words.Release)) true }
     ensures { Goes estelle (rule grammar.statement) reader.old
-        (shown (node.a_statement result)) reader.new }
+        (node (view.a_statement result)) reader.new }
 {
     let place = reader.at;
     reader.word(ReservedWord::Release);
@@ -146,7 +146,7 @@ fn release_statement(reader: &mut Reader) -> Statement
 fn connect_statement(reader: &mut Reader) -> Statement
     requires { Sees reader.old (kind (Reserved words.Connect)) true }
     ensures { Goes estelle (rule grammar.statement) reader.old
-        (shown (node.a_statement result)) reader.new }
+        (node (view.a_statement result)) reader.new }
 {
     let place = reader.at;
     reader.word(ReservedWord::Connect);
@@ -160,7 +160,7 @@ fn connect_statement(reader: &mut Reader) -> Statement
 fn disconnect_statement(reader: &mut Reader) -> Statement
     requires { Sees reader.old (kind (Reserved words.Disconnect)) true }
     ensures { Goes estelle (rule grammar.statement) reader.old
-        (shown (node.a_statement result)) reader.new }
+        (node (view.a_statement result)) reader.new }
 {
     let place = reader.at;
     reader.word(ReservedWord::Disconnect);
@@ -172,7 +172,7 @@ fn disconnect_statement(reader: &mut Reader) -> Statement
 fn attach_statement(reader: &mut Reader) -> Statement
     requires { Sees reader.old (kind (Reserved words.Attach)) true }
     ensures { Goes estelle (rule grammar.statement) reader.old
-        (shown (node.a_statement result)) reader.new }
+        (node (view.a_statement result)) reader.new }
 {
     let place = reader.at;
     reader.word(ReservedWord::Attach);
@@ -193,7 +193,7 @@ fn attach_statement(reader: &mut Reader) -> Statement
 fn detach_statement(reader: &mut Reader) -> Statement
     requires { Sees reader.old (kind (Reserved words.Detach)) true }
     ensures { Goes estelle (rule grammar.statement) reader.old
-        (shown (node.a_statement result)) reader.new }
+        (node (view.a_statement result)) reader.new }
 {
     let place = reader.at;
     reader.word(ReservedWord::Detach);

@@ -2,12 +2,12 @@
 
 ghost use Rattle.std.specs.Prelude.{map};
 ghost use Rattle.est_language.specs.Grammar.{rule, skip, opt};
-ghost use Rattle.est_language.specs.Shown.{node as shown, nodes, empty};
+ghost use Rattle.est_language.specs.Shown.{node, nodes, empty};
 ghost use Rattle.est_lexer.specs.declared.kind.ReservedWord.TheVariants as words;
 ghost use Rattle.est_reader.specs.Going.{Goes};
 ghost use Rattle.est_reader.specs.Moving.{OneSeen};
 ghost use Rattle.est_productions.specs.Productions as grammar;
-ghost use Rattle.est_productions.specs.Nodes as node;
+ghost use Rattle.est_productions.specs.Nodes as view;
 ghost use Rattle.est_productions.specs.Syntax.{estelle};
 ghost use Rattle.est_productions.specs.Tokens.{function_tokens};
 
@@ -21,7 +21,7 @@ use est_syntax::routine::{Formal, Formals, Routine};
 ///     | [ "pure" ] "function" ident [ "(" formals ")" ] ":" ident ";" block ";" .
 pub fn routine(reader: &mut Reader) -> Routine
     ensures { Goes estelle (rule grammar.routine) reader.old
-        (shown (node.a_routine result)) reader.new }
+        (node (view.a_routine result)) reader.new }
 {
     if reader.sees(TokenKind::Reserved(ReservedWord::Pure)) {
         return function(reader);
@@ -47,7 +47,7 @@ pub fn routine(reader: &mut Reader) -> Routine
 fn function(reader: &mut Reader) -> Routine
     requires { OneSeen reader.old function_tokens }
     ensures { Goes estelle (rule grammar.routine) reader.old
-        (shown (node.a_routine result)) reader.new }
+        (node (view.a_routine result)) reader.new }
 {
     pure_word(reader);
     reader.word(ReservedWord::Function);
@@ -77,7 +77,7 @@ fn pure_word(reader: &mut Reader)
 
 // [ "(" formals ")" ]
 fn formal_part(reader: &mut Reader) -> Formals
-    ensures { Goes estelle grammar.formal_part reader.old (node.formals result) reader.new }
+    ensures { Goes estelle grammar.formal_part reader.old (view.formals result) reader.new }
 {
     if !reader.sees(TokenKind::Symbol(Symbol::LeftParenthesis)) {
         return Formals::new(reader.alloc);
@@ -91,7 +91,7 @@ fn formal_part(reader: &mut Reader) -> Formals
 // formals = formal { ";" formal } .
 fn formals(reader: &mut Reader) -> Formals
     ensures { Goes estelle grammar.formals reader.old
-        (nodes (map node.a_formal result)) reader.new }
+        (nodes (map view.a_formal result)) reader.new }
 {
     let first = formal(reader);
     let mut items = Formals::new(reader.alloc);
@@ -107,7 +107,7 @@ fn formals(reader: &mut Reader) -> Formals
 // formal = [ "var" ] idents ":" ident .
 fn formal(reader: &mut Reader) -> Formal
     ensures { Goes estelle (rule grammar.formal) reader.old
-        (shown (node.a_formal result)) reader.new }
+        (node (view.a_formal result)) reader.new }
 {
     let by_place = by_place(reader);
     let names = idents(reader);
@@ -123,7 +123,7 @@ fn formal(reader: &mut Reader) -> Formal
 // [ "var" ], and whether there is one
 fn by_place(reader: &mut Reader) -> bool
     ensures { Goes estelle (opt (grammar.only words.Var)) reader.old
-        (node.by_place result) reader.new }
+        (view.by_place result) reader.new }
 {
     if !reader.sees(TokenKind::Reserved(ReservedWord::Var)) {
         return false;

@@ -2,12 +2,12 @@
 
 ghost use Rattle.std.specs.Prelude.{map};
 ghost use Rattle.est_language.specs.Grammar.{rule, rep, skip, opt};
-ghost use Rattle.est_language.specs.Shown.{node as shown, nodes, empty, pair};
+ghost use Rattle.est_language.specs.Shown.{node, nodes, empty, pair};
 ghost use Rattle.est_lexer.specs.declared.kind.Symbol.TheVariants as symbols;
 ghost use Rattle.est_syntax.specs.declared.statement.Statement.{out-Statement};
 ghost use Rattle.est_reader.specs.Going.{Goes};
 ghost use Rattle.est_productions.specs.Productions as grammar;
-ghost use Rattle.est_productions.specs.Nodes as node;
+ghost use Rattle.est_productions.specs.Nodes as view;
 ghost use Rattle.est_productions.specs.Syntax.{estelle};
 
 use crate::body::{begins_common, common};
@@ -25,7 +25,7 @@ use est_syntax::statement::Statement;
 ///     { common } "initialize" "begin" init [ ";" ] "end" ";" "end" "." .
 pub fn specification(reader: &mut Reader) -> Spec
     ensures { Goes estelle (rule grammar.specification) reader.old
-        (shown (node.a_specification result)) reader.new }
+        (node (view.a_specification result)) reader.new }
 {
     reader.word(ReservedWord::Specification);
     let name = reader.name();
@@ -46,7 +46,7 @@ pub fn specification(reader: &mut Reader) -> Spec
 // [ "default" queue ";" ]
 fn default_queue(reader: &mut Reader) -> Option<Queue>
     ensures { Goes estelle grammar.default_queue reader.old
-        (node.default_queue result) reader.new }
+        (view.default_queue result) reader.new }
 {
     if !reader.sees(TokenKind::Reserved(ReservedWord::Default)) {
         return None;
@@ -59,7 +59,7 @@ fn default_queue(reader: &mut Reader) -> Option<Queue>
 
 // [ "timescale" ident ";" ]
 fn time_scale(reader: &mut Reader) -> Option<Used>
-    ensures { Goes estelle grammar.time_scale reader.old (node.time_scale result) reader.new }
+    ensures { Goes estelle grammar.time_scale reader.old (view.time_scale result) reader.new }
 {
     if !reader.sees(TokenKind::Reserved(ReservedWord::Timescale)) {
         return None;
@@ -73,7 +73,7 @@ fn time_scale(reader: &mut Reader) -> Option<Used>
 // { common }
 fn commons(reader: &mut Reader) -> Parts
     ensures { Goes estelle (rep (rule grammar.common)) reader.old
-        (nodes (map node.a_common_part result)) reader.new }
+        (nodes (map view.a_common_part result)) reader.new }
 {
     let mut items = Parts::new(reader.alloc);
     while begins_common(reader) {
@@ -86,7 +86,7 @@ fn commons(reader: &mut Reader) -> Parts
 // "initialize" "begin" init [ ";" ] "end" ";" "end" "."
 fn initialization(reader: &mut Reader) -> Statement
     ensures { Goes estelle grammar.initialization reader.old
-        (pair (node.first_statement (out-Statement result)) (pair empty empty)) reader.new }
+        (pair (view.first_statement (out-Statement result)) (pair empty empty)) reader.new }
 {
     reader.word(ReservedWord::Initialize);
     reader.word(ReservedWord::Begin);

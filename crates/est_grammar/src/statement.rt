@@ -2,14 +2,14 @@
 
 ghost use Rattle.std.specs.Prelude.{true, map};
 ghost use Rattle.est_language.specs.Grammar.{rule};
-ghost use Rattle.est_language.specs.Shown.{node as shown, nodes};
+ghost use Rattle.est_language.specs.Shown.{node, nodes};
 ghost use Rattle.est_lexer.specs.declared.kind.ReservedWord.TheVariants as words;
 ghost use Rattle.est_lexer.specs.declared.kind.TokenKind.TheVariants.{Identifier, Reserved};
 ghost use Rattle.est_reader.specs.Going.{Goes};
 ghost use Rattle.est_reader.specs.Moving.{Sees, SeesOne, NoneSeen};
 ghost use Rattle.est_reader.specs.Tests.{kind};
 ghost use Rattle.est_productions.specs.Productions as grammar;
-ghost use Rattle.est_productions.specs.Nodes as node;
+ghost use Rattle.est_productions.specs.Nodes as view;
 ghost use Rattle.est_productions.specs.Syntax.{estelle};
 ghost use Rattle.est_productions.specs.Tokens.{assigned_tokens, constant_tokens};
 ghost use Rattle.est_productions.specs.Tokens.{first_statement_tokens};
@@ -29,7 +29,7 @@ use est_syntax::statement::{Arm, Arms, Statement, Statements};
 #[cycle(statement)]
 pub fn statements(reader: &mut Reader) -> Statements
     ensures { Goes estelle grammar.statements reader.old
-        (nodes (map node.a_statement result)) reader.new }
+        (nodes (map view.a_statement result)) reader.new }
 {
     let first = statement(reader);
     let mut items = Statements::new(reader.alloc);
@@ -48,7 +48,7 @@ pub fn statements(reader: &mut Reader) -> Statements
 #[cycle(statement)]
 fn statement(reader: &mut Reader) -> Statement
     ensures { Goes estelle (rule grammar.statement) reader.old
-        (shown (node.a_statement result)) reader.new }
+        (node (view.a_statement result)) reader.new }
 {
     if reader.sees(TokenKind::Reserved(ReservedWord::Begin)) {
         return compound(reader);
@@ -70,7 +70,7 @@ fn statement(reader: &mut Reader) -> Statement
 fn loop_statement(reader: &mut Reader) -> Statement
     requires { NoneSeen reader.old first_statement_tokens }
     ensures { Goes estelle (rule grammar.statement) reader.old
-        (shown (node.a_statement result)) reader.new }
+        (node (view.a_statement result)) reader.new }
 {
     if reader.sees(TokenKind::Reserved(ReservedWord::While)) {
         return while_statement(reader);
@@ -92,7 +92,7 @@ fn loop_statement(reader: &mut Reader) -> Statement
 fn compound(reader: &mut Reader) -> Statement
     requires { Sees reader.old (kind (Reserved words.Begin)) true }
     ensures { Goes estelle (rule grammar.statement) reader.old
-        (shown (node.a_statement result)) reader.new }
+        (node (view.a_statement result)) reader.new }
 {
     let place = reader.at;
     let levels = reader.open(TokenKind::Reserved(ReservedWord::Begin));
@@ -106,7 +106,7 @@ fn compound(reader: &mut Reader) -> Statement
 fn assignment_or_call(reader: &mut Reader) -> Statement
     requires { Sees reader.old (kind Identifier) true }
     ensures { Goes estelle (rule grammar.statement) reader.old
-        (shown (node.a_statement result)) reader.new }
+        (node (view.a_statement result)) reader.new }
 {
     let place = reader.at;
     let name = reader.name();
@@ -155,7 +155,7 @@ fn sees_assigned(reader: &Reader) -> bool
 
 // { selector }
 fn path(reader: &mut Reader) -> Selectors
-    ensures { Goes estelle grammar.path reader.old (node.path result) reader.new }
+    ensures { Goes estelle grammar.path reader.old (view.path result) reader.new }
 {
     if sees_selector(reader) {
         return selectors(reader);
@@ -168,7 +168,7 @@ fn path(reader: &mut Reader) -> Selectors
 fn if_statement(reader: &mut Reader) -> Statement
     requires { Sees reader.old (kind (Reserved words.If)) true }
     ensures { Goes estelle (rule grammar.statement) reader.old
-        (shown (node.a_statement result)) reader.new }
+        (node (view.a_statement result)) reader.new }
 {
     let place = reader.at;
     let levels = reader.open(TokenKind::Reserved(ReservedWord::If));
@@ -196,7 +196,7 @@ fn if_statement(reader: &mut Reader) -> Statement
 // [ "else" statement ]
 #[cycle(statement)]
 fn else_part(reader: &mut Reader) -> Option<Boxed<Statement>>
-    ensures { Goes estelle grammar.else_part reader.old (node.else_part result) reader.new }
+    ensures { Goes estelle grammar.else_part reader.old (view.else_part result) reader.new }
 {
     if !reader.sees(TokenKind::Reserved(ReservedWord::Else)) {
         return None;
@@ -211,7 +211,7 @@ fn else_part(reader: &mut Reader) -> Option<Boxed<Statement>>
 fn case_statement(reader: &mut Reader) -> Statement
     requires { Sees reader.old (kind (Reserved words.Case)) true }
     ensures { Goes estelle (rule grammar.statement) reader.old
-        (shown (node.a_statement result)) reader.new }
+        (node (view.a_statement result)) reader.new }
 {
     let place = reader.at;
     let levels = reader.open(TokenKind::Reserved(ReservedWord::Case));
@@ -232,7 +232,7 @@ fn case_statement(reader: &mut Reader) -> Statement
 // arm { ";" arm } [ ";" ]
 #[cycle(statement)]
 fn arms(reader: &mut Reader) -> Arms
-    ensures { Goes estelle grammar.arms reader.old (nodes (map node.an_arm result)) reader.new }
+    ensures { Goes estelle grammar.arms reader.old (nodes (map view.an_arm result)) reader.new }
 {
     let first = arm(reader);
     let mut items = Arms::new(reader.alloc);
@@ -270,7 +270,7 @@ fn begins_constant(reader: &Reader) -> bool
 // arm = constant { "," constant } ":" statement .
 #[cycle(statement)]
 fn arm(reader: &mut Reader) -> Arm
-    ensures { Goes estelle (rule grammar.arm) reader.old (shown (node.an_arm result)) reader.new }
+    ensures { Goes estelle (rule grammar.arm) reader.old (node (view.an_arm result)) reader.new }
 {
     let constants = constants(reader);
     reader.symbol(Symbol::Colon);
@@ -281,7 +281,7 @@ fn arm(reader: &mut Reader) -> Arm
 // constant { "," constant }
 fn constants(reader: &mut Reader) -> Constants
     ensures { Goes estelle (grammar.listed (rule grammar.constant)) reader.old
-        (nodes (map node.a_constant result)) reader.new }
+        (nodes (map view.a_constant result)) reader.new }
 {
     let first = constant(reader);
     let mut items = Constants::new(reader.alloc);
@@ -299,7 +299,7 @@ fn constants(reader: &mut Reader) -> Constants
 fn while_statement(reader: &mut Reader) -> Statement
     requires { Sees reader.old (kind (Reserved words.While)) true }
     ensures { Goes estelle (rule grammar.statement) reader.old
-        (shown (node.a_statement result)) reader.new }
+        (node (view.a_statement result)) reader.new }
 {
     let place = reader.at;
     let levels = reader.open(TokenKind::Reserved(ReservedWord::While));
@@ -324,7 +324,7 @@ fn while_statement(reader: &mut Reader) -> Statement
 fn repeat_statement(reader: &mut Reader) -> Statement
     requires { Sees reader.old (kind (Reserved words.Repeat)) true }
     ensures { Goes estelle (rule grammar.statement) reader.old
-        (shown (node.a_statement result)) reader.new }
+        (node (view.a_statement result)) reader.new }
 {
     let place = reader.at;
     let levels = reader.open(TokenKind::Reserved(ReservedWord::Repeat));
@@ -346,7 +346,7 @@ fn repeat_statement(reader: &mut Reader) -> Statement
 fn for_statement(reader: &mut Reader) -> Statement
     requires { Sees reader.old (kind (Reserved words.For)) true }
     ensures { Goes estelle (rule grammar.statement) reader.old
-        (shown (node.a_statement result)) reader.new }
+        (node (view.a_statement result)) reader.new }
 {
     let place = reader.at;
     let levels = reader.open(TokenKind::Reserved(ReservedWord::For));
@@ -379,7 +379,7 @@ fn for_statement(reader: &mut Reader) -> Statement
 
 // "to" | "downto"
 fn direction(reader: &mut Reader) -> bool
-    ensures { Goes estelle grammar.direction reader.old (node.direction result) reader.new }
+    ensures { Goes estelle grammar.direction reader.old (view.direction result) reader.new }
 {
     if reader.sees(TokenKind::Reserved(ReservedWord::Downto)) {
         reader.word(ReservedWord::Downto);
@@ -394,7 +394,7 @@ fn direction(reader: &mut Reader) -> bool
 fn all_statement(reader: &mut Reader) -> Statement
     requires { Sees reader.old (kind (Reserved words.All)) true }
     ensures { Goes estelle (rule grammar.statement) reader.old
-        (shown (node.a_statement result)) reader.new }
+        (node (view.a_statement result)) reader.new }
 {
     let place = reader.at;
     let levels = reader.open(TokenKind::Reserved(ReservedWord::All));

@@ -2,14 +2,14 @@
 
 ghost use Rattle.std.specs.Prelude.{true, map};
 ghost use Rattle.est_language.specs.Grammar.{rule, rep};
-ghost use Rattle.est_language.specs.Shown.{node as shown, nodes};
+ghost use Rattle.est_language.specs.Shown.{node, nodes};
 ghost use Rattle.est_lexer.specs.declared.kind.ReservedWord.TheVariants as words;
 ghost use Rattle.est_lexer.specs.declared.kind.TokenKind.TheVariants.{Reserved};
 ghost use Rattle.est_reader.specs.Going.{Goes};
 ghost use Rattle.est_reader.specs.Moving.{Sees, SeesOne};
 ghost use Rattle.est_reader.specs.Tests.{kind};
 ghost use Rattle.est_productions.specs.Productions as grammar;
-ghost use Rattle.est_productions.specs.Nodes as node;
+ghost use Rattle.est_productions.specs.Nodes as view;
 ghost use Rattle.est_productions.specs.Syntax.{estelle};
 ghost use Rattle.est_productions.specs.Tokens.{clause_tokens, transition_tokens};
 
@@ -27,7 +27,7 @@ use est_syntax::transition::{Clause, Clauses, Group, Most, Transition, Transitio
 /// transpart = "trans" transition { transition } .
 pub fn transpart(reader: &mut Reader) -> Group
     ensures { Goes estelle (rule grammar.transpart) reader.old
-        (shown (node.a_group result)) reader.new }
+        (node (view.a_group result)) reader.new }
 {
     reader.word(ReservedWord::Trans);
     let transitions = transitions(reader);
@@ -37,7 +37,7 @@ pub fn transpart(reader: &mut Reader) -> Group
 // transition { transition }
 fn transitions(reader: &mut Reader) -> Transitions
     ensures { Goes estelle (grammar.several (rule grammar.transition)) reader.old
-        (nodes (map node.a_transition result)) reader.new }
+        (nodes (map view.a_transition result)) reader.new }
 {
     let first = transition(reader);
     let mut items = Transitions::new(reader.alloc);
@@ -99,7 +99,7 @@ fn begins_clause(reader: &Reader) -> bool
 // transition = { clause } [ "name" ident ":" ] block ";" .
 fn transition(reader: &mut Reader) -> Transition
     ensures { Goes estelle (rule grammar.transition) reader.old
-        (shown (node.a_transition result)) reader.new }
+        (node (view.a_transition result)) reader.new }
 {
     let clauses = clauses(reader);
     let name = transition_name(reader);
@@ -115,7 +115,7 @@ fn transition(reader: &mut Reader) -> Transition
 // [ "name" ident ":" ]
 fn transition_name(reader: &mut Reader) -> Option<Used>
     ensures { Goes estelle grammar.transition_name reader.old
-        (node.transition_name result) reader.new }
+        (view.transition_name result) reader.new }
 {
     if !reader.sees(TokenKind::Reserved(ReservedWord::Name)) {
         return None;
@@ -129,7 +129,7 @@ fn transition_name(reader: &mut Reader) -> Option<Used>
 // { clause }
 fn clauses(reader: &mut Reader) -> Clauses
     ensures { Goes estelle (rep (rule grammar.clause)) reader.old
-        (nodes (map node.a_clause result)) reader.new }
+        (nodes (map view.a_clause result)) reader.new }
 {
     let mut items = Clauses::new(reader.alloc);
     while begins_clause(reader) {
@@ -144,7 +144,7 @@ fn clauses(reader: &mut Reader) -> Clauses
 //     | "delay" "(" expr [ "," ( expr | "*" ) ] ")" .
 fn clause(reader: &mut Reader) -> Clause
     ensures { Goes estelle (rule grammar.clause) reader.old
-        (shown (node.a_clause result)) reader.new }
+        (node (view.a_clause result)) reader.new }
 {
     if reader.sees(TokenKind::Reserved(ReservedWord::To)) {
         return to_clause(reader);
@@ -174,7 +174,7 @@ fn clause(reader: &mut Reader) -> Clause
 fn to_clause(reader: &mut Reader) -> Clause
     requires { Sees reader.old (kind (Reserved words.To)) true }
     ensures { Goes estelle (rule grammar.clause) reader.old
-        (shown (node.a_clause result)) reader.new }
+        (node (view.a_clause result)) reader.new }
 {
     let place = reader.at;
     reader.word(ReservedWord::To);
@@ -184,7 +184,7 @@ fn to_clause(reader: &mut Reader) -> Clause
 
 // ident | "same"
 fn next_state(reader: &mut Reader) -> Option<Used>
-    ensures { Goes estelle grammar.next_state reader.old (node.next_state result) reader.new }
+    ensures { Goes estelle grammar.next_state reader.old (view.next_state result) reader.new }
 {
     if reader.sees(TokenKind::Reserved(ReservedWord::Same)) {
         reader.word(ReservedWord::Same);
@@ -197,7 +197,7 @@ fn next_state(reader: &mut Reader) -> Option<Used>
 fn when_clause(reader: &mut Reader) -> Clause
     requires { Sees reader.old (kind (Reserved words.When)) true }
     ensures { Goes estelle (rule grammar.clause) reader.old
-        (shown (node.a_clause result)) reader.new }
+        (node (view.a_clause result)) reader.new }
 {
     let place = reader.at;
     reader.word(ReservedWord::When);
@@ -211,7 +211,7 @@ fn when_clause(reader: &mut Reader) -> Clause
 fn provided_clause(reader: &mut Reader) -> Clause
     requires { Sees reader.old (kind (Reserved words.Provided)) true }
     ensures { Goes estelle (rule grammar.clause) reader.old
-        (shown (node.a_clause result)) reader.new }
+        (node (view.a_clause result)) reader.new }
 {
     let place = reader.at;
     reader.word(ReservedWord::Provided);
@@ -230,7 +230,7 @@ fn provided_clause(reader: &mut Reader) -> Clause
 fn any_clause(reader: &mut Reader) -> Clause
     requires { Sees reader.old (kind (Reserved words.Any)) true }
     ensures { Goes estelle (rule grammar.clause) reader.old
-        (shown (node.a_clause result)) reader.new }
+        (node (view.a_clause result)) reader.new }
 {
     let place = reader.at;
     reader.word(ReservedWord::Any);
@@ -243,7 +243,7 @@ fn any_clause(reader: &mut Reader) -> Clause
 fn priority_clause(reader: &mut Reader) -> Clause
     requires { Sees reader.old (kind (Reserved words.Priority)) true }
     ensures { Goes estelle (rule grammar.clause) reader.old
-        (shown (node.a_clause result)) reader.new }
+        (node (view.a_clause result)) reader.new }
 {
     let place = reader.at;
     reader.word(ReservedWord::Priority);
@@ -255,7 +255,7 @@ fn priority_clause(reader: &mut Reader) -> Clause
 fn delay_clause(reader: &mut Reader) -> Clause
     requires { Sees reader.old (kind (Reserved words.Delay)) true }
     ensures { Goes estelle (rule grammar.clause) reader.old
-        (shown (node.a_clause result)) reader.new }
+        (node (view.a_clause result)) reader.new }
 {
     let place = reader.at;
     reader.word(ReservedWord::Delay);
@@ -274,7 +274,7 @@ fn delay_clause(reader: &mut Reader) -> Clause
 
 // [ "," ( expr | "*" ) ]
 fn later_bound(reader: &mut Reader) -> Most
-    ensures { Goes estelle grammar.later_bound reader.old (node.most result) reader.new }
+    ensures { Goes estelle grammar.later_bound reader.old (view.most result) reader.new }
 {
     if !reader.sees(TokenKind::Symbol(Symbol::Comma)) {
         return Most::Same;

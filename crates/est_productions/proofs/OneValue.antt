@@ -5,7 +5,8 @@ use Rattle.est_language.specs.Shown.{Shows, node}
 use Rattle.est_language.proofs.Alike.{same_node}
 use Rattle.est_reader.specs.Going.{Shape}
 use Rattle.est_productions.specs.Nodes.{Node, a_specification, layer}
-use Rattle.est_productions.proofs.Sorts.{Tag, specifications, tag, sort_of, layer_is}
+use Rattle.est_productions.proofs.Sorts.{Tag, specifications, tag}
+use Rattle.est_productions.proofs.Layers.{sort_of, layer_is}
 use Rattle.est_productions.proofs.Told.{from, told}
 
 -- parts of one sort that show one shape are the same

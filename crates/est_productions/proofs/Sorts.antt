@@ -1,51 +1,31 @@
--- What the layers of each sort of part look like: the grammar, once more.
+-- What the layers of each sort of expression look like: the grammar, once more.
 use Rattle.std.proofs.Common.{◌≡◌, ℕ, Bool, true, false, List, []}
 use Rattle.std.proofs.Common.{◌∷◌, map, Option, Some, None, refl}
 use Rattle.est_syntax.specs.declared.name.Used.{Used}
 use Rattle.est_syntax.specs.declared.constant.Constant.{Constant}
 use Rattle.est_syntax.specs.declared.constant.Constant.TheVariants as constant
-use Rattle.est_syntax.specs.declared.type_text.TypeText.{TypeText, out-TypeText}
+use Rattle.est_syntax.specs.declared.type_text.TypeText.{TypeText}
 use Rattle.est_syntax.specs.declared.type_text.TypeText.TheOpen as text
-use Rattle.est_syntax.specs.declared.type_text.VarDef.{VarDef, out-VarDef}
+use Rattle.est_syntax.specs.declared.type_text.VarDef.{VarDef}
 use Rattle.est_syntax.specs.declared.channel.InteractionDef.{InteractionDef}
 use Rattle.est_syntax.specs.declared.channel.ByPart.{ByPart}
 use Rattle.est_syntax.specs.declared.header.Queue.{Queue}
 use Rattle.est_syntax.specs.declared.header.Queue.TheVariants as queue
-use Rattle.est_syntax.specs.declared.body.Block.{Block, out-Block}
-use Rattle.est_syntax.specs.declared.body.FirstPart.{FirstPart, out-FirstPart}
-use Rattle.est_syntax.specs.declared.body.Body.{out-Body}
-use Rattle.est_syntax.specs.declared.body.Part.{out-Part}
-use Rattle.est_syntax.specs.declared.body.Part.TheOpen as part
+use Rattle.est_syntax.specs.declared.body.Block.{Block}
 use Rattle.est_syntax.specs.declared.routine.Formal.{Formal}
-use Rattle.est_syntax.specs.declared.routine.Routine.{out-Routine}
-use Rattle.est_syntax.specs.declared.transition.Most.{Most}
-use Rattle.est_syntax.specs.declared.transition.Most.TheVariants as most
-use Rattle.est_syntax.specs.declared.transition.Clause.{Clause}
-use Rattle.est_syntax.specs.declared.transition.Clause.TheVariants as clause
-use Rattle.est_syntax.specs.declared.transition.Transition.{out-Transition}
-use Rattle.est_syntax.specs.declared.transition.Group.{out-Group}
 use Rattle.est_syntax.specs.declared.expression.Operator.{Operator}
 use Rattle.est_syntax.specs.declared.expression.Operator.TheVariants as operator
-use Rattle.est_syntax.specs.declared.expression.Selector.{Selector, out-Selector}
-use Rattle.est_syntax.specs.declared.expression.Member.{Member, out-Member}
-use Rattle.est_syntax.specs.declared.expression.Factor.{out-Factor}
+use Rattle.est_syntax.specs.declared.expression.Selector.{Selector}
+use Rattle.est_syntax.specs.declared.expression.Member.{Member}
 use Rattle.est_syntax.specs.declared.expression.Factor.TheOpen as factor
-use Rattle.est_syntax.specs.declared.expression.ProductStep.{out-ProductStep}
-use Rattle.est_syntax.specs.declared.expression.Term.{out-Term}
-use Rattle.est_syntax.specs.declared.expression.SumStep.{out-SumStep}
-use Rattle.est_syntax.specs.declared.expression.Simple.{out-Simple}
 use Rattle.est_syntax.specs.declared.expression.Relation.{Relation, out-Relation}
-use Rattle.est_syntax.specs.declared.expression.Expr.{Expr, out-Expr}
+use Rattle.est_syntax.specs.declared.expression.Expr.{Expr}
 use Rattle.est_syntax.specs.declared.expression.Access.{Access}
-use Rattle.est_syntax.specs.declared.statement.Arm.{out-Arm}
-use Rattle.est_syntax.specs.declared.statement.Statement.{Statement, out-Statement}
-use Rattle.est_syntax.specs.declared.statement.Statement.TheOpen as statement
 use Rattle.est_language.specs.Shown.{nodes}
 use Rattle.est_language.proofs.Alike as alike
-use Rattle.est_language.proofs.Alike.{All, of_nothing, of_kept, of_at, of_option}
-use Rattle.est_language.proofs.Alike.{of_pair, of_choice, of_part, of_parts, of_sections}
-use Rattle.est_language.proofs.Alike.{f_nowhere, f_empty, f_kept, f_at, f_pair, f_first}
-use Rattle.est_language.proofs.Alike.{f_second, f_out, f_in, f_part, f_parts, f_sections}
+use Rattle.est_language.proofs.Alike.{All, of_nothing, of_kept, of_at, of_option, of_pair}
+use Rattle.est_language.proofs.Alike.{of_choice, of_part, of_parts, f_nowhere, f_empty, f_kept}
+use Rattle.est_language.proofs.Alike.{f_at, f_pair, f_first, f_second, f_out, f_in, f_part, f_parts}
 use Rattle.est_reader.specs.Tests as kinds
 use Rattle.est_reader.specs.Tests.{Kept}
 use Rattle.est_reader.specs.Going.{used}
@@ -59,10 +39,8 @@ use Rattle.est_productions.specs.Nodes.{a_body_part, a_block_part, a_block, a_cl
 use Rattle.est_productions.specs.Nodes.{a_group, a_body, an_access, an_end_point, a_statement}
 use Rattle.est_productions.specs.Nodes.{an_arm, a_sending, an_expr, a_simple, a_sum_step, a_term}
 use Rattle.est_productions.specs.Nodes.{a_product_step, a_factor, a_selector, a_member}
-use Rattle.est_productions.specs.Nodes.{a_specification, layer, TypeTextForm, FactorForm}
-use Rattle.est_productions.specs.Nodes.{SelectorForm, StatementForm, PartForm}
+use Rattle.est_productions.specs.Nodes.{a_specification, TypeTextForm, FactorForm, SelectorForm}
 
--- what sort of part it is
 pub data Tag : Type 0 where
   uses constants constant_definitions types short_types type_definitions fields variables
       parameters : Tag
@@ -127,27 +105,27 @@ all part g e [] = tt
 all part g e (x ∷ xs) = (e x, all part g e xs)
 
 -- parts of one sort, one after the other
-are : {A : Type 0} (part : A → Node) (g : Tag) → ((x : A) → tag (part x) ≡ g) → (xs : List A)
+pub are : {A : Type 0} (part : A → Node) (g : Tag) → ((x : A) → tag (part x) ≡ g) → (xs : List A)
     → IsOf (of_parts g) (nodes (map part xs))
 are part g e xs = f_parts (map part xs) (all part g e xs)
 
 -- NAMES AND SIGNS
 
-abbrev of_used : Sort
+abbrev pub of_used : Sort
 of_used = of_at of_kept
 
-used_is : (u : Used) → IsOf of_used (used u)
+pub used_is : (u : Used) → IsOf of_used (used u)
 used_is u = f_at u.place (f_kept (kinds.name u.name.bytes))
 
-name_given_is : (o : Option Used) → IsOf (of_option of_used) (shown.name_given o)
+pub name_given_is : (o : Option Used) → IsOf (of_option of_used) (shown.name_given o)
 name_given_is None = f_out
 name_given_is (Some u) = f_in (used_is u)
 
-names_are : (us : List Used) → IsOf (of_parts uses) (shown.names us)
+pub names_are : (us : List Used) → IsOf (of_parts uses) (shown.names us)
 names_are us = are a_use uses (λ x. refl) us
 
 -- one of two words
-abbrev of_either : Sort
+abbrev pub of_either : Sort
 of_either = of_choice of_nothing of_nothing
 
 -- CONSTANTS AND TYPES
@@ -179,10 +157,10 @@ unnamed_is (constant.Named false false name place) = f_nowhere
 unnamed_is (constant.Character code place) =
     f_at place (f_second (f_second (f_kept (kinds.code code))))
 
-abbrev of_constant : Sort
+abbrev pub of_constant : Sort
 of_constant = of_choice of_unnamed (of_at of_used)
 
-constant_is : (c : Constant) → IsOf of_constant (shown.constant c)
+pub constant_is : (c : Constant) → IsOf of_constant (shown.constant c)
 constant_is (constant.Number minus sign number place) =
     f_first (unnamed_is (constant.Number minus sign number place))
 constant_is (constant.Named false false name place) = f_second (f_at place (used_is name))
@@ -193,7 +171,7 @@ constant_is (constant.Named false true name place) =
     f_first (unnamed_is (constant.Named false true name place))
 constant_is (constant.Character code place) = f_first (unnamed_is (constant.Character code place))
 
-abbrev of_short : Sort
+abbrev pub of_short : Sort
 of_short = of_choice (of_pair of_unnamed (of_part constants))
     (of_at (of_pair of_used (of_option (of_part constants))))
 
@@ -214,7 +192,7 @@ range_is (constant.Named false true name place) high =
 range_is (constant.Character code place) high =
     f_first (f_pair (unnamed_is (constant.Character code place)) (f_part (a_constant high) refl))
 
-short_is : (t : TypeTextForm) → IsOf of_short (shown.short_type t)
+pub short_is : (t : TypeTextForm) → IsOf of_short (shown.short_type t)
 short_is (text.Named name) = f_second (f_at name.place (f_pair (used_is name) f_out))
 short_is (text.Range low high) = range_is low high
 short_is (text.Names us place) = f_nowhere
@@ -222,12 +200,12 @@ short_is (text.Array index of_ place) = f_nowhere
 short_is (text.Fields fs place) = f_nowhere
 short_is (text.Set of_ place) = f_nowhere
 
-abbrev of_type : Sort
+abbrev pub of_type : Sort
 of_type = of_choice of_short (of_choice (of_at (of_pair (of_parts uses) of_nothing))
     (of_at (of_pair of_nothing (of_choice (of_pair (of_parts types) (of_part types))
     (of_choice (of_pair (of_parts fields) of_nothing) (of_part types))))))
 
-type_is : (t : TypeTextForm) → IsOf of_type (shown.type_text t)
+pub type_is : (t : TypeTextForm) → IsOf of_type (shown.type_text t)
 type_is (text.Named name) = f_first (short_is (text.Named name))
 type_is (text.Range low high) = f_first (range_is low high)
 type_is (text.Names us place) = f_second (f_first (f_at place (f_pair (names_are us) f_empty)))
@@ -242,19 +220,19 @@ type_is (text.Set of_ place) =
     f_second (f_second (f_at place
     (f_pair f_empty (f_second (f_second (f_part (a_type of_) refl))))))
 
-abbrev of_parameters : Sort
+abbrev pub of_parameters : Sort
 of_parameters = of_option (of_pair (of_parts parameters) of_nothing)
 
-parameters_are : (vs : List VarDef) → IsOf of_parameters (shown.parameters vs)
+pub parameters_are : (vs : List VarDef) → IsOf of_parameters (shown.parameters vs)
 parameters_are [] = f_out
 parameters_are (v ∷ vs) = f_in (f_pair (are a_parameter parameters (λ x. refl) (v ∷ vs)) f_empty)
 
 -- CHANNELS, HEADERS AND MODULE VARIABLES
 
-abbrev of_by_part : Sort
+abbrev pub of_by_part : Sort
 of_by_part = of_pair of_used (of_pair (of_option of_used) (of_parts interactions))
 
-roles_are : (us : List Used) (is : List InteractionDef)
+pub roles_are : (us : List Used) (is : List InteractionDef)
     → IsOf of_by_part (shown.roles us (nodes (map an_interaction is)))
 roles_are [] is = f_nowhere
 roles_are (one ∷ []) is = f_pair (used_is one)
@@ -263,10 +241,10 @@ roles_are (one ∷ other ∷ []) is = f_pair (used_is one) (f_pair (f_in (used_i
     (are an_interaction interactions (λ x. refl) is))
 roles_are (one ∷ other ∷ more ∷ us) is = f_nowhere
 
-abbrev of_two_names : Sort
+abbrev pub of_two_names : Sort
 of_two_names = of_pair of_used (of_pair of_used (of_parts by_parts))
 
-two_names_are : (us : List Used) (bs : List ByPart)
+pub two_names_are : (us : List Used) (bs : List ByPart)
     → IsOf of_two_names (shown.two_names us (nodes (map a_by_part bs)))
 two_names_are [] bs = f_nowhere
 two_names_are (one ∷ []) bs = f_nowhere
@@ -274,23 +252,23 @@ two_names_are (one ∷ other ∷ []) bs = f_pair (used_is one)
     (f_pair (used_is other) (are a_by_part by_parts (λ x. refl) bs))
 two_names_are (one ∷ other ∷ more ∷ us) bs = f_nowhere
 
-queue_is : (q : Queue) → IsOf of_either (shown.queue q)
+pub queue_is : (q : Queue) → IsOf of_either (shown.queue q)
 queue_is queue.Individual = f_first f_empty
 queue_is queue.Common = f_second f_empty
 
-queue_given_is : (o : Option Queue) → IsOf (of_option of_either) (shown.queue_given o)
+pub queue_given_is : (o : Option Queue) → IsOf (of_option of_either) (shown.queue_given o)
 queue_given_is None = f_out
 queue_given_is (Some q) = f_in (queue_is q)
 
-abbrev of_dimensions : Sort
+abbrev pub of_dimensions : Sort
 of_dimensions = of_option (of_at (of_pair (of_parts short_types) of_nothing))
 
-dimensions_are : (place : ℕ) (ds : List TypeText) → IsOf of_dimensions (shown.dimensions place ds)
+pub dimensions_are : (place : ℕ) (ds : List TypeText) → IsOf of_dimensions (shown.dimensions place ds)
 dimensions_are place [] = f_out
 dimensions_are place (d ∷ ds) =
     f_in (f_at place (f_pair (are a_short_type short_types (λ x. refl) (d ∷ ds)) f_empty))
 
-attribute_is : (system : Bool) → IsOf of_either (shown.attribute system)
+pub attribute_is : (system : Bool) → IsOf of_either (shown.attribute system)
 attribute_is true = f_first f_empty
 attribute_is false = f_second f_empty
 
@@ -298,12 +276,12 @@ abbrev the_nodes : List Node → View
 the_nodes ks = nodes ks
 
 -- the parts of a run are told by the run
-one_run : (ks ls : List Node) → the_nodes ks ≡ the_nodes ls → ks ≡ ls
+pub one_run : (ks ls : List Node) → the_nodes ks ≡ the_nodes ls → ks ≡ ls
 one_run ks ls e = cc
 
 -- ROUTINES AND BLOCKS
 
-by_place_is : (by_place : Bool) → IsOf (of_option of_nothing) (shown.by_place by_place)
+pub by_place_is : (by_place : Bool) → IsOf (of_option of_nothing) (shown.by_place by_place)
 by_place_is true = f_in f_empty
 by_place_is false = f_out
 
@@ -314,12 +292,12 @@ formals_are : (fs : List Formal) → IsOf of_formals (shown.formals fs)
 formals_are [] = f_out
 formals_are (f ∷ fs) = f_in (f_pair (are a_formal formals (λ x. refl) (f ∷ fs)) f_empty)
 
-abbrev of_routine : Sort
+abbrev pub of_routine : Sort
 of_routine = of_choice (of_pair of_used (of_pair of_formals (of_pair (of_part blocks) of_nothing)))
     (of_pair of_nothing (of_pair of_used
     (of_pair of_formals (of_pair of_used (of_pair (of_part blocks) of_nothing)))))
 
-routine_is : (name : Used) (fs : List Formal) (result : Option Used) (block : Block)
+pub routine_is : (name : Used) (fs : List Formal) (result : Option Used) (block : Block)
     → IsOf of_routine (shown.routine_of name fs result block)
 routine_is name fs None block =
     f_first (f_pair (used_is name) (f_pair (formals_are fs) (f_pair (f_part (a_block block) refl)
@@ -354,10 +332,10 @@ relational_is operator.Div = f_nowhere
 relational_is operator.Mod = f_nowhere
 relational_is operator.And = f_nowhere
 
-abbrev of_adding : Sort
+abbrev pub of_adding : Sort
 of_adding = of_choice of_nothing (of_choice of_nothing of_nothing)
 
-adding_is : (o : Operator) → IsOf of_adding (shown.adding_operator o)
+pub adding_is : (o : Operator) → IsOf of_adding (shown.adding_operator o)
 adding_is operator.Plus = f_first f_empty
 adding_is operator.Minus = f_second (f_first f_empty)
 adding_is operator.Or = f_second (f_second f_empty)
@@ -373,10 +351,10 @@ adding_is operator.Div = f_nowhere
 adding_is operator.Mod = f_nowhere
 adding_is operator.And = f_nowhere
 
-abbrev of_multiplying : Sort
+abbrev pub of_multiplying : Sort
 of_multiplying = of_choice of_nothing (of_choice of_nothing (of_choice of_nothing of_nothing))
 
-multiplying_is : (o : Operator) → IsOf of_multiplying (shown.multiplying_operator o)
+pub multiplying_is : (o : Operator) → IsOf of_multiplying (shown.multiplying_operator o)
 multiplying_is operator.Times = f_first f_empty
 multiplying_is operator.Div = f_second (f_first f_empty)
 multiplying_is operator.Mod = f_second (f_second (f_first f_empty))
@@ -392,24 +370,24 @@ multiplying_is operator.Plus = f_nowhere
 multiplying_is operator.Minus = f_nowhere
 multiplying_is operator.Or = f_nowhere
 
-abbrev of_relation : Sort
+abbrev pub of_relation : Sort
 of_relation = of_option (of_pair of_relational (of_part simples))
 
-relation_is : (o : Option Relation) → IsOf of_relation (shown.relation o)
+pub relation_is : (o : Option Relation) → IsOf of_relation (shown.relation o)
 relation_is None = f_out
 relation_is (Some r) = f_in (f_pair (relational_is (out-Relation r).operator)
     (f_part (a_simple (out-Relation r).right) refl))
 
-sign_is : (minus sign : Bool) → IsOf (of_option of_either) (shown.sign minus sign)
+pub sign_is : (minus sign : Bool) → IsOf (of_option of_either) (shown.sign minus sign)
 sign_is false false = f_out
 sign_is true false = f_nowhere
 sign_is true true = f_in (written_sign_is true)
 sign_is false true = f_in (written_sign_is false)
 
-abbrev of_exprs_given : Sort
+abbrev pub of_exprs_given : Sort
 of_exprs_given = of_option (of_pair (of_parts exprs) of_nothing)
 
-exprs_given_are : (es : List Expr) → IsOf of_exprs_given (shown.exprs_given es)
+pub exprs_given_are : (es : List Expr) → IsOf of_exprs_given (shown.exprs_given es)
 exprs_given_are [] = f_out
 exprs_given_are (e ∷ es) = f_in (f_pair (are an_expr exprs (λ x. refl) (e ∷ es)) f_empty)
 
@@ -424,13 +402,13 @@ selectors_are : (ss : List Selector) → IsOf of_path (shown.selectors ss)
 selectors_are [] = f_out
 selectors_are (s ∷ ss) = f_in (f_second (are a_selector selectors (λ x. refl) (s ∷ ss)))
 
-abbrev of_factor : Sort
+abbrev pub of_factor : Sort
 of_factor =
     of_at (of_choice of_kept (of_choice of_kept (of_choice (of_pair (of_part exprs) of_nothing)
     (of_choice (of_part factors)
     (of_choice (of_pair (of_option (of_parts members)) of_nothing) (of_pair of_used of_path))))))
 
-factor_is : (f : FactorForm) → IsOf of_factor (shown.factor f)
+pub factor_is : (f : FactorForm) → IsOf of_factor (shown.factor f)
 factor_is (factor.Number number place) = f_at place (f_first (f_kept (kinds.value number)))
 factor_is (factor.Character code place) = f_at place (f_second (f_first (f_kept (kinds.code code))))
 factor_is (factor.Group of_ place) =
@@ -449,433 +427,18 @@ factor_is (factor.Call name es place) =
     (f_pair (used_is name) (f_in
     (f_first (f_pair (are an_expr exprs (λ x. refl) es) f_empty)))))))))
 
-abbrev of_selector : Sort
+abbrev pub of_selector : Sort
 of_selector = of_choice of_used (of_at (of_pair (of_parts exprs) of_nothing))
 
-selector_is : (s : SelectorForm) → IsOf of_selector (shown.selector s)
+pub selector_is : (s : SelectorForm) → IsOf of_selector (shown.selector s)
 selector_is (factor.Field name) = f_first (used_is name)
 selector_is (factor.Index es place) =
     f_second (f_at place (f_pair (are an_expr exprs (λ x. refl) es) f_empty))
 
-expr_given_is : (o : Option Expr) → IsOf (of_option (of_part exprs)) (shown.expr_given o)
+pub expr_given_is : (o : Option Expr) → IsOf (of_option (of_part exprs)) (shown.expr_given o)
 expr_given_is None = f_out
 expr_given_is (Some e) = f_in (f_part (an_expr e) refl)
 
-access_given_is : (o : Option Access) → IsOf (of_option (of_part accesses)) (shown.access_given o)
+pub access_given_is : (o : Option Access) → IsOf (of_option (of_part accesses)) (shown.access_given o)
 access_given_is None = f_out
 access_given_is (Some a) = f_in (f_part (an_access a) refl)
-
--- STATEMENTS
-
-else_part_is : (o : Option Statement) → IsOf (of_option (of_part statements)) (shown.else_part o)
-else_part_is None = f_out
-else_part_is (Some s) = f_in (f_part (a_statement s) refl)
-
-direction_is : (down : Bool) → IsOf of_either (shown.direction down)
-direction_is false = f_first f_empty
-direction_is true = f_second f_empty
-
--- what stands after the name of an assignment or of a call
-abbrev of_rest : Sort
-of_rest = of_option (of_choice (of_pair (of_option (of_parts selectors)) (of_part exprs))
-    (of_pair (of_parts exprs) of_nothing))
-
-path_is : (ss : List Selector) → IsOf (of_option (of_parts selectors)) (shown.path ss)
-path_is [] = f_out
-path_is (s ∷ ss) = f_in (are a_selector selectors (λ x. refl) (s ∷ ss))
-
-call_is : (es : List Expr) → IsOf of_rest (shown.call es)
-call_is [] = f_out
-call_is (e ∷ es) = f_in (f_second (f_pair (are an_expr exprs (λ x. refl) (e ∷ es)) f_empty))
-
-abbrev of_init : Sort
-of_init = of_pair (of_part accesses) (of_pair of_used of_exprs_given)
-
-init_is : (target : Access) (body : Used) (es : List Expr)
-    → IsOf of_init (shown.init target body es)
-init_is target body es = f_pair (f_part (an_access target) refl)
-    (f_pair (used_is body) (exprs_given_are es))
-
-abbrev of_statement : Sort
-of_statement = of_at (of_option
-    (of_choice (of_pair (of_parts statements) of_nothing)
-    (of_choice (of_pair of_used of_rest)
-    (of_choice (of_pair (of_part exprs) (of_pair (of_part statements)
-    (of_option (of_part statements))))
-    (of_choice (of_pair (of_part exprs) (of_pair (of_parts arms) of_nothing))
-    (of_choice (of_pair (of_part exprs) (of_part statements))
-    (of_choice (of_pair (of_parts statements) (of_part exprs))
-    (of_choice (of_pair of_used
-    (of_pair (of_part exprs)
-    (of_pair of_either (of_pair (of_part exprs) (of_part statements)))))
-    (of_choice (of_pair of_used (of_pair (of_part short_types) (of_part statements)))
-    (of_choice (of_parts sendings)
-    (of_choice of_init
-    (of_choice (of_part accesses)
-    (of_choice (of_pair (of_part end_points) (of_part end_points))
-    (of_choice (of_part end_points)
-    (of_choice (of_pair (of_part accesses) (of_pair (of_part accesses) (of_part accesses)))
-    (of_part end_points))))))))))))))))
-
-statement_is : (s : StatementForm) → IsOf of_statement (shown.statement s)
-statement_is (statement.Empty place) = f_at place f_out
-statement_is (statement.Compound ss place) =
-    f_at place (f_in (f_first (f_pair (are a_statement statements (λ x. refl) ss) f_empty)))
-statement_is (statement.Assign target path value place) =
-    f_at place (f_in (f_second
-    (f_first (f_pair (used_is target)
-    (f_in (f_first (f_pair (path_is path) (f_part (an_expr value) refl))))))))
-statement_is (statement.Call name es place) =
-    f_at place (f_in (f_second (f_first (f_pair (used_is name) (call_is es)))))
-statement_is (statement.If condition one other place) =
-    f_at place (f_in (f_second
-    (f_second (f_first (f_pair (f_part (an_expr condition) refl)
-    (f_pair (f_part (a_statement one) refl) (else_part_is other)))))))
-statement_is (statement.Case value as_ place) =
-    f_at place (f_in (f_second
-    (f_second (f_second (f_first (f_pair (f_part (an_expr value) refl)
-    (f_pair (are an_arm arms (λ x. refl) as_) f_empty)))))))
-statement_is (statement.While condition turn place) =
-    f_at place (f_in (f_second
-    (f_second (f_second (f_second
-    (f_first (f_pair (f_part (an_expr condition) refl) (f_part (a_statement turn) refl))))))))
-statement_is (statement.Repeat ss until place) =
-    f_at place (f_in (f_second
-    (f_second (f_second (f_second
-    (f_second (f_first (f_pair (are a_statement statements (λ x. refl) ss)
-    (f_part (an_expr until) refl)))))))))
-statement_is (statement.For name from down to turn place) =
-    f_at place (f_in (f_second (f_second (f_second (f_second (f_second (f_second (f_first
-    (f_pair (used_is name) (f_pair (f_part (an_expr from) refl)
-    (f_pair (direction_is down) (f_pair (f_part (an_expr to) refl)
-    (f_part (a_statement turn) refl)))))))))))))
-statement_is (statement.All name over turn place) =
-    f_at place (f_in (f_second (f_second (f_second (f_second (f_second (f_second (f_second (f_first
-    (f_pair (used_is name) (f_pair (f_part (a_short_type over) refl)
-    (f_part (a_statement turn) refl))))))))))))
-statement_is (statement.Output os place) =
-    f_at place (f_in (f_second
-    (f_second (f_second (f_second
-    (f_second (f_second (f_second
-    (f_second (f_first (are a_sending sendings (λ x. refl) os)))))))))))
-statement_is (statement.Init target body es place) =
-    f_at place (f_in (f_second
-    (f_second (f_second (f_second
-    (f_second (f_second (f_second (f_second (f_second (f_first (init_is target body es))))))))))))
-statement_is (statement.Release target place) =
-    f_at place (f_in (f_second
-    (f_second (f_second (f_second
-    (f_second (f_second (f_second
-    (f_second (f_second (f_second (f_first (f_part (an_access target) refl)))))))))))))
-statement_is (statement.Connect one other place) =
-    f_at place (f_in (f_second
-    (f_second (f_second (f_second
-    (f_second (f_second (f_second
-    (f_second (f_second (f_second
-    (f_second (f_first (f_pair (f_part (an_end_point one) refl) (f_part (an_end_point other)
-    refl)))))))))))))))
-statement_is (statement.Disconnect end_ place) =
-    f_at place (f_in (f_second
-    (f_second (f_second (f_second
-    (f_second (f_second (f_second
-    (f_second (f_second (f_second
-    (f_second (f_second (f_first (f_part (an_end_point end_) refl)))))))))))))))
-statement_is (statement.Attach own child ip place) =
-    f_at place (f_in (f_second
-    (f_second (f_second (f_second
-    (f_second (f_second (f_second
-    (f_second (f_second (f_second (f_second (f_second (f_second (f_first
-    (f_pair (f_part (an_access own) refl) (f_pair (f_part (an_access child) refl)
-    (f_part (an_access ip) refl))))))))))))))))))
-statement_is (statement.Detach end_ place) =
-    f_at place (f_in (f_second
-    (f_second (f_second (f_second
-    (f_second (f_second (f_second
-    (f_second (f_second (f_second
-    (f_second (f_second (f_second (f_second (f_part (an_end_point end_) refl))))))))))))))))
-
--- TRANSITIONS AND BODIES
-
-next_state_is : (o : Option Used) → IsOf (of_choice of_used of_nothing) (shown.next_state o)
-next_state_is (Some state) = f_first (used_is state)
-next_state_is None = f_second f_empty
-
-abbrev of_most : Sort
-of_most = of_option (of_choice (of_part exprs) of_nothing)
-
-most_is : (m : Most) → IsOf of_most (shown.most m)
-most_is most.Same = f_out
-most_is (most.Value e) = f_in (f_first (f_part (an_expr e) refl))
-most_is most.Never = f_in (f_second f_empty)
-
-abbrev of_clause : Sort
-of_clause = of_at (of_choice (of_parts uses) (of_choice (of_choice of_used of_nothing)
-    (of_choice (of_pair (of_part accesses) of_used)
-    (of_choice (of_choice (of_part exprs) of_nothing)
-    (of_choice (of_pair (of_parts parameters) of_nothing) (of_choice (of_part constants)
-    (of_pair (of_part exprs) (of_pair of_most of_nothing))))))))
-
-clause_is : (c : Clause) → IsOf of_clause (shown.clause c)
-clause_is (clause.From states place) = f_at place (f_first (names_are states))
-clause_is (clause.To state place) = f_at place (f_second (f_first (next_state_is state)))
-clause_is (clause.When ip signal place) =
-    f_at place (f_second (f_second
-    (f_first (f_pair (f_part (an_access ip) refl) (used_is signal)))))
-clause_is (clause.Provided condition place) =
-    f_at place (f_second (f_second
-    (f_second (f_first (f_first (f_part (an_expr condition) refl))))))
-clause_is (clause.Otherwise place) =
-    f_at place (f_second (f_second (f_second (f_first (f_second f_empty)))))
-clause_is (clause.Any vs place) =
-    f_at place (f_second (f_second
-    (f_second (f_second (f_first (f_pair (are a_parameter parameters (λ x. refl) vs) f_empty))))))
-clause_is (clause.Priority value place) =
-    f_at place (f_second (f_second
-    (f_second (f_second (f_second (f_first (f_part (a_constant value) refl)))))))
-clause_is (clause.Delay least bound place) =
-    f_at place (f_second (f_second
-    (f_second (f_second (f_second
-    (f_second (f_pair (f_part (an_expr least) refl) (f_pair (most_is bound) f_empty))))))))
-
-transition_name_is : (o : Option Used)
-    → IsOf (of_option (of_pair of_used of_nothing)) (shown.transition_name o)
-transition_name_is None = f_out
-transition_name_is (Some u) = f_in (f_pair (used_is u) f_empty)
-
-abbrev of_first : Sort
-of_first = of_option (of_pair (of_option of_used) (of_pair (of_part blocks) of_nothing))
-
-first_part_is : (o : Option FirstPart) → IsOf of_first (shown.first_part o)
-first_part_is None = f_out
-first_part_is (Some f) = f_in (f_pair (name_given_is (out-FirstPart f).to)
-    (f_pair (f_part (a_block (out-FirstPart f).block) refl) f_empty))
-
-abbrev of_common : Sort
-of_common = of_choice (of_parts constant_definitions) (of_choice (of_parts type_definitions)
-    (of_choice (of_part channels) (of_choice (of_part headers)
-    (of_choice (of_part bodies) (of_choice (of_part routines) (of_parts module_variables))))))
-
-common_is : (p : PartForm) → IsOf of_common (shown.common_part p)
-common_is (part.Consts ds) = f_first (are a_constant_definition constant_definitions (λ x. refl) ds)
-common_is (part.Types ds) =
-    f_second (f_first (are a_type_definition type_definitions (λ x. refl) ds))
-common_is (part.Channel c) = f_second (f_second (f_first (f_part (a_channel c) refl)))
-common_is (part.Header h) = f_second (f_second (f_second (f_first (f_part (a_header h) refl))))
-common_is (part.Body b) =
-    f_second (f_second (f_second (f_second (f_first (f_part (a_body b) refl)))))
-common_is (part.Routine r) =
-    f_second (f_second (f_second (f_second (f_second (f_first (f_part (a_routine r) refl))))))
-common_is (part.Modvars ms) =
-    f_second (f_second (f_second
-    (f_second (f_second (f_second (are a_module_variable module_variables (λ x. refl) ms))))))
-common_is (part.Points ps) = f_nowhere
-common_is (part.Vars vs) = f_nowhere
-common_is (part.States us) = f_nowhere
-common_is (part.StateSets ss) = f_nowhere
-
-abbrev of_own : Sort
-of_own = of_choice (of_parts points) (of_choice (of_parts variables)
-    (of_choice (of_pair (of_parts uses) of_nothing) (of_parts state_sets)))
-
-body_part_is : (p : PartForm) → IsOf (of_choice of_common of_own) (shown.body_part p)
-body_part_is (part.Points ps) = f_second (f_first (are a_point points (λ x. refl) ps))
-body_part_is (part.Vars vs) =
-    f_second (f_second (f_first (are a_variable variables (λ x. refl) vs)))
-body_part_is (part.States us) =
-    f_second (f_second (f_second (f_first (f_pair (names_are us) f_empty))))
-body_part_is (part.StateSets ss) =
-    f_second (f_second (f_second (f_second (are a_state_set state_sets (λ x. refl) ss))))
-body_part_is (part.Consts ds) = f_first (common_is (part.Consts ds))
-body_part_is (part.Types ds) = f_first (common_is (part.Types ds))
-body_part_is (part.Channel c) = f_first (common_is (part.Channel c))
-body_part_is (part.Header h) = f_first (common_is (part.Header h))
-body_part_is (part.Body b) = f_first (common_is (part.Body b))
-body_part_is (part.Routine r) = f_first (common_is (part.Routine r))
-body_part_is (part.Modvars ms) = f_first (common_is (part.Modvars ms))
-
-abbrev of_block_part : Sort
-of_block_part = of_choice (of_parts constant_definitions) (of_choice (of_parts type_definitions)
-    (of_parts variables))
-
-block_part_is : (p : PartForm) → IsOf of_block_part (shown.block_part p)
-block_part_is (part.Consts ds) = f_first (are a_constant_definition constant_definitions (λ x. refl)
-    ds)
-block_part_is (part.Types ds) =
-    f_second (f_first (are a_type_definition type_definitions (λ x. refl) ds))
-block_part_is (part.Vars vs) = f_second (f_second (are a_variable variables (λ x. refl) vs))
-block_part_is (part.Channel c) = f_nowhere
-block_part_is (part.Header h) = f_nowhere
-block_part_is (part.Body b) = f_nowhere
-block_part_is (part.Routine r) = f_nowhere
-block_part_is (part.Modvars ms) = f_nowhere
-block_part_is (part.Points ps) = f_nowhere
-block_part_is (part.States us) = f_nowhere
-block_part_is (part.StateSets ss) = f_nowhere
-
--- SPECIFICATIONS
-
-default_queue_is : (o : Option Queue)
-    → IsOf (of_option (of_pair of_either of_nothing)) (shown.default_queue o)
-default_queue_is None = f_out
-default_queue_is (Some q) = f_in (f_pair (queue_is q) f_empty)
-
-time_scale_is : (o : Option Used)
-    → IsOf (of_option (of_pair of_used of_nothing)) (shown.time_scale o)
-time_scale_is None = f_out
-time_scale_is (Some u) = f_in (f_pair (used_is u) f_empty)
-
-first_statement_is : (s : StatementForm) → IsOf (of_at of_init) (shown.first_statement s)
-first_statement_is (statement.Init target body es place) = f_at place (init_is target body es)
-first_statement_is (statement.Empty place) = f_nowhere
-first_statement_is (statement.Compound ss place) = f_nowhere
-first_statement_is (statement.Assign target path value place) = f_nowhere
-first_statement_is (statement.Call name es place) = f_nowhere
-first_statement_is (statement.If condition one other place) = f_nowhere
-first_statement_is (statement.Case value as_ place) = f_nowhere
-first_statement_is (statement.While condition turn place) = f_nowhere
-first_statement_is (statement.Repeat ss until place) = f_nowhere
-first_statement_is (statement.For name from down to turn place) = f_nowhere
-first_statement_is (statement.All name over turn place) = f_nowhere
-first_statement_is (statement.Output os place) = f_nowhere
-first_statement_is (statement.Release target place) = f_nowhere
-first_statement_is (statement.Connect one other place) = f_nowhere
-first_statement_is (statement.Disconnect end_ place) = f_nowhere
-first_statement_is (statement.Attach own child ip place) = f_nowhere
-first_statement_is (statement.Detach end_ place) = f_nowhere
-
--- EACH SORT OF PART
-
-abbrev pub sort_of : Tag → Sort
-sort_of uses = of_used
-sort_of constants = of_constant
-sort_of constant_definitions = of_pair of_used (of_pair (of_part constants) of_nothing)
-sort_of types = of_type
-sort_of short_types = of_short
-sort_of type_definitions = of_pair of_used (of_pair (of_part types) of_nothing)
-sort_of fields = of_pair (of_parts uses) (of_part types)
-sort_of variables = of_pair (of_parts uses) (of_pair (of_part types) of_nothing)
-sort_of parameters = of_pair (of_parts uses) (of_part short_types)
-sort_of exports = of_pair (of_parts uses) (of_pair (of_part short_types) of_nothing)
-sort_of interactions = of_pair of_used (of_pair of_parameters of_nothing)
-sort_of by_parts = of_by_part
-sort_of channels = of_pair of_used of_two_names
-sort_of points =
-    of_at (of_pair (of_parts uses)
-    (of_pair of_dimensions (of_pair of_used
-    (of_pair of_used (of_pair (of_option of_either) of_nothing)))))
-sort_of headers = of_pair of_used
-    (of_pair of_either (of_pair of_parameters
-    (of_pair (of_sections nodes nodes (of_parts points) (of_parts exports) points exports)
-    of_nothing)))
-sort_of module_variables =
-    of_at (of_pair (of_parts uses) (of_pair of_dimensions (of_pair of_used of_nothing)))
-sort_of state_sets = of_pair of_used (of_pair (of_parts uses) of_nothing)
-sort_of formals = of_pair (of_option of_nothing) (of_pair (of_parts uses) of_used)
-sort_of routines = of_routine
-sort_of common_parts = of_common
-sort_of body_parts = of_choice of_common of_own
-sort_of block_parts = of_block_part
-sort_of blocks = of_pair (of_parts block_parts) (of_at (of_pair (of_parts statements) of_nothing))
-sort_of clauses = of_clause
-sort_of transitions = of_pair (of_parts clauses) (of_pair (of_option (of_pair of_used of_nothing))
-    (of_pair (of_part blocks) of_nothing))
-sort_of groups = of_parts transitions
-sort_of bodies = of_pair of_used
-    (of_pair of_used (of_pair (of_parts body_parts)
-    (of_pair of_first (of_pair (of_parts groups) of_nothing))))
-sort_of accesses = of_pair of_used of_exprs_given
-sort_of end_points = of_pair (of_part accesses) (of_option (of_part accesses))
-sort_of statements = of_statement
-sort_of arms = of_pair (of_parts constants) (of_part statements)
-sort_of sendings = of_pair (of_part accesses) (of_pair of_used of_exprs_given)
-sort_of exprs = of_at (of_pair (of_part simples) of_relation)
-sort_of simples = of_pair (of_option of_either) (of_pair (of_part terms) (of_parts sum_steps))
-sort_of sum_steps = of_pair of_adding (of_part terms)
-sort_of terms = of_pair (of_part factors) (of_parts product_steps)
-sort_of product_steps = of_pair of_multiplying (of_part factors)
-sort_of factors = of_factor
-sort_of selectors = of_selector
-sort_of members = of_pair (of_part exprs) (of_option (of_part exprs))
-sort_of specifications = of_pair of_used (of_pair (of_option (of_pair of_either of_nothing))
-    (of_pair (of_option (of_pair of_used of_nothing))
-    (of_pair (of_parts common_parts) (of_pair (of_at of_init) (of_pair of_nothing of_nothing)))))
-
-pub layer_is : (n : Node) → IsOf (sort_of (tag n)) (layer n)
-layer_is (a_use u) = used_is u
-layer_is (a_constant c) = constant_is c
-layer_is (a_constant_definition d) = f_pair (used_is d.name)
-    (f_pair (f_part (a_constant d.value) refl) f_empty)
-layer_is (a_type t) = type_is (out-TypeText t)
-layer_is (a_short_type t) = short_is (out-TypeText t)
-layer_is (a_type_definition d) = f_pair (used_is d.name) (f_pair (f_part (a_type d.text) refl)
-    f_empty)
-layer_is (a_field v) = f_pair (names_are (out-VarDef v).names) (f_part (a_type (out-VarDef v).text)
-    refl)
-layer_is (a_variable v) = f_pair (names_are (out-VarDef v).names)
-    (f_pair (f_part (a_type (out-VarDef v).text) refl) f_empty)
-layer_is (a_parameter v) = f_pair (names_are (out-VarDef v).names)
-    (f_part (a_short_type (out-VarDef v).text) refl)
-layer_is (an_export v) = f_pair (names_are (out-VarDef v).names)
-    (f_pair (f_part (a_short_type (out-VarDef v).text) refl) f_empty)
-layer_is (an_interaction i) = f_pair (used_is i.name) (f_pair (parameters_are i.params) f_empty)
-layer_is (a_by_part b) = roles_are b.roles b.interactions
-layer_is (a_channel c) = f_pair (used_is c.name) (two_names_are c.roles c.by)
-layer_is (a_point p) = f_at (shown.beginning p.place p.dims p.names)
-    (f_pair (names_are p.names) (f_pair (dimensions_are p.place p.dims)
-    (f_pair (used_is p.channel) (f_pair (used_is p.role) (f_pair (queue_given_is p.queue)
-    f_empty)))))
-layer_is (a_header h) = f_pair (used_is h.name) (f_pair (attribute_is h.system)
-    (f_pair (parameters_are h.params)
-    (f_pair (f_sections (map a_point h.points) (map an_export h.exports) (λ ls a. f_parts ls a)
-    one_run (λ ls a. f_parts ls a) one_run
-    (all a_point points (λ x. refl) h.points) (all an_export exports (λ x. refl) h.exports))
-    f_empty)))
-layer_is (a_module_variable m) = f_at (shown.beginning m.place m.dims m.names)
-    (f_pair (names_are m.names) (f_pair (dimensions_are m.place m.dims)
-    (f_pair (used_is m.header) f_empty)))
-layer_is (a_state_set s) = f_pair (used_is s.name) (f_pair (names_are s.states) f_empty)
-layer_is (a_formal f) = f_pair (by_place_is f.by_place)
-    (f_pair (names_are f.names) (used_is f.kind))
-layer_is (a_routine r) = routine_is (out-Routine r).name (out-Routine r).formals
-    (out-Routine r).result (out-Routine r).block
-layer_is (a_common_part p) = common_is (out-Part p)
-layer_is (a_body_part p) = body_part_is (out-Part p)
-layer_is (a_block_part p) = block_part_is (out-Part p)
-layer_is (a_block b) = f_pair (are a_block_part block_parts (λ x. refl) (out-Block b).parts)
-    (f_at (out-Block b).place
-    (f_pair (are a_statement statements (λ x. refl) (out-Block b).statements) f_empty))
-layer_is (a_clause c) = clause_is c
-layer_is (a_transition t) = f_pair (are a_clause clauses (λ x. refl) (out-Transition t).clauses)
-    (f_pair (transition_name_is (out-Transition t).name)
-    (f_pair (f_part (a_block (out-Transition t).block) refl) f_empty))
-layer_is (a_group g) = are a_transition transitions (λ x. refl) (out-Group g).transitions
-layer_is (a_body b) = f_pair (used_is (out-Body b).name) (f_pair (used_is (out-Body b).header)
-    (f_pair (are a_body_part body_parts (λ x. refl) (out-Body b).parts)
-    (f_pair (first_part_is (out-Body b).first)
-    (f_pair (are a_group groups (λ x. refl) (out-Body b).groups) f_empty))))
-layer_is (an_access a) = f_pair (used_is a.name) (exprs_given_are a.index)
-layer_is (an_end_point e) = f_pair (f_part (an_access e.first) refl) (access_given_is e.second)
-layer_is (a_statement s) = statement_is (out-Statement s)
-layer_is (an_arm a) = f_pair (are a_constant constants (λ x. refl) (out-Arm a).constants)
-    (f_part (a_statement (out-Arm a).turn) refl)
-layer_is (a_sending s) = f_pair (f_part (an_access s.at) refl)
-    (f_pair (used_is s.signal) (exprs_given_are s.arguments))
-layer_is (an_expr e) = f_at (out-Expr e).place (f_pair (f_part (a_simple (out-Expr e).left) refl)
-    (relation_is (out-Expr e).relation))
-layer_is (a_simple s) = f_pair (sign_is (out-Simple s).minus (out-Simple s).sign)
-    (f_pair (f_part (a_term (out-Simple s).first) refl) (are a_sum_step sum_steps (λ x. refl)
-    (out-Simple s).rest))
-layer_is (a_sum_step s) = f_pair (adding_is (out-SumStep s).operator)
-    (f_part (a_term (out-SumStep s).right) refl)
-layer_is (a_term t) = f_pair (f_part (a_factor (out-Term t).first) refl)
-    (are a_product_step product_steps (λ x. refl) (out-Term t).rest)
-layer_is (a_product_step s) = f_pair (multiplying_is (out-ProductStep s).operator)
-    (f_part (a_factor (out-ProductStep s).right) refl)
-layer_is (a_factor f) = factor_is (out-Factor f)
-layer_is (a_selector s) = selector_is (out-Selector s)
-layer_is (a_member m) = f_pair (f_part (an_expr (out-Member m).low) refl)
-    (expr_given_is (out-Member m).high)
-layer_is (a_specification s) = f_pair (used_is s.name) (f_pair (default_queue_is s.queue)
-    (f_pair (time_scale_is s.scale)
-    (f_pair (are a_common_part common_parts (λ x. refl) s.parts)
-    (f_pair (first_statement_is (out-Statement s.first)) (f_pair f_empty f_empty)))))

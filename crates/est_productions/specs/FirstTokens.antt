@@ -4,7 +4,7 @@ use Rattle.std.specs.Prelude.{Bool, true, false, List, [], ◌∷◌}
 use Rattle.est_lexer.specs.declared.kind.ReservedWord.TheVariants as words
 use Rattle.est_lexer.specs.declared.kind.Symbol.TheVariants as symbols
 use Rattle.est_lexer.specs.declared.kind.TokenKind.TheVariants.{Identifier, Number, Character}
-use Rattle.est_lexer.specs.declared.kind.TokenKind.TheVariants.{Reserved, Symbol as Special}
+use Rattle.est_lexer.specs.declared.kind.TokenKind.TheVariants.{Reserved, Symbol}
 use Rattle.est_language.specs.Marks.{Marks}
 use Rattle.est_reader.specs.Tests.{Test, kind}
 use Rattle.est_productions.specs.Productions.{Production, specification, common, own, consts}
@@ -30,16 +30,16 @@ begins own =
 begins consts = kind (Reserved words.Const) ∷ []
 begins constdef = kind Identifier ∷ []
 begins constant =
-    kind Number ∷ kind (Special symbols.Plus) ∷ kind (Special symbols.Minus) ∷ kind Character
+    kind Number ∷ kind (Symbol symbols.Plus) ∷ kind (Symbol symbols.Minus) ∷ kind Character
     ∷ kind Identifier ∷ []
 begins types = kind (Reserved words.Type) ∷ []
 begins typedef = kind Identifier ∷ []
 begins typetext =
-    kind Number ∷ kind (Special symbols.Plus) ∷ kind (Special symbols.Minus) ∷ kind Character
-    ∷ kind Identifier ∷ kind (Special symbols.LeftParenthesis) ∷ kind (Reserved words.Packed)
+    kind Number ∷ kind (Symbol symbols.Plus) ∷ kind (Symbol symbols.Minus) ∷ kind Character
+    ∷ kind Identifier ∷ kind (Symbol symbols.LeftParenthesis) ∷ kind (Reserved words.Packed)
     ∷ kind (Reserved words.Array) ∷ kind (Reserved words.Record) ∷ kind (Reserved words.Set) ∷ []
 begins shorttype =
-    kind Number ∷ kind (Special symbols.Plus) ∷ kind (Special symbols.Minus) ∷ kind Character
+    kind Number ∷ kind (Symbol symbols.Plus) ∷ kind (Symbol symbols.Minus) ∷ kind Character
     ∷ kind Identifier ∷ []
 begins arraytype = kind (Reserved words.Array) ∷ []
 begins recordtype = kind (Reserved words.Record) ∷ []
@@ -84,30 +84,30 @@ begins statement =
     ∷ kind (Reserved words.Disconnect) ∷ kind (Reserved words.Attach)
     ∷ kind (Reserved words.Detach) ∷ []
 begins arm =
-    kind Number ∷ kind (Special symbols.Plus) ∷ kind (Special symbols.Minus) ∷ kind Character
+    kind Number ∷ kind (Symbol symbols.Plus) ∷ kind (Symbol symbols.Minus) ∷ kind Character
     ∷ kind Identifier ∷ []
 begins sending = kind Identifier ∷ []
 begins init = kind (Reserved words.Init) ∷ []
 begins end_point = kind Identifier ∷ []
 begins expr =
-    kind (Special symbols.Plus) ∷ kind (Special symbols.Minus) ∷ kind Number ∷ kind Character
-    ∷ kind (Special symbols.LeftParenthesis) ∷ kind (Reserved words.Not)
-    ∷ kind (Special symbols.LeftBracket) ∷ kind Identifier ∷ []
+    kind (Symbol symbols.Plus) ∷ kind (Symbol symbols.Minus) ∷ kind Number ∷ kind Character
+    ∷ kind (Symbol symbols.LeftParenthesis) ∷ kind (Reserved words.Not)
+    ∷ kind (Symbol symbols.LeftBracket) ∷ kind Identifier ∷ []
 begins simple =
-    kind (Special symbols.Plus) ∷ kind (Special symbols.Minus) ∷ kind Number ∷ kind Character
-    ∷ kind (Special symbols.LeftParenthesis) ∷ kind (Reserved words.Not)
-    ∷ kind (Special symbols.LeftBracket) ∷ kind Identifier ∷ []
+    kind (Symbol symbols.Plus) ∷ kind (Symbol symbols.Minus) ∷ kind Number ∷ kind Character
+    ∷ kind (Symbol symbols.LeftParenthesis) ∷ kind (Reserved words.Not)
+    ∷ kind (Symbol symbols.LeftBracket) ∷ kind Identifier ∷ []
 begins term =
-    kind Number ∷ kind Character ∷ kind (Special symbols.LeftParenthesis)
-    ∷ kind (Reserved words.Not) ∷ kind (Special symbols.LeftBracket) ∷ kind Identifier ∷ []
+    kind Number ∷ kind Character ∷ kind (Symbol symbols.LeftParenthesis)
+    ∷ kind (Reserved words.Not) ∷ kind (Symbol symbols.LeftBracket) ∷ kind Identifier ∷ []
 begins factor =
-    kind Number ∷ kind Character ∷ kind (Special symbols.LeftParenthesis)
-    ∷ kind (Reserved words.Not) ∷ kind (Special symbols.LeftBracket) ∷ kind Identifier ∷ []
-begins selector = kind (Special symbols.Period) ∷ kind (Special symbols.LeftBracket) ∷ []
+    kind Number ∷ kind Character ∷ kind (Symbol symbols.LeftParenthesis)
+    ∷ kind (Reserved words.Not) ∷ kind (Symbol symbols.LeftBracket) ∷ kind Identifier ∷ []
+begins selector = kind (Symbol symbols.Period) ∷ kind (Symbol symbols.LeftBracket) ∷ []
 begins member =
-    kind (Special symbols.Plus) ∷ kind (Special symbols.Minus) ∷ kind Number ∷ kind Character
-    ∷ kind (Special symbols.LeftParenthesis) ∷ kind (Reserved words.Not)
-    ∷ kind (Special symbols.LeftBracket) ∷ kind Identifier ∷ []
+    kind (Symbol symbols.Plus) ∷ kind (Symbol symbols.Minus) ∷ kind Number ∷ kind Character
+    ∷ kind (Symbol symbols.LeftParenthesis) ∷ kind (Reserved words.Not)
+    ∷ kind (Symbol symbols.LeftBracket) ∷ kind Identifier ∷ []
 
 -- the tokens with which a tree of a production that is whole can go on
 abbrev pub goes_on : Production → List Test
@@ -115,87 +115,87 @@ goes_on common = kind Identifier ∷ kind (Reserved words.By) ∷ []
 goes_on own = kind Identifier ∷ []
 goes_on consts = kind Identifier ∷ []
 goes_on types = kind Identifier ∷ []
-goes_on typetext = kind (Special symbols.DoublePeriod) ∷ []
-goes_on shorttype = kind (Special symbols.DoublePeriod) ∷ []
-goes_on arraytype = kind (Special symbols.DoublePeriod) ∷ []
-goes_on settype = kind (Special symbols.DoublePeriod) ∷ []
+goes_on typetext = kind (Symbol symbols.DoublePeriod) ∷ []
+goes_on shorttype = kind (Symbol symbols.DoublePeriod) ∷ []
+goes_on arraytype = kind (Symbol symbols.DoublePeriod) ∷ []
+goes_on settype = kind (Symbol symbols.DoublePeriod) ∷ []
 goes_on vars = kind Identifier ∷ []
 goes_on channel = kind (Reserved words.By) ∷ kind Identifier ∷ []
 goes_on by_part = kind Identifier ∷ []
-goes_on param = kind (Special symbols.DoublePeriod) ∷ []
+goes_on param = kind (Symbol symbols.DoublePeriod) ∷ []
 goes_on transpart =
     kind (Reserved words.From) ∷ kind (Reserved words.To) ∷ kind (Reserved words.When)
     ∷ kind (Reserved words.Provided) ∷ kind (Reserved words.Any) ∷ kind (Reserved words.Priority)
     ∷ kind (Reserved words.Delay) ∷ kind (Reserved words.Name) ∷ kind (Reserved words.Const)
     ∷ kind (Reserved words.Type) ∷ kind (Reserved words.Var) ∷ kind (Reserved words.Begin) ∷ []
 goes_on clause =
-    kind (Special symbols.Comma) ∷ kind (Special symbols.Equal) ∷ kind (Special symbols.Unequal)
-    ∷ kind (Special symbols.Below) ∷ kind (Special symbols.AtMost) ∷ kind (Special symbols.Above)
-    ∷ kind (Special symbols.AtLeast) ∷ kind (Reserved words.In) ∷ kind (Special symbols.Plus)
-    ∷ kind (Special symbols.Minus) ∷ kind (Reserved words.Or) ∷ kind (Special symbols.Star)
+    kind (Symbol symbols.Comma) ∷ kind (Symbol symbols.Equal) ∷ kind (Symbol symbols.Unequal)
+    ∷ kind (Symbol symbols.Below) ∷ kind (Symbol symbols.AtMost) ∷ kind (Symbol symbols.Above)
+    ∷ kind (Symbol symbols.AtLeast) ∷ kind (Reserved words.In) ∷ kind (Symbol symbols.Plus)
+    ∷ kind (Symbol symbols.Minus) ∷ kind (Reserved words.Or) ∷ kind (Symbol symbols.Star)
     ∷ kind (Reserved words.Div) ∷ kind (Reserved words.Mod) ∷ kind (Reserved words.And)
-    ∷ kind (Special symbols.LeftParenthesis) ∷ kind (Special symbols.Period)
-    ∷ kind (Special symbols.LeftBracket) ∷ []
-goes_on access = kind (Special symbols.LeftBracket) ∷ []
+    ∷ kind (Symbol symbols.LeftParenthesis) ∷ kind (Symbol symbols.Period)
+    ∷ kind (Symbol symbols.LeftBracket) ∷ []
+goes_on access = kind (Symbol symbols.LeftBracket) ∷ []
 goes_on statement =
     kind (Reserved words.Begin) ∷ kind Identifier ∷ kind (Reserved words.If)
     ∷ kind (Reserved words.Case) ∷ kind (Reserved words.While) ∷ kind (Reserved words.Repeat)
     ∷ kind (Reserved words.For) ∷ kind (Reserved words.All) ∷ kind (Reserved words.Output)
     ∷ kind (Reserved words.Init) ∷ kind (Reserved words.Release) ∷ kind (Reserved words.Connect)
     ∷ kind (Reserved words.Disconnect) ∷ kind (Reserved words.Attach)
-    ∷ kind (Reserved words.Detach) ∷ kind (Special symbols.Period)
-    ∷ kind (Special symbols.LeftBracket) ∷ kind (Special symbols.Assign)
-    ∷ kind (Special symbols.LeftParenthesis) ∷ kind (Special symbols.Equal)
-    ∷ kind (Special symbols.Unequal) ∷ kind (Special symbols.Below) ∷ kind (Special symbols.AtMost)
-    ∷ kind (Special symbols.Above) ∷ kind (Special symbols.AtLeast) ∷ kind (Reserved words.In)
-    ∷ kind (Special symbols.Plus) ∷ kind (Special symbols.Minus) ∷ kind (Reserved words.Or)
-    ∷ kind (Special symbols.Star) ∷ kind (Reserved words.Div) ∷ kind (Reserved words.Mod)
-    ∷ kind (Reserved words.And) ∷ kind (Special symbols.Comma) ∷ []
+    ∷ kind (Reserved words.Detach) ∷ kind (Symbol symbols.Period)
+    ∷ kind (Symbol symbols.LeftBracket) ∷ kind (Symbol symbols.Assign)
+    ∷ kind (Symbol symbols.LeftParenthesis) ∷ kind (Symbol symbols.Equal)
+    ∷ kind (Symbol symbols.Unequal) ∷ kind (Symbol symbols.Below) ∷ kind (Symbol symbols.AtMost)
+    ∷ kind (Symbol symbols.Above) ∷ kind (Symbol symbols.AtLeast) ∷ kind (Reserved words.In)
+    ∷ kind (Symbol symbols.Plus) ∷ kind (Symbol symbols.Minus) ∷ kind (Reserved words.Or)
+    ∷ kind (Symbol symbols.Star) ∷ kind (Reserved words.Div) ∷ kind (Reserved words.Mod)
+    ∷ kind (Reserved words.And) ∷ kind (Symbol symbols.Comma) ∷ []
 goes_on arm =
     kind (Reserved words.Begin) ∷ kind Identifier ∷ kind (Reserved words.If)
     ∷ kind (Reserved words.Case) ∷ kind (Reserved words.While) ∷ kind (Reserved words.Repeat)
     ∷ kind (Reserved words.For) ∷ kind (Reserved words.All) ∷ kind (Reserved words.Output)
     ∷ kind (Reserved words.Init) ∷ kind (Reserved words.Release) ∷ kind (Reserved words.Connect)
     ∷ kind (Reserved words.Disconnect) ∷ kind (Reserved words.Attach)
-    ∷ kind (Reserved words.Detach) ∷ kind (Special symbols.Period)
-    ∷ kind (Special symbols.LeftBracket) ∷ kind (Special symbols.Assign)
-    ∷ kind (Special symbols.LeftParenthesis) ∷ kind (Special symbols.Equal)
-    ∷ kind (Special symbols.Unequal) ∷ kind (Special symbols.Below) ∷ kind (Special symbols.AtMost)
-    ∷ kind (Special symbols.Above) ∷ kind (Special symbols.AtLeast) ∷ kind (Reserved words.In)
-    ∷ kind (Special symbols.Plus) ∷ kind (Special symbols.Minus) ∷ kind (Reserved words.Or)
-    ∷ kind (Special symbols.Star) ∷ kind (Reserved words.Div) ∷ kind (Reserved words.Mod)
-    ∷ kind (Reserved words.And) ∷ kind (Special symbols.Comma) ∷ []
-goes_on sending = kind (Special symbols.LeftParenthesis) ∷ []
-goes_on init = kind (Special symbols.LeftParenthesis) ∷ []
-goes_on end_point = kind (Special symbols.Period) ∷ kind (Special symbols.LeftBracket) ∷ []
+    ∷ kind (Reserved words.Detach) ∷ kind (Symbol symbols.Period)
+    ∷ kind (Symbol symbols.LeftBracket) ∷ kind (Symbol symbols.Assign)
+    ∷ kind (Symbol symbols.LeftParenthesis) ∷ kind (Symbol symbols.Equal)
+    ∷ kind (Symbol symbols.Unequal) ∷ kind (Symbol symbols.Below) ∷ kind (Symbol symbols.AtMost)
+    ∷ kind (Symbol symbols.Above) ∷ kind (Symbol symbols.AtLeast) ∷ kind (Reserved words.In)
+    ∷ kind (Symbol symbols.Plus) ∷ kind (Symbol symbols.Minus) ∷ kind (Reserved words.Or)
+    ∷ kind (Symbol symbols.Star) ∷ kind (Reserved words.Div) ∷ kind (Reserved words.Mod)
+    ∷ kind (Reserved words.And) ∷ kind (Symbol symbols.Comma) ∷ []
+goes_on sending = kind (Symbol symbols.LeftParenthesis) ∷ []
+goes_on init = kind (Symbol symbols.LeftParenthesis) ∷ []
+goes_on end_point = kind (Symbol symbols.Period) ∷ kind (Symbol symbols.LeftBracket) ∷ []
 goes_on expr =
-    kind (Special symbols.Equal) ∷ kind (Special symbols.Unequal) ∷ kind (Special symbols.Below)
-    ∷ kind (Special symbols.AtMost) ∷ kind (Special symbols.Above) ∷ kind (Special symbols.AtLeast)
-    ∷ kind (Reserved words.In) ∷ kind (Special symbols.Plus) ∷ kind (Special symbols.Minus)
-    ∷ kind (Reserved words.Or) ∷ kind (Special symbols.Star) ∷ kind (Reserved words.Div)
+    kind (Symbol symbols.Equal) ∷ kind (Symbol symbols.Unequal) ∷ kind (Symbol symbols.Below)
+    ∷ kind (Symbol symbols.AtMost) ∷ kind (Symbol symbols.Above) ∷ kind (Symbol symbols.AtLeast)
+    ∷ kind (Reserved words.In) ∷ kind (Symbol symbols.Plus) ∷ kind (Symbol symbols.Minus)
+    ∷ kind (Reserved words.Or) ∷ kind (Symbol symbols.Star) ∷ kind (Reserved words.Div)
     ∷ kind (Reserved words.Mod) ∷ kind (Reserved words.And)
-    ∷ kind (Special symbols.LeftParenthesis) ∷ kind (Special symbols.Period)
-    ∷ kind (Special symbols.LeftBracket) ∷ []
+    ∷ kind (Symbol symbols.LeftParenthesis) ∷ kind (Symbol symbols.Period)
+    ∷ kind (Symbol symbols.LeftBracket) ∷ []
 goes_on simple =
-    kind (Special symbols.Plus) ∷ kind (Special symbols.Minus) ∷ kind (Reserved words.Or)
-    ∷ kind (Special symbols.Star) ∷ kind (Reserved words.Div) ∷ kind (Reserved words.Mod)
-    ∷ kind (Reserved words.And) ∷ kind (Special symbols.LeftParenthesis)
-    ∷ kind (Special symbols.Period) ∷ kind (Special symbols.LeftBracket) ∷ []
+    kind (Symbol symbols.Plus) ∷ kind (Symbol symbols.Minus) ∷ kind (Reserved words.Or)
+    ∷ kind (Symbol symbols.Star) ∷ kind (Reserved words.Div) ∷ kind (Reserved words.Mod)
+    ∷ kind (Reserved words.And) ∷ kind (Symbol symbols.LeftParenthesis)
+    ∷ kind (Symbol symbols.Period) ∷ kind (Symbol symbols.LeftBracket) ∷ []
 goes_on term =
-    kind (Special symbols.Star) ∷ kind (Reserved words.Div) ∷ kind (Reserved words.Mod)
-    ∷ kind (Reserved words.And) ∷ kind (Special symbols.LeftParenthesis)
-    ∷ kind (Special symbols.Period) ∷ kind (Special symbols.LeftBracket) ∷ []
+    kind (Symbol symbols.Star) ∷ kind (Reserved words.Div) ∷ kind (Reserved words.Mod)
+    ∷ kind (Reserved words.And) ∷ kind (Symbol symbols.LeftParenthesis)
+    ∷ kind (Symbol symbols.Period) ∷ kind (Symbol symbols.LeftBracket) ∷ []
 goes_on factor =
-    kind (Special symbols.LeftParenthesis) ∷ kind (Special symbols.Period)
-    ∷ kind (Special symbols.LeftBracket) ∷ []
+    kind (Symbol symbols.LeftParenthesis) ∷ kind (Symbol symbols.Period)
+    ∷ kind (Symbol symbols.LeftBracket) ∷ []
 goes_on member =
-    kind (Special symbols.DoublePeriod) ∷ kind (Special symbols.Equal)
-    ∷ kind (Special symbols.Unequal) ∷ kind (Special symbols.Below) ∷ kind (Special symbols.AtMost)
-    ∷ kind (Special symbols.Above) ∷ kind (Special symbols.AtLeast) ∷ kind (Reserved words.In)
-    ∷ kind (Special symbols.Plus) ∷ kind (Special symbols.Minus) ∷ kind (Reserved words.Or)
-    ∷ kind (Special symbols.Star) ∷ kind (Reserved words.Div) ∷ kind (Reserved words.Mod)
-    ∷ kind (Reserved words.And) ∷ kind (Special symbols.LeftParenthesis)
-    ∷ kind (Special symbols.Period) ∷ kind (Special symbols.LeftBracket) ∷ []
+    kind (Symbol symbols.DoublePeriod) ∷ kind (Symbol symbols.Equal)
+    ∷ kind (Symbol symbols.Unequal) ∷ kind (Symbol symbols.Below) ∷ kind (Symbol symbols.AtMost)
+    ∷ kind (Symbol symbols.Above) ∷ kind (Symbol symbols.AtLeast) ∷ kind (Reserved words.In)
+    ∷ kind (Symbol symbols.Plus) ∷ kind (Symbol symbols.Minus) ∷ kind (Reserved words.Or)
+    ∷ kind (Symbol symbols.Star) ∷ kind (Reserved words.Div) ∷ kind (Reserved words.Mod)
+    ∷ kind (Reserved words.And) ∷ kind (Symbol symbols.LeftParenthesis)
+    ∷ kind (Symbol symbols.Period) ∷ kind (Symbol symbols.LeftBracket) ∷ []
 goes_on _ = []
 
 -- whether a tree of a production can be empty

@@ -9,7 +9,7 @@ use Rattle.est_lexer.specs.declared.kind.ReservedWord.TheVariants as words
 use Rattle.est_lexer.specs.declared.kind.Symbol.{Symbol}
 use Rattle.est_lexer.specs.declared.kind.Symbol.TheVariants as symbols
 use Rattle.est_lexer.specs.declared.kind.TokenKind.TheVariants.{Number, Character, Reserved}
-use Rattle.est_lexer.specs.declared.kind.TokenKind.TheVariants.{Symbol as Special}
+use Rattle.est_lexer.specs.declared.kind.TokenKind.TheVariants as token
 use Rattle.est_language.specs.Grammar.{done, word, token, here, skip, seq, alt}
 use Rattle.est_language.specs.Grammar.{opt, rep, nearest, ended, deeper, rule}
 use Rattle.est_reader.specs.Tests.{kind}
@@ -40,7 +40,7 @@ said w g = word (kind (Reserved w)) g
 
 -- a symbol, and then the rest
 abbrev pub symbol : Symbol → Rule → Rule
-symbol s g = word (kind (Special s)) g
+symbol s g = word (kind (token.Symbol s)) g
 
 -- a reserved word alone
 abbrev pub only : ReservedWord → Rule
@@ -141,7 +141,7 @@ field = seq idents (symbol symbols.Colon (rule typetext))
 -- fields = idents ":" typetext { ";" idents ":" typetext } .
 -- with the ";" that may stand after them
 abbrev pub fields : Rule
-fields = seq field (ended (kind (Special symbols.Semicolon)) field)
+fields = seq field (ended (kind (token.Symbol symbols.Semicolon)) field)
 
 -- Channels, headers and what they declare (ISO 9074).
 
@@ -294,7 +294,7 @@ if_statement = deeper (said words.If (seq (rule expr) (said words.Then
 
 -- arm { ";" arm } [ ";" ]
 abbrev pub arms : Rule
-arms = seq (rule arm) (ended (kind (Special symbols.Semicolon)) (rule arm))
+arms = seq (rule arm) (ended (kind (token.Symbol symbols.Semicolon)) (rule arm))
 
 -- "case" expr "of" arm { ";" arm } [ ";" ] "end"
 abbrev pub case_statement : Rule
@@ -473,7 +473,7 @@ production vardef = seq idents (symbol symbols.Colon
 production channel = said words.Channel (seq identifier (symbol symbols.LeftParenthesis
     (seq identifier (symbol symbols.Comma (seq identifier (symbol symbols.RightParenthesis
     (symbol symbols.Semicolon (several (rule by_part)))))))))
--- by = "by" ident [ "," ident ] ":" interaction { interaction } .
+-- by_part = "by" ident [ "," ident ] ":" interaction { interaction } .
 production by_part = said words.By (seq identifier (seq other_role
     (symbol symbols.Colon (several (rule interaction)))))
 -- interaction = ident [ "(" params ")" ] ";" .
@@ -546,7 +546,7 @@ production sending = seq (rule access) (symbol symbols.Period (seq identifier ar
 -- init = "init" access "with" ident [ "(" exprs ")" ] .
 production init = said words.Init (seq (rule access) (said words.With
     (seq identifier arguments)))
--- end = access [ "." access ] .
+-- end_point = access [ "." access ] .
 production end_point = seq (rule access) access_given
 -- expr = simple [ ( "=" | "<>" | "<" | "<=" | ">" | ">=" | "in" ) simple ] .
 production expr = here (seq (rule simple) relation)

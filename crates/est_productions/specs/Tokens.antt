@@ -3,40 +3,40 @@ use Rattle.std.specs.Prelude.{List, [], ◌∷◌, ◌++◌}
 use Rattle.est_lexer.specs.declared.kind.ReservedWord.TheVariants as words
 use Rattle.est_lexer.specs.declared.kind.Symbol.TheVariants as symbols
 use Rattle.est_lexer.specs.declared.kind.TokenKind.TheVariants.{Identifier, Number, Character}
-use Rattle.est_lexer.specs.declared.kind.TokenKind.TheVariants.{Reserved, Symbol as Special}
+use Rattle.est_lexer.specs.declared.kind.TokenKind.TheVariants.{Reserved, Symbol}
 use Rattle.est_reader.specs.Tests.{Test, kind}
 
 -- the relational operators
 abbrev pub relational_tokens : List Test
-relational_tokens = kind (Special symbols.Equal) ∷ kind (Special symbols.Unequal)
-    ∷ kind (Special symbols.Below) ∷ kind (Special symbols.AtMost)
-    ∷ kind (Special symbols.Above) ∷ kind (Special symbols.AtLeast)
+relational_tokens = kind (Symbol symbols.Equal) ∷ kind (Symbol symbols.Unequal)
+    ∷ kind (Symbol symbols.Below) ∷ kind (Symbol symbols.AtMost)
+    ∷ kind (Symbol symbols.Above) ∷ kind (Symbol symbols.AtLeast)
     ∷ kind (Reserved words.In) ∷ []
 
 -- the adding operators
 abbrev pub adding_tokens : List Test
-adding_tokens = kind (Special symbols.Plus) ∷ kind (Special symbols.Minus)
+adding_tokens = kind (Symbol symbols.Plus) ∷ kind (Symbol symbols.Minus)
     ∷ kind (Reserved words.Or) ∷ []
 
 -- the multiplying operators
 abbrev pub multiplying_tokens : List Test
-multiplying_tokens = kind (Special symbols.Star) ∷ kind (Reserved words.Div)
+multiplying_tokens = kind (Symbol symbols.Star) ∷ kind (Reserved words.Div)
     ∷ kind (Reserved words.Mod) ∷ kind (Reserved words.And) ∷ []
 
 -- the tokens that begin an expression
 abbrev pub expression_tokens : List Test
 expression_tokens = kind Identifier ∷ kind Number ∷ kind Character
-    ∷ kind (Special symbols.LeftParenthesis) ∷ kind (Special symbols.LeftBracket)
-    ∷ kind (Special symbols.Plus) ∷ kind (Special symbols.Minus) ∷ kind (Reserved words.Not) ∷ []
+    ∷ kind (Symbol symbols.LeftParenthesis) ∷ kind (Symbol symbols.LeftBracket)
+    ∷ kind (Symbol symbols.Plus) ∷ kind (Symbol symbols.Minus) ∷ kind (Reserved words.Not) ∷ []
 
 -- the tokens that begin a factor of more than one token
 abbrev pub bracket_tokens : List Test
-bracket_tokens = kind Identifier ∷ kind (Special symbols.LeftParenthesis)
-    ∷ kind (Reserved words.Not) ∷ kind (Special symbols.LeftBracket) ∷ []
+bracket_tokens = kind Identifier ∷ kind (Symbol symbols.LeftParenthesis)
+    ∷ kind (Reserved words.Not) ∷ kind (Symbol symbols.LeftBracket) ∷ []
 
 -- the tokens that begin a selector
 abbrev pub selector_tokens : List Test
-selector_tokens = kind (Special symbols.LeftBracket) ∷ kind (Special symbols.Period) ∷ []
+selector_tokens = kind (Symbol symbols.LeftBracket) ∷ kind (Symbol symbols.Period) ∷ []
 
 -- the words that begin an array, a record or a set
 abbrev pub structure_words : List Test
@@ -45,12 +45,12 @@ structure_words = kind (Reserved words.Packed) ∷ kind (Reserved words.Array)
 
 -- the tokens that begin a constant
 abbrev pub constant_tokens : List Test
-constant_tokens = kind Identifier ∷ kind Number ∷ kind Character ∷ kind (Special symbols.Plus)
-    ∷ kind (Special symbols.Minus) ∷ []
+constant_tokens = kind Identifier ∷ kind Number ∷ kind Character ∷ kind (Symbol symbols.Plus)
+    ∷ kind (Symbol symbols.Minus) ∷ []
 
 -- the tokens after the name of a variable that is assigned
 abbrev pub assigned_tokens : List Test
-assigned_tokens = kind (Special symbols.Assign) ∷ selector_tokens
+assigned_tokens = kind (Symbol symbols.Assign) ∷ selector_tokens
 
 -- the tokens that begin a statement of Pascal that is no loop
 abbrev pub first_statement_tokens : List Test

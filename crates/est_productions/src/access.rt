@@ -1,10 +1,10 @@
 //! Interaction points and module variables that are named (ISO 9074), and arguments.
 
 ghost use Rattle.est_language.specs.Grammar.{rule, opt};
-ghost use Rattle.est_language.specs.Shown.{node as shown};
+ghost use Rattle.est_language.specs.Shown.{node};
 ghost use Rattle.est_reader.specs.Going.{Goes};
 ghost use Rattle.est_productions.specs.Productions as grammar;
-ghost use Rattle.est_productions.specs.Nodes as node;
+ghost use Rattle.est_productions.specs.Nodes as view;
 ghost use Rattle.est_productions.specs.Syntax.{estelle};
 
 use crate::expression::{called, subscripts};
@@ -15,7 +15,7 @@ use est_syntax::expression::{Access, EndPoint, Exprs};
 /// access = ident [ "[" exprs "]" ] .
 pub fn access(reader: &mut Reader) -> Access
     ensures { Goes estelle (rule grammar.access) reader.old
-        (shown (node.an_access result)) reader.new }
+        (node (view.an_access result)) reader.new }
 {
     let name = reader.name();
     let index = subscripts_given(reader);
@@ -25,7 +25,7 @@ pub fn access(reader: &mut Reader) -> Access
 // [ "[" exprs "]" ]
 fn subscripts_given(reader: &mut Reader) -> Exprs
     ensures { Goes estelle (opt grammar.subscripts) reader.old
-        (node.exprs_given result) reader.new }
+        (view.exprs_given result) reader.new }
 {
     if reader.sees(TokenKind::Symbol(Symbol::LeftBracket)) {
         return subscripts(reader);
@@ -35,7 +35,7 @@ fn subscripts_given(reader: &mut Reader) -> Exprs
 
 /// [ "(" exprs ")" ]
 pub fn arguments(reader: &mut Reader) -> Exprs
-    ensures { Goes estelle grammar.arguments reader.old (node.exprs_given result) reader.new }
+    ensures { Goes estelle grammar.arguments reader.old (view.exprs_given result) reader.new }
 {
     if reader.sees(TokenKind::Symbol(Symbol::LeftParenthesis)) {
         return called(reader);
@@ -43,10 +43,10 @@ pub fn arguments(reader: &mut Reader) -> Exprs
     Exprs::new(reader.alloc)
 }
 
-/// end = access [ "." access ] .
+/// end_point = access [ "." access ] .
 pub fn end_point(reader: &mut Reader) -> EndPoint
     ensures { Goes estelle (rule grammar.end_point) reader.old
-        (shown (node.an_end_point result)) reader.new }
+        (node (view.an_end_point result)) reader.new }
 {
     let first = access(reader);
     let second = access_given(reader);
@@ -56,7 +56,7 @@ pub fn end_point(reader: &mut Reader) -> EndPoint
 // [ "." access ]
 fn access_given(reader: &mut Reader) -> Option<Access>
     ensures { Goes estelle grammar.access_given reader.old
-        (node.access_given result) reader.new }
+        (view.access_given result) reader.new }
 {
     if !reader.sees(TokenKind::Symbol(Symbol::Period)) {
         return None;

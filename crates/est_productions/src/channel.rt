@@ -2,10 +2,10 @@
 
 ghost use Rattle.std.specs.Prelude.{◌≡◌, [], ◌∷◌, map};
 ghost use Rattle.est_language.specs.Grammar.{rule};
-ghost use Rattle.est_language.specs.Shown.{node as shown, nodes};
+ghost use Rattle.est_language.specs.Shown.{node, nodes};
 ghost use Rattle.est_reader.specs.Going.{Goes};
 ghost use Rattle.est_productions.specs.Productions as grammar;
-ghost use Rattle.est_productions.specs.Nodes as node;
+ghost use Rattle.est_productions.specs.Nodes as view;
 ghost use Rattle.est_productions.specs.Syntax.{estelle};
 
 use crate::declaration::parameters;
@@ -17,7 +17,7 @@ use est_syntax::name::{Used, UsedNames};
 /// channel = "channel" ident "(" ident "," ident ")" ";" by { by } .
 pub fn channel(reader: &mut Reader) -> Channel
     ensures { Goes estelle (rule grammar.channel) reader.old
-        (shown (node.a_channel result)) reader.new }
+        (node (view.a_channel result)) reader.new }
 {
     reader.word(ReservedWord::Channel);
     let name = reader.name();
@@ -37,7 +37,7 @@ pub fn channel(reader: &mut Reader) -> Channel
 // by { by }
 fn by_parts(reader: &mut Reader) -> ByParts
     ensures { Goes estelle (grammar.several (rule grammar.by_part)) reader.old
-        (nodes (map node.a_by_part result)) reader.new }
+        (nodes (map view.a_by_part result)) reader.new }
 {
     let first = by_part(reader);
     let mut items = ByParts::new(reader.alloc);
@@ -49,10 +49,10 @@ fn by_parts(reader: &mut Reader) -> ByParts
     items
 }
 
-// by = "by" ident [ "," ident ] ":" interaction { interaction } .
+// by_part = "by" ident [ "," ident ] ":" interaction { interaction } .
 fn by_part(reader: &mut Reader) -> ByPart
     ensures { Goes estelle (rule grammar.by_part) reader.old
-        (shown (node.a_by_part result)) reader.new }
+        (node (view.a_by_part result)) reader.new }
 {
     reader.word(ReservedWord::By);
     let first = reader.name();
@@ -70,7 +70,7 @@ fn by_part(reader: &mut Reader) -> ByPart
 
 // [ "," ident ]
 fn other_role(reader: &mut Reader) -> Option<Used>
-    ensures { Goes estelle grammar.other_role reader.old (node.name_given result) reader.new }
+    ensures { Goes estelle grammar.other_role reader.old (view.name_given result) reader.new }
 {
     if !reader.sees(TokenKind::Symbol(Symbol::Comma)) {
         return None;
@@ -82,7 +82,7 @@ fn other_role(reader: &mut Reader) -> Option<Used>
 // interaction { interaction }
 fn interactions(reader: &mut Reader) -> Interactions
     ensures { Goes estelle (grammar.several (rule grammar.interaction)) reader.old
-        (nodes (map node.an_interaction result)) reader.new }
+        (nodes (map view.an_interaction result)) reader.new }
 {
     let first = interaction(reader);
     let mut items = Interactions::new(reader.alloc);
@@ -97,7 +97,7 @@ fn interactions(reader: &mut Reader) -> Interactions
 // interaction = ident [ "(" params ")" ] ";" .
 fn interaction(reader: &mut Reader) -> InteractionDef
     ensures { Goes estelle (rule grammar.interaction) reader.old
-        (shown (node.an_interaction result)) reader.new }
+        (node (view.an_interaction result)) reader.new }
 {
     let name = reader.name();
     let params = parameters(reader);

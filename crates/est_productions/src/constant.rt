@@ -2,14 +2,14 @@
 
 ghost use Rattle.std.specs.Prelude.{[], ◌∷◌};
 ghost use Rattle.est_language.specs.Grammar.{rule, opt};
-ghost use Rattle.est_language.specs.Shown.{node as shown};
+ghost use Rattle.est_language.specs.Shown.{node};
 ghost use Rattle.est_lexer.specs.declared.kind.Symbol.TheVariants as symbols;
-ghost use Rattle.est_lexer.specs.declared.kind.TokenKind.TheVariants.{Symbol as Special};
+ghost use Rattle.est_lexer.specs.declared.kind.TokenKind.TheVariants as token;
 ghost use Rattle.est_reader.specs.Going.{Goes};
 ghost use Rattle.est_reader.specs.Moving.{OneSeen};
 ghost use Rattle.est_reader.specs.Tests.{kind};
 ghost use Rattle.est_productions.specs.Productions as grammar;
-ghost use Rattle.est_productions.specs.Nodes as node;
+ghost use Rattle.est_productions.specs.Nodes as view;
 ghost use Rattle.est_productions.specs.Syntax.{estelle};
 
 use est_lexer::kind::{Symbol, TokenKind};
@@ -19,7 +19,7 @@ use est_syntax::constant::Constant;
 /// constant = [ "+" | "-" ] ( number | ident ) | character .
 pub fn constant(reader: &mut Reader) -> Constant
     ensures { Goes estelle (rule grammar.constant) reader.old
-        (shown (node.a_constant result)) reader.new }
+        (node (view.a_constant result)) reader.new }
 {
     if !reader.sees(TokenKind::Identifier) {
         return unnamed(reader);
@@ -36,7 +36,7 @@ pub fn constant(reader: &mut Reader) -> Constant
 
 /// A constant that is no bare name.
 pub fn unnamed(reader: &mut Reader) -> Constant
-    ensures { Goes estelle grammar.unnamed reader.old (node.unnamed result) reader.new }
+    ensures { Goes estelle grammar.unnamed reader.old (view.unnamed result) reader.new }
 {
     let place = reader.at;
     if reader.sees(TokenKind::Character) {
@@ -61,8 +61,8 @@ pub fn unnamed(reader: &mut Reader) -> Constant
 // ( "+" | "-" ) ( number | ident )
 fn signed(reader: &mut Reader) -> Constant
     requires { OneSeen reader.old
-        (kind (Special symbols.Plus) ∷ kind (Special symbols.Minus) ∷ []) }
-    ensures { Goes estelle grammar.unnamed reader.old (node.unnamed result) reader.new }
+        (kind (token.Symbol symbols.Plus) ∷ kind (token.Symbol symbols.Minus) ∷ []) }
+    ensures { Goes estelle grammar.unnamed reader.old (view.unnamed result) reader.new }
 {
     let place = reader.at;
     let minus = plus_or_minus(reader);
@@ -86,7 +86,7 @@ fn signed(reader: &mut Reader) -> Constant
 
 /// "+" | "-", and whether it is "-".
 pub fn plus_or_minus(reader: &mut Reader) -> bool
-    ensures { Goes estelle grammar.plus_or_minus reader.old (node.written_sign result) reader.new }
+    ensures { Goes estelle grammar.plus_or_minus reader.old (view.written_sign result) reader.new }
 {
     if reader.sees(TokenKind::Symbol(Symbol::Minus)) {
         reader.symbol(Symbol::Minus);

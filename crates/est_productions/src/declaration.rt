@@ -2,10 +2,10 @@
 
 ghost use Rattle.std.specs.Prelude.{map};
 ghost use Rattle.est_language.specs.Grammar.{rule};
-ghost use Rattle.est_language.specs.Shown.{node as shown, nodes};
+ghost use Rattle.est_language.specs.Shown.{node, nodes};
 ghost use Rattle.est_reader.specs.Going.{Goes};
 ghost use Rattle.est_productions.specs.Productions as grammar;
-ghost use Rattle.est_productions.specs.Nodes as node;
+ghost use Rattle.est_productions.specs.Nodes as view;
 ghost use Rattle.est_productions.specs.Syntax.{estelle};
 
 use crate::constant::constant;
@@ -19,7 +19,7 @@ use est_syntax::type_text::{TypeDef, TypeDefs, VarDef, VarDefs};
 /// consts = "const" constdef { constdef } .
 pub fn consts(reader: &mut Reader) -> ConstDefs
     ensures { Goes estelle (rule grammar.consts) reader.old
-        (nodes (map node.a_constant_definition result)) reader.new }
+        (nodes (map view.a_constant_definition result)) reader.new }
 {
     reader.word(ReservedWord::Const);
     constdefs(reader)
@@ -28,7 +28,7 @@ pub fn consts(reader: &mut Reader) -> ConstDefs
 // constdef { constdef }
 fn constdefs(reader: &mut Reader) -> ConstDefs
     ensures { Goes estelle (grammar.several (rule grammar.constdef)) reader.old
-        (nodes (map node.a_constant_definition result)) reader.new }
+        (nodes (map view.a_constant_definition result)) reader.new }
 {
     let first = constdef(reader);
     let mut items = ConstDefs::new(reader.alloc);
@@ -43,7 +43,7 @@ fn constdefs(reader: &mut Reader) -> ConstDefs
 // constdef = ident "=" constant ";" .
 fn constdef(reader: &mut Reader) -> ConstDef
     ensures { Goes estelle (rule grammar.constdef) reader.old
-        (shown (node.a_constant_definition result)) reader.new }
+        (node (view.a_constant_definition result)) reader.new }
 {
     let name = reader.name();
     reader.symbol(Symbol::Equal);
@@ -55,7 +55,7 @@ fn constdef(reader: &mut Reader) -> ConstDef
 /// types = "type" typedef { typedef } .
 pub fn types(reader: &mut Reader) -> TypeDefs
     ensures { Goes estelle (rule grammar.types) reader.old
-        (nodes (map node.a_type_definition result)) reader.new }
+        (nodes (map view.a_type_definition result)) reader.new }
 {
     reader.word(ReservedWord::Type);
     typedefs(reader)
@@ -64,7 +64,7 @@ pub fn types(reader: &mut Reader) -> TypeDefs
 // typedef { typedef }
 fn typedefs(reader: &mut Reader) -> TypeDefs
     ensures { Goes estelle (grammar.several (rule grammar.typedef)) reader.old
-        (nodes (map node.a_type_definition result)) reader.new }
+        (nodes (map view.a_type_definition result)) reader.new }
 {
     let first = typedef(reader);
     let mut items = TypeDefs::new(reader.alloc);
@@ -79,7 +79,7 @@ fn typedefs(reader: &mut Reader) -> TypeDefs
 // typedef = ident "=" typetext ";" .
 fn typedef(reader: &mut Reader) -> TypeDef
     ensures { Goes estelle (rule grammar.typedef) reader.old
-        (shown (node.a_type_definition result)) reader.new }
+        (node (view.a_type_definition result)) reader.new }
 {
     let name = reader.name();
     reader.symbol(Symbol::Equal);
@@ -91,7 +91,7 @@ fn typedef(reader: &mut Reader) -> TypeDef
 /// vars = "var" vardef { vardef } .
 pub fn vars(reader: &mut Reader) -> VarDefs
     ensures { Goes estelle (rule grammar.vars) reader.old
-        (nodes (map node.a_variable result)) reader.new }
+        (nodes (map view.a_variable result)) reader.new }
 {
     reader.word(ReservedWord::Var);
     vardefs(reader)
@@ -100,7 +100,7 @@ pub fn vars(reader: &mut Reader) -> VarDefs
 // vardef { vardef }
 fn vardefs(reader: &mut Reader) -> VarDefs
     ensures { Goes estelle (grammar.several (rule grammar.vardef)) reader.old
-        (nodes (map node.a_variable result)) reader.new }
+        (nodes (map view.a_variable result)) reader.new }
 {
     let first = vardef(reader);
     let mut items = VarDefs::new(reader.alloc);
@@ -115,7 +115,7 @@ fn vardefs(reader: &mut Reader) -> VarDefs
 // vardef = idents ":" typetext ";" .
 fn vardef(reader: &mut Reader) -> VarDef
     ensures { Goes estelle (rule grammar.vardef) reader.old
-        (shown (node.a_variable result)) reader.new }
+        (node (view.a_variable result)) reader.new }
 {
     let names = idents(reader);
     reader.symbol(Symbol::Colon);
@@ -126,7 +126,7 @@ fn vardef(reader: &mut Reader) -> VarDef
 
 /// [ "(" params ")" ]
 pub fn parameters(reader: &mut Reader) -> VarDefs
-    ensures { Goes estelle grammar.parameters reader.old (node.parameters result) reader.new }
+    ensures { Goes estelle grammar.parameters reader.old (view.parameters result) reader.new }
 {
     if !reader.sees(TokenKind::Symbol(Symbol::LeftParenthesis)) {
         return VarDefs::new(reader.alloc);
@@ -140,7 +140,7 @@ pub fn parameters(reader: &mut Reader) -> VarDefs
 /// params = idents ":" shorttype { ";" idents ":" shorttype } .
 pub fn params(reader: &mut Reader) -> VarDefs
     ensures { Goes estelle grammar.params reader.old
-        (nodes (map node.a_parameter result)) reader.new }
+        (nodes (map view.a_parameter result)) reader.new }
 {
     let first = param(reader);
     let mut items = VarDefs::new(reader.alloc);
@@ -156,7 +156,7 @@ pub fn params(reader: &mut Reader) -> VarDefs
 // idents ":" shorttype
 fn param(reader: &mut Reader) -> VarDef
     ensures { Goes estelle (rule grammar.param) reader.old
-        (shown (node.a_parameter result)) reader.new }
+        (node (view.a_parameter result)) reader.new }
 {
     let names = idents(reader);
     reader.symbol(Symbol::Colon);

@@ -2,16 +2,16 @@
 
 ghost use Rattle.std.specs.Prelude.{true, [], ◌∷◌, map};
 ghost use Rattle.est_language.specs.Grammar.{rule, opt, rep};
-ghost use Rattle.est_language.specs.Shown.{node as shown, nodes, pair, empty};
+ghost use Rattle.est_language.specs.Shown.{node, nodes, pair, empty};
 ghost use Rattle.est_lexer.specs.declared.kind.ReservedWord.TheVariants as words;
 ghost use Rattle.est_lexer.specs.declared.kind.Symbol.TheVariants as symbols;
 ghost use Rattle.est_lexer.specs.declared.kind.TokenKind.TheVariants.{Identifier, Reserved};
-ghost use Rattle.est_lexer.specs.declared.kind.TokenKind.TheVariants.{Symbol as Special};
+ghost use Rattle.est_lexer.specs.declared.kind.TokenKind.TheVariants as token;
 ghost use Rattle.est_reader.specs.Going.{Goes};
 ghost use Rattle.est_reader.specs.Moving.{Sees, SeesOne, NoneSeen};
 ghost use Rattle.est_reader.specs.Tests.{kind};
 ghost use Rattle.est_productions.specs.Productions as grammar;
-ghost use Rattle.est_productions.specs.Nodes as node;
+ghost use Rattle.est_productions.specs.Nodes as view;
 ghost use Rattle.est_productions.specs.Tokens.{expression_tokens, bracket_tokens, selector_tokens};
 ghost use Rattle.est_productions.specs.Syntax.{estelle};
 
@@ -30,7 +30,7 @@ use est_syntax::expression::{
 /// exprs = expr { "," expr } .
 #[cycle(expr)]
 pub fn exprs(reader: &mut Reader) -> Exprs
-    ensures { Goes estelle grammar.exprs reader.old (nodes (map node.an_expr result)) reader.new }
+    ensures { Goes estelle grammar.exprs reader.old (nodes (map view.an_expr result)) reader.new }
 {
     let first = expr(reader);
     let mut items = Exprs::new(reader.alloc);
@@ -46,7 +46,7 @@ pub fn exprs(reader: &mut Reader) -> Exprs
 /// expr = simple [ ( "=" | "<>" | "<" | "<=" | ">" | ">=" | "in" ) simple ] .
 #[cycle(expr)]
 pub fn expr(reader: &mut Reader) -> Expr
-    ensures { Goes estelle (rule grammar.expr) reader.old (shown (node.an_expr result)) reader.new }
+    ensures { Goes estelle (rule grammar.expr) reader.old (node (view.an_expr result)) reader.new }
 {
     let place = reader.at;
     let left = simple(reader);
@@ -61,7 +61,7 @@ pub fn expr(reader: &mut Reader) -> Expr
 // [ ( "=" | "<>" | "<" | "<=" | ">" | ">=" | "in" ) simple ]
 #[cycle(expr)]
 fn relation(reader: &mut Reader) -> Option<Relation>
-    ensures { Goes estelle grammar.relation reader.old (node.relation result) reader.new }
+    ensures { Goes estelle grammar.relation reader.old (view.relation result) reader.new }
 {
     if !sees_relational_operator(reader) {
         return None;
@@ -75,7 +75,7 @@ fn relation(reader: &mut Reader) -> Option<Relation>
 #[cycle(expr)]
 fn simple(reader: &mut Reader) -> Simple
     ensures { Goes estelle (rule grammar.simple) reader.old
-        (shown (node.a_simple result)) reader.new }
+        (node (view.a_simple result)) reader.new }
 {
     let (minus, sign) = sign(reader);
     let first = term(reader);
@@ -91,7 +91,7 @@ fn simple(reader: &mut Reader) -> Simple
 // [ "+" | "-" ]: whether it is "-", and whether there is one.
 fn sign(reader: &mut Reader) -> (bool, bool)
     ensures { Goes estelle (opt grammar.plus_or_minus) reader.old
-        (node.sign result.0 result.1) reader.new }
+        (view.sign result.0 result.1) reader.new }
 {
     if reader.sees(TokenKind::Symbol(Symbol::Plus)) {
         reader.symbol(Symbol::Plus);
@@ -108,7 +108,7 @@ fn sign(reader: &mut Reader) -> (bool, bool)
 #[cycle(expr)]
 fn sum_steps(reader: &mut Reader) -> SumSteps
     ensures { Goes estelle (rep grammar.sum_step) reader.old
-        (nodes (map node.a_sum_step result)) reader.new }
+        (nodes (map view.a_sum_step result)) reader.new }
 {
     let mut items = SumSteps::new(reader.alloc);
     while sees_adding_operator(reader) {
@@ -122,7 +122,7 @@ fn sum_steps(reader: &mut Reader) -> SumSteps
 #[cycle(expr)]
 fn sum_step(reader: &mut Reader) -> SumStep
     ensures { Goes estelle grammar.sum_step reader.old
-        (shown (node.a_sum_step result)) reader.new }
+        (node (view.a_sum_step result)) reader.new }
 {
     let operator = adding_operator(reader);
     let right = term(reader);
@@ -132,7 +132,7 @@ fn sum_step(reader: &mut Reader) -> SumStep
 // term = factor { ( "*" | "div" | "mod" | "and" ) factor } .
 #[cycle(expr)]
 fn term(reader: &mut Reader) -> Term
-    ensures { Goes estelle (rule grammar.term) reader.old (shown (node.a_term result)) reader.new }
+    ensures { Goes estelle (rule grammar.term) reader.old (node (view.a_term result)) reader.new }
 {
     let first = factor(reader);
     let rest = product_steps(reader);
@@ -143,7 +143,7 @@ fn term(reader: &mut Reader) -> Term
 #[cycle(expr)]
 fn product_steps(reader: &mut Reader) -> ProductSteps
     ensures { Goes estelle (rep grammar.product_step) reader.old
-        (nodes (map node.a_product_step result)) reader.new }
+        (nodes (map view.a_product_step result)) reader.new }
 {
     let mut items = ProductSteps::new(reader.alloc);
     while sees_multiplying_operator(reader) {
@@ -157,7 +157,7 @@ fn product_steps(reader: &mut Reader) -> ProductSteps
 #[cycle(expr)]
 fn product_step(reader: &mut Reader) -> ProductStep
     ensures { Goes estelle grammar.product_step reader.old
-        (shown (node.a_product_step result)) reader.new }
+        (node (view.a_product_step result)) reader.new }
 {
     let operator = multiplying_operator(reader);
     let right = factor(reader);
@@ -169,7 +169,7 @@ fn product_step(reader: &mut Reader) -> ProductStep
 #[cycle(expr)]
 fn factor(reader: &mut Reader) -> Factor
     ensures { Goes estelle (rule grammar.factor) reader.old
-        (shown (node.a_factor result)) reader.new }
+        (node (view.a_factor result)) reader.new }
 {
     if reader.sees(TokenKind::Identifier) {
         return variable_or_call(reader);
@@ -190,7 +190,7 @@ fn factor(reader: &mut Reader) -> Factor
 fn literal(reader: &mut Reader) -> Factor
     requires { NoneSeen reader.old bracket_tokens }
     ensures { Goes estelle (rule grammar.factor) reader.old
-        (shown (node.a_factor result)) reader.new }
+        (node (view.a_factor result)) reader.new }
 {
     let place = reader.at;
     if reader.sees(TokenKind::Character) {
@@ -204,9 +204,9 @@ fn literal(reader: &mut Reader) -> Factor
 // "(" expr ")"
 #[cycle(expr)]
 fn group(reader: &mut Reader) -> Factor
-    requires { Sees reader.old (kind (Special symbols.LeftParenthesis)) true }
+    requires { Sees reader.old (kind (token.Symbol symbols.LeftParenthesis)) true }
     ensures { Goes estelle (rule grammar.factor) reader.old
-        (shown (node.a_factor result)) reader.new }
+        (node (view.a_factor result)) reader.new }
 {
     let place = reader.at;
     let levels = reader.open(TokenKind::Symbol(Symbol::LeftParenthesis));
@@ -224,7 +224,7 @@ fn group(reader: &mut Reader) -> Factor
 fn negation(reader: &mut Reader) -> Factor
     requires { Sees reader.old (kind (Reserved words.Not)) true }
     ensures { Goes estelle (rule grammar.factor) reader.old
-        (shown (node.a_factor result)) reader.new }
+        (node (view.a_factor result)) reader.new }
 {
     let place = reader.at;
     let levels = reader.open(TokenKind::Reserved(ReservedWord::Not));
@@ -239,9 +239,9 @@ fn negation(reader: &mut Reader) -> Factor
 // "[" [ member { "," member } ] "]"
 #[cycle(expr)]
 fn set(reader: &mut Reader) -> Factor
-    requires { Sees reader.old (kind (Special symbols.LeftBracket)) true }
+    requires { Sees reader.old (kind (token.Symbol symbols.LeftBracket)) true }
     ensures { Goes estelle (rule grammar.factor) reader.old
-        (shown (node.a_factor result)) reader.new }
+        (node (view.a_factor result)) reader.new }
 {
     let place = reader.at;
     let levels = reader.open(TokenKind::Symbol(Symbol::LeftBracket));
@@ -255,7 +255,7 @@ fn set(reader: &mut Reader) -> Factor
 #[cycle(expr)]
 fn members_given(reader: &mut Reader) -> Members
     ensures { Goes estelle (opt (grammar.listed (rule grammar.member))) reader.old
-        (node.members result) reader.new }
+        (view.members result) reader.new }
 {
     if begins_expression(reader) {
         return members(reader);
@@ -295,7 +295,7 @@ fn begins_expression(reader: &Reader) -> bool
 #[cycle(expr)]
 fn members(reader: &mut Reader) -> Members
     ensures { Goes estelle (grammar.listed (rule grammar.member)) reader.old
-        (nodes (map node.a_member result)) reader.new }
+        (nodes (map view.a_member result)) reader.new }
 {
     let first = member(reader);
     let mut items = Members::new(reader.alloc);
@@ -312,7 +312,7 @@ fn members(reader: &mut Reader) -> Members
 #[cycle(expr)]
 fn member(reader: &mut Reader) -> Member
     ensures { Goes estelle (rule grammar.member) reader.old
-        (shown (node.a_member result)) reader.new }
+        (node (view.a_member result)) reader.new }
 {
     let low = expr(reader);
     let high = later_end(reader);
@@ -322,7 +322,7 @@ fn member(reader: &mut Reader) -> Member
 // [ ".." expr ]
 #[cycle(expr)]
 fn later_end(reader: &mut Reader) -> Option<Expr>
-    ensures { Goes estelle grammar.later_end reader.old (node.expr_given result) reader.new }
+    ensures { Goes estelle grammar.later_end reader.old (view.expr_given result) reader.new }
 {
     if !reader.sees(TokenKind::Symbol(Symbol::DoublePeriod)) {
         return None;
@@ -336,7 +336,7 @@ fn later_end(reader: &mut Reader) -> Option<Expr>
 fn variable_or_call(reader: &mut Reader) -> Factor
     requires { Sees reader.old (kind Identifier) true }
     ensures { Goes estelle (rule grammar.factor) reader.old
-        (shown (node.a_factor result)) reader.new }
+        (node (view.a_factor result)) reader.new }
 {
     let place = reader.at;
     let name = reader.name();
@@ -359,9 +359,9 @@ fn variable_or_call(reader: &mut Reader) -> Factor
 /// "(" exprs ")"
 #[cycle(expr)]
 pub fn called(reader: &mut Reader) -> Exprs
-    requires { Sees reader.old (kind (Special symbols.LeftParenthesis)) true }
+    requires { Sees reader.old (kind (token.Symbol symbols.LeftParenthesis)) true }
     ensures { Goes estelle grammar.called reader.old
-        (pair (nodes (map node.an_expr result)) empty) reader.new }
+        (pair (nodes (map view.an_expr result)) empty) reader.new }
 {
     let levels = reader.open(TokenKind::Symbol(Symbol::LeftParenthesis));
     let exprs = exprs(reader);
@@ -384,7 +384,7 @@ pub fn sees_selector(reader: &Reader) -> bool
 #[cycle(expr)]
 pub fn selectors(reader: &mut Reader) -> Selectors
     ensures { Goes estelle (grammar.several (rule grammar.selector)) reader.old
-        (nodes (map node.a_selector result)) reader.new }
+        (nodes (map view.a_selector result)) reader.new }
 {
     let first = selector(reader);
     let mut items = Selectors::new(reader.alloc);
@@ -400,7 +400,7 @@ pub fn selectors(reader: &mut Reader) -> Selectors
 #[cycle(expr)]
 fn selector(reader: &mut Reader) -> Selector
     ensures { Goes estelle (rule grammar.selector) reader.old
-        (shown (node.a_selector result)) reader.new }
+        (node (view.a_selector result)) reader.new }
 {
     if reader.sees(TokenKind::Symbol(Symbol::LeftBracket)) {
         return index(reader);
@@ -412,9 +412,9 @@ fn selector(reader: &mut Reader) -> Selector
 // "[" exprs "]", a selector
 #[cycle(expr)]
 fn index(reader: &mut Reader) -> Selector
-    requires { Sees reader.old (kind (Special symbols.LeftBracket)) true }
+    requires { Sees reader.old (kind (token.Symbol symbols.LeftBracket)) true }
     ensures { Goes estelle (rule grammar.selector) reader.old
-        (shown (node.a_selector result)) reader.new }
+        (node (view.a_selector result)) reader.new }
 {
     let place = reader.at;
     let exprs = subscripts(reader);
@@ -424,9 +424,9 @@ fn index(reader: &mut Reader) -> Selector
 /// "[" exprs "]"
 #[cycle(expr)]
 pub fn subscripts(reader: &mut Reader) -> Exprs
-    requires { Sees reader.old (kind (Special symbols.LeftBracket)) true }
+    requires { Sees reader.old (kind (token.Symbol symbols.LeftBracket)) true }
     ensures { Goes estelle grammar.subscripts reader.old
-        (pair (nodes (map node.an_expr result)) empty) reader.new }
+        (pair (nodes (map view.an_expr result)) empty) reader.new }
 {
     let levels = reader.open(TokenKind::Symbol(Symbol::LeftBracket));
     let exprs = exprs(reader);

@@ -2,10 +2,10 @@
 
 ghost use Rattle.std.specs.Prelude.{◌≡◌, map};
 ghost use Rattle.est_language.specs.Grammar.{rule, rep, alt, opt};
-ghost use Rattle.est_language.specs.Shown.{node as shown, nodes, pair, empty, sections};
+ghost use Rattle.est_language.specs.Shown.{node, nodes, pair, empty, sections};
 ghost use Rattle.est_reader.specs.Going.{Goes, Adds};
 ghost use Rattle.est_productions.specs.Productions as grammar;
-ghost use Rattle.est_productions.specs.Nodes as node;
+ghost use Rattle.est_productions.specs.Nodes as view;
 ghost use Rattle.est_productions.specs.inside.Structures.{declared_place};
 ghost use Rattle.est_productions.specs.Syntax.{estelle};
 
@@ -21,7 +21,7 @@ use est_syntax::type_text::{TypeTexts, VarDef, VarDefs};
 ///     { "ip" point { point } | "export" export { export } } "end" ";" .
 pub fn header(reader: &mut Reader) -> Header
     ensures { Goes estelle (rule grammar.header) reader.old
-        (shown (node.a_header result)) reader.new }
+        (node (view.a_header result)) reader.new }
 {
     reader.word(ReservedWord::Module);
     let name = reader.name();
@@ -42,7 +42,7 @@ pub fn header(reader: &mut Reader) -> Header
 
 // "systemactivity" | "activity"
 fn attribute(reader: &mut Reader) -> bool
-    ensures { Goes estelle grammar.attribute reader.old (node.attribute result) reader.new }
+    ensures { Goes estelle grammar.attribute reader.old (view.attribute result) reader.new }
 {
     if reader.sees(TokenKind::Reserved(ReservedWord::Activity)) {
         reader.word(ReservedWord::Activity);
@@ -55,7 +55,7 @@ fn attribute(reader: &mut Reader) -> bool
 // { "ip" point { point } | "export" export { export } }
 fn sections(reader: &mut Reader) -> (Points, VarDefs)
     ensures { Goes estelle (rep (alt grammar.points grammar.exports)) reader.old
-        (sections nodes nodes (map node.a_point result.0) (map node.an_export result.1))
+        (sections nodes nodes (map view.a_point result.0) (map view.an_export result.1))
         reader.new }
 {
     let mut points = Points::new(reader.alloc);
@@ -73,7 +73,7 @@ fn sections(reader: &mut Reader) -> (Points, VarDefs)
 
 // "ip" point { point }, put last
 fn points_section(reader: &mut Reader, items: &mut Points)
-    ensures { Adds estelle grammar.points nodes node.a_point reader.old items.old items.new
+    ensures { Adds estelle grammar.points nodes view.a_point reader.old items.old items.new
         reader.new }
 {
     reader.word(ReservedWord::Ip);
@@ -82,7 +82,7 @@ fn points_section(reader: &mut Reader, items: &mut Points)
 
 // point { point }, put last
 fn more_points(reader: &mut Reader, items: &mut Points)
-    ensures { Adds estelle (grammar.several (rule grammar.point)) nodes node.a_point reader.old
+    ensures { Adds estelle (grammar.several (rule grammar.point)) nodes view.a_point reader.old
         items.old items.new reader.new }
 {
     let first = point(reader);
@@ -95,7 +95,7 @@ fn more_points(reader: &mut Reader, items: &mut Points)
 
 // "export" export { export }, put last
 fn exports_section(reader: &mut Reader, items: &mut VarDefs)
-    ensures { Adds estelle grammar.exports nodes node.an_export reader.old items.old items.new
+    ensures { Adds estelle grammar.exports nodes view.an_export reader.old items.old items.new
         reader.new }
 {
     reader.word(ReservedWord::Export);
@@ -104,7 +104,7 @@ fn exports_section(reader: &mut Reader, items: &mut VarDefs)
 
 // export { export }, put last
 fn more_exports(reader: &mut Reader, items: &mut VarDefs)
-    ensures { Adds estelle (grammar.several (rule grammar.export)) nodes node.an_export reader.old
+    ensures { Adds estelle (grammar.several (rule grammar.export)) nodes view.an_export reader.old
         items.old items.new reader.new }
 {
     let first = export(reader);
@@ -118,7 +118,7 @@ fn more_exports(reader: &mut Reader, items: &mut VarDefs)
 // export = idents ":" shorttype ";" .
 fn export(reader: &mut Reader) -> VarDef
     ensures { Goes estelle (rule grammar.export) reader.old
-        (shown (node.an_export result)) reader.new }
+        (node (view.an_export result)) reader.new }
 {
     let names = idents(reader);
     reader.symbol(Symbol::Colon);
@@ -130,7 +130,7 @@ fn export(reader: &mut Reader) -> VarDef
 /// "ip" point { point }
 pub fn points(reader: &mut Reader) -> Points
     ensures { Goes estelle grammar.points reader.old
-        (nodes (map node.a_point result)) reader.new }
+        (nodes (map view.a_point result)) reader.new }
 {
     let mut items = Points::new(reader.alloc);
     points_section(reader, &mut items);
@@ -140,7 +140,7 @@ pub fn points(reader: &mut Reader) -> Points
 // point = idents ":" [ dims ] ident "(" ident ")" [ queue ] ";" .
 fn point(reader: &mut Reader) -> Point
     ensures { Goes estelle (rule grammar.point) reader.old
-        (shown (node.a_point result)) reader.new }
+        (node (view.a_point result)) reader.new }
 {
     let first = reader.at;
     let names = idents(reader);
@@ -174,7 +174,7 @@ fn declared_at(dims: &TypeTexts, first: u32, at: u32) -> u32
 // [ dims ]
 fn dimensions(reader: &mut Reader) -> TypeTexts
     ensures { Goes estelle grammar.dimensions reader.old
-        (node.dimensions reader.old.at result) reader.new }
+        (view.dimensions reader.old.at result) reader.new }
 {
     if reader.sees(TokenKind::Reserved(ReservedWord::Array)) {
         return dims(reader);
@@ -185,7 +185,7 @@ fn dimensions(reader: &mut Reader) -> TypeTexts
 // dims = "array" "[" shorttype { "," shorttype } "]" "of" .
 fn dims(reader: &mut Reader) -> TypeTexts
     ensures { Goes estelle (rule grammar.dims) reader.old
-        (pair (nodes (map node.a_short_type result)) empty) reader.new }
+        (pair (nodes (map view.a_short_type result)) empty) reader.new }
 {
     reader.word(ReservedWord::Array);
     reader.symbol(Symbol::LeftBracket);
@@ -198,7 +198,7 @@ fn dims(reader: &mut Reader) -> TypeTexts
 // shorttype { "," shorttype }
 fn shorttypes(reader: &mut Reader) -> TypeTexts
     ensures { Goes estelle (grammar.listed (rule grammar.shorttype)) reader.old
-        (nodes (map node.a_short_type result)) reader.new }
+        (nodes (map view.a_short_type result)) reader.new }
 {
     let first = shorttype(reader);
     let mut items = TypeTexts::new(reader.alloc);
@@ -214,7 +214,7 @@ fn shorttypes(reader: &mut Reader) -> TypeTexts
 // [ queue ]
 fn queue_given(reader: &mut Reader) -> Option<Queue>
     ensures { Goes estelle (opt (rule grammar.queue)) reader.old
-        (node.queue_given result) reader.new }
+        (view.queue_given result) reader.new }
 {
     if reader.sees(TokenKind::Reserved(ReservedWord::Individual)) {
         return Some(queue(reader));
@@ -227,7 +227,7 @@ fn queue_given(reader: &mut Reader) -> Option<Queue>
 
 /// queue = ( "individual" | "common" ) "queue" .
 pub fn queue(reader: &mut Reader) -> Queue
-    ensures { Goes estelle (rule grammar.queue) reader.old (node.queue result) reader.new }
+    ensures { Goes estelle (rule grammar.queue) reader.old (view.queue result) reader.new }
 {
     if reader.sees(TokenKind::Reserved(ReservedWord::Common)) {
         reader.word(ReservedWord::Common);
@@ -242,7 +242,7 @@ pub fn queue(reader: &mut Reader) -> Queue
 /// "modvar" modvar { modvar }
 pub fn modvars(reader: &mut Reader) -> ModvarDefs
     ensures { Goes estelle grammar.modvars reader.old
-        (nodes (map node.a_module_variable result)) reader.new }
+        (nodes (map view.a_module_variable result)) reader.new }
 {
     reader.word(ReservedWord::Modvar);
     several_modvars(reader)
@@ -251,7 +251,7 @@ pub fn modvars(reader: &mut Reader) -> ModvarDefs
 // modvar { modvar }
 fn several_modvars(reader: &mut Reader) -> ModvarDefs
     ensures { Goes estelle (grammar.several (rule grammar.modvar)) reader.old
-        (nodes (map node.a_module_variable result)) reader.new }
+        (nodes (map view.a_module_variable result)) reader.new }
 {
     let first = modvar(reader);
     let mut items = ModvarDefs::new(reader.alloc);
@@ -266,7 +266,7 @@ fn several_modvars(reader: &mut Reader) -> ModvarDefs
 // modvar = idents ":" [ dims ] ident ";" .
 fn modvar(reader: &mut Reader) -> ModvarDef
     ensures { Goes estelle (rule grammar.modvar) reader.old
-        (shown (node.a_module_variable result)) reader.new }
+        (node (view.a_module_variable result)) reader.new }
 {
     let first = reader.at;
     let names = idents(reader);

@@ -2,7 +2,7 @@
 
 ghost use Rattle.est_reader.specs.Going.{Goes};
 ghost use Rattle.est_productions.specs.Productions as grammar;
-ghost use Rattle.est_productions.specs.Nodes as node;
+ghost use Rattle.est_productions.specs.Nodes as view;
 ghost use Rattle.est_productions.specs.Syntax.{estelle};
 
 use est_lexer::kind::{Symbol, TokenKind};
@@ -11,7 +11,7 @@ use est_syntax::name::UsedNames;
 
 /// idents = ident { "," ident } .
 pub fn idents(reader: &mut Reader) -> UsedNames
-    ensures { Goes estelle grammar.idents reader.old (node.names result) reader.new }
+    ensures { Goes estelle grammar.idents reader.old (view.names result) reader.new }
 {
     let first = reader.name();
     let mut items = UsedNames::new(reader.alloc);

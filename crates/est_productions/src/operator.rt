@@ -3,7 +3,7 @@
 ghost use Rattle.est_reader.specs.Going.{Goes};
 ghost use Rattle.est_reader.specs.Moving.{SeesOne};
 ghost use Rattle.est_productions.specs.Productions as grammar;
-ghost use Rattle.est_productions.specs.Nodes as node;
+ghost use Rattle.est_productions.specs.Nodes as view;
 ghost use Rattle.est_productions.specs.Tokens.{relational_tokens, adding_tokens};
 ghost use Rattle.est_productions.specs.Tokens.{multiplying_tokens};
 ghost use Rattle.est_productions.specs.Syntax.{estelle};
@@ -40,7 +40,7 @@ pub fn sees_relational_operator(reader: &Reader) -> bool
 /// "=" | "<>" | "<" | "<=" | ">" | ">=" | "in"
 pub fn relational_operator(reader: &mut Reader) -> Operator
     ensures { Goes estelle grammar.relational_operator reader.old
-        (node.relational_operator result) reader.new }
+        (view.relational_operator result) reader.new }
 {
     if reader.sees(TokenKind::Symbol(Symbol::Unequal)) {
         reader.symbol(Symbol::Unequal);
@@ -86,7 +86,7 @@ pub fn sees_adding_operator(reader: &Reader) -> bool
 /// "+" | "-" | "or"
 pub fn adding_operator(reader: &mut Reader) -> Operator
     ensures { Goes estelle grammar.adding_operator reader.old
-        (node.adding_operator result) reader.new }
+        (view.adding_operator result) reader.new }
 {
     if reader.sees(TokenKind::Symbol(Symbol::Minus)) {
         reader.symbol(Symbol::Minus);
@@ -119,7 +119,7 @@ pub fn sees_multiplying_operator(reader: &Reader) -> bool
 /// "*" | "div" | "mod" | "and"
 pub fn multiplying_operator(reader: &mut Reader) -> Operator
     ensures { Goes estelle grammar.multiplying_operator reader.old
-        (node.multiplying_operator result) reader.new }
+        (view.multiplying_operator result) reader.new }
 {
     if reader.sees(TokenKind::Reserved(ReservedWord::Div)) {
         reader.word(ReservedWord::Div);

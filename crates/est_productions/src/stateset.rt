@@ -2,10 +2,10 @@
 
 ghost use Rattle.std.specs.Prelude.{map};
 ghost use Rattle.est_language.specs.Grammar.{rule};
-ghost use Rattle.est_language.specs.Shown.{node as shown, nodes};
+ghost use Rattle.est_language.specs.Shown.{node, nodes};
 ghost use Rattle.est_reader.specs.Going.{Goes};
 ghost use Rattle.est_productions.specs.Productions as grammar;
-ghost use Rattle.est_productions.specs.Nodes as node;
+ghost use Rattle.est_productions.specs.Nodes as view;
 ghost use Rattle.est_productions.specs.Syntax.{estelle};
 
 use crate::names::idents;
@@ -16,7 +16,7 @@ use est_syntax::body::{StateSet, StateSets};
 /// "stateset" stateset { stateset }
 pub fn statesets(reader: &mut Reader) -> StateSets
     ensures { Goes estelle grammar.statesets reader.old
-        (nodes (map node.a_state_set result)) reader.new }
+        (nodes (map view.a_state_set result)) reader.new }
 {
     reader.word(ReservedWord::Stateset);
     several_statesets(reader)
@@ -25,7 +25,7 @@ pub fn statesets(reader: &mut Reader) -> StateSets
 // stateset { stateset }
 fn several_statesets(reader: &mut Reader) -> StateSets
     ensures { Goes estelle (grammar.several (rule grammar.stateset)) reader.old
-        (nodes (map node.a_state_set result)) reader.new }
+        (nodes (map view.a_state_set result)) reader.new }
 {
     let first = stateset(reader);
     let mut items = StateSets::new(reader.alloc);
@@ -40,7 +40,7 @@ fn several_statesets(reader: &mut Reader) -> StateSets
 // stateset = ident "=" "[" idents "]" ";" .
 fn stateset(reader: &mut Reader) -> StateSet
     ensures { Goes estelle (rule grammar.stateset) reader.old
-        (shown (node.a_state_set result)) reader.new }
+        (node (view.a_state_set result)) reader.new }
 {
     let name = reader.name();
     reader.symbol(Symbol::Equal);

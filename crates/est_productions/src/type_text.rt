@@ -2,17 +2,17 @@
 
 ghost use Rattle.std.specs.Prelude.{true, [], ◌∷◌, map};
 ghost use Rattle.est_language.specs.Grammar.{rule, skip, opt};
-ghost use Rattle.est_language.specs.Shown.{node as shown, nodes, empty, second};
+ghost use Rattle.est_language.specs.Shown.{node, nodes, empty, second};
 ghost use Rattle.est_lexer.specs.declared.kind.ReservedWord.TheVariants as words;
 ghost use Rattle.est_lexer.specs.declared.kind.Symbol.TheVariants as symbols;
 ghost use Rattle.est_lexer.specs.declared.kind.TokenKind.TheVariants.{Identifier, Reserved};
-ghost use Rattle.est_lexer.specs.declared.kind.TokenKind.TheVariants.{Symbol as Special};
+ghost use Rattle.est_lexer.specs.declared.kind.TokenKind.TheVariants as token;
 ghost use Rattle.est_syntax.specs.declared.type_text.TypeText.{out-TypeText};
 ghost use Rattle.est_reader.specs.Going.{Goes};
 ghost use Rattle.est_reader.specs.Moving.{Sees, OneSeen, SeesOne};
 ghost use Rattle.est_reader.specs.Tests.{kind};
 ghost use Rattle.est_productions.specs.Productions as grammar;
-ghost use Rattle.est_productions.specs.Nodes as node;
+ghost use Rattle.est_productions.specs.Nodes as view;
 ghost use Rattle.est_productions.specs.inside.Structures.{Structured};
 ghost use Rattle.est_productions.specs.Tokens.{structure_words};
 ghost use Rattle.est_productions.specs.Syntax.{estelle};
@@ -28,7 +28,7 @@ use est_syntax::type_text::{TypeText, TypeTexts, VarDef, VarDefs};
 /// shorttype = ident | constant ".." constant .
 pub fn shorttype(reader: &mut Reader) -> TypeText
     ensures { Goes estelle (rule grammar.shorttype) reader.old
-        (node.short_type (out-TypeText result)) reader.new }
+        (view.short_type (out-TypeText result)) reader.new }
 {
     if reader.sees(TokenKind::Identifier) {
         return named_type(reader);
@@ -43,7 +43,7 @@ pub fn shorttype(reader: &mut Reader) -> TypeText
 fn named_type(reader: &mut Reader) -> TypeText
     requires { Sees reader.old (kind Identifier) true }
     ensures { Goes estelle (rule grammar.shorttype) reader.old
-        (node.short_type (out-TypeText result)) reader.new }
+        (view.short_type (out-TypeText result)) reader.new }
 {
     let place = reader.at;
     let name = reader.name();
@@ -65,7 +65,7 @@ fn named_type(reader: &mut Reader) -> TypeText
 #[cycle(type_text)]
 pub fn typetext(reader: &mut Reader) -> TypeText
     ensures { Goes estelle (rule grammar.typetext) reader.old
-        (shown (node.a_type result)) reader.new }
+        (node (view.a_type result)) reader.new }
 {
     if reader.sees(TokenKind::Symbol(Symbol::LeftParenthesis)) {
         return enumeration(reader);
@@ -94,9 +94,9 @@ fn begins_structure(reader: &Reader) -> bool
 
 // "(" idents ")"
 fn enumeration(reader: &mut Reader) -> TypeText
-    requires { Sees reader.old (kind (Special symbols.LeftParenthesis)) true }
+    requires { Sees reader.old (kind (token.Symbol symbols.LeftParenthesis)) true }
     ensures { Goes estelle (rule grammar.typetext) reader.old
-        (shown (node.a_type result)) reader.new }
+        (node (view.a_type result)) reader.new }
 {
     let place = reader.at;
     reader.symbol(Symbol::LeftParenthesis);
@@ -110,7 +110,7 @@ fn enumeration(reader: &mut Reader) -> TypeText
 fn structured(reader: &mut Reader) -> TypeText
     requires { OneSeen reader.old structure_words }
     ensures { Goes estelle (rule grammar.typetext) reader.old
-        (shown (node.a_type result)) reader.new }
+        (node (view.a_type result)) reader.new }
 {
     let place = reader.at;
     packed(reader);
@@ -175,7 +175,7 @@ fn arraytype(reader: &mut Reader, place: u32) -> TypeText
 #[cycle(type_text)]
 fn typetexts(reader: &mut Reader) -> TypeTexts
     ensures { Goes estelle (grammar.listed (rule grammar.typetext)) reader.old
-        (nodes (map node.a_type result)) reader.new }
+        (nodes (map view.a_type result)) reader.new }
 {
     let first = typetext(reader);
     let mut items = TypeTexts::new(reader.alloc);
@@ -204,7 +204,7 @@ fn recordtype(reader: &mut Reader, place: u32) -> TypeText
 // field { ";" field } [ ";" ]
 #[cycle(type_text)]
 fn fields(reader: &mut Reader) -> VarDefs
-    ensures { Goes estelle grammar.fields reader.old (nodes (map node.a_field result)) reader.new }
+    ensures { Goes estelle grammar.fields reader.old (nodes (map view.a_field result)) reader.new }
 {
     let first = field(reader);
     let mut items = VarDefs::new(reader.alloc);
@@ -223,7 +223,7 @@ fn fields(reader: &mut Reader) -> VarDefs
 // idents ":" typetext
 #[cycle(type_text)]
 fn field(reader: &mut Reader) -> VarDef
-    ensures { Goes estelle grammar.field reader.old (shown (node.a_field result)) reader.new }
+    ensures { Goes estelle grammar.field reader.old (node (view.a_field result)) reader.new }
 {
     let names = idents(reader);
     reader.symbol(Symbol::Colon);

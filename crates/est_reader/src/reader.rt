@@ -50,7 +50,7 @@ impl Reader<'_> {
     ghost use Rattle.est_reader.specs.Moving.{TakesValue, TakesCharacter, IsNamedAt, FindsNumber};
     ghost use Rattle.est_reader.specs.Moving.{Opens, Enters, Closes, Still, Kept, KeptSome};
     ghost use Rattle.est_lexer.specs.declared.kind.TokenKind.TheVariants.{Reserved};
-    ghost use Rattle.est_lexer.specs.declared.kind.TokenKind.TheVariants.{Symbol as Special};
+    ghost use Rattle.est_lexer.specs.declared.kind.TokenKind.TheVariants as token;
     ghost use Rattle.est_reader.specs.declared.outcome.Outcome.TheVariants.{Well};
     ghost use Rattle.std.specs.Str.{str_to_ascii_lowercase};
     ghost use Rattle.std.specs.Option.{option_map};
@@ -159,7 +159,7 @@ impl Reader<'_> {
 
     /// Takes this symbol.
     pub fn symbol(&mut self, symbol: Symbol)
-        ensures { Takes (kind (Special symbol)) self.old self.new }
+        ensures { Takes (kind (token.Symbol symbol)) self.old self.new }
     {
         self.take(TokenKind::Symbol(symbol));
     }

@@ -1,6 +1,6 @@
 use Rattle.std.proofs.Common.{refl, [], ◌∷◌}
 use Rattle.est_lexer.specs.declared.kind.Symbol.TheVariants as symbols
-use Rattle.est_lexer.specs.declared.kind.TokenKind.TheVariants.{Symbol as Special}
+use Rattle.est_lexer.specs.declared.kind.TokenKind.TheVariants.{Symbol}
 use Rattle.est_reader.specs.Tests.{kind}
 use Rattle.est_reader.proofs.Going.{take, then, last, goes_still, opt_in, opt_out, filled}
 use Rattle.est_reader.proofs.Steps.{still_here, taken_well}
@@ -9,11 +9,11 @@ use Rattle.est_productions.proofs.Fits.{K}
 use Rattle.est_grammar.proofs.routine.formal_part.Goals as goal
 
 pub returns-then-not-sees : goal.returns-then-not-sees
-returns-then-not-sees c = rw c.new.ensures (opt_out K (kind (Special symbols.LeftParenthesis) ∷ [])
+returns-then-not-sees c = rw c.new.ensures (opt_out K (kind (Symbol symbols.LeftParenthesis) ∷ [])
     refl refl (c.if-not-sees.ensures, tt))
 
 pub returns : goal.returns
-returns c = goes_still (opt_in K (kind (Special symbols.LeftParenthesis)) refl refl
+returns c = goes_still (opt_in K (kind (Symbol symbols.LeftParenthesis)) refl refl
     c.if-not-sees.ensures (take K c.symbol.ensures (then K refl c.formals-formals.ensures
     (last K c.symbol-2.ensures)))) still_here (λ w. let f = filled node.a_formal _
     c.formals-formals.ensures (taken_well c.symbol-2.ensures w) in rw f.2 refl)

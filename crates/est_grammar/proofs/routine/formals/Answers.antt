@@ -1,7 +1,7 @@
 use Rattle.std.proofs.Common.{refl, [], ◌∷◌}
 use Rattle.std.proofs.lemmas.List.{map-append}
 use Rattle.est_lexer.specs.declared.kind.Symbol.TheVariants as symbols
-use Rattle.est_lexer.specs.declared.kind.TokenKind.TheVariants.{Symbol as Special}
+use Rattle.est_lexer.specs.declared.kind.TokenKind.TheVariants.{Symbol}
 use Rattle.est_reader.specs.Tests.{kind}
 use Rattle.est_reader.proofs.Going.{take}
 use Rattle.est_reader.proofs.Turns.{one_part, more_parts, all_parts, lessens}
@@ -13,7 +13,7 @@ loop-reader-init c = one_part K refl c.formal-first.ensures c.keep.ensures.still
     (λ w. rw (c.keep.ensures.added w, c.new-items.ensures) refl)
 
 pub loop-reader-preserved : goal.loop-reader-preserved
-loop-reader-preserved c = more_parts K _ (kind (Special symbols.Semicolon)) refl refl refl
+loop-reader-preserved c = more_parts K _ (kind (Symbol symbols.Semicolon)) refl refl refl
     c.loop-reader-test.ensures c.loop-reader.invariant
     (take K c.symbol.ensures c.formal-next.ensures) c.keep-in-loop-reader.ensures.still
     (λ w. rw (c.keep-in-loop-reader.ensures.added w, map-append) refl)
@@ -23,5 +23,5 @@ loop-reader-smaller c = lessens K refl c.loop-reader-test.ensures
     (take K c.symbol.ensures c.formal-next.ensures) c.keep-in-loop-reader.ensures.still
 
 pub returns : goal.returns
-returns c = (all_parts K (kind (Special symbols.Semicolon) ∷ []) refl refl
+returns c = (all_parts K (kind (Symbol symbols.Semicolon) ∷ []) refl refl
     (c.loop-reader-test.ensures, tt) c.loop-reader.invariant)

@@ -2,7 +2,7 @@ use Rattle.std.proofs.Common.{refl, [], ◌∷◌}
 use Rattle.std.proofs.lemmas.List.{map-append}
 use Rattle.est_lexer.specs.declared.kind.ReservedWord.TheVariants as words
 use Rattle.est_lexer.specs.declared.kind.Symbol.TheVariants as symbols
-use Rattle.est_lexer.specs.declared.kind.TokenKind.TheVariants.{Reserved, Symbol as Special}
+use Rattle.est_lexer.specs.declared.kind.TokenKind.TheVariants.{Reserved, Symbol}
 use Rattle.est_reader.specs.Tests.{kind}
 use Rattle.est_reader.proofs.Going.{take, then, last, rule_goes, here_goes, part, part_still}
 use Rattle.est_reader.proofs.Going.{goes_still, opt_in, chosen, deep, nearest_in, nearest_out}
@@ -22,7 +22,7 @@ statements-loop-reader-init t c = one_part K refl c.statement-first.ensures c.ke
     (λ w. rw (c.keep.ensures.added w, c.new-items.ensures) refl)
 
 pub statements-loop-reader-preserved : goal.statements-loop-reader-preserved
-statements-loop-reader-preserved t c = more_parts K _ (kind (Special symbols.Semicolon)) refl refl
+statements-loop-reader-preserved t c = more_parts K _ (kind (Symbol symbols.Semicolon)) refl refl
     refl c.loop-reader-test.ensures c.loop-reader.invariant
     (take K c.symbol.ensures c.statement-next.ensures) c.keep-in-loop-reader.ensures.still
     (λ w. rw (c.keep-in-loop-reader.ensures.added w, map-append) refl)
@@ -32,7 +32,7 @@ statements-loop-reader-smaller t c = lessens K refl c.loop-reader-test.ensures
     (take K c.symbol.ensures c.statement-next.ensures) c.keep-in-loop-reader.ensures.still
 
 pub statements-returns : goal.statements-returns
-statements-returns t c = (all_parts K (kind (Special symbols.Semicolon) ∷ []) refl refl
+statements-returns t c = (all_parts K (kind (Symbol symbols.Semicolon) ∷ []) refl refl
     (c.loop-reader-test.ensures, tt) c.loop-reader.invariant)
 
 pub compound-returns : goal.compound-returns
@@ -93,7 +93,7 @@ arms-loop-reader-init t c = one_part K refl c.arm-first.ensures c.keep.ensures.s
     (λ w. rw (c.keep.ensures.added w, c.new-items.ensures) refl)
 
 pub arms-loop-reader-preserved : goal.arms-loop-reader-preserved
-arms-loop-reader-preserved t c = more_ended_by K _ (kind (Special symbols.Semicolon))
+arms-loop-reader-preserved t c = more_ended_by K _ (kind (Symbol symbols.Semicolon))
     tokens.constant_tokens refl refl refl c.loop-reader-test.ensures c.loop-reader.invariant
     c.symbol.ensures c.if-not-begins_constant.ensures c.arm-next.ensures
     c.keep-in-loop-reader.ensures.still (λ w. rw (c.keep-in-loop-reader.ensures.added w, map-append)

@@ -1,6 +1,6 @@
 use Rattle.std.proofs.Common.{◌+◌, ◌*◌, map}
 use Rattle.est_lexer.specs.declared.kind.Symbol.TheVariants as symbols
-use Rattle.est_lexer.specs.declared.kind.TokenKind.TheVariants.{Symbol as Special}
+use Rattle.est_lexer.specs.declared.kind.TokenKind.TheVariants.{Symbol}
 use Rattle.est_language.specs.Grammar.{rule, rep, ended}
 use Rattle.est_reader.specs.Tests.{kind}
 use Rattle.est_reader.specs.Moving.{weight}
@@ -20,7 +20,7 @@ abbrev pub decreases-statements-loop-reader : goal.decreases-statements-loop-rea
 decreases-statements-loop-reader l = left_of l.reader
 
 abbrev pub invariant-arms-loop-reader : goal.invariant-arms-loop-reader
-invariant-arms-loop-reader l = Turning K grammar.arms (ended (kind (Special symbols.Semicolon))
+invariant-arms-loop-reader l = Turning K grammar.arms (ended (kind (Symbol symbols.Semicolon))
     (rule grammar.arm)) l.fn.reader (Each K (map node.an_arm l.items)) l.reader
 
 abbrev pub decreases-arms-loop-reader : goal.decreases-arms-loop-reader

@@ -1,6 +1,6 @@
 use Rattle.std.proofs.Common.{refl, ◌∷◌}
 use Rattle.est_lexer.specs.declared.kind.Symbol.TheVariants as symbols
-use Rattle.est_lexer.specs.declared.kind.TokenKind.TheVariants.{Identifier, Symbol as Special}
+use Rattle.est_lexer.specs.declared.kind.TokenKind.TheVariants.{Identifier, Symbol}
 use Rattle.est_reader.specs.Tests.{kind}
 use Rattle.est_reader.proofs.Going.{take, then, rule_goes, here_goes, part}
 use Rattle.est_reader.proofs.Going.{part_still, opt_in, opt_out, chosen}
@@ -17,8 +17,8 @@ pub returns-then-sees : goal.returns-then-sees
 returns-then-sees c =
     part_still (rule_goes K (here_goes K (opt_in K (kind Identifier) refl refl c.requires
     (chosen K 1 (kind Identifier) refl c.requires (then K refl (name_goes K c.name-name.ensures)
-    (opt_in K (kind (Special symbols.LeftParenthesis)) refl refl c.if-sees.ensures
-    (chosen K 1 (kind (Special symbols.LeftParenthesis)) refl c.if-sees.ensures
+    (opt_in K (kind (Symbol symbols.LeftParenthesis)) refl refl c.if-sees.ensures
+    (chosen K 1 (kind (Symbol symbols.LeftParenthesis)) refl c.if-sees.ensures
     c.called-arguments.ensures))))))) still_here (λ w. let f = expressions.some_exprs _ _ _
     c.called-arguments.ensures w in rw f.2 (made.call_made _ _ _))
 
@@ -26,7 +26,7 @@ pub returns-then-not-sees_assigned : goal.returns-then-not-sees_assigned
 returns-then-not-sees_assigned c = part (rw c.new-arguments.ensures (made.call_made _ _ _))
     (rule_goes K (here_goes K (opt_in K (kind Identifier) refl refl c.requires
     (chosen K 1 (kind Identifier) refl c.requires (then K refl (name_goes K c.name-name.ensures)
-    (opt_out K (kind (Special symbols.LeftParenthesis) ∷ tokens.assigned_tokens) refl refl
+    (opt_out K (kind (Symbol symbols.LeftParenthesis) ∷ tokens.assigned_tokens) refl refl
     (c.if-sees.ensures, c.if-not-sees_assigned.ensures)))))))
 
 pub returns-in-Some : goal.returns-in-Some

@@ -1,6 +1,6 @@
 use Rattle.std.proofs.Common.{refl, [], ◌∷◌}
 use Rattle.est_lexer.specs.declared.kind.Symbol.TheVariants as symbols
-use Rattle.est_lexer.specs.declared.kind.TokenKind.TheVariants.{Identifier, Symbol as Special}
+use Rattle.est_lexer.specs.declared.kind.TokenKind.TheVariants.{Identifier, Symbol}
 use Rattle.est_reader.specs.Tests.{kind}
 use Rattle.est_reader.proofs.Going.{then, here_goes, chosen, first_else}
 use Rattle.est_reader.proofs.Single.{name_goes, value_goes}
@@ -10,12 +10,12 @@ use Rattle.est_productions.proofs.constant.signed.Goals as goal
 
 pub returns-then-sees : goal.returns-then-sees
 returns-then-sees c =
-    here_goes K (chosen_by K 1 (kind (Special symbols.Plus) ∷ kind (Special symbols.Minus) ∷ [])
+    here_goes K (chosen_by K 1 (kind (Symbol symbols.Plus) ∷ kind (Symbol symbols.Minus) ∷ [])
     refl c.requires (then K refl c.plus_or_minus-minus.ensures (chosen K 1 (kind Identifier) refl
     c.if-sees.ensures (name_goes K c.name-name.ensures))))
 
 pub returns : goal.returns
-returns c = here_goes K (chosen_by K 1 (kind (Special symbols.Plus) ∷ kind (Special symbols.Minus)
+returns c = here_goes K (chosen_by K 1 (kind (Symbol symbols.Plus) ∷ kind (Symbol symbols.Minus)
     ∷ []) refl c.requires (then K refl c.plus_or_minus-minus.ensures
     (first_else K (kind Identifier ∷ []) refl refl refl refl (c.if-sees.ensures, tt)
     (value_goes K c.value-number.ensures))))

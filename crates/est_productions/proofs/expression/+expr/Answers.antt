@@ -3,7 +3,7 @@ use Rattle.std.proofs.lemmas.List.{map-append}
 use Rattle.est_lexer.specs.declared.kind.ReservedWord.TheVariants as words
 use Rattle.est_lexer.specs.declared.kind.Symbol.TheVariants as symbols
 use Rattle.est_lexer.specs.declared.kind.TokenKind.TheVariants.{Identifier, Reserved}
-use Rattle.est_lexer.specs.declared.kind.TokenKind.TheVariants.{Symbol as Special}
+use Rattle.est_lexer.specs.declared.kind.TokenKind.TheVariants.{Symbol}
 use Rattle.est_reader.specs.Tests.{kind}
 use Rattle.est_reader.proofs.Going.{take, then, last, rule_goes, here_goes, part, part_still}
 use Rattle.est_reader.proofs.Going.{goes_still, opt_in, opt_out, chosen, first_else, deep, filled}
@@ -23,7 +23,7 @@ exprs-loop-reader-init t c = one_part K refl c.expr-first.ensures c.keep.ensures
     (λ w. rw (c.keep.ensures.added w, c.new-items.ensures) refl)
 
 pub exprs-loop-reader-preserved : goal.exprs-loop-reader-preserved
-exprs-loop-reader-preserved t c = more_parts K _ (kind (Special symbols.Comma)) refl refl refl
+exprs-loop-reader-preserved t c = more_parts K _ (kind (Symbol symbols.Comma)) refl refl refl
     c.loop-reader-test.ensures c.loop-reader.invariant (take K c.symbol.ensures c.expr-next.ensures)
     c.keep-in-loop-reader.ensures.still (λ w. rw (c.keep-in-loop-reader.ensures.added w, map-append)
     refl)
@@ -33,7 +33,7 @@ exprs-loop-reader-smaller t c = lessens K refl c.loop-reader-test.ensures
     (take K c.symbol.ensures c.expr-next.ensures) c.keep-in-loop-reader.ensures.still
 
 pub exprs-returns : goal.exprs-returns
-exprs-returns t c = (all_parts K (kind (Special symbols.Comma) ∷ []) refl refl
+exprs-returns t c = (all_parts K (kind (Symbol symbols.Comma) ∷ []) refl refl
     (c.loop-reader-test.ensures, tt) c.loop-reader.invariant)
 
 pub expr-returns : goal.expr-returns
@@ -101,14 +101,14 @@ product_step-returns t c = part (made.product_step_made _ _)
 
 pub group-returns-in-Some : goal.group-returns-in-Some
 group-returns-in-Some t c =
-    part_still (rule_goes K (here_goes K (chosen K 2 (kind (Special symbols.LeftParenthesis)) refl
+    part_still (rule_goes K (here_goes K (chosen K 2 (kind (Symbol symbols.LeftParenthesis)) refl
     c.requires (deep K c.requires c.open-levels.ensures (then K refl c.expr-of.ensures
     (last K c.symbol.ensures)) c.close.ensures)))) c.boxed.ensures.still
     (λ w. rw (box_holds c.in-Some.is c.boxed.ensures.boxed w) (made.group_made _ _))
 
 pub group-returns-in-None : goal.group-returns-in-None
 group-returns-in-None t c =
-    part_still (rule_goes K (here_goes K (chosen K 2 (kind (Special symbols.LeftParenthesis)) refl
+    part_still (rule_goes K (here_goes K (chosen K 2 (kind (Symbol symbols.LeftParenthesis)) refl
     c.requires (deep K c.requires c.open-levels.ensures (then K refl c.expr-of.ensures
     (last K c.symbol.ensures)) c.close.ensures)))) c.boxed.ensures.still
     (λ w. absurd (no_box c.in-None.is c.boxed.ensures.boxed w))
@@ -128,7 +128,7 @@ negation-returns-in-None t c =
 
 pub set-returns : goal.set-returns
 set-returns t c = part (made.set_of_made _ _)
-    (rule_goes K (here_goes K (chosen K 4 (kind (Special symbols.LeftBracket)) refl c.requires
+    (rule_goes K (here_goes K (chosen K 4 (kind (Symbol symbols.LeftBracket)) refl c.requires
     (deep K c.requires c.open-levels.ensures (then K refl c.members_given-members.ensures
     (last K c.symbol.ensures)) c.close.ensures))))
 
@@ -146,7 +146,7 @@ members-loop-reader-init t c = one_part K refl c.member-first.ensures c.keep.ens
     (λ w. rw (c.keep.ensures.added w, c.new-items.ensures) refl)
 
 pub members-loop-reader-preserved : goal.members-loop-reader-preserved
-members-loop-reader-preserved t c = more_parts K _ (kind (Special symbols.Comma)) refl refl refl
+members-loop-reader-preserved t c = more_parts K _ (kind (Symbol symbols.Comma)) refl refl refl
     c.loop-reader-test.ensures c.loop-reader.invariant
     (take K c.symbol.ensures c.member-next.ensures) c.keep-in-loop-reader.ensures.still
     (λ w. rw (c.keep-in-loop-reader.ensures.added w, map-append) refl)
@@ -156,7 +156,7 @@ members-loop-reader-smaller t c = lessens K refl c.loop-reader-test.ensures
     (take K c.symbol.ensures c.member-next.ensures) c.keep-in-loop-reader.ensures.still
 
 pub members-returns : goal.members-returns
-members-returns t c = (all_parts K (kind (Special symbols.Comma) ∷ []) refl refl
+members-returns t c = (all_parts K (kind (Symbol symbols.Comma) ∷ []) refl refl
     (c.loop-reader-test.ensures, tt) c.loop-reader.invariant)
 
 pub member-returns : goal.member-returns
@@ -164,19 +164,19 @@ member-returns t c = part (made.member_made _ _)
     (rule_goes K (then K refl c.expr-low.ensures c.later_end-high.ensures))
 
 pub later_end-returns-then-not-sees : goal.later_end-returns-then-not-sees
-later_end-returns-then-not-sees t c = opt_out K (kind (Special symbols.DoublePeriod) ∷ []) refl refl
+later_end-returns-then-not-sees t c = opt_out K (kind (Symbol symbols.DoublePeriod) ∷ []) refl refl
     (c.if-not-sees.ensures, tt)
 
 pub later_end-returns : goal.later_end-returns
-later_end-returns t c = opt_in K (kind (Special symbols.DoublePeriod)) refl refl
+later_end-returns t c = opt_in K (kind (Symbol symbols.DoublePeriod)) refl refl
     c.if-not-sees.ensures (take K c.symbol.ensures c.expr.ensures)
 
 pub variable_or_call-returns-then-sees : goal.variable_or_call-returns-then-sees
 variable_or_call-returns-then-sees t c = part (made.call_made _ _ _)
     (rule_goes K (here_goes K (chosen K 5 (kind Identifier) refl c.requires
     (then K refl (name_goes K c.name-name.ensures)
-    (opt_in K (kind (Special symbols.LeftParenthesis)) refl refl c.if-sees.ensures
-    (chosen K 0 (kind (Special symbols.LeftParenthesis)) refl c.if-sees.ensures
+    (opt_in K (kind (Symbol symbols.LeftParenthesis)) refl refl c.if-sees.ensures
+    (chosen K 0 (kind (Symbol symbols.LeftParenthesis)) refl c.if-sees.ensures
     c.called-arguments.ensures))))))
 
 pub variable_or_call-returns-then-sees_selector : goal.variable_or_call-returns-then-sees_selector
@@ -191,7 +191,7 @@ pub variable_or_call-returns : goal.variable_or_call-returns
 variable_or_call-returns t c = part (rw c.new-path.ensures (made.variable_of_made _ _ _))
     (rule_goes K (here_goes K (chosen K 5 (kind Identifier) refl c.requires
     (then K refl (name_goes K c.name-name.ensures)
-    (opt_out K (kind (Special symbols.LeftParenthesis) ∷ tokens.selector_tokens) refl refl
+    (opt_out K (kind (Symbol symbols.LeftParenthesis) ∷ tokens.selector_tokens) refl refl
     (c.if-sees.ensures, c.if-sees_selector.ensures))))))
 
 pub called-returns : goal.called-returns
@@ -222,10 +222,10 @@ selectors-returns t c = (all_parts K tokens.selector_tokens refl refl c.loop-rea
 
 pub selector-returns : goal.selector-returns
 selector-returns t c = part (made.field_of_made _)
-    (rule_goes K (first_else K (kind (Special symbols.LeftBracket) ∷ []) refl refl refl refl
+    (rule_goes K (first_else K (kind (Symbol symbols.LeftBracket) ∷ []) refl refl refl refl
     (c.if-sees.ensures, tt) (take K c.symbol.ensures (name_goes K c.name.ensures))))
 
 pub index-returns : goal.index-returns
 index-returns t c = part (made.index_made _ _)
-    (rule_goes K (chosen K 1 (kind (Special symbols.LeftBracket)) refl c.requires
+    (rule_goes K (chosen K 1 (kind (Symbol symbols.LeftBracket)) refl c.requires
     (here_goes K c.subscripts-exprs.ensures)))

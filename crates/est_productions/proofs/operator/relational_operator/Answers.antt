@@ -1,30 +1,30 @@
 use Rattle.std.proofs.Common.{refl, [], ◌∷◌}
 use Rattle.est_lexer.specs.declared.kind.ReservedWord.TheVariants as words
 use Rattle.est_lexer.specs.declared.kind.Symbol.TheVariants as symbols
-use Rattle.est_lexer.specs.declared.kind.TokenKind.TheVariants.{Reserved, Symbol as Special}
+use Rattle.est_lexer.specs.declared.kind.TokenKind.TheVariants.{Reserved, Symbol}
 use Rattle.est_reader.specs.Tests.{kind}
 use Rattle.est_reader.proofs.Going.{last, chosen, first_else}
 use Rattle.est_productions.proofs.Fits.{K}
 use Rattle.est_productions.proofs.operator.relational_operator.Goals as goal
 
 pub returns-then-sees : goal.returns-then-sees
-returns-then-sees c = chosen K 1 (kind (Special symbols.Unequal)) refl c.if-sees.ensures
+returns-then-sees c = chosen K 1 (kind (Symbol symbols.Unequal)) refl c.if-sees.ensures
     (last K c.symbol.ensures)
 
 pub returns-then-sees-2 : goal.returns-then-sees-2
-returns-then-sees-2 c = chosen K 2 (kind (Special symbols.Below)) refl c.if-sees-2.ensures
+returns-then-sees-2 c = chosen K 2 (kind (Symbol symbols.Below)) refl c.if-sees-2.ensures
     (last K c.symbol-then-sees-2.ensures)
 
 pub returns-then-sees-3 : goal.returns-then-sees-3
-returns-then-sees-3 c = chosen K 3 (kind (Special symbols.AtMost)) refl c.if-sees-3.ensures
+returns-then-sees-3 c = chosen K 3 (kind (Symbol symbols.AtMost)) refl c.if-sees-3.ensures
     (last K c.symbol-then-sees-3.ensures)
 
 pub returns-then-sees-4 : goal.returns-then-sees-4
-returns-then-sees-4 c = chosen K 4 (kind (Special symbols.Above)) refl c.if-sees-4.ensures
+returns-then-sees-4 c = chosen K 4 (kind (Symbol symbols.Above)) refl c.if-sees-4.ensures
     (last K c.symbol-then-sees-4.ensures)
 
 pub returns-then-sees-5 : goal.returns-then-sees-5
-returns-then-sees-5 c = chosen K 5 (kind (Special symbols.AtLeast)) refl c.if-sees-5.ensures
+returns-then-sees-5 c = chosen K 5 (kind (Symbol symbols.AtLeast)) refl c.if-sees-5.ensures
     (last K c.symbol-then-sees-5.ensures)
 
 pub returns-then-sees-6 : goal.returns-then-sees-6
@@ -32,8 +32,8 @@ returns-then-sees-6 c = chosen K 6 (kind (Reserved words.In)) refl c.if-sees-6.e
     (last K c.word.ensures)
 
 pub returns : goal.returns
-returns c = first_else K (kind (Special symbols.Unequal) ∷ kind (Special symbols.Below) ∷ kind
-    (Special symbols.AtMost) ∷ kind (Special symbols.Above) ∷ kind (Special symbols.AtLeast) ∷ kind
+returns c = first_else K (kind (Symbol symbols.Unequal) ∷ kind (Symbol symbols.Below) ∷ kind
+    (Symbol symbols.AtMost) ∷ kind (Symbol symbols.Above) ∷ kind (Symbol symbols.AtLeast) ∷ kind
     (Reserved words.In) ∷ []) refl refl refl refl (
       c.if-sees.ensures,
       (

@@ -3,7 +3,7 @@ use Rattle.std.proofs.lemmas.List.{map-append}
 use Rattle.est_lexer.specs.declared.kind.ReservedWord.TheVariants as words
 use Rattle.est_lexer.specs.declared.kind.Symbol.TheVariants as symbols
 use Rattle.est_lexer.specs.declared.kind.TokenKind.TheVariants.{Identifier, Reserved}
-use Rattle.est_lexer.specs.declared.kind.TokenKind.TheVariants.{Symbol as Special}
+use Rattle.est_lexer.specs.declared.kind.TokenKind.TheVariants.{Symbol}
 use Rattle.est_language.specs.Shown.{empty}
 use Rattle.est_reader.specs.Tests.{kind}
 use Rattle.est_reader.proofs.Going.{take, then, last, rule_goes, here_goes, part}
@@ -20,7 +20,7 @@ use Rattle.est_productions.proofs.type_text.+type_text.Goals as goal
 pub typetext-returns : goal.typetext-returns
 typetext-returns t c =
     part refl (rule_goes K (goes_as (made.short_type_text _)
-    (first_else K (kind (Special symbols.LeftParenthesis) ∷ tokens.structure_words) refl refl refl
+    (first_else K (kind (Symbol symbols.LeftParenthesis) ∷ tokens.structure_words) refl refl refl
     refl (c.if-sees.ensures, c.if-begins_structure.ensures) c.shorttype.ensures)))
 
 pub structured-returns : goal.structured-returns
@@ -66,7 +66,7 @@ typetexts-loop-reader-init t c = one_part K refl c.typetext-first.ensures c.keep
     (λ w. rw (c.keep.ensures.added w, c.new-items.ensures) refl)
 
 pub typetexts-loop-reader-preserved : goal.typetexts-loop-reader-preserved
-typetexts-loop-reader-preserved t c = more_parts K _ (kind (Special symbols.Comma)) refl refl refl
+typetexts-loop-reader-preserved t c = more_parts K _ (kind (Symbol symbols.Comma)) refl refl refl
     c.loop-reader-test.ensures c.loop-reader.invariant
     (take K c.symbol.ensures c.typetext-next.ensures) c.keep-in-loop-reader.ensures.still
     (λ w. rw (c.keep-in-loop-reader.ensures.added w, map-append) refl)
@@ -76,7 +76,7 @@ typetexts-loop-reader-smaller t c = lessens K refl c.loop-reader-test.ensures
     (take K c.symbol.ensures c.typetext-next.ensures) c.keep-in-loop-reader.ensures.still
 
 pub typetexts-returns : goal.typetexts-returns
-typetexts-returns t c = (all_parts K (kind (Special symbols.Comma) ∷ []) refl refl
+typetexts-returns t c = (all_parts K (kind (Symbol symbols.Comma) ∷ []) refl refl
     (c.loop-reader-test.ensures, tt) c.loop-reader.invariant)
 
 pub recordtype-returns : goal.recordtype-returns
@@ -93,7 +93,7 @@ fields-loop-reader-init t c = one_part K refl c.field-first.ensures c.keep.ensur
     (λ w. rw (c.keep.ensures.added w, c.new-items.ensures) refl)
 
 pub fields-loop-reader-preserved : goal.fields-loop-reader-preserved
-fields-loop-reader-preserved t c = more_ended K _ (kind (Special symbols.Semicolon))
+fields-loop-reader-preserved t c = more_ended K _ (kind (Symbol symbols.Semicolon))
     (kind Identifier) refl refl refl c.loop-reader-test.ensures c.loop-reader.invariant
     c.symbol.ensures c.if-not-sees.ensures c.field-next.ensures c.keep-in-loop-reader.ensures.still
     (λ w. rw (c.keep-in-loop-reader.ensures.added w, map-append) refl)

@@ -1,6 +1,6 @@
 use Rattle.std.proofs.Common.{◌+◌, ◌*◌, map}
 use Rattle.est_lexer.specs.declared.kind.Symbol.TheVariants as symbols
-use Rattle.est_lexer.specs.declared.kind.TokenKind.TheVariants.{Symbol as Special}
+use Rattle.est_lexer.specs.declared.kind.TokenKind.TheVariants.{Symbol}
 use Rattle.est_language.specs.Grammar.{rule, rep, ended}
 use Rattle.est_reader.specs.Tests.{kind}
 use Rattle.est_reader.specs.Moving.{weight}
@@ -20,7 +20,7 @@ abbrev pub decreases-typetexts-loop-reader : goal.decreases-typetexts-loop-reade
 decreases-typetexts-loop-reader l = left_of l.reader
 
 abbrev pub invariant-fields-loop-reader : goal.invariant-fields-loop-reader
-invariant-fields-loop-reader l = Turning K grammar.fields (ended (kind (Special symbols.Semicolon))
+invariant-fields-loop-reader l = Turning K grammar.fields (ended (kind (Symbol symbols.Semicolon))
     grammar.field) l.fn.reader (Each K (map node.a_field l.items)) l.reader
 
 abbrev pub decreases-fields-loop-reader : goal.decreases-fields-loop-reader

@@ -1,6 +1,6 @@
 use Rattle.std.proofs.Common.{refl}
 use Rattle.est_lexer.specs.declared.kind.Symbol.TheVariants as symbols
-use Rattle.est_lexer.specs.declared.kind.TokenKind.TheVariants.{Symbol as Special}
+use Rattle.est_lexer.specs.declared.kind.TokenKind.TheVariants.{Symbol}
 use Rattle.est_reader.specs.Tests.{kind}
 use Rattle.est_reader.proofs.Going.{take, then, last, rule_goes, here_goes, part, chosen}
 use Rattle.est_productions.proofs.Fits.{K}
@@ -9,6 +9,6 @@ use Rattle.est_productions.proofs.type_text.enumeration.Goals as goal
 
 pub returns : goal.returns
 returns c = part (made.names_made _ _)
-    (rule_goes K (chosen K 1 (kind (Special symbols.LeftParenthesis)) refl c.requires
+    (rule_goes K (chosen K 1 (kind (Symbol symbols.LeftParenthesis)) refl c.requires
     (here_goes K (take K c.symbol.ensures (then K refl c.idents-names.ensures
     (last K c.symbol-2.ensures))))))

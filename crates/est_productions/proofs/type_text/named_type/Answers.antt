@@ -1,6 +1,6 @@
 use Rattle.std.proofs.Common.{refl, sym, [], ◌∷◌}
 use Rattle.est_lexer.specs.declared.kind.Symbol.TheVariants as symbols
-use Rattle.est_lexer.specs.declared.kind.TokenKind.TheVariants.{Identifier, Symbol as Special}
+use Rattle.est_lexer.specs.declared.kind.TokenKind.TheVariants.{Identifier, Symbol}
 use Rattle.est_reader.specs.Tests.{kind}
 use Rattle.est_reader.proofs.Going.{take, then, rule_goes, here_goes, opt_in, opt_out, chosen}
 use Rattle.est_reader.proofs.Single.{name_goes}
@@ -13,11 +13,11 @@ pub returns-then-not-sees : goal.returns-then-not-sees
 returns-then-not-sees c = goes_is (made.named_at c.name-name.ensures)
     (rule_goes K (chosen K 1 (kind Identifier) refl c.requires
     (here_goes K (then K refl (name_goes K c.name-name.ensures)
-    (opt_out K (kind (Special symbols.DoublePeriod) ∷ []) refl refl (c.if-not-sees.ensures, tt))))))
+    (opt_out K (kind (Symbol symbols.DoublePeriod) ∷ []) refl refl (c.if-not-sees.ensures, tt))))))
 
 pub returns : goal.returns
 returns c = goes_is (sym (made.range_made _ _))
     (rule_goes K (chosen K 1 (kind Identifier) refl c.requires
     (here_goes K (then K refl (name_goes K c.name-name.ensures)
-    (opt_in K (kind (Special symbols.DoublePeriod)) refl refl c.if-not-sees.ensures
+    (opt_in K (kind (Symbol symbols.DoublePeriod)) refl refl c.if-not-sees.ensures
     (take K c.symbol.ensures c.constant-high.ensures))))))
