@@ -4,7 +4,7 @@ letter, so that a byte of text makes as much of a tree as it can."""
 HEAD = "specification L;"
 TAIL = "initialize begin init a with b end;end."
 
-# What stands before and behind the parts of a body, its statements, and an expression.
+# What stands before and after the parts of a body, its statements, and an expression.
 PARTS = HEAD + "body b for m;", "end;" + TAIL
 STATEMENTS = HEAD + "body b for m;initialize begin ", "end;end;" + TAIL
 EXPRESSION = STATEMENTS[0] + "a:=", " " + STATEMENTS[1]
@@ -14,13 +14,13 @@ CALL = STATEMENTS[0] + "a(", ")" + STATEMENTS[1]
 LEVELS = 31
 
 
-def within(around, before, behind):
+def within(around, before, after):
     """The same, with more within."""
-    return around[0] + before, behind + around[1]
+    return around[0] + before, after + around[1]
 
 
-def nested(levels, before, inner, behind):
-    return before * levels + inner + behind * levels
+def nested(levels, before, inner, after):
+    return before * levels + inner + after * levels
 
 
 def chain(levels):
@@ -106,6 +106,6 @@ def named(number):
 
 def construct(size, number):
     """A text of at most `size` bytes, in which the construct with this number is repeated."""
-    (before, behind), repeated, *last = CONSTRUCTS[named(number)]
-    behind = "".join(last) + behind
-    return before + repeated * ((size - len(before) - len(behind)) // len(repeated)) + behind
+    (before, after), repeated, *last = CONSTRUCTS[named(number)]
+    after = "".join(last) + after
+    return before + repeated * ((size - len(before) - len(after)) // len(repeated)) + after

@@ -107,16 +107,16 @@ def named(number):
 
 def declarations(size, number):
     """The text of at most this size."""
-    of, behind = DECLARATIONS[named(number)]
+    of, after = DECLARATIONS[named(number)]
     front = "module m activity;end;" if of is variables else ""
-    parts, length = [], size - len(HEAD + front + TAIL) - len(behind or "end;" * BODIES)
+    parts, length = [], size - len(HEAD + front + TAIL) - len(after or "end;" * BODIES)
     left, open_bodies = length, 0
     for part in of():
         if len(part) > left:
             break
         parts.append(part)
         left -= len(part)
-        if behind is None:
+        if after is None:
             open_bodies += part.count("body ") - part.count("end;" * BODIES) * BODIES
-    closing = "end;" * open_bodies if behind is None else behind
+    closing = "end;" * open_bodies if after is None else after
     return HEAD + front + "".join(parts) + closing + TAIL

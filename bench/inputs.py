@@ -74,7 +74,7 @@ def explanation(size, seed):
 
 
 def dense_explanation(size):
-    """A text of `size` bytes, each of them behind the head a token of its own, and the first one a bad one."""
+    """A text of `size` bytes, each of them after the head a token of its own, and the first one a bad one."""
     head = "explanation 1\n"
     return head + ";" * (size - len(head))
 
@@ -141,7 +141,7 @@ def silent_trace(moves):
 
 
 def silent_moves(moves):
-    """So many moves: behind each take 20 silent firings."""
+    """So many moves: after each take 20 silent firings."""
     takes = moves // 21
     return "explanation 1\n" + ("take\n" + "fire 1 2 1\n" * 20) * takes + f"yields {takes + 1}\n"
 

@@ -79,11 +79,11 @@ class Blocks(Expressions):
         return not self.is_in_function or declared.region is self.inside
 
     def target_of_module(self, name, module, path):
-        behind = self.behind_subscripts(name, module, path)
+        after = self.after_subscripts(name, module, path)
         if self.is_in_function or not any(form == "field" for form, _ in path):
             self.broken(name, 10)
             return None
-        return self.exported(name, module, behind) if behind else None
+        return self.exported(name, module, after) if after else None
 
     def do_for(self, first, name, low, high, turn):
         kind = self.target(name, [])

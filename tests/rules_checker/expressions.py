@@ -232,7 +232,7 @@ class Expressions(Declarations):
 
     def of_module(self, name, module, path):
         """The kind of an exported variable."""
-        path = self.behind_subscripts(name, module, path)
+        path = self.after_subscripts(name, module, path)
         if path is None:
             return None
         if not path:
@@ -240,8 +240,8 @@ class Expressions(Declarations):
             return None
         return self.exported(name, module, path)
 
-    def behind_subscripts(self, name, module, path):
-        """What stands behind the subscripts of a module variable, where these are right."""
+    def after_subscripts(self, name, module, path):
+        """What stands after the subscripts of a module variable, where these are right."""
         count = next((at for at, (form, _) in enumerate(path) if form != "index"), len(path))
         given = path[0][1] if count else []
         if count > 1 or len(given) != len(module.dims):

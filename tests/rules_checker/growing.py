@@ -62,9 +62,9 @@ class Growth:
         for _ in range(self.draw.choice([1, 2, 3])):
             checker = read(self.text_with(part))
             phrases = self.phrases(checker.scopes[-2 if part.startswith("body") else -1], checker)
-            before, _, behind = part.rpartition(" end ;")
+            before, _, after = part.rpartition(" end ;")
             gap = " ; " if not before.endswith("begin") else " "
-            fuller = f"{before}{gap}{phrases.statement()} end ;{behind}"
+            fuller = f"{before}{gap}{phrases.statement()} end ;{after}"
             count = self.count_of(self.text_with(fuller))
             if count <= self.broken or count < 1000 and self.often(self.chance):
                 part = fuller
@@ -342,7 +342,7 @@ def replaced(draw, maker, tokens):
 
 
 def touched(draw, tokens, others):
-    """The tokens with one of them replaced by one like it, or with a few more behind it."""
+    """The tokens with one of them replaced by one like it, or with a few more after it."""
     if draw.random() < 0.25:
         at = draw.randrange(1, len(tokens)) if len(tokens) > 1 else 0
         more = draw.choice(
