@@ -2,8 +2,8 @@
 #![tactic(auto)]
 
 mod number;
-pub mod outcome;
-pub mod reader;
+mod outcome;
+mod reader;
 mod spelling;
 
 pub use outcome::Outcome;
