@@ -12,14 +12,14 @@ use est_syntax::expression::Access;
 use est_syntax::name::{Name, Used, UsedNames};
 use est_syntax::transition::{Clause, Transition};
 
-/// Whether one of these uses the name.
+// Whether one of these uses the name.
 fn any_uses(used: &[Used], name: &Name) -> bool
     ensures { result ≡ list_any (uses_name name.now) used.now }
 {
     used.iter().any(|one| same_name(name, &one.name))
 }
 
-/// Whether a state is one of these.
+// Whether a state is one of these.
 fn is_among(states: &UsedNames, state: &Option<Name>) -> bool
     ensures { result ≡ fits_state (Some states.now) state.now }
 {

@@ -29,7 +29,7 @@ pub enum Undo {
     },
 }
 
-/// Puts an item back where it stood.
+// Puts an item back where it stood.
 fn put_back(waiting: &mut VecDeque<Waiting>, taken: Option<Taken>)
     requires { HasPlace (deque_capacity waiting.old) taken waiting.old.items }
     ensures items { waiting.new.items ≡ put_back taken waiting.old.items }

@@ -132,8 +132,8 @@ impl<'c> World for PlainWorld<'c> {
     }
 }
 
-/// How the text queues what comes through the external interaction points of a root, for which
-/// this is the header.
+// How the text queues what comes through the external interaction points of a root, for which
+// this is the header.
 fn queues_for(
     alloc: Global,
     spec: &Spec,
@@ -150,7 +150,7 @@ fn queues_for(
 }
 
 impl<'c> PlainWorld<'c> {
-    /// The world after the initialize part of a root, of whose statements so many are left.
+    // The world after the initialize part of a root, of whose statements so many are left.
     fn begin(
         alloc: Global,
         spec: &'c Spec,
@@ -212,8 +212,8 @@ impl<'c> PlainWorld<'c> {
         )
     }
 
-    /// The world after the start of a specification with these ports, which starts this body of
-    /// this header.
+    // The world after the start of a specification with these ports, which starts this body of
+    // this header.
     fn of_spec(
         alloc: Global,
         spec: &'c Spec,
