@@ -18,6 +18,7 @@ use crate::mistake::Mistake;
 use crate::suite::Suite;
 use crate::tally::Tally;
 use est_edge::{FileShelf, OutSink, Shelf, Sink, read_whole, write_whole};
+use est_tool::file::File;
 use std::alloc::Global;
 use std::process::ExitCode;
 use std::str;
@@ -41,8 +42,6 @@ const FILES: [&str; 16] = [
     "replays.cases",
     "faults.cases",
 ];
-
-const MOST_BYTES: u32 = 1_048_576;
 
 fn main(rt: HostRuntime) -> ExitCode {
     let mut files = FileShelf::new(&rt);
@@ -99,14 +98,14 @@ fn run_and_tell<S: Shelf, K: Sink>(
     Ok(tally)
 }
 
-// Runs one file of cases.
+// Runs one file of cases, which is no longer than a specification may be.
 fn run_file<S: Shelf>(
     alloc: Global,
     file: &str,
     suite: &mut Suite,
     files: &mut S,
 ) -> Result<Tally, Mistake> {
-    match read_whole(alloc, files, file, MOST_BYTES) {
+    match read_whole(alloc, files, file, File::Specification.limit()) {
         Ok(bytes) => match str::from_utf8(bytes.as_slice()) {
             Ok(lines) => suite.run_file(file, lines, files),
             Err(_) => Err(Mistake::NotUtf8),

@@ -8,7 +8,7 @@ ghost use Rattle.est_meaning.specs.Blocks.{Done};
 ghost use Rattle.est_meaning.specs.Run.{Setup, IsPrefix};
 ghost use Rattle.est_meaning.specs.Stack.{Keeps};
 ghost use Rattle.est_meaning.specs.Step.{start_of};
-ghost use Rattle.est_replay.specs.Replay.{IsAnswer, setup_of};
+ghost use Rattle.est_replay.specs.Replay.{IsAnswer, most_moves, setup_of};
 ghost use Rattle.est_replay.specs.Standing.{IsSetup, IsReady, HasMoved, HasLanded};
 ghost use Rattle.est_replay.specs.Standing.{IsMet, IsEnding, asked_of, place_of};
 
@@ -243,7 +243,7 @@ fn is_met(claim: u32, trace_len: usize, events: usize) -> bool
 // What is answered after the last move, with so many events.
 fn end(replaying: &Replaying<'_>, events: usize) -> Replayed
     requires short { length replaying.now.trace.now ≤ most_events }
-    requires few { length replaying.now.moves.now < 2 ^ 32 - 1 }
+    requires few { length replaying.now.moves.now ≤ most_moves }
     ensures { IsEnding replaying.now.claim (length replaying.now.trace.now)
         (length replaying.now.moves.now) events result }
 {
@@ -268,7 +268,7 @@ fn replay_moves<W: World>(
 ) -> Result<Replayed, AllocError>
     ghost setup: { Spec → Setup }
     requires room { W.fired world.old ≤ 2 ^ 63 }
-    requires few { length replaying.now.moves.now < 2 ^ 32 - 1 }
+    requires few { length replaying.now.moves.now ≤ most_moves }
     requires short { length replaying.now.trace.now ≤ most_events }
     requires start { (spec : Spec) → W.speaks world.old spec
         → IsSetup (setup spec) spec (W.limit world.old) replaying.now.silent replaying.now.trace.now
@@ -328,7 +328,7 @@ pub fn replay_in<W: World>(
     requires room { W.fired world.old ≤ 2 ^ 63 }
     requires allowed { (spec : Spec) → W.speaks world.old spec
         → IsAllowedTrace spec replaying.now.trace.now }
-    requires few { length replaying.now.moves.now < 2 ^ 32 - 1 }
+    requires few { length replaying.now.moves.now ≤ most_moves }
     ensures keeps { Keeps W.speaks W.limit world.old world.new }
     ensures fired { W.fired world.new ≤ W.fired world.old + length replaying.now.moves.now }
     ensures answer { IfOk result

@@ -1,6 +1,7 @@
 //! The commands.
-ghost use Rattle.std.specs.Prelude.{◌-◌, ◌<◌, ◌^◌, [], ◌∷◌, length};
+ghost use Rattle.std.specs.Prelude.{◌≤◌, [], ◌∷◌, length};
 ghost use Rattle.est_meaning.specs.Allowed.{IsAllowedTrace};
+ghost use Rattle.est_replay.specs.Replay.{most_moves};
 ghost use Rattle.est_tool.specs.declared.file.File.TheVariants.{Specification as Specifying};
 ghost use Rattle.est_tool.specs.declared.file.File.TheVariants.{Trace as Tracing};
 ghost use Rattle.est_tool.specs.Seen.{seen, shelved};
@@ -147,7 +148,7 @@ fn judged(
     limits: &Limits,
 ) -> Result<Report, Stop>
     requires allowed { IsAllowedTrace checked.now trace.now }
-    requires few { length explanation.now.moves < 2 ^ 32 - 1 }
+    requires few { length explanation.now.moves ≤ most_moves }
     ensures { Gives (IsAnswered limits.now.silent limits.now.statements
         checked.now trace.now explanation.now) result }
 {
