@@ -6,12 +6,12 @@ ghost use Rattle.std.specs.List.{position};
 ghost use Rattle.std.specs.VecDeque.{deque_capacity};
 ghost use Rattle.est_meaning.specs.Text.{to_of, when_of};
 ghost use Rattle.est_meaning.specs.Blocks.{is_signal};
-ghost use Rattle.est_plain.specs.PlainSituation.{held, HasFew, is_port, leaving, sent_in};
-ghost use Rattle.est_plain.specs.PlainSituation.{entered_in, block_in, EndsAs};
-ghost use Rattle.est_plain.specs.PlainSituation.{arrived_in, is_enabled_in, head_matches};
-ghost use Rattle.est_plain.specs.PlainSituation.{taken_in, next_in, arrival_in, FirstIs};
-ghost use Rattle.est_plain.specs.PlainSituation.{ListsFirst, choice_in, referred};
-ghost use Rattle.est_plain.specs.Undo.{put_back, HasPlace};
+ghost use Rattle.est_plain.specs.inside.PlainSituation.{held, HasFew, is_port, leaving, sent_in};
+ghost use Rattle.est_plain.specs.inside.PlainSituation.{entered_in, block_in, EndsAs};
+ghost use Rattle.est_plain.specs.inside.PlainSituation.{arrived_in, is_enabled_in, head_matches};
+ghost use Rattle.est_plain.specs.inside.PlainSituation.{taken_in, next_in, arrival_in, FirstIs};
+ghost use Rattle.est_plain.specs.inside.PlainSituation.{ListsFirst, choice_in, referred};
+ghost use Rattle.est_plain.specs.inside.Undo.{put_back, HasPlace};
 
 use crate::clauses::{awaited, fits_state, next_state};
 use crate::queue::{head, take_head};

@@ -5,7 +5,7 @@ ghost use Rattle.std.specs.List.{list_any};
 ghost use Rattle.std.specs.Option.{option_copied, option_map};
 ghost use Rattle.est_meaning.specs.Text.{uses_name, from_of, to_of, when_of};
 ghost use Rattle.est_meaning.specs.Choices.{fits_state};
-ghost use Rattle.est_plain.specs.PlainSituation.{awaited_by};
+ghost use Rattle.est_plain.specs.inside.PlainSituation.{awaited_by};
 
 use crate::text::same_name;
 use est_syntax::expression::Access;

@@ -3,7 +3,7 @@
 ghost use Rattle.std.specs.Prelude.{◌≡◌, ◌∷◌, ◌++◌, map, IfOk, OnOk};
 ghost use Rattle.est_syntax.specs.declared.transition.Group.{out-Group};
 ghost use Rattle.est_meaning.specs.Text.{declared_in, points_of, discipline, transitions_of};
-ghost use Rattle.est_plain.specs.PlainSituation.{queue_for, is_common, referred};
+ghost use Rattle.est_plain.specs.inside.PlainSituation.{queue_for, is_common, referred};
 
 use crate::situation::PointQueue;
 use est_syntax::body::Body;

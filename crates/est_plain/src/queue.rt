@@ -5,9 +5,9 @@ ghost use Rattle.std.specs.List.{position};
 ghost use Rattle.std.specs.Option.{option_copied};
 ghost use Rattle.std.specs.VecDeque.{deque_capacity};
 ghost use Rattle.est_meaning.specs.Situation.{is_queue};
-ghost use Rattle.est_plain.specs.PlainSituation.{has_name, shares, queue_named};
-ghost use Rattle.est_plain.specs.PlainSituation.{waits_in, without_first};
-ghost use Rattle.est_plain.specs.Undo.{put_back, HasPlace};
+ghost use Rattle.est_plain.specs.inside.PlainSituation.{has_name, shares, queue_named};
+ghost use Rattle.est_plain.specs.inside.PlainSituation.{waits_in, without_first};
+ghost use Rattle.est_plain.specs.inside.Undo.{put_back, HasPlace};
 
 use crate::situation::{PointQueue, Waiting};
 use crate::text::same_name;

@@ -7,7 +7,7 @@ ghost use Rattle.est_skeleton.specs.Skeleton.{IsSkeleton};
 ghost use Rattle.est_skeleton.specs.Small.{IsSmall};
 ghost use Rattle.est_meaning.specs.Text.{root_of, transitions_of};
 ghost use Rattle.est_meaning.specs.Stack.{StartedAs};
-ghost use Rattle.est_plain.specs.PlainSituation.{queues_for, referred, HasFew};
+ghost use Rattle.est_plain.specs.inside.PlainSituation.{queues_for, referred, HasFew};
 
 use crate::block::{arrival, choice, list_enabled, run_block, run_first};
 use crate::history::History;
@@ -45,7 +45,7 @@ pub struct PlainWorld<'c> {
 
 impl<'c> World for PlainWorld<'c> {
     ghost use Rattle.std.specs.Prelude.{◌≡◌, refl};
-    ghost use Rattle.est_plain.specs.Trail.{trail, stack_of};
+    ghost use Rattle.est_plain.specs.inside.Trail.{trail, stack_of};
 
     ghost speaks = { λ w spec. w.spec.now ≡ spec };
 

@@ -5,12 +5,12 @@ ghost use Rattle.est_syntax.specs.declared.specification.Spec.{Spec};
 ghost use Rattle.est_syntax.specs.Least.{IsIn};
 ghost use Rattle.est_meaning.specs.Allowed.{IsAllowedTrace, most_events};
 ghost use Rattle.est_meaning.specs.Blocks.{Done};
-ghost use Rattle.est_meaning.specs.Run.{Setup, IsPrefix};
+ghost use Rattle.est_meaning.specs.Run.{AgreeFirst, Setup};
 ghost use Rattle.est_meaning.specs.Stack.{Keeps};
 ghost use Rattle.est_meaning.specs.Step.{start_of};
 ghost use Rattle.est_replay.specs.Replay.{IsAnswer, most_moves, setup_of};
-ghost use Rattle.est_replay.specs.Standing.{IsSetup, IsReady, HasMoved, HasLanded};
-ghost use Rattle.est_replay.specs.Standing.{IsMet, IsEnding, asked_of, place_of};
+ghost use Rattle.est_replay.specs.inside.Standing.{IsSetup, IsReady, HasMoved, HasLanded};
+ghost use Rattle.est_replay.specs.inside.Standing.{IsMet, IsEnding, asked_of, place_of};
 
 use crate::verdict::{Replayed, Why};
 use est_meaning::event::Event;
@@ -53,7 +53,7 @@ enum Moved {
 
 // Whether a trace begins with these events.
 fn begins_with(trace: &[Event], events: &[Event]) -> bool
-    ensures { IsTrue result ↔ IsPrefix events.now trace.now }
+    ensures { IsTrue result ↔ AgreeFirst trace.now events.now }
 {
     if events.len() > trace.len() {
         return false;
@@ -69,7 +69,8 @@ fn begins_with(trace: &[Event], events: &[Event]) -> bool
 // Whether the events up to a number of them agree with the trace, of which the first do.
 fn agree(trace: &[Event], so_far: usize, outs: &[Event], asked: usize) -> bool
     requires { so_far ≤ length trace.now }
-    ensures { IsTrue result ↔ IsPrefix (take asked (take so_far trace.now ++ outs.now)) trace.now }
+    ensures { IsTrue result
+        ↔ AgreeFirst trace.now (take asked (take so_far trace.now ++ outs.now)) }
 {
     let compared = outs.len().min(asked.saturating_sub(so_far));
     begins_with(&trace[so_far..], &outs[..compared])

@@ -5,10 +5,10 @@ ghost use Rattle.est_replay.specs.Replay.{most_moves};
 ghost use Rattle.est_tool.specs.declared.file.File.TheVariants.{Specification as Specifying};
 ghost use Rattle.est_tool.specs.declared.file.File.TheVariants.{Trace as Tracing};
 ghost use Rattle.est_tool.specs.Seen.{seen, shelved};
-ghost use Rattle.est_tool.specs.FileTexts.{Holds, OfSkeleton, OfTrace};
+ghost use Rattle.est_tool.specs.FileTexts.{Holds, OfTrace};
 ghost use Rattle.est_tool.specs.Requests.{check, replay};
 ghost use Rattle.est_tool.specs.inside.Work.{IsWork, Gives, IsCounted, IsUnbuilt};
-ghost use Rattle.est_tool.specs.inside.Work.{IsAnswered};
+ghost use Rattle.est_tool.specs.inside.Work.{IsAnswered, OfSkeleton};
 
 use crate::explanation::explanation_in;
 use crate::report::{Report, line_report, ok_report, replay_report, replay_status};

@@ -28,8 +28,8 @@ use Rattle.est_trace.specs.declared.direction.Direction.TheVariants.{In, Out}
 use Rattle.est_trace.specs.TraceGrammar.{Rule, passes, some_pass, signal, port, event, trace}
 use Rattle.est_trace.specs.TraceNodes.{View, numbered, values_view, layer}
 use Rattle.est_trace.specs.TraceNodes.{an_interaction, an_event, some_events, a_trace}
-use Rattle.est_trace.specs.Skeletons.{ArePlain}
-use Rattle.est_trace.specs.AtPorts.{IsAtPort, IsAtPorts, AreAtPorts}
+use Rattle.est_trace.specs.inside.Skeletons.{ArePlain}
+use Rattle.est_trace.specs.inside.AtPorts.{IsAtPort, IsAtPorts, AreAtPorts}
 use Rattle.est_trace.specs.TraceText.{traces, IsTraceOfAtMost}
 
 -- ONE TRACE SHOWS A SHAPE

@@ -3,8 +3,8 @@
 ghost use Rattle.std.specs.Prelude.{◌≡◌, true, map, slice_get, Some};
 ghost use Rattle.std.specs.Prelude.{IfOk, IfSome, is_some, bytes_eq};
 ghost use Rattle.est_trace.specs.TraceGrammar.{passes as does_pass, some_pass as some_do_pass};
-ghost use Rattle.est_trace.specs.Directories.{signal_name};
-ghost use Rattle.est_trace.specs.Tables.{IsNumberOf};
+ghost use Rattle.est_trace.specs.inside.Directories.{signal_name};
+ghost use Rattle.est_trace.specs.inside.Tables.{IsNumberOf};
 
 use crate::direction::Direction;
 use est_syntax::ports::Signal;

@@ -8,8 +8,8 @@ ghost use Rattle.est_reader.specs.Going.{Goes};
 ghost use Rattle.est_trace.specs.TraceGrammar.{signal as a_signal, port as a_port};
 ghost use Rattle.est_trace.specs.TraceNodes.{an_interaction, tracing};
 ghost use Rattle.est_skeleton.specs.Differing.{HaveDifferentNames};
-ghost use Rattle.est_trace.specs.Directories.{signal_name, IsDirectory};
-ghost use Rattle.est_trace.specs.Lookups.{Chooses};
+ghost use Rattle.est_trace.specs.inside.Directories.{signal_name, IsDirectory};
+ghost use Rattle.est_trace.specs.inside.Lookups.{Chooses};
 
 use crate::direction::Direction;
 use crate::hints::Hints;

@@ -5,9 +5,9 @@ ghost use Rattle.est_reader.specs.Moving.{Still};
 ghost use Rattle.est_skeleton.specs.Small.{most_parts};
 ghost use Rattle.est_trace.specs.TraceGrammar.{signal as a_signal, port as a_port};
 ghost use Rattle.est_skeleton.specs.Differing.{HaveDifferentNames};
-ghost use Rattle.est_trace.specs.Skeletons.{ArePlain};
-ghost use Rattle.est_trace.specs.Directories.{signal_name, IsDirectory};
-ghost use Rattle.est_trace.specs.Lookups.{Finds, signals_of};
+ghost use Rattle.est_trace.specs.inside.Skeletons.{ArePlain};
+ghost use Rattle.est_trace.specs.inside.Directories.{signal_name, IsDirectory};
+ghost use Rattle.est_trace.specs.inside.Lookups.{Finds, signals_of};
 
 use crate::direction::Direction;
 use crate::hints::{Hints, passes};

@@ -10,10 +10,10 @@ ghost use Rattle.est_reader.specs.Moving.{SeesOne};
 ghost use Rattle.est_reader.specs.Going.{Goes};
 ghost use Rattle.est_trace.specs.TraceGrammar as grammar;
 ghost use Rattle.est_trace.specs.TraceNodes.{an_event, some_events, a_trace, tracing};
-ghost use Rattle.est_trace.specs.Skeletons.{ArePlain};
-ghost use Rattle.est_trace.specs.Directories.{IsDirectory};
-ghost use Rattle.est_trace.specs.AtPorts.{AreAtPorts};
-ghost use Rattle.est_trace.specs.Counting.{CountsEvents, CountsTrace};
+ghost use Rattle.est_trace.specs.inside.Skeletons.{ArePlain};
+ghost use Rattle.est_trace.specs.inside.Directories.{IsDirectory};
+ghost use Rattle.est_trace.specs.inside.AtPorts.{AreAtPorts};
+ghost use Rattle.est_trace.specs.inside.Counting.{CountsEvents, CountsTrace};
 ghost use Rattle.est_trace.specs.TraceText.{ReadsTrace};
 
 use crate::direction::Direction;
