@@ -24,7 +24,7 @@ pub enum Command {
     Replay { limits: Limits },
 }
 
-/// The words are none that the program takes.
+/// The words ask for nothing that the program does.
 #[derive(Clone, Copy, PartialEq, Eq)]
 pub struct BadUsage;
 

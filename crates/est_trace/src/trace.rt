@@ -19,7 +19,7 @@ ghost use Rattle.est_trace.specs.TraceText.{ReadsTrace};
 use crate::direction::Direction;
 use crate::error::TraceError;
 use crate::hints::Hints;
-use crate::interaction::interaction;
+use crate::interaction::port_signal;
 use crate::lookup::{Directory, directory_of};
 use est_check::Checked;
 use est_lexer::tokens::Tokens;
@@ -142,11 +142,11 @@ fn event(reader: &mut Reader, directory: &Directory, hints: &mut Hints) -> Event
 {
     if reader.sees_word(b"in") {
         reader.take_word(b"in");
-        return Event::Arrives(interaction(reader, directory, hints, Direction::In));
+        return Event::Arrives(port_signal(reader, directory, hints, Direction::In));
     }
     if reader.sees_word(b"out") {
         reader.take_word(b"out");
-        return Event::Leaves(interaction(reader, directory, hints, Direction::Out));
+        return Event::Leaves(port_signal(reader, directory, hints, Direction::Out));
     }
     reader.take_word(b"time");
     Event::Passes(reader.number(0, MAXINT))
