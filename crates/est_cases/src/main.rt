@@ -43,6 +43,7 @@ const FILES: [&str; 16] = [
     "faults.cases",
 ];
 
+// Runs the cases, and ends with 0 where none fails.
 fn main(rt: HostRuntime) -> ExitCode {
     let mut files = FileShelf::new(&rt);
     let mut out = OutSink::new(&rt);
@@ -114,11 +115,13 @@ fn run_file<S: Shelf>(
     }
 }
 
+// Writes how many cases there were, and how many of them failed.
 fn write_tally<K: Sink>(alloc: Global, of: &str, tally: Tally, out: &mut K) -> Result<(), Mistake> {
     let line = tally.line(alloc, of)?;
     write(out, line.as_bytes())
 }
 
+// Writes all the bytes.
 fn write<K: Sink>(out: &mut K, bytes: &[u8]) -> Result<(), Mistake> {
     write_whole(out, bytes).map_err(|_| Mistake::Unwritable)
 }

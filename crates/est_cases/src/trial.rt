@@ -176,7 +176,7 @@ impl Trial<'_, '_> {
         Ok(())
     }
 
-    // Puts the specification there; where a part is replaced, the changed text takes its place.
+    // Puts the specification there, or the one that takes its place where a part is replaced.
     fn put_specification(&self, shelf: &mut MemShelf, cell: &str) -> Result<(), Mistake> {
         let text = self.expanded(cell)?;
         shelf.add("a.est", text.as_slice())?;
@@ -186,6 +186,7 @@ impl Trial<'_, '_> {
         }
     }
 
+    // Puts the specification there with one part of it replaced.
     fn replace_part(&self, shelf: &mut MemShelf, text: &[u8], old: &str) -> Result<(), Mistake> {
         let old = self.expanded(old)?;
         let new = self.expanded(self.cells.new.unwrap_or(""))?;

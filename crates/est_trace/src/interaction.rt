@@ -19,7 +19,7 @@ use est_reader::Reader;
 use est_syntax::kind::Values;
 use est_syntax::ports::Signal;
 
-/// port "." signal
+/// port "." signal .
 pub fn port_signal(
     reader: &mut Reader,
     directory: &Directory,
