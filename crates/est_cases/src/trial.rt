@@ -176,7 +176,7 @@ impl Trial<'_, '_> {
         Ok(())
     }
 
-    // Puts the specification there, or the one that takes its place where a part is replaced.
+    // Puts the specification there; where a part is replaced, the changed text takes its place.
     fn put_specification(&self, shelf: &mut MemShelf, cell: &str) -> Result<(), Mistake> {
         let text = self.expanded(cell)?;
         shelf.add("a.est", text.as_slice())?;
