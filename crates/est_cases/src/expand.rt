@@ -70,6 +70,7 @@ fn expand_escape(part: &[u8], out: &mut Vec<u8>) -> Result<(), Mistake> {
     }
 }
 
+// Appends a byte, and then the rest.
 fn append(byte: u8, rest: &[u8], out: &mut Vec<u8>) -> Result<(), Mistake> {
     out.push(byte)?;
     Ok(out.extend_from_slice(rest)?)

@@ -18,6 +18,7 @@ use crate::mistake::Mistake;
 use crate::suite::Suite;
 use crate::tally::Tally;
 use est_edge::{FileShelf, OutSink, Shelf, Sink, read_whole, write_whole};
+use est_tool::file::File;
 use std::alloc::Global;
 use std::process::ExitCode;
 use std::str;
@@ -42,8 +43,7 @@ const FILES: [&str; 16] = [
     "faults.cases",
 ];
 
-const MOST_BYTES: u32 = 1_048_576;
-
+// Runs the cases, and ends with 0 where none fails.
 fn main(rt: HostRuntime) -> ExitCode {
     let mut files = FileShelf::new(&rt);
     let mut out = OutSink::new(&rt);
@@ -99,14 +99,14 @@ fn run_and_tell<S: Shelf, K: Sink>(
     Ok(tally)
 }
 
-// Runs one file of cases.
+// Runs one file of cases, which is no longer than a specification may be.
 fn run_file<S: Shelf>(
     alloc: Global,
     file: &str,
     suite: &mut Suite,
     files: &mut S,
 ) -> Result<Tally, Mistake> {
-    match read_whole(alloc, files, file, MOST_BYTES) {
+    match read_whole(alloc, files, file, File::Specification.limit()) {
         Ok(bytes) => match str::from_utf8(bytes.as_slice()) {
             Ok(lines) => suite.run_file(file, lines, files),
             Err(_) => Err(Mistake::NotUtf8),
@@ -115,11 +115,13 @@ fn run_file<S: Shelf>(
     }
 }
 
+// Writes how many cases there were, and how many of them failed.
 fn write_tally<K: Sink>(alloc: Global, of: &str, tally: Tally, out: &mut K) -> Result<(), Mistake> {
     let line = tally.line(alloc, of)?;
     write(out, line.as_bytes())
 }
 
+// Writes all the bytes.
 fn write<K: Sink>(out: &mut K, bytes: &[u8]) -> Result<(), Mistake> {
     write_whole(out, bytes).map_err(|_| Mistake::Unwritable)
 }

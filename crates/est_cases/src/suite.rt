@@ -164,6 +164,7 @@ impl Suite {
         self.add_repeated(name.trim(), once.as_slice(), count)
     }
 
+    // Names so many of one text in a row.
     fn add_repeated(&mut self, name: &str, once: &[u8], count: u32) -> Result<(), Mistake> {
         let mut bytes = Vec::new(self.alloc);
         for _ in 0..count {

@@ -37,6 +37,7 @@ fn push_end(list: &mut String, place: (u32, u32)) -> Result<(), AllocError> {
     write!(list, "end {line}:{column}")
 }
 
+// The word for a kind of token.
 fn kind_word(kind: TokenKind) -> &'static str {
     match kind {
         TokenKind::Identifier => "identifier",

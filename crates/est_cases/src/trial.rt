@@ -186,6 +186,7 @@ impl Trial<'_, '_> {
         }
     }
 
+    // Puts the specification there with one part of it replaced.
     fn replace_part(&self, shelf: &mut MemShelf, text: &[u8], old: &str) -> Result<(), Mistake> {
         let old = self.expanded(old)?;
         let new = self.expanded(self.cells.new.unwrap_or(""))?;

@@ -108,7 +108,7 @@ impl MemShelf {
         Ok(())
     }
 
-    /// Where the file of this name stands.
+    // Where the file of this name stands.
     fn place_of(&self, name: &str) -> Option<usize>
         ensures none { IfNone result
             (place_of self.now.files.items name.now ≡ length self.now.files.items) }

@@ -10,7 +10,7 @@ use std::fs;
 use std::io::Read;
 use std::rt::Files;
 
-/// Where the bytes come from.
+// Where the bytes come from.
 #[derive(Drop)]
 enum Source<F, I> {
     Nothing,

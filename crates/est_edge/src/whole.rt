@@ -21,7 +21,7 @@ pub enum ReadError {
     Memory(AllocError),
 }
 
-/// How many bytes are asked for at once.
+// How many bytes are asked for at once.
 const PIECE: usize = 16384;
 
 /// Reads the file of this name to its end. A file of more than `limit` bytes is refused once

@@ -2,6 +2,7 @@
 use Rattle.std.proofs.Common.{◌≡◌, ◌≤◌, ◌+◌, ◌*◌, ◌^◌, ℕ, suc, List, []}
 use Rattle.std.proofs.Common.{◌∷◌, ◌++◌, All, length, ap, ◌∙◌, arith}
 use Rattle.est_syntax.specs.declared.specification.Spec.{Spec}
+use Rattle.est_syntax.specs.Kinds.{maxint}
 use Rattle.est_meaning.specs.declared.event.Event.{Event}
 use Rattle.est_meaning.specs.declared.event.Event.TheVariants as event
 use Rattle.est_meaning.specs.declared.run.Move.{Move}
@@ -78,13 +79,13 @@ clock_within c (Fire f ∷ h) p r =
     ∙ fire_keeps_clock c.limit c.spec q.situation t.situation f t.outs t.step.done in
     omega arith
 
-units_allowed : (spec : Spec) (e : Event) → IsAllowed spec e → units_of e ≤ 2147483647
+units_allowed : (spec : Spec) (e : Event) → IsAllowed spec e → units_of e ≤ maxint
 units_allowed spec (event.Arrives i) a = omega arith
 units_allowed spec (event.Leaves i) a = omega arith
 units_allowed spec (event.Passes units) a = a
 
 time_allowed : (spec : Spec) (es : List Event) → All (IsAllowed spec) es
-    → time_of es ≤ 2147483647 * length es
+    → time_of es ≤ maxint * length es
 time_allowed spec [] a = omega arith
 time_allowed spec (e ∷ es) a =
     let first = units_allowed spec e (a 0 e (omega arith)) in

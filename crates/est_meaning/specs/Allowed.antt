@@ -6,6 +6,7 @@ use Rattle.est_syntax.specs.declared.ports.Port.{Port}
 use Rattle.est_syntax.specs.declared.ports.Signal.{Signal}
 use Rattle.est_skeleton.specs.Ports.{ports_of}
 use Rattle.est_syntax.specs.declared.specification.Spec.{Spec}
+use Rattle.est_syntax.specs.Kinds.{maxint}
 use Rattle.est_meaning.specs.declared.event.Interaction.{Interaction}
 use Rattle.est_meaning.specs.declared.event.Event.{Event}
 use Rattle.est_meaning.specs.declared.event.Event.TheVariants as event
@@ -34,7 +35,7 @@ IsSendable spec i =
 abbrev pub IsAllowed : Spec → Event → Type 0
 IsAllowed spec (event.Arrives i) = IsReceivable spec i
 IsAllowed spec (event.Leaves i) = IsSendable spec i
-IsAllowed spec (event.Passes units) = units ≤ 2147483647
+IsAllowed spec (event.Passes units) = units ≤ maxint
 
 -- an arrival that may stand there
 abbrev pub IsArrival : Spec → Event → Type 0

@@ -7,14 +7,12 @@ use Rattle.est_syntax.specs.declared.specification.Spec.{Spec}
 use Rattle.est_meaning.specs.declared.event.Event.{Event}
 use Rattle.est_meaning.specs.declared.event.Event.TheVariants as event
 use Rattle.est_meaning.specs.declared.run.Firing.{Firing}
-use Rattle.est_meaning.specs.declared.run.BlockFault.{BlockFault}
 use Rattle.est_meaning.specs.declared.run.Move.{Move}
 use Rattle.est_meaning.specs.declared.run.Move.TheVariants.{Take, Fire}
 use Rattle.est_meaning.specs.Situation.{Situation}
-use Rattle.est_meaning.specs.Choices.{IsSettled, IsPossible}
-use Rattle.est_meaning.specs.Blocks.{Outcome, Done, Fault, Limit}
-use Rattle.est_meaning.specs.Step.{IsStep, outcome, after_event, start_of}
-use Rattle.est_meaning.specs.Order.{NotAfter}
+use Rattle.est_meaning.specs.Choices.{IsPossible}
+use Rattle.est_meaning.specs.Blocks.{Done}
+use Rattle.est_meaning.specs.Step.{IsStep, after_event, start_of}
 
 -- what a run is a run of; it is one of the specification where the setup is begun (`IsBegun`)
 pub record Setup : Type 0 where
@@ -166,26 +164,3 @@ IsTrial c [] = ⊥
 IsTrial c (Take ∷ earlier) = ⊥
 IsTrial c (Fire f ∷ earlier) =
     (p : Place) × IsInner c earlier p × IsPossible c.limit c.spec p.situation f
-
--- a trial with this outcome
-abbrev pub IsTrialWith : Setup → List Move → Outcome → Type 0
-IsTrialWith c [] o = ⊥
-IsTrialWith c (Take ∷ earlier) o = ⊥
-IsTrialWith c (Fire f ∷ earlier) o = (p : Place) × IsInner c earlier p
-    × IsPossible c.limit c.spec p.situation f × (outcome c.limit c.spec p.situation f ≡ o)
-
--- a trial whose block faults
-abbrev pub Faults : Setup → List Move → BlockFault → Type 0
-Faults c run fault = IsTrialWith c run (Fault fault)
-
--- a trial whose block passes the limit
-abbrev pub PassesLimit : Setup → List Move → Type 0
-PassesLimit c run = IsTrialWith c run Limit
-
--- an inner run after which a guard passes the limit
-abbrev pub IsUnsettledAfter : Setup → List Move → Type 0
-IsUnsettledAfter c run = (p : Place) × IsInner c run p × (IsSettled c.limit c.spec p.situation → ⊥)
-
--- a trial that is this run or comes before it
-abbrev pub IsTrialUpTo : Setup → List Move → List Move → Type 0
-IsTrialUpTo c run x = IsTrial c x × NotAfter x run

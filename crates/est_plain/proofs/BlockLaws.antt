@@ -30,10 +30,10 @@ use Rattle.est_meaning.specs.Blocks.{Outcome, Done, Limit, Sent, signal_number, 
 use Rattle.est_meaning.specs.Blocks.{delivered, sent, all_sent, sendings_of, block_meaning}
 use Rattle.est_meaning.specs.Step.{without_awaited, arrived_as, arrived_at, arrived}
 use Rattle.est_plain.specs.declared.situation.Waiting.{Waiting}
-use Rattle.est_plain.specs.PlainSituation.{queues_for, is_port, point_named, queue_named}
-use Rattle.est_plain.specs.PlainSituation.{item_of, waits_in, queued, without_first, bare}
-use Rattle.est_plain.specs.PlainSituation.{signal_in, leaving, departures, sent_in, block_in}
-use Rattle.est_plain.specs.PlainSituation.{taken_in, arrival_as, arrival_at, arrival_in}
+use Rattle.est_plain.specs.inside.PlainSituation.{queues_for, is_port, point_named, queue_named}
+use Rattle.est_plain.specs.inside.PlainSituation.{item_of, waits_in, queued, without_first, bare}
+use Rattle.est_plain.specs.inside.PlainSituation.{signal_in, leaving, departures, sent_in, block_in}
+use Rattle.est_plain.specs.inside.PlainSituation.{taken_in, arrival_as, arrival_at, arrival_in}
 use Rattle.est_plain.proofs.SituationLaws.{true_false, queue_is}
 
 -- POSITIONS

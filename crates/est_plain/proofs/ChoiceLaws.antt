@@ -17,8 +17,8 @@ use Rattle.est_meaning.specs.Order.{FiringBefore, IsBeforeAll, IsAscending}
 use Rattle.est_syntax.specs.declared.ports.Port.{Port}
 use Rattle.est_syntax.specs.declared.ports.Signal.{Signal}
 use Rattle.est_plain.specs.declared.situation.Waiting.{Waiting}
-use Rattle.est_plain.specs.PlainSituation.{referred, choice_in, firing_at, ListsFirst}
-use Rattle.est_plain.specs.PlainSituation.{arrival_in, arrival_at, arrival_as}
+use Rattle.est_plain.specs.inside.PlainSituation.{referred, choice_in, firing_at, ListsFirst}
+use Rattle.est_plain.specs.inside.PlainSituation.{arrival_in, arrival_at, arrival_as}
 
 -- CHOICES
 

@@ -15,7 +15,7 @@ use Rattle.est_skeleton.specs.Skeleton.{IsSkeleton}
 use Rattle.est_skeleton.specs.Small.{IsSmall, group_transitions, part_transitions}
 use Rattle.est_skeleton.proofs.PortLaws.{ports_few, signals_few}
 use Rattle.est_meaning.specs.Text.{body_in, body_at, root_of, transitions_of}
-use Rattle.est_plain.specs.PlainSituation.{HasFew}
+use Rattle.est_plain.specs.inside.PlainSituation.{HasFew}
 
 -- what is found among the bodies of parts is one of the parts
 found_by : (q : Bool) (x b : Body) (ps : List Part) (o : Option Body)

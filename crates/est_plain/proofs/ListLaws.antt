@@ -6,7 +6,7 @@ use Rattle.std.specs.List.{position, position_or_len}
 use Rattle.std.proofs.lemmas.Bool.{cases_lt}
 use Rattle.std.proofs.lemmas.Bool.Decides.{nat_tests}
 use Rattle.est_plain.specs.declared.situation.Waiting.{Waiting}
-use Rattle.est_plain.specs.PlainSituation.{without_first}
+use Rattle.est_plain.specs.inside.PlainSituation.{without_first}
 
 one_more : (n : ℕ) → 1 + n ≡ suc n
 one_more n = omega arith

@@ -23,10 +23,10 @@ use Rattle.est_meaning.specs.Choices.{stamp_after, restamped, first_choice}
 use Rattle.est_meaning.specs.Step.{root_row}
 use Rattle.est_plain.specs.declared.situation.PointQueue.{PointQueue}
 use Rattle.est_plain.specs.declared.situation.Waiting.{Waiting}
-use Rattle.est_plain.specs.PlainSituation.{Held, is_common, queue_for, queues_for, has_name}
-use Rattle.est_plain.specs.PlainSituation.{point_named, queue_named, item_of, waits_in}
-use Rattle.est_plain.specs.PlainSituation.{queued, bare, situation_of, head_matches}
-use Rattle.est_plain.specs.PlainSituation.{arrived_in, is_enabled_in, choice_in}
+use Rattle.est_plain.specs.inside.PlainSituation.{Held, is_common, queue_for, queues_for, has_name}
+use Rattle.est_plain.specs.inside.PlainSituation.{point_named, queue_named, item_of, waits_in}
+use Rattle.est_plain.specs.inside.PlainSituation.{queued, bare, situation_of, head_matches}
+use Rattle.est_plain.specs.inside.PlainSituation.{arrived_in, is_enabled_in, choice_in}
 
 -- TESTS
 

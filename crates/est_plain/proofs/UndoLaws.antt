@@ -8,8 +8,8 @@ use Rattle.est_plain.specs.declared.situation.Waiting.{Waiting}
 use Rattle.est_plain.specs.declared.undo.Taken.{Taken}
 use Rattle.est_plain.specs.declared.undo.Undo.{Undo}
 use Rattle.est_plain.specs.declared.undo.Undo.TheVariants as undo
-use Rattle.est_plain.specs.PlainSituation.{Held, joined}
-use Rattle.est_plain.specs.Undo.{undone, befores, HasPlace, CanUndo, CanUndoAll}
+use Rattle.est_plain.specs.inside.PlainSituation.{Held, joined}
+use Rattle.est_plain.specs.inside.Undo.{undone, befores, HasPlace, CanUndo, CanUndoAll}
 
 -- ONE MOVE
 

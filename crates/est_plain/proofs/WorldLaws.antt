@@ -31,12 +31,12 @@ use Rattle.est_plain.specs.declared.situation.PointQueue.{PointQueue}
 use Rattle.est_syntax.specs.declared.ports.Port.{Port}
 use Rattle.est_skeleton.specs.Ports.{ports_of}
 use Rattle.est_plain.specs.declared.situation.Waiting.{Waiting}
-use Rattle.est_plain.specs.PlainSituation.{Held, EndsAs, referred, queues_for, queued}
-use Rattle.est_plain.specs.PlainSituation.{bare, situation_of, is_enabled_in, choice_in}
-use Rattle.est_plain.specs.PlainSituation.{block_in, taken_in, next_in, stepped, joined}
-use Rattle.est_plain.specs.PlainSituation.{begun_with, arrival_as, arrival_at}
-use Rattle.est_plain.specs.PlainSituation.{arrival_in, FirstIs, firing_at, ListsFirst}
-use Rattle.est_plain.specs.Trail.{Trail, onto, only, stack_of}
+use Rattle.est_plain.specs.inside.PlainSituation.{Held, EndsAs, referred, queues_for, queued}
+use Rattle.est_plain.specs.inside.PlainSituation.{bare, situation_of, is_enabled_in, choice_in}
+use Rattle.est_plain.specs.inside.PlainSituation.{block_in, taken_in, next_in, stepped, joined}
+use Rattle.est_plain.specs.inside.PlainSituation.{begun_with, arrival_as, arrival_at}
+use Rattle.est_plain.specs.inside.PlainSituation.{arrival_in, FirstIs, firing_at, ListsFirst}
+use Rattle.est_plain.specs.inside.Trail.{Trail, onto, only, stack_of}
 use Rattle.est_meaning.specs.Allowed.{IsReceivable}
 use Rattle.est_plain.proofs.SituationLaws.{choice_is, chosen, possible_of, enabled_of, restamped_is}
 use Rattle.est_plain.proofs.BlockLaws.{length_by, ended, block_is, taken_is, arrival_is}

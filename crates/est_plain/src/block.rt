@@ -6,12 +6,12 @@ ghost use Rattle.std.specs.List.{position};
 ghost use Rattle.std.specs.VecDeque.{deque_capacity};
 ghost use Rattle.est_meaning.specs.Text.{to_of, when_of};
 ghost use Rattle.est_meaning.specs.Blocks.{is_signal};
-ghost use Rattle.est_plain.specs.PlainSituation.{held, HasFew, is_port, leaving, sent_in};
-ghost use Rattle.est_plain.specs.PlainSituation.{entered_in, block_in, EndsAs};
-ghost use Rattle.est_plain.specs.PlainSituation.{arrived_in, is_enabled_in, head_matches};
-ghost use Rattle.est_plain.specs.PlainSituation.{taken_in, next_in, arrival_in, FirstIs};
-ghost use Rattle.est_plain.specs.PlainSituation.{ListsFirst, choice_in, referred};
-ghost use Rattle.est_plain.specs.Undo.{put_back, HasPlace};
+ghost use Rattle.est_plain.specs.inside.PlainSituation.{held, HasFew, is_port, leaving, sent_in};
+ghost use Rattle.est_plain.specs.inside.PlainSituation.{entered_in, block_in, EndsAs};
+ghost use Rattle.est_plain.specs.inside.PlainSituation.{arrived_in, is_enabled_in, head_matches};
+ghost use Rattle.est_plain.specs.inside.PlainSituation.{taken_in, next_in, arrival_in, FirstIs};
+ghost use Rattle.est_plain.specs.inside.PlainSituation.{ListsFirst, choice_in, referred};
+ghost use Rattle.est_plain.specs.inside.Undo.{put_back, HasPlace};
 
 use crate::clauses::{awaited, fits_state, next_state};
 use crate::queue::{head, take_head};
@@ -30,7 +30,7 @@ use est_syntax::transition::Transition;
 use std::alloc::{AllocError, Global};
 use std::collections::VecDeque;
 
-/// Whether an item came through an interaction point and is of a name.
+// Whether an item came through an interaction point and is of a name.
 fn matches(item: Option<&Waiting>, at: &Name, signal: &Name) -> bool
     ensures { result ≡ head_matches at.now signal.now (option_copied item.entry) }
 {
@@ -40,7 +40,7 @@ fn matches(item: Option<&Waiting>, at: &Name, signal: &Name) -> bool
     }
 }
 
-/// Whether the interaction that a transition awaits has arrived.
+// Whether the interaction that a transition awaits has arrived.
 fn has_arrived(points: &[PointQueue], waiting: &VecDeque<Waiting>, transition: &Transition) -> bool
     ensures { result ≡ arrived_in points.now waiting.now.items (when_of transition.now) }
 {
@@ -67,7 +67,7 @@ pub fn is_enabled(points: &[PointQueue], plain: &PlainSituation, transition: &Tr
     }
 }
 
-/// Whether a port is the interaction point of a name.
+// Whether a port is the interaction point of a name.
 fn is_port(at: &Name, port: &Port) -> bool
     ensures { result ≡ is_port at.now port.now }
 {
@@ -78,14 +78,14 @@ fn is_port(at: &Name, port: &Port) -> bool
     }
 }
 
-/// The number of a port.
+// The number of a port.
 fn port_number(ports: &[Port], at: &Name) -> Option<usize>
     ensures { result ≡ position (is_port at.now) ports.now }
 {
     ports.iter().position(|port| is_port(at, port))
 }
 
-/// The number of an interaction at a port.
+// The number of an interaction at a port.
 fn signal_number(signals: &Signals, name: &Name) -> Option<usize>
     ensures { result ≡ position (is_signal name.now) signals.now }
 {
@@ -95,7 +95,7 @@ fn signal_number(signals: &Signals, name: &Name) -> Option<usize>
         .position(|signal| same_name(name, &signal.name))
 }
 
-/// Port and number of an interaction that leaves there.
+// Port and number of an interaction that leaves there.
 fn leaving(ports: &[Port], at: &Name, signal: &Name) -> Option<(u32, u32)>
     requires { HasFew ports.now }
     ensures { result ≡ leaving ports.now at.now signal.now }
@@ -112,7 +112,7 @@ fn leaving(ports: &[Port], at: &Name, signal: &Name) -> Option<(u32, u32)>
     }
 }
 
-/// Sends the interactions of an output.
+// Sends the interactions of an output.
 fn send(
     alloc: Global,
     ports: &[Port],
@@ -138,7 +138,7 @@ fn send(
     Ok(())
 }
 
-/// Enters one statement.
+// Enters one statement.
 fn enter(
     alloc: Global,
     ports: &[Port],
@@ -209,14 +209,14 @@ pub fn state_after(
     }
 }
 
-/// The port of a number.
+// The port of a number.
 fn port_at(ports: &[Port], number: u32) -> Option<&Port>
     ensures { option_copied result ≡ slice_get ports.now number }
 {
     ports.get(number as usize)
 }
 
-/// The interaction of a number.
+// The interaction of a number.
 fn signal_at(signals: &Signals, number: u32) -> Option<&Signal>
     ensures { option_copied result ≡ slice_get signals.now number }
 {
@@ -295,7 +295,7 @@ pub fn list_enabled(
     Ok(())
 }
 
-/// The transition at an index.
+// The transition at an index.
 fn transition_at<'c>(transitions: &[&'c Transition], index: usize) -> Option<&'c Transition>
     ensures { option_copied result ≡ slice_get (referred transitions.now) index }
 {

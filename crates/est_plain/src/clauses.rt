@@ -5,21 +5,21 @@ ghost use Rattle.std.specs.List.{list_any};
 ghost use Rattle.std.specs.Option.{option_copied, option_map};
 ghost use Rattle.est_meaning.specs.Text.{uses_name, from_of, to_of, when_of};
 ghost use Rattle.est_meaning.specs.Choices.{fits_state};
-ghost use Rattle.est_plain.specs.PlainSituation.{awaited_by};
+ghost use Rattle.est_plain.specs.inside.PlainSituation.{awaited_by};
 
 use crate::text::same_name;
 use est_syntax::expression::Access;
 use est_syntax::name::{Name, Used, UsedNames};
 use est_syntax::transition::{Clause, Transition};
 
-/// Whether one of these uses the name.
+// Whether one of these uses the name.
 fn any_uses(used: &[Used], name: &Name) -> bool
     ensures { result ≡ list_any (uses_name name.now) used.now }
 {
     used.iter().any(|one| same_name(name, &one.name))
 }
 
-/// Whether a state is one of these.
+// Whether a state is one of these.
 fn is_among(states: &UsedNames, state: &Option<Name>) -> bool
     ensures { result ≡ fits_state (Some states.now) state.now }
 {

@@ -2,9 +2,9 @@
 
 ghost use Rattle.std.specs.Prelude.{◌≡◌, ◌<◌, ◌+◌, ◌^◌, length, reverse, OnOk, OnErr};
 ghost use Rattle.std.specs.VecDeque.{deque_capacity};
-ghost use Rattle.est_plain.specs.PlainSituation.{held, begun_with, joined, delayed, stepped};
-ghost use Rattle.est_plain.specs.Undo.{CanUndoAll};
-ghost use Rattle.est_plain.specs.UndoProps.{CanUndoAll-prop};
+ghost use Rattle.est_plain.specs.inside.PlainSituation.{held, begun_with, joined, delayed, stepped};
+ghost use Rattle.est_plain.specs.inside.Undo.{CanUndoAll};
+ghost use Rattle.est_plain.specs.inside.UndoProps.{CanUndoAll-prop};
 
 use crate::block::{state_after, take_awaited};
 use crate::situation::{PlainSituation, PointQueue, Waiting, copy_state};
@@ -26,7 +26,7 @@ pub struct History {
 }
 
 impl History {
-    ghost use Rattle.est_plain.specs.Trail.{trail, onto, only};
+    ghost use Rattle.est_plain.specs.inside.Trail.{trail, onto, only};
 
     /// A state before any move.
     pub fn new(alloc: Global, state: Option<Name>) -> History

@@ -3,7 +3,7 @@
 ghost use Rattle.std.specs.Prelude.{◌≡◌, ◌∷◌, ◌++◌, map, IfOk, OnOk};
 ghost use Rattle.est_syntax.specs.declared.transition.Group.{out-Group};
 ghost use Rattle.est_meaning.specs.Text.{declared_in, points_of, discipline, transitions_of};
-ghost use Rattle.est_plain.specs.PlainSituation.{queue_for, is_common, referred};
+ghost use Rattle.est_plain.specs.inside.PlainSituation.{queue_for, is_common, referred};
 
 use crate::situation::PointQueue;
 use est_syntax::body::Body;
@@ -13,7 +13,7 @@ use est_syntax::specification::Spec;
 use est_syntax::transition::{Group, Transition};
 use std::alloc::{AllocError, Global};
 
-/// Whether an interaction point shares the common queue.
+// Whether an interaction point shares the common queue.
 fn is_shared(spec: &Spec, point: &Point) -> bool
     ensures { result ≡ is_common
         (discipline spec.now (record { name = point.now.channel.name; point = point.now })) }
@@ -29,7 +29,7 @@ fn is_shared(spec: &Spec, point: &Point) -> bool
     }
 }
 
-/// How the text queues what comes through an interaction point.
+// How the text queues what comes through an interaction point.
 fn queue_for(
     alloc: Global,
     spec: &Spec,
@@ -45,7 +45,7 @@ fn queue_for(
     })
 }
 
-/// Appends the interaction points that are declared together.
+// Appends the interaction points that are declared together.
 fn push_queues(
     alloc: Global,
     spec: &Spec,
@@ -73,7 +73,7 @@ pub fn queues_of(alloc: Global, spec: &Spec, header: &Header) -> Result<Vec<Poin
     Ok(queues)
 }
 
-/// Appends the transitions after one `trans`.
+// Appends the transitions after one `trans`.
 fn push_transitions<'c>(group: &'c Group, into: &mut Vec<&'c Transition>) -> Result<(), AllocError>
     ensures { OnOk result (referred into.new.items ≡ referred into.old.items
         ++ (out-Group group.now).transitions) }

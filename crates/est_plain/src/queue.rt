@@ -5,9 +5,9 @@ ghost use Rattle.std.specs.List.{position};
 ghost use Rattle.std.specs.Option.{option_copied};
 ghost use Rattle.std.specs.VecDeque.{deque_capacity};
 ghost use Rattle.est_meaning.specs.Situation.{is_queue};
-ghost use Rattle.est_plain.specs.PlainSituation.{has_name, shares, queue_named};
-ghost use Rattle.est_plain.specs.PlainSituation.{waits_in, without_first};
-ghost use Rattle.est_plain.specs.Undo.{put_back, HasPlace};
+ghost use Rattle.est_plain.specs.inside.PlainSituation.{has_name, shares, queue_named};
+ghost use Rattle.est_plain.specs.inside.PlainSituation.{waits_in, without_first};
+ghost use Rattle.est_plain.specs.inside.Undo.{put_back, HasPlace};
 
 use crate::situation::{PointQueue, Waiting};
 use crate::text::same_name;
@@ -15,14 +15,14 @@ use crate::undo::Taken;
 use est_syntax::name::Name;
 use std::collections::VecDeque;
 
-/// The first interaction point of a name.
+// The first interaction point of a name.
 fn point_named<'p>(points: &'p [PointQueue], name: &Name) -> Option<&'p PointQueue>
     ensures { option_copied result ≡ find (has_name name.now) points.now }
 {
     points.iter().find(|point| same_name(name, &point.name))
 }
 
-/// Whether an interaction point shares the common queue.
+// Whether an interaction point shares the common queue.
 fn shares(points: &[PointQueue], name: &Name) -> bool
     ensures { result ≡ shares points.now name.now }
 {
@@ -32,7 +32,7 @@ fn shares(points: &[PointQueue], name: &Name) -> bool
     }
 }
 
-/// Whether two interaction points have one queue.
+// Whether two interaction points have one queue.
 fn same_queue(points: &[PointQueue], a: &Name, b: &Name) -> bool
     ensures { result ≡ is_queue (queue_named points.now a.now) (queue_named points.now b.now) }
 {
@@ -59,7 +59,7 @@ pub fn head<'w>(
         .find(|item| same_queue(points, name, &item.at))
 }
 
-/// Where the head of the queue of an interaction point stands.
+// Where the head of the queue of an interaction point stands.
 fn head_index(points: &[PointQueue], waiting: &VecDeque<Waiting>, name: &Name) -> Option<usize>
     ensures { result ≡ position
         (waits_in points.now (queue_named points.now name.now)) waiting.now.items }

@@ -20,7 +20,7 @@ pub fn same_name(a: &Name, b: &Name) -> bool
     a.bytes.as_slice() == b.bytes.as_slice()
 }
 
-/// The module header whose name stands at a place.
+// The module header whose name stands at a place.
 fn header_at(spec: &Spec, place: u32) -> Option<&Header>
     ensures { option_copied result ≡ header_at spec.now place }
 {
@@ -34,7 +34,7 @@ fn header_at(spec: &Spec, place: u32) -> Option<&Header>
     None
 }
 
-/// The module body whose name stands at a place.
+// The module body whose name stands at a place.
 fn body_at(spec: &Spec, place: u32) -> Option<&Body>
     ensures { option_copied result ≡ body_at spec.now place }
 {

@@ -2,8 +2,8 @@
 
 ghost use Rattle.std.specs.Prelude.{◌≡◌, ◌≤◌};
 ghost use Rattle.std.specs.VecDeque.{deque_capacity};
-ghost use Rattle.est_plain.specs.PlainSituation.{held};
-ghost use Rattle.est_plain.specs.Undo.{put_back, undone, HasPlace, CanUndo};
+ghost use Rattle.est_plain.specs.inside.PlainSituation.{held};
+ghost use Rattle.est_plain.specs.inside.Undo.{put_back, undone, HasPlace, CanUndo};
 
 use crate::situation::{PlainSituation, Waiting};
 use est_syntax::name::Name;
@@ -29,7 +29,7 @@ pub enum Undo {
     },
 }
 
-/// Puts an item back where it stood.
+// Puts an item back where it stood.
 fn put_back(waiting: &mut VecDeque<Waiting>, taken: Option<Taken>)
     requires { HasPlace (deque_capacity waiting.old) taken waiting.old.items }
     ensures items { waiting.new.items ≡ put_back taken waiting.old.items }

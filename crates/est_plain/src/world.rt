@@ -7,7 +7,7 @@ ghost use Rattle.est_skeleton.specs.Skeleton.{IsSkeleton};
 ghost use Rattle.est_skeleton.specs.Small.{IsSmall};
 ghost use Rattle.est_meaning.specs.Text.{root_of, transitions_of};
 ghost use Rattle.est_meaning.specs.Stack.{StartedAs};
-ghost use Rattle.est_plain.specs.PlainSituation.{queues_for, referred, HasFew};
+ghost use Rattle.est_plain.specs.inside.PlainSituation.{queues_for, referred, HasFew};
 
 use crate::block::{arrival, choice, list_enabled, run_block, run_first};
 use crate::history::History;
@@ -45,7 +45,7 @@ pub struct PlainWorld<'c> {
 
 impl<'c> World for PlainWorld<'c> {
     ghost use Rattle.std.specs.Prelude.{◌≡◌, refl};
-    ghost use Rattle.est_plain.specs.Trail.{trail, stack_of};
+    ghost use Rattle.est_plain.specs.inside.Trail.{trail, stack_of};
 
     ghost speaks = { λ w spec. w.spec.now ≡ spec };
 
@@ -132,8 +132,8 @@ impl<'c> World for PlainWorld<'c> {
     }
 }
 
-/// How the text queues what comes through the external interaction points of a root, for which
-/// this is the header.
+// How the text queues what comes through the external interaction points of a root, for which
+// this is the header.
 fn queues_for(
     alloc: Global,
     spec: &Spec,
@@ -150,7 +150,7 @@ fn queues_for(
 }
 
 impl<'c> PlainWorld<'c> {
-    /// The world after the initialize part of a root, of whose statements so many are left.
+    // The world after the initialize part of a root, of whose statements so many are left.
     fn begin(
         alloc: Global,
         spec: &'c Spec,
@@ -212,8 +212,8 @@ impl<'c> PlainWorld<'c> {
         )
     }
 
-    /// The world after the start of a specification with these ports, which starts this body of
-    /// this header.
+    // The world after the start of a specification with these ports, which starts this body of
+    // this header.
     fn of_spec(
         alloc: Global,
         spec: &'c Spec,

@@ -11,7 +11,7 @@ use Rattle.est_meaning.specs.declared.run.Move.TheVariants.{Take, Fire}
 use Rattle.est_meaning.specs.Choices.{IsSettled, IsPossible}
 use Rattle.est_meaning.specs.Blocks.{Outcome, Done, Fault, Limit}
 use Rattle.est_meaning.specs.Step.{outcome, start_of}
-use Rattle.est_meaning.specs.Run.{IsPrefix, Setup, Place, first_place, after_firing, Fires}
+use Rattle.est_meaning.specs.Run.{AgreeFirst, Setup, Place, first_place, after_firing, Fires}
 use Rattle.est_meaning.specs.Run.{Moves, IsBoundedRun, Follows, FollowsBefore, Yields}
 use Rattle.est_meaning.proofs.StepLaws.{possible_settled, limit_done, fault_done}
 use Rattle.est_meaning.proofs.RunLaws.{Grows, follows_grows, moves_one, one_place, explains_follows}
@@ -25,8 +25,8 @@ use Rattle.est_replay.specs.Replay.{IsPassed, IsAnswer, AnswersFrom, OneAnswer}
 -- AGREEING
 
 -- what begins with a prefix of the trace and is no longer is one too
-pub prefix_before : (trace more less : List Event) → IsPrefix (less ++ more) trace
-    → IsPrefix less trace
+pub prefix_before : (trace more less : List Event) → AgreeFirst trace (less ++ more)
+    → AgreeFirst trace less
 prefix_before trace more less p = (more ++ p.0, p.1 ∙ append_assoc less more p.0)
 
 -- a place that follows the trace agrees with it, whatever moves are left

@@ -11,26 +11,26 @@ use Rattle.std.proofs.lemmas.List.{append_cancel_left, get_or_append_left, drop_
 use Rattle.est_meaning.specs.declared.event.Event.{Event}
 use Rattle.est_meaning.specs.declared.run.Firing.{Firing}
 use Rattle.est_syntax.specs.Least.{IsIn}
-use Rattle.est_meaning.specs.Run.{IsPrefix}
+use Rattle.est_meaning.specs.Run.{AgreeFirst}
 
 -- BEGINNINGS
 
 pub begins_whole : (trace events : List Event) (n : ℕ) → length events ≤ n
-    → take n events ≡ take n trace → IsPrefix events trace
+    → take n events ≡ take n trace → AgreeFirst trace events
 begins_whole trace events n le same = (
   drop n trace,
   sym (take-append-drop n trace)
       ∙ ap (λ w. w ++ drop n trace) (sym same ∙ take_all n events le),
 )
 
-pub no_longer : (trace events : List Event) → length trace < length events → IsPrefix events trace
+pub no_longer : (trace events : List Event) → length trace < length events → AgreeFirst trace events
     → ⊥
 no_longer trace events lt p =
     let e : length trace ≡ length events + length p.0 = ap length p.1 ∙ length-append events p.0 in
     absurd (omega arith)
 
 pub no_difference : (trace events : List Event) (k : ℕ) (d : Event) → k < length events
-    → (get_or events k d ≡ get_or trace k d → ⊥) → IsPrefix events trace → ⊥
+    → (get_or events k d ≡ get_or trace k d → ⊥) → AgreeFirst trace events → ⊥
 no_difference trace events k d lt differs p = differs (sym (ap (λ w. get_or w k d) p.1
     ∙ get_or_append_left events p.0 d k lt))
 
@@ -56,8 +56,8 @@ taken_short trace outs so asked within lt =
 -- the events from there on begin the rest of the trace, just where all events up to so many begin
 -- the trace
 pub agrees_on : (trace outs : List Event) (so asked : ℕ) → so ≤ length trace
-    → IsPrefix (take (asked - so) outs) (drop so trace)
-    → IsPrefix (take asked (take so trace ++ outs)) trace
+    → AgreeFirst (drop so trace) (take (asked - so) outs)
+    → AgreeFirst trace (take asked (take so trace ++ outs))
 agrees_on trace outs so asked within p =
     elim (cases_lt asked so) [
       | inl lt ↦ (
@@ -74,12 +74,12 @@ agrees_on trace outs so asked within p =
     ]
 
 pub agrees_back : (trace outs : List Event) (so asked : ℕ) → so ≤ length trace
-    → IsPrefix (take asked (take so trace ++ outs)) trace
-    → IsPrefix (take (asked - so) outs) (drop so trace)
+    → AgreeFirst trace (take asked (take so trace ++ outs))
+    → AgreeFirst (drop so trace) (take (asked - so) outs)
 agrees_back trace outs so asked within p =
     elim (cases_lt asked so) [
-      | inl lt ↦ (let none : 0 ≡ asked - so = omega arith in subst (λ n. IsPrefix (take n outs)
-          (drop so trace)) none (drop so trace, refl))
+      | inl lt ↦ (let none : 0 ≡ asked - so = omega arith in subst (λ n. AgreeFirst (drop so trace)
+          (take n outs)) none (drop so trace, refl))
       | inr le ↦ (
         p.0,
         append_cancel_left (take so trace) (drop so trace) (take (asked - so) outs ++ p.0)

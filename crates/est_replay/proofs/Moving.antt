@@ -21,7 +21,7 @@ use Rattle.est_meaning.specs.Step.{outcome, after_event}
 use Rattle.est_meaning.specs.Stack.{Stack, pushed, OffersAre, FiredAs}
 use Rattle.est_meaning.specs.Allowed.{IsAllowed, IsArrival, units_of}
 use Rattle.est_syntax.specs.Least.{IsIn}
-use Rattle.est_meaning.specs.Run.{IsPrefix, Setup, IsFromOutside}
+use Rattle.est_meaning.specs.Run.{AgreeFirst, Setup, IsFromOutside}
 use Rattle.est_meaning.specs.Run.{after_taking, after_firing, Takes, Follows}
 use Rattle.est_meaning.proofs.StackLaws.{fired_done, fired_fault, fired_limit}
 use Rattle.est_meaning.proofs.RunLaws.{bounded_is_run}
@@ -31,7 +31,7 @@ use Rattle.est_replay.specs.declared.replay.Standing.{Standing}
 use Rattle.est_replay.specs.declared.replay.Moved.{Moved}
 use Rattle.est_replay.specs.declared.replay.Moved.TheVariants.{Passed, Failed}
 use Rattle.est_replay.specs.Replay.{HasNoEvent, MoveFails}
-use Rattle.est_replay.specs.Standing.{IsReady, AgreesUpTo, HasMoved, HasLanded, place_of}
+use Rattle.est_replay.specs.inside.Standing.{IsReady, AgreesUpTo, HasMoved, HasLanded, place_of}
 use Rattle.est_replay.proofs.Checks.{follows_agrees}
 use Rattle.est_replay.proofs.Events.{next_of}
 
@@ -195,7 +195,7 @@ module _ (c : Setup) (spec : Spec) (limit silent : ℕ) (trace : List Event) (st
             },
             subst (λ n. q.silent_in_row ≤ n) (sym r.suits.silent_is)
                 (subst (λ n. n ≤ silent) (sym row) few),
-            subst (λ w. IsPrefix (take asked q.events) w) (sym r.suits.trace_is) l.0,
+            subst (λ w. AgreeFirst w (take asked q.events)) (sym r.suits.trace_is) l.0,
             record {
               situation_is = ap (λ (x : Stack). x.now) (sym new_is);
               many = length-append (take at.events trace) outs ∙ ap (λ n. n + length outs) many
@@ -215,7 +215,7 @@ module _ (c : Setup) (spec : Spec) (limit silent : ℕ) (trace : List Event) (st
               };
               leads = refl;
             },
-            λ a. l (subst (λ w. IsPrefix (take asked q.events) w) r.suits.trace_is a),
+            λ a. l (subst (λ w. AgreeFirst w (take asked q.events)) r.suits.trace_is a),
           )
       landed s done new_is within (Failed why.TooSilent) l =
           let q = after_firing (place_of stack trace at) s outs in (
@@ -229,7 +229,7 @@ module _ (c : Setup) (spec : Spec) (limit silent : ℕ) (trace : List Event) (st
               };
               leads = refl;
             },
-            subst (λ w. IsPrefix (take asked q.events) w) (sym r.suits.trace_is) l.0,
+            subst (λ w. AgreeFirst w (take asked q.events)) (sym r.suits.trace_is) l.0,
             subst (λ n. n < q.silent_in_row) (sym r.suits.silent_is) l.1,
           )
       landed s done new_is within (Failed (why.NoStart g)) l = absurd l

@@ -11,7 +11,7 @@ use Rattle.est_meaning.specs.declared.run.Move.{Move}
 use Rattle.est_meaning.specs.declared.run.Move.TheVariants.{Take, Fire}
 use Rattle.est_meaning.specs.Situation.{Situation}
 use Rattle.est_meaning.specs.Stack.{Stack, Keeps}
-use Rattle.est_meaning.specs.Run.{IsPrefix, Setup, Place, first_place}
+use Rattle.est_meaning.specs.Run.{AgreeFirst, Setup, Place, first_place}
 use Rattle.est_meaning.specs.Run.{IsBoundedRun, Follows, Yields}
 use Rattle.est_meaning.proofs.RunLaws.{one_place}
 use Rattle.est_replay.specs.declared.verdict.Why.{Why}
@@ -23,15 +23,15 @@ use Rattle.est_replay.specs.declared.replay.Moved.{Moved}
 use Rattle.est_replay.specs.declared.replay.Moved.TheVariants.{Passed, Failed}
 use Rattle.est_replay.specs.Replay.{AgreesSoFar, FiringFails, MoveFails, IsPassed}
 use Rattle.est_replay.specs.Replay.{IsRejected, IsAnswer, ClaimsBeyondAskAll}
-use Rattle.est_replay.specs.Standing.{Suits, IsSetup, IsReady, AgreesUpTo, HasMoved}
-use Rattle.est_replay.specs.Standing.{IsStanding, IsMet, IsEnding, asked_of, place_of}
+use Rattle.est_replay.specs.inside.Standing.{Suits, IsSetup, IsReady, AgreesUpTo, HasMoved}
+use Rattle.est_replay.specs.inside.Standing.{IsStanding, IsMet, IsEnding, asked_of, place_of}
 use Rattle.est_replay.proofs.Checks.{Passes, follows_agrees, one_on}
 
 -- WHAT IS COMPARED
 
 -- events that begin the trace up to more than it has are no more than it has
 prefix_of_all : (trace events : List Event) (claim : ℕ) → length trace < claim
-    → IsPrefix (take claim events) trace → IsPrefix events trace
+    → AgreeFirst trace (take claim events) → AgreeFirst trace events
 prefix_of_all trace events claim lt p =
     let taken = take claim events in
     let a : length trace ≡ length taken + length p.0 = ap length p.1 ∙ length-append taken p.0 in
@@ -39,8 +39,8 @@ prefix_of_all trace events claim lt p =
     let few : length events ≤ claim = omega arith in
     (p.0, p.1 ∙ ap (λ w. w ++ p.0) (take_all claim events few))
 
-whole_prefix : (trace events : List Event) → IsPrefix (take (length trace + 1) events) trace
-    → IsPrefix events trace
+whole_prefix : (trace events : List Event) → AgreeFirst trace (take (length trace + 1) events)
+    → AgreeFirst trace events
 whole_prefix trace events p = (let lt : length trace < length trace + 1 =
     omega arith in prefix_of_all trace events (length trace + 1) lt p)
 
@@ -80,22 +80,22 @@ fails_alike c A B there back p (Fire f) w h = firing_fails_alike c A B there bac
 pub rejects_start : (c : Setup) (spec : Spec) (limit silent : ℕ) (trace : List Event)
     (stack : Stack) (outs : List Event) (moves : List Move) (claim : ℕ)
     → IsSetup c spec limit silent trace stack outs
-    → (IsPrefix (take (asked_of (length trace) claim moves) outs) trace → ⊥)
+    → (AgreeFirst trace (take (asked_of (length trace) claim moves) outs) → ⊥)
     → IsRejected c moves claim 0 why.WrongOutput
 rejects_start c spec limit silent trace stack outs moves claim s off =
     inl (record {
       at_is = refl;
       why_is = refl;
-      differs = λ a. off (subst (λ es. IsPrefix (take (asked_of (length trace) claim moves) es)
-          trace) s.outs_are
-          (subst (λ w. IsPrefix (take (asked_of (length w) claim moves) c.start_outs) w)
+      differs = λ a. off (subst (λ es. AgreeFirst trace
+          (take (asked_of (length trace) claim moves) es)) s.outs_are
+          (subst (λ w. AgreeFirst w (take (asked_of (length w) claim moves) c.start_outs))
           s.suits.trace_is (agrees_asked c claim moves (first_place c) a)));
     })
 
 pub stands_first : (c : Setup) (spec : Spec) (limit silent : ℕ) (trace : List Event) (stack : Stack)
     (outs : List Event) (moves : List Move) (claim : ℕ)
     → IsSetup c spec limit silent trace stack outs
-    → IsPrefix (take (asked_of (length trace) claim moves) outs) trace
+    → AgreeFirst trace (take (asked_of (length trace) claim moves) outs)
     → IsStanding c claim moves 0 stack.now (record { events = length outs; silent_in_row = 0 })
 stands_first c spec limit silent trace stack outs moves claim s on = (
   first_place c,
@@ -103,9 +103,9 @@ stands_first c spec limit silent trace stack outs moves claim s on = (
     is_run = refl;
     before = tt;
     agrees = agrees_left c claim moves (first_place c)
-        (subst (λ w. IsPrefix (take (asked_of (length w) claim moves) c.start_outs) w)
+        (subst (λ w. AgreeFirst w (take (asked_of (length w) claim moves) c.start_outs))
         (sym s.suits.trace_is)
-        (subst (λ es. IsPrefix (take (asked_of (length trace) claim moves) es) trace)
+        (subst (λ es. AgreeFirst trace (take (asked_of (length trace) claim moves) es))
         (sym s.outs_are) on));
   },
   record { situation_is = s.start_is; many = ap length s.outs_are; silent_in_row_is = refl },

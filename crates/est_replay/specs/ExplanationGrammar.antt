@@ -1,7 +1,8 @@
 -- The grammar of explanations.
-use Rattle.std.specs.Prelude.{true, List, [], ◌∷◌}
+use Rattle.std.specs.Prelude.{ℕ, ◌+◌, true, List, [], ◌∷◌}
 use Rattle.est_language.specs.Grammar.{done, word, token, seq, alt, rep}
 use Rattle.est_language.specs.Marks.{Marks}
+use Rattle.est_meaning.specs.Allowed.{most_events}
 use Rattle.est_reader.specs.Tests.{Test, said, number}
 use Rattle.est_reader.specs.Going as going
 
@@ -20,9 +21,13 @@ marks = record { starts = λ name. []; goes_on = λ name. []; is_empty = λ name
 abbrev pub Rule : Type 0
 Rule = going.Rule NoName
 
+-- the greatest number of an instance, a transition or a choice that can be written
+abbrev pub most_ordinal : ℕ
+most_ordinal = 999999999
+
 -- the number of an instance, a transition or a choice
 abbrev pub ordinal : Rule
-ordinal = token (number 0 999999999)
+ordinal = token (number 0 most_ordinal)
 
 -- firing = number number number . (instance, transition and choice)
 abbrev pub firing : Rule
@@ -36,9 +41,9 @@ move = alt (word (said "take") done) (word (said "fire") firing)
 abbrev pub move_starts : List Test
 move_starts = said "take" ∷ said "fire" ∷ []
 
--- the claim, after the moves
+-- the claim, after the moves: one more than there are events stands for all with nothing after them
 abbrev pub claim : Rule
-claim = word (said "yields") (token (number 0 200001))
+claim = word (said "yields") (token (number 0 (most_events + 1)))
 
 -- explanation = "explanation" "1" { move } "yields" number .
 abbrev pub explanation : Rule

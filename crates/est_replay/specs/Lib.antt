@@ -2,4 +2,4 @@ pub mod ExplanationGrammar
 pub mod ExplanationNodes
 pub mod ExplanationText
 pub mod Replay
-pub mod Standing
+pub mod inside

@@ -2,7 +2,7 @@
 --
 -- Moves stand in the order in which they are made. Runs are read from their last move back, so that
 -- `reverse moves` is the run of these moves.
-use Rattle.std.specs.Prelude.{◌≡◌, ◌≢◌, ℕ, ◌+◌, ◌<◌, ◌⊎◌, List, []}
+use Rattle.std.specs.Prelude.{◌≡◌, ◌≢◌, ℕ, ◌+◌, ◌-◌, ◌^◌, ◌<◌, ◌⊎◌, List, []}
 use Rattle.std.specs.Prelude.{◌∷◌, ◌++◌, length, take, reverse}
 use Rattle.est_syntax.specs.declared.specification.Spec.{Spec}
 use Rattle.est_blocks.specs.LeastFault.{IsGood}
@@ -22,6 +22,11 @@ use Rattle.est_replay.specs.declared.verdict.Why.{Why}
 use Rattle.est_replay.specs.declared.verdict.Why.TheVariants as why
 use Rattle.est_replay.specs.declared.verdict.Replayed.{Replayed}
 use Rattle.est_replay.specs.declared.verdict.Replayed.TheVariants.{Confirmed, Rejected}
+
+-- as many moves as a replay may have: they are numbered, and so is the end after them, by numbers
+-- of 32 bits
+abbrev pub most_moves : ℕ
+most_moves = 2 ^ 32 - 2
 
 -- CHECKS
 

@@ -1,7 +1,7 @@
 //! Replays of explanations of checked specifications.
-ghost use Rattle.std.specs.Prelude.{◌-◌, ◌<◌, ◌^◌, length, IfOk};
+ghost use Rattle.std.specs.Prelude.{◌≤◌, length, IfOk};
 ghost use Rattle.est_meaning.specs.Allowed.{IsAllowedTrace};
-ghost use Rattle.est_replay.specs.Replay.{IsReplay};
+ghost use Rattle.est_replay.specs.Replay.{IsReplay, most_moves};
 
 use crate::explanation::Explanation;
 use crate::replay::{Replaying, replay_in};
@@ -22,7 +22,7 @@ pub fn replay(
     limits: &Limits,
 ) -> Result<Replayed, AllocError>
     requires allowed { IsAllowedTrace checked.now trace.now }
-    requires few { length explanation.now.moves < 2 ^ 32 - 1 }
+    requires few { length explanation.now.moves ≤ most_moves }
     ensures { IfOk result
         (λ answer. IsReplay limits.now.statements limits.now.silent checked.now trace.now
         explanation.now.moves explanation.now.claim answer) }

@@ -14,9 +14,13 @@ ghost use Rattle.est_replay.specs.ExplanationText.{ReadsExplanation};
 
 use crate::error::ExplanationError;
 use est_lexer::tokens::Tokens;
+use est_meaning::event::MOST_EVENTS;
 use est_meaning::run::{Firing, Move, Run};
 use est_reader::{Outcome, Reader};
 use std::alloc::{AllocError, Global};
+
+// The greatest number of an instance, a transition or a choice that can be written.
+const MOST_ORDINAL: u32 = 999_999_999;
 
 /// How a trace is said to come about: the moves, and how many of its events they are said to
 /// yield, plus one for all with nothing after them.
@@ -57,7 +61,7 @@ fn whole_explanation(reader: &mut Reader) -> Explanation
     let _version = reader.number(1, 1);
     let moves = moves(reader);
     reader.take_word(b"yields");
-    let claim = reader.number(0, 200_001);
+    let claim = reader.number(0, MOST_EVENTS + 1);
     Explanation { moves, claim }
 }
 
@@ -96,9 +100,9 @@ fn next_move(reader: &mut Reader) -> Move
 fn firing(reader: &mut Reader) -> Firing
     ensures { Goes explaining grammar.firing reader.old (firing_view result) reader.new }
 {
-    let instance = reader.number(0, 999_999_999);
-    let transition = reader.number(0, 999_999_999);
-    let choice = reader.number(0, 999_999_999);
+    let instance = reader.number(0, MOST_ORDINAL);
+    let transition = reader.number(0, MOST_ORDINAL);
+    let choice = reader.number(0, MOST_ORDINAL);
     Firing {
         instance,
         transition,

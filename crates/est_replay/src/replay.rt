@@ -5,12 +5,12 @@ ghost use Rattle.est_syntax.specs.declared.specification.Spec.{Spec};
 ghost use Rattle.est_syntax.specs.Least.{IsIn};
 ghost use Rattle.est_meaning.specs.Allowed.{IsAllowedTrace, most_events};
 ghost use Rattle.est_meaning.specs.Blocks.{Done};
-ghost use Rattle.est_meaning.specs.Run.{Setup, IsPrefix};
+ghost use Rattle.est_meaning.specs.Run.{AgreeFirst, Setup};
 ghost use Rattle.est_meaning.specs.Stack.{Keeps};
 ghost use Rattle.est_meaning.specs.Step.{start_of};
-ghost use Rattle.est_replay.specs.Replay.{IsAnswer, setup_of};
-ghost use Rattle.est_replay.specs.Standing.{IsSetup, IsReady, HasMoved, HasLanded};
-ghost use Rattle.est_replay.specs.Standing.{IsMet, IsEnding, asked_of, place_of};
+ghost use Rattle.est_replay.specs.Replay.{IsAnswer, most_moves, setup_of};
+ghost use Rattle.est_replay.specs.inside.Standing.{IsSetup, IsReady, HasMoved, HasLanded};
+ghost use Rattle.est_replay.specs.inside.Standing.{IsMet, IsEnding, asked_of, place_of};
 
 use crate::verdict::{Replayed, Why};
 use est_meaning::event::Event;
@@ -28,8 +28,8 @@ pub struct Replaying<'t> {
     pub silent: u32,
 }
 
-/// What a move is checked against: the trace, how many silent firings may stand in a row, and how
-/// many events are compared at most.
+// What a move is checked against: the trace, how many silent firings may stand in a row, and how
+// many events are compared at most.
 #[derive(Clone, Copy)]
 struct Expected<'t> {
     trace: &'t [Event],
@@ -37,23 +37,23 @@ struct Expected<'t> {
     asked: usize,
 }
 
-/// How many events there are so far, and how many silent firings stand last in a row.
+// How many events there are so far, and how many silent firings stand last in a row.
 #[derive(Clone, Copy)]
 struct Standing {
     events: usize,
     silent_in_row: u32,
 }
 
-/// What came of a move: where the replay then stands, or the first check that fails.
+// What came of a move: where the replay then stands, or the first check that fails.
 #[derive(Clone, Copy)]
 enum Moved {
     Passed(Standing),
     Failed(Why),
 }
 
-/// Whether a trace begins with these events.
+// Whether a trace begins with these events.
 fn begins_with(trace: &[Event], events: &[Event]) -> bool
-    ensures { IsTrue result ↔ IsPrefix events.now trace.now }
+    ensures { IsTrue result ↔ AgreeFirst trace.now events.now }
 {
     if events.len() > trace.len() {
         return false;
@@ -66,16 +66,17 @@ fn begins_with(trace: &[Event], events: &[Event]) -> bool
     true
 }
 
-/// Whether the events up to a number of them agree with the trace, of which the first do.
+// Whether the events up to a number of them agree with the trace, of which the first do.
 fn agree(trace: &[Event], so_far: usize, outs: &[Event], asked: usize) -> bool
     requires { so_far ≤ length trace.now }
-    ensures { IsTrue result ↔ IsPrefix (take asked (take so_far trace.now ++ outs.now)) trace.now }
+    ensures { IsTrue result
+        ↔ AgreeFirst trace.now (take asked (take so_far trace.now ++ outs.now)) }
 {
     let compared = outs.len().min(asked.saturating_sub(so_far));
     begins_with(&trace[so_far..], &outs[..compared])
 }
 
-/// How many events are compared at most where these moves are left.
+// How many events are compared at most where these moves are left.
 fn asked(trace: &[Event], claim: u32, left: &[Move]) -> usize
     ensures { result ≡ asked_of (length trace.now) claim left.now }
 {
@@ -85,7 +86,7 @@ fn asked(trace: &[Event], claim: u32, left: &[Move]) -> usize
     }
 }
 
-/// Whether a firing is one of these.
+// Whether a firing is one of these.
 fn is_among(firing: &Firing, firings: &[Firing]) -> bool
     ensures { IsTrue result ↔ IsIn firing.now firings.now }
 {
@@ -97,7 +98,7 @@ fn is_among(firing: &Firing, firings: &[Firing]) -> bool
     false
 }
 
-/// Takes the next event of the trace.
+// Takes the next event of the trace.
 fn take_next<W: World>(
     alloc: Global,
     world: &mut W,
@@ -133,7 +134,7 @@ fn take_next<W: World>(
     }))
 }
 
-/// Goes on after a firing with these events.
+// Goes on after a firing with these events.
 fn land(expected: &Expected<'_>, at: Standing, outs: &[Event]) -> Moved
     requires { at.events ≤ length expected.now.trace.now }
     ensures { HasLanded expected.now.trace.now expected.now.silent expected.now.asked at outs.now
@@ -161,7 +162,7 @@ fn land(expected: &Expected<'_>, at: Standing, outs: &[Event]) -> Moved
     }
 }
 
-/// Fires a transition, where it is one of the possible firings.
+// Fires a transition, where it is one of the possible firings.
 fn fire<W: World>(
     alloc: Global,
     world: &mut W,
@@ -199,7 +200,7 @@ fn fire<W: World>(
     }
 }
 
-/// Makes a move.
+// Makes a move.
 fn make<W: World>(
     alloc: Global,
     world: &mut W,
@@ -227,7 +228,7 @@ fn make<W: World>(
     }
 }
 
-/// Whether so many events meet the claim, if those up to the claim agree with the trace.
+// Whether so many events meet the claim, if those up to the claim agree with the trace.
 fn is_met(claim: u32, trace_len: usize, events: usize) -> bool
     requires { trace_len ≤ most_events }
     ensures { IsTrue result ↔ IsMet claim trace_len events }
@@ -240,10 +241,10 @@ fn is_met(claim: u32, trace_len: usize, events: usize) -> bool
     }
 }
 
-/// What is answered after the last move, with so many events.
+// What is answered after the last move, with so many events.
 fn end(replaying: &Replaying<'_>, events: usize) -> Replayed
     requires short { length replaying.now.trace.now ≤ most_events }
-    requires few { length replaying.now.moves.now < 2 ^ 32 - 1 }
+    requires few { length replaying.now.moves.now ≤ most_moves }
     ensures { IsEnding replaying.now.claim (length replaying.now.trace.now)
         (length replaying.now.moves.now) events result }
 {
@@ -259,7 +260,7 @@ fn end(replaying: &Replaying<'_>, events: usize) -> Replayed
     }
 }
 
-/// Replays moves one after the other until a check fails.
+// Replays moves one after the other until a check fails.
 fn replay_moves<W: World>(
     alloc: Global,
     world: &mut W,
@@ -268,7 +269,7 @@ fn replay_moves<W: World>(
 ) -> Result<Replayed, AllocError>
     ghost setup: { Spec → Setup }
     requires room { W.fired world.old ≤ 2 ^ 63 }
-    requires few { length replaying.now.moves.now < 2 ^ 32 - 1 }
+    requires few { length replaying.now.moves.now ≤ most_moves }
     requires short { length replaying.now.trace.now ≤ most_events }
     requires start { (spec : Spec) → W.speaks world.old spec
         → IsSetup (setup spec) spec (W.limit world.old) replaying.now.silent replaying.now.trace.now
@@ -328,7 +329,7 @@ pub fn replay_in<W: World>(
     requires room { W.fired world.old ≤ 2 ^ 63 }
     requires allowed { (spec : Spec) → W.speaks world.old spec
         → IsAllowedTrace spec replaying.now.trace.now }
-    requires few { length replaying.now.moves.now < 2 ^ 32 - 1 }
+    requires few { length replaying.now.moves.now ≤ most_moves }
     ensures keeps { Keeps W.speaks W.limit world.old world.new }
     ensures fired { W.fired world.new ≤ W.fired world.old + length replaying.now.moves.now }
     ensures answer { IfOk result

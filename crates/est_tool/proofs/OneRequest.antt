@@ -3,6 +3,7 @@ use Rattle.std.proofs.Common.{◌≡◌, ◌∙◌, ℕ, List, sym, ap, refl}
 use Rattle.std.specs.Str.Parse.{digits_value}
 use Rattle.est_tool.specs.Requests.{check, replay, to_check, to_replay}
 use Rattle.est_tool.specs.Requests.{AreLimits, left_out, given, IsNumber}
+use Rattle.est_tool.specs.Requests.{most_silent, most_statements}
 use Rattle.est_tool.specs.CallLaws.{OneRequest}
 
 -- a word is of one number
@@ -20,8 +21,10 @@ one_limits words other _ _ _ _ same (given first second a b e m n) (left_out f) 
 one_limits words other _ _ _ _ same (given first second a b e m n) (given first' second' c d f p
     q) =
     let one : first ≡ first' = cc in
-    let two : second ≡ second' = cc in
-    (one_number 0 1000 first first' a c one m p, one_number 1 1000000 second second' b d two n q)
+    let two : second ≡ second' = cc in (
+      one_number 0 most_silent first first' a c one m p,
+      one_number 1 most_statements second second' b d two n q,
+    )
 
 pub request_one : OneRequest
 request_one words _ _ (to_check name e named) (to_check other f named') = let same : name ≡ other =

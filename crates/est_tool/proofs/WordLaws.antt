@@ -11,6 +11,7 @@ use Rattle.est_tool.specs.declared.words.Command.TheVariants.{Check, Replay}
 use Rattle.est_tool.specs.Requests.{Request, Asks, AreLimits, AsksNothing}
 use Rattle.est_tool.specs.Requests.{AsksToCheck, IsCommand, AsksToReplay, bytes_of}
 use Rattle.est_tool.specs.Requests.{to_check, to_replay, left_out, given, IsNumber}
+use Rattle.est_tool.specs.Requests.{most_silent, most_statements}
 
 -- a word that is not empty, by its length
 pub named : (word : String Global) (empty : Bool) → empty ≡ (string_len word == 0) → empty ≡ false
@@ -112,8 +113,8 @@ none_given (x ∷ words) none = absurd (omega arith)
 
 -- limits that are given
 pub both_given : (words : List (String Global)) (a b : String Global) (silent statements : ℕ)
-    → words ≡ a ∷ b ∷ [] → IsNumber 0 1000 (string_bytes a) silent
-    → IsNumber 1 1000000 (string_bytes b) statements
+    → words ≡ a ∷ b ∷ [] → IsNumber 0 most_silent (string_bytes a) silent
+    → IsNumber 1 most_statements (string_bytes b) statements
     → AreLimits (bytes_of words) silent statements
 both_given words a b silent statements are is_silent is_statements = given _ _ silent statements
     (ap bytes_of are) is_silent is_statements

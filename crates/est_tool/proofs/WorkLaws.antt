@@ -23,7 +23,7 @@ use Rattle.est_tool.specs.Files.{limit_of}
 use Rattle.est_tool.specs.Statuses.{replay_status}
 use Rattle.est_tool.specs.Seen.{Shelved, Seen, seen}
 use Rattle.est_tool.specs.FileTexts.{Holds, Refusals, IsReported, OfSpecification}
-use Rattle.est_tool.specs.FileTexts.{OfSkeleton, OfTrace, OfExplanation}
+use Rattle.est_tool.specs.FileTexts.{OfTrace, OfExplanation}
 use Rattle.est_tool.specs.Requests.{Request, check, replay}
 use Rattle.est_tool.specs.Ends.{End, reported, IsTooLong, EndsAt, longer, refused, failed}
 use Rattle.est_tool.specs.Ends.{HoldsRead, HoldsSpecification, HoldsTrace, HoldsExplanation}
@@ -31,7 +31,8 @@ use Rattle.est_tool.specs.Ends.{CheckEnds, at_its_file, good, ReplayEnds, at_spe
 use Rattle.est_tool.specs.Ends.{unbuilt, at_trace, at_explanation, replayed, Ends}
 use Rattle.est_tool.specs.Started.{ReplayStarts, one, two, three, Starts}
 use Rattle.est_tool.specs.inside.Reads.{IsStop, IsQuiet, ReadsFile}
-use Rattle.est_tool.specs.inside.Work.{IsMade, Gives, IsCounted, IsUnbuilt, IsAnswered, IsWork}
+use Rattle.est_tool.specs.inside.Work.{OfSkeleton, IsMade, Gives, IsCounted}
+use Rattle.est_tool.specs.inside.Work.{IsUnbuilt, IsAnswered, IsWork}
 use Rattle.est_tool.proofs.ReadLaws.{stop_then, stops_for, quiet_any, quiet_stop}
 
 -- what is held where a shelf tells the same as before was held before

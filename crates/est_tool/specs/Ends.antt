@@ -4,15 +4,14 @@ use Rattle.est_edge.specs.FaultCounts.{Rose}
 use Rattle.est_syntax.specs.declared.specification.Spec.{Spec}
 use Rattle.est_blocks.specs.Counts.{counts_of}
 use Rattle.est_blocks.specs.declared.counts.Counts.{Counts}
-use Rattle.est_check.specs.declared.checked.Specification.{Specification as Read}
+use Rattle.est_check.specs.declared.checked.Specification.{Specification}
 use Rattle.est_check.specs.declared.checked.Specification.TheVariants as found
 use Rattle.est_meaning.specs.declared.event.Event.{Event}
 use Rattle.est_replay.specs.Replay.{IsReplay}
 use Rattle.est_replay.specs.declared.explanation.Explanation.{Explanation}
 use Rattle.est_replay.specs.declared.verdict.Replayed.{Replayed}
 use Rattle.est_tool.specs.declared.file.File.{File}
-use Rattle.est_tool.specs.declared.file.File.TheVariants.{Specification, Trace}
-use Rattle.est_tool.specs.declared.file.File.TheVariants.{Explanation as Explaining}
+use Rattle.est_tool.specs.declared.file.File.TheVariants as file
 use Rattle.est_tool.specs.declared.status.Status.{Status}
 use Rattle.est_tool.specs.declared.status.Status.TheVariants.{Fine, TooLong, NotBuilt}
 use Rattle.est_tool.specs.Files.{limit_of}
@@ -53,8 +52,8 @@ pub data EndsAt (shelf : Seen) (file : File) (name : List ℕ) (Refuses : Refusa
 
 -- the file of this name holds the text of a specification that breaks no rule, and this is what is
 -- read of it: the tree of a skeleton, or the numbers of another
-abbrev pub HoldsRead : Seen → List ℕ → Read → Type 0
-HoldsRead shelf name read = Holds Specification (shelf.before.told name) (OfSpecification read)
+abbrev pub HoldsRead : Seen → List ℕ → Specification → Type 0
+HoldsRead shelf name read = Holds file.Specification (shelf.before.told name) (OfSpecification read)
 
 -- the file holds the text of this skeleton, which breaks no rule
 abbrev pub HoldsSpecification : Seen → List ℕ → Spec → Type 0
@@ -63,27 +62,25 @@ HoldsSpecification shelf name spec = HoldsRead shelf name (found.Skeleton spec)
 -- the file holds the text of this trace of a specification, and of no other
 abbrev pub HoldsTrace : Seen → List ℕ → Spec → List Event → Type 0
 HoldsTrace shelf name spec events =
-    Holds Trace (shelf.before.told name)
-    (OfTrace spec events)
+    Holds file.Trace (shelf.before.told name) (OfTrace spec events)
 
 -- the file holds the text of this explanation, and of no other
 abbrev pub HoldsExplanation : Seen → List ℕ → Explanation → Type 0
 HoldsExplanation shelf name explanation =
-    Holds Explaining (shelf.before.told name)
-    (OfExplanation explanation)
+    Holds file.Explanation (shelf.before.told name) (OfExplanation explanation)
 
 -- COMMANDS
 
 -- the numbers of a specification
-abbrev pub numbers_of : Read → Counts
+abbrev pub numbers_of : Specification → Counts
 numbers_of (found.Skeleton spec) = counts_of spec
 numbers_of (found.Whole counts) = counts
 
 -- `check` ends at its file, or tells the numbers of a good specification
 pub data CheckEnds (shelf : Seen) (name : List ℕ) : End → Type 0 where
-  at_its_file : (end : End) → EndsAt shelf Specification name RefusesSpecification end
+  at_its_file : (end : End) → EndsAt shelf file.Specification name RefusesSpecification end
       → CheckEnds shelf name end
-  good : (read : Read) → HoldsRead shelf name read
+  good : (read : Specification) → HoldsRead shelf name read
       → CheckEnds shelf name (reported Fine (ok_line (numbers_of read)))
 
 -- `replay` ends at the first of its files that is refused, or at a good specification that is no
@@ -92,19 +89,19 @@ pub data ReplayEnds
     (shelf : Seen) (specification trace explanation : List ℕ) (silent statements : ℕ)
     : End → Type 0 where
   at_specification : (end : End)
-      → EndsAt shelf Specification specification RefusesSpecification end
+      → EndsAt shelf file.Specification specification RefusesSpecification end
       → ReplayEnds shelf specification trace explanation silent statements end
   unbuilt : (counts : Counts) → HoldsRead shelf specification (found.Whole counts)
       → ReplayEnds shelf specification trace explanation silent statements
       (reported NotBuilt not_built_line)
   at_trace : (spec : Spec) (end : End)
       → HoldsSpecification shelf specification spec
-      → EndsAt shelf Trace trace (RefusesTrace spec) end
+      → EndsAt shelf file.Trace trace (RefusesTrace spec) end
       → ReplayEnds shelf specification trace explanation silent statements end
   at_explanation : (spec : Spec) (events : List Event) (end : End)
       → HoldsSpecification shelf specification spec
       → HoldsTrace shelf trace spec events
-      → EndsAt shelf Explaining explanation RefusesExplanation end
+      → EndsAt shelf file.Explanation explanation RefusesExplanation end
       → ReplayEnds shelf specification trace explanation silent statements end
   replayed : (spec : Spec) (events : List Event) (read : Explanation) (answer : Replayed)
       → HoldsSpecification shelf specification spec

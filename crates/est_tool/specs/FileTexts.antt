@@ -7,7 +7,6 @@ use Rattle.est_lexer.specs.TokenList.{IsTokenList}
 use Rattle.est_syntax.specs.declared.specification.Spec.{Spec}
 use Rattle.est_skeleton.specs.Ports.{ports_of}
 use Rattle.est_check.specs.declared.checked.Specification.{Specification}
-use Rattle.est_check.specs.declared.checked.Specification.TheVariants as found
 use Rattle.est_meaning.specs.declared.event.Event.{Event}
 use Rattle.est_replay.specs.declared.explanation.Explanation.{Explanation}
 use Rattle.est_specification.specs.SpecificationText.{IsGoodText, IsNoSpecification}
@@ -46,10 +45,6 @@ Holds file told Is = SomeText told (λ text. IsText file text Is)
 -- the tokens of the text are this specification, which breaks no rule
 abbrev pub OfSpecification : Specification → List ℕ → List Token → Type 0
 OfSpecification read text tokens = IsGoodText text tokens read
-
--- and this one is a skeleton
-abbrev pub OfSkeleton : Spec → List ℕ → List Token → Type 0
-OfSkeleton spec = OfSpecification (found.Skeleton spec)
 
 -- the tokens are a text of this trace of the specification, and of no other
 abbrev pub OfTrace : Spec → List Event → List ℕ → List Token → Type 0

@@ -25,12 +25,20 @@ pub record IsNumber (low high : ℕ) (word : List ℕ) (value : ℕ) : Type 0 wh
   pub least : low ≤ value
   pub most : value ≤ high
 
+-- the most silent firings in a row that words can ask for
+abbrev pub most_silent : ℕ
+most_silent = 1000
+
+-- the most statements of a block or guard that words can ask for
+abbrev pub most_statements : ℕ
+most_statements = 1000000
+
 -- the words for the limits of a replay: none, where these are 8 silent firings and 10,000
 -- statements, or a number for each
 pub data AreLimits (words : List (List ℕ)) : ℕ → ℕ → Type 0 where
   left_out : words ≡ [] → AreLimits words 8 10000
   given : (first second : List ℕ) (silent statements : ℕ) → words ≡ first ∷ second ∷ []
-      → IsNumber 0 1000 first silent → IsNumber 1 1000000 second statements
+      → IsNumber 0 most_silent first silent → IsNumber 1 most_statements second statements
       → AreLimits words silent statements
 
 -- The words ask for this: they are a command word, the names of its files, which are not empty, and

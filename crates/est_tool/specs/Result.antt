@@ -52,7 +52,7 @@ StartsItsFiles words shelf =
 pub record IsResult
     (words : List (String Global)) (shelf : Seen) (output : Sent) (status : Status)
     : Type 0 where
-  -- the words are none that the program takes, and nothing else is
+  -- the words ask for nothing that the program does, and nothing else ends so
   pub usage : (status ≡ Usage) ↔ AsksNothing words
   -- a file could not be read, and no refusal comes before it
   pub read_fault : status ≡ ReadFault → CannotRead words shelf
@@ -66,7 +66,7 @@ pub record IsResult
   pub written : Writes (Reports words shelf) status output.before.written output.after.written
   -- what the shelf holds stays
   pub told : SameTold shelf.before.told shelf.after.told
-  -- nothing is started where the words are none that the program takes
+  -- nothing is started where the words ask for nothing that the program does
   pub idle : status ≡ Usage → shelf.after.started ≡ shelf.before.started
   -- else files that they name, in their order, each once, where those before it are good
   pub started : status ≢ Usage → StartsItsFiles words shelf

@@ -1,13 +1,13 @@
 //! The commands.
-ghost use Rattle.std.specs.Prelude.{◌-◌, ◌<◌, ◌^◌, [], ◌∷◌, length};
+ghost use Rattle.std.specs.Prelude.{◌≤◌, [], ◌∷◌, length};
 ghost use Rattle.est_meaning.specs.Allowed.{IsAllowedTrace};
-ghost use Rattle.est_tool.specs.declared.file.File.TheVariants.{Specification as Specifying};
-ghost use Rattle.est_tool.specs.declared.file.File.TheVariants.{Trace as Tracing};
+ghost use Rattle.est_replay.specs.Replay.{most_moves};
+ghost use Rattle.est_tool.specs.declared.file.File.TheVariants as file;
 ghost use Rattle.est_tool.specs.Seen.{seen, shelved};
-ghost use Rattle.est_tool.specs.FileTexts.{Holds, OfSkeleton, OfTrace};
+ghost use Rattle.est_tool.specs.FileTexts.{Holds, OfTrace};
 ghost use Rattle.est_tool.specs.Requests.{check, replay};
 ghost use Rattle.est_tool.specs.inside.Work.{IsWork, Gives, IsCounted, IsUnbuilt};
-ghost use Rattle.est_tool.specs.inside.Work.{IsAnswered};
+ghost use Rattle.est_tool.specs.inside.Work.{IsAnswered, OfSkeleton};
 
 use crate::explanation::explanation_in;
 use crate::report::{Report, line_report, ok_report, replay_report, replay_status};
@@ -98,7 +98,7 @@ fn replay_trace<S: Shelf>(
     limits: &Limits,
     checked: &Checked,
 ) -> Result<Report, Stop>
-    requires { Holds Specifying (S.told shelf.old files.now.specification.now)
+    requires { Holds file.Specification (S.told shelf.old files.now.specification.now)
         (OfSkeleton checked.now) }
     ensures { IsWork (files.now.specification.now ∷ [])
         (replay files.now.specification.now files.now.trace.now files.now.explanation.now
@@ -122,9 +122,9 @@ fn replay_explanation<S: Shelf>(
     trace: &Trace,
 ) -> Result<Report, Stop>
     requires allowed { IsAllowedTrace checked.now trace.now }
-    requires checked { Holds Specifying (S.told shelf.old files.now.specification.now)
+    requires checked { Holds file.Specification (S.told shelf.old files.now.specification.now)
         (OfSkeleton checked.now) }
-    requires traced { Holds Tracing (S.told shelf.old files.now.trace.now)
+    requires traced { Holds file.Trace (S.told shelf.old files.now.trace.now)
         (OfTrace checked.now trace.now) }
     ensures { IsWork (files.now.specification.now ∷ files.now.trace.now ∷ [])
         (replay files.now.specification.now files.now.trace.now files.now.explanation.now
@@ -147,7 +147,7 @@ fn judged(
     limits: &Limits,
 ) -> Result<Report, Stop>
     requires allowed { IsAllowedTrace checked.now trace.now }
-    requires few { length explanation.now.moves < 2 ^ 32 - 1 }
+    requires few { length explanation.now.moves ≤ most_moves }
     ensures { Gives (IsAnswered limits.now.silent limits.now.statements
         checked.now trace.now explanation.now) result }
 {

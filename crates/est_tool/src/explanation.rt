@@ -1,6 +1,6 @@
 //! The text of an explanation.
-ghost use Rattle.std.specs.Prelude.{◌≤◌, IfSome, length, IfOk, ◌<◌, ◌-◌, ◌^◌};
-ghost use Rattle.est_tool.specs.declared.file.File.TheVariants.{Explanation as Explaining};
+ghost use Rattle.std.specs.Prelude.{◌≤◌, IfSome, length, IfOk};
+ghost use Rattle.est_replay.specs.Replay.{most_moves};
 ghost use Rattle.est_tool.specs.Files.{limit_of};
 ghost use Rattle.est_tool.specs.Seen.{seen, shelved};
 ghost use Rattle.est_tool.specs.FileTexts.{OfExplanation, RefusesExplanation, SaysOfExplanation};
@@ -23,8 +23,8 @@ pub(crate) fn explanation_in<S: Shelf>(
     shelf: &mut S,
     name: &str,
 ) -> Result<Explanation, Stop>
-    ensures few { IfOk result (λ explanation. length explanation.moves < 2 ^ 32 - 1) }
-    ensures reads { ReadsFile Explaining name.now OfExplanation RefusesExplanation (seen
+    ensures few { IfOk result (λ explanation. length explanation.moves ≤ most_moves) }
+    ensures reads { ReadsFile File.Explanation name.now OfExplanation RefusesExplanation (seen
         (shelved (S.told shelf.old) (S.faults shelf.old) (S.started shelf.old) (S.taken shelf.old))
         (shelved (S.told shelf.new) (S.faults shelf.new) (S.started shelf.new) (S.taken shelf.new)))
         result }
@@ -35,9 +35,9 @@ pub(crate) fn explanation_in<S: Shelf>(
 
 // The explanation that a text within its limit is.
 fn explanation_of(alloc: Global, text: &[u8]) -> Result<Explanation, Stop>
-    requires { length text.now ≤ limit_of Explaining }
-    ensures few { IfOk result (λ explanation. length explanation.moves < 2 ^ 32 - 1) }
-    ensures reads { ReadsText Explaining OfExplanation RefusesExplanation text.now result }
+    requires { length text.now ≤ limit_of File.Explanation }
+    ensures few { IfOk result (λ explanation. length explanation.moves ≤ most_moves) }
+    ensures reads { ReadsText File.Explanation OfExplanation RefusesExplanation text.now result }
 {
     let tokens = lex(alloc, text)?;
     match read_explanation(alloc, &tokens) {

@@ -1,5 +1,4 @@
 //! The bytes of a file.
-ghost use Rattle.est_tool.specs.declared.status.Status.TheVariants.{TooLong as Longer};
 ghost use Rattle.est_tool.specs.Seen.{seen, shelved};
 ghost use Rattle.est_tool.specs.Reports.{too_long_line};
 ghost use Rattle.est_tool.specs.inside.Reads.{StopsWith, ReadsBytes};
@@ -33,7 +32,7 @@ pub(crate) fn read_text<S: Shelf>(
 
 // Stops with the report of a file that is longer than its limit.
 fn too_long(alloc: Global, file: File) -> Stop
-    ensures { StopsWith Longer (too_long_line file) result }
+    ensures { StopsWith Status.TooLong (too_long_line file) result }
 {
     match too_long_report(alloc, file) {
         Ok(text) => Stop::Refused(Report {

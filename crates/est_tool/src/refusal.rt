@@ -1,7 +1,6 @@
 //! Refusals of texts.
 ghost use Rattle.std.specs.Prelude.{◌≡◌, IfSome, IfNone, IfOk, string_bytes};
 ghost use Rattle.est_lexer.specs.Offsets.{text_of, tokens_of};
-ghost use Rattle.est_tool.specs.declared.stop.Stop.TheVariants.{OutOfMemory as Wanting};
 ghost use Rattle.est_tool.specs.FileTexts.{refusal_at};
 ghost use Rattle.est_tool.specs.inside.Reads.{StopsWith};
 
@@ -29,7 +28,7 @@ pub(crate) fn refuse(
 ) -> Stop
     ensures said { IfSome refusal (λ said. StopsWith said.status (refusal_at file
         (text_of tokens.now) (tokens_of tokens.now) said.place said.why.now) result) }
-    ensures unsaid { IfNone refusal (result ≡ Wanting) }
+    ensures unsaid { IfNone refusal (result ≡ Stop.OutOfMemory) }
 {
     let Some(Refusal { status, place, why }) = refusal else {
         return Stop::OutOfMemory;

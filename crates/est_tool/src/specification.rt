@@ -1,6 +1,5 @@
 //! The text of a specification.
 ghost use Rattle.std.specs.Prelude.{◌≤◌, IfSome, length};
-ghost use Rattle.est_tool.specs.declared.file.File.TheVariants.{Specification as Specifying};
 ghost use Rattle.est_tool.specs.Files.{limit_of};
 ghost use Rattle.est_tool.specs.Seen.{seen, shelved};
 ghost use Rattle.est_tool.specs.FileTexts.{OfSpecification, RefusesSpecification};
@@ -24,7 +23,7 @@ pub(crate) fn specification_in<S: Shelf>(
     shelf: &mut S,
     name: &str,
 ) -> Result<Specification, Stop>
-    ensures { ReadsFile Specifying name.now OfSpecification RefusesSpecification (seen
+    ensures { ReadsFile File.Specification name.now OfSpecification RefusesSpecification (seen
         (shelved (S.told shelf.old) (S.faults shelf.old) (S.started shelf.old) (S.taken shelf.old))
         (shelved (S.told shelf.new) (S.faults shelf.new) (S.started shelf.new) (S.taken shelf.new)))
         result }
@@ -35,8 +34,8 @@ pub(crate) fn specification_in<S: Shelf>(
 
 // The specification that a text within its limit is.
 fn specification_of(alloc: Global, text: &[u8]) -> Result<Specification, Stop>
-    requires { length text.now ≤ limit_of Specifying }
-    ensures { ReadsText Specifying OfSpecification RefusesSpecification text.now result }
+    requires { length text.now ≤ limit_of File.Specification }
+    ensures { ReadsText File.Specification OfSpecification RefusesSpecification text.now result }
 {
     let tokens = lex(alloc, text)?;
     match read_specification(alloc, &tokens) {

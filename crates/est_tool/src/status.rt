@@ -17,7 +17,7 @@ pub enum Status {
     BadExplanation = 4,
     /// A file is longer than its limit.
     TooLong = 6,
-    /// The words are none that the program takes.
+    /// The words ask for nothing that the program does.
     Usage = 7,
     /// A file could not be read.
     ReadFault = 8,

@@ -1,6 +1,6 @@
 //! Why a function stops before its work is done.
 ghost use Rattle.std.specs.Prelude.{◌≡◌};
-ghost use Rattle.est_tool.specs.declared.stop.Stop.TheVariants.{OutOfMemory as Wanting};
+ghost use Rattle.est_tool.specs.declared.stop.Stop.TheVariants.{OutOfMemory};
 
 use crate::report::Report;
 use std::alloc::AllocError;
@@ -17,7 +17,7 @@ pub(crate) enum Stop {
 }
 
 impl From<AllocError> for Stop {
-    ghost from_gives = { λ error stop. stop ≡ Wanting };
+    ghost from_gives = { λ error stop. stop ≡ OutOfMemory };
 
     fn from(_: AllocError) -> Stop {
         Stop::OutOfMemory

@@ -1,7 +1,6 @@
 //! The text of a trace.
 ghost use Rattle.std.specs.Prelude.{◌≤◌, IfSome, length, IfOk};
 ghost use Rattle.est_meaning.specs.Allowed.{IsAllowedTrace};
-ghost use Rattle.est_tool.specs.declared.file.File.TheVariants.{Trace as Tracing};
 ghost use Rattle.est_tool.specs.Files.{limit_of};
 ghost use Rattle.est_tool.specs.Seen.{seen, shelved};
 ghost use Rattle.est_tool.specs.FileTexts.{OfTrace, RefusesTrace, SaysOfTrace};
@@ -28,7 +27,7 @@ pub(crate) fn trace_in<S: Shelf>(
     checked: &Checked,
 ) -> Result<Trace, Stop>
     ensures allowed { IfOk result (IsAllowedTrace checked.now) }
-    ensures reads { ReadsFile Tracing name.now
+    ensures reads { ReadsFile File.Trace name.now
         (OfTrace checked.now) (RefusesTrace checked.now) (seen
         (shelved (S.told shelf.old) (S.faults shelf.old) (S.started shelf.old) (S.taken shelf.old))
         (shelved (S.told shelf.new) (S.faults shelf.new) (S.started shelf.new) (S.taken shelf.new)))
@@ -40,9 +39,9 @@ pub(crate) fn trace_in<S: Shelf>(
 
 // The trace of a specification that a text within its limit is.
 fn trace_of(alloc: Global, text: &[u8], checked: &Checked) -> Result<Trace, Stop>
-    requires { length text.now ≤ limit_of Tracing }
+    requires { length text.now ≤ limit_of File.Trace }
     ensures allowed { IfOk result (IsAllowedTrace checked.now) }
-    ensures reads { ReadsText Tracing
+    ensures reads { ReadsText File.Trace
         (OfTrace checked.now) (RefusesTrace checked.now) text.now result }
 {
     let tokens = lex(alloc, text)?;

@@ -5,8 +5,14 @@ ghost use Rattle.est_tool.specs.Requests.{IsNumber, bytes_of, usual_budget};
 
 use est_meaning::run::Limits;
 
-// The most firings that are tried.
+// The most firings that are tried, where no word says how many.
 const BUDGET: u32 = 1_000_000;
+
+// The most silent firings in a row that words can ask for.
+const MOST_SILENT: u32 = 1000;
+
+// The most statements of a block or guard that words can ask for.
+const MOST_STATEMENTS: u32 = 1_000_000;
 
 /// What the words ask for.
 #[derive(Clone, Copy)]
@@ -18,7 +24,7 @@ pub enum Command {
     Replay { limits: Limits },
 }
 
-/// The words are none that the program takes.
+/// The words ask for nothing that the program does.
 #[derive(Clone, Copy, PartialEq, Eq)]
 pub struct BadUsage;
 
@@ -59,8 +65,8 @@ fn read_limits(words: &[String]) -> Option<Limits>
             statements: 10_000,
         }),
         [silent, statements] => {
-            let silent = number(silent.as_str(), 0, 1000)?;
-            let statements = number(statements.as_str(), 1, 1_000_000)?;
+            let silent = number(silent.as_str(), 0, MOST_SILENT)?;
+            let statements = number(statements.as_str(), 1, MOST_STATEMENTS)?;
             Some(Limits {
                 silent,
                 budget: BUDGET,

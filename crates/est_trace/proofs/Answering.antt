@@ -15,9 +15,9 @@ use Rattle.est_reader.proofs.Whole.{whole_wrong, whole_deep, got_deep}
 use Rattle.est_trace.specs.declared.error.TraceError.TheVariants.{BadToken, TooMany}
 use Rattle.est_trace.specs.TraceGrammar.{trace}
 use Rattle.est_trace.specs.TraceNodes.{layer, a_trace, tracing}
-use Rattle.est_trace.specs.Skeletons.{ArePlain}
-use Rattle.est_trace.specs.AtPorts.{AreAtPorts}
-use Rattle.est_trace.specs.Counting.{CountsTrace}
+use Rattle.est_trace.specs.inside.Skeletons.{ArePlain}
+use Rattle.est_trace.specs.inside.AtPorts.{AreAtPorts}
+use Rattle.est_trace.specs.inside.Counting.{CountsTrace}
 use Rattle.est_trace.specs.TraceText.{IsFull, ReadsTrace}
 use Rattle.est_trace.proofs.TraceFits.{known}
 use Rattle.est_trace.proofs.Shown.{one_trace, text_at_ports}

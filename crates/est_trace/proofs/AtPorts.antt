@@ -9,7 +9,7 @@ use Rattle.est_meaning.specs.declared.event.Event.TheVariants.{Arrives, Leaves, 
 use Rattle.est_meaning.specs.Allowed.{IsReceivable, IsSendable, IsAllowed}
 use Rattle.est_meaning.specs.Allowed.{most_events, IsAllowedTrace}
 use Rattle.est_trace.specs.declared.error.TraceError.{TraceError}
-use Rattle.est_trace.specs.AtPorts.{IsAtPorts, AreAtPorts}
+use Rattle.est_trace.specs.inside.AtPorts.{IsAtPorts, AreAtPorts}
 
 allowed : (s : Spec) (e : Event) → IsAtPorts (ports_of s) e → IsAllowed s e
 unfolding IsReceivable IsSendable

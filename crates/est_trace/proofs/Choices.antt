@@ -17,8 +17,8 @@ use Rattle.est_reader.specs.Moving.{IsNamedAt}
 use Rattle.est_trace.specs.TraceGrammar.{Rule, marks}
 use Rattle.est_trace.specs.TraceText.{traces}
 use Rattle.est_skeleton.specs.Differing.{HaveDifferentNames}
-use Rattle.est_trace.specs.Tables.{IsNumberOf}
-use Rattle.est_trace.specs.Lookups.{IsChosen}
+use Rattle.est_trace.specs.inside.Tables.{IsNumberOf}
+use Rattle.est_trace.specs.inside.Lookups.{IsChosen}
 use Rattle.est_trace.proofs.Lists.{some_same, image_at}
 use Rattle.est_trace.proofs.Names.{only_one}
 

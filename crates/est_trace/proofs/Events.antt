@@ -33,7 +33,7 @@ use Rattle.est_trace.specs.declared.direction.Direction.TheVariants.{In, Out}
 use Rattle.est_trace.specs.TraceGrammar.{Rule, passes, some_pass, signal, dot_signal}
 use Rattle.est_trace.specs.TraceGrammar.{port, event, marks, event_starts}
 use Rattle.est_trace.specs.TraceNodes.{some_events, an_event, layer, tracing}
-use Rattle.est_trace.specs.Counting.{CountsEvents}
+use Rattle.est_trace.specs.inside.Counting.{CountsEvents}
 use Rattle.est_trace.specs.TraceText.{traces, nested, IsFullAfter}
 use Rattle.est_trace.proofs.Closed.{event_closed}
 use Rattle.est_trace.proofs.TraceFits.{fits, known}

@@ -6,7 +6,7 @@ use Rattle.std.specs.List.{list_any}
 use Rattle.std.proofs.lemmas.List.{take_all}
 use Rattle.std.proofs.lemmas.Map.Keys.{any_passes_from_place}
 use Rattle.std.proofs.lemmas.Slice.Eq.{bytes_eq-Decides}
-use Rattle.est_trace.specs.Tables.{IsNumberOf}
+use Rattle.est_trace.specs.inside.Tables.{IsNumberOf}
 use Rattle.est_trace.proofs.Lists.{mapped_at, image_at, some_same}
 
 -- neither of two

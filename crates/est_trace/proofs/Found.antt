@@ -2,8 +2,8 @@
 use Rattle.std.proofs.Common.{◌≡◌, ℕ, List, subst, Some, slice_get}
 use Rattle.est_syntax.specs.declared.ports.Port.{Port}
 use Rattle.est_trace.specs.declared.lookup.Directory.{Directory}
-use Rattle.est_trace.specs.Tables.{names_in}
-use Rattle.est_trace.specs.Directories.{port_name, IsDirectory}
+use Rattle.est_trace.specs.inside.Tables.{names_in}
+use Rattle.est_trace.specs.inside.Directories.{port_name, IsDirectory}
 use Rattle.est_trace.proofs.Lists.{mapped_at}
 
 -- the port of a number in the table of names

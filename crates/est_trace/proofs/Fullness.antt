@@ -18,7 +18,7 @@ use Rattle.est_reader.specs.Moving.{Does, Taken, NotThere, Takes, Same}
 use Rattle.est_reader.specs.Going.{Shape}
 use Rattle.est_reader.proofs.Steps.{onto, after}
 use Rattle.est_trace.specs.TraceGrammar.{trace, event_starts}
-use Rattle.est_trace.specs.Counting.{CountsEvents, CountsTrace}
+use Rattle.est_trace.specs.inside.Counting.{CountsEvents, CountsTrace}
 use Rattle.est_trace.specs.TraceText.{traces, nested, IsFullAfter, IsFull}
 use Rattle.est_trace.proofs.Events.{event_flat, event_partial, BeginsEvent}
 

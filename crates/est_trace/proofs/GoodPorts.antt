@@ -5,7 +5,7 @@ use Rattle.est_skeleton.specs.Skeleton.{IsSkeleton}
 use Rattle.est_skeleton.specs.Small.{IsSmall}
 use Rattle.est_skeleton.proofs.PortLaws.{ports_bare, ports_differ}
 use Rattle.est_skeleton.proofs.PortLaws.{signals_differ, ports_few, signals_few}
-use Rattle.est_trace.specs.Skeletons.{ArePlain}
+use Rattle.est_trace.specs.inside.Skeletons.{ArePlain}
 
 pub ports_plain : (s : Spec) → IsSkeleton s → IsSmall s → ArePlain (ports_of s)
 ports_plain s sk small = record {

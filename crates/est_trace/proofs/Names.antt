@@ -13,8 +13,8 @@ use Rattle.est_trace.specs.declared.direction.Direction.{Direction}
 use Rattle.est_trace.specs.TraceGrammar.{Rule, passes, some_pass, signal, dot_signal, port, marks}
 use Rattle.est_trace.specs.TraceText.{traces}
 use Rattle.est_skeleton.specs.Differing.{HaveDifferentNames}
-use Rattle.est_trace.specs.Skeletons.{ArePlain}
-use Rattle.est_trace.specs.Directories.{signal_name}
+use Rattle.est_trace.specs.inside.Skeletons.{ArePlain}
+use Rattle.est_trace.specs.inside.Directories.{signal_name}
 
 -- a token that meets one of a single test
 pub only_one : (text : List ℕ) (k : Test) (o : Option Token) → MeetsOne (holds text) o (k ∷ [])

@@ -22,9 +22,9 @@ use Rattle.est_trace.specs.declared.direction.Direction.{Direction}
 use Rattle.est_trace.specs.TraceGrammar.{Rule, passes, some_pass, signal, dot_signal, port, marks}
 use Rattle.est_trace.specs.TraceNodes.{View, numbered, layer, tracing}
 use Rattle.est_skeleton.specs.Differing.{HaveDifferentNames}
-use Rattle.est_trace.specs.Skeletons.{ArePlain}
-use Rattle.est_trace.specs.Directories.{signal_name}
-use Rattle.est_trace.specs.Lookups.{Begins, IsChosen, Chooses, signals_of}
+use Rattle.est_trace.specs.inside.Skeletons.{ArePlain}
+use Rattle.est_trace.specs.inside.Directories.{signal_name}
+use Rattle.est_trace.specs.inside.Lookups.{Begins, IsChosen, Chooses, signals_of}
 use Rattle.est_trace.specs.TraceText.{traces}
 use Rattle.est_trace.proofs.TraceFits.{fits}
 use Rattle.est_trace.proofs.Names.{only_one, signals_distinct}

@@ -15,6 +15,7 @@ use Rattle.est_language.specs.Shown.{s_first, s_second, s_given, s_node}
 use Rattle.est_language.proofs.Members.{and_left}
 use Rattle.est_syntax.specs.declared.kind.Value.{Value}
 use Rattle.est_syntax.specs.declared.ports.Port.{Port}
+use Rattle.est_syntax.specs.Kinds.{maxint}
 use Rattle.est_meaning.specs.declared.event.Interaction.{Interaction}
 use Rattle.est_meaning.specs.declared.event.Event.{Event}
 use Rattle.est_meaning.specs.declared.event.Event.TheVariants.{Arrives, Leaves, Passes}
@@ -27,8 +28,8 @@ use Rattle.est_trace.specs.declared.direction.Direction.TheVariants.{In, Out}
 use Rattle.est_trace.specs.TraceGrammar.{Rule, passes, some_pass, signal, port, event, trace}
 use Rattle.est_trace.specs.TraceNodes.{View, numbered, values_view, layer}
 use Rattle.est_trace.specs.TraceNodes.{an_interaction, an_event, some_events, a_trace}
-use Rattle.est_trace.specs.Skeletons.{ArePlain}
-use Rattle.est_trace.specs.AtPorts.{IsAtPort, IsAtPorts, AreAtPorts}
+use Rattle.est_trace.specs.inside.Skeletons.{ArePlain}
+use Rattle.est_trace.specs.inside.AtPorts.{IsAtPort, IsAtPorts, AreAtPorts}
 use Rattle.est_trace.specs.TraceText.{traces, IsTraceOfAtMost}
 
 -- ONE TRACE SHOWS A SHAPE
@@ -154,7 +155,7 @@ module _ (text : List ℕ) (s : List Token) (n : ℕ) where
     at_ports : (x : Event) {d a b : ℕ} {t : Shape} → Tree_of (event ports) d a b t
         → Shows layer (node (an_event x)) t → IsAtPorts ports x
     at_ports (Passes units) (t_left (t_word k l w (t_token v k' l' w' z)))
-        (s_node (s_first (s_kept y))) = bounded text 0 2147483647 units _ w' z
+        (s_node (s_first (s_kept y))) = bounded text 0 maxint units _ w' z
     at_ports (Passes units) (t_right x) (s_node e) = elim e [ ]
     at_ports (Arrives x) (t_left y) (s_node e) = elim e [ ]
     at_ports (Arrives x) (t_right (t_left (t_word k l w y))) (s_node (s_second (s_first e))) =

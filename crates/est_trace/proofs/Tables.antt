@@ -10,7 +10,7 @@ use Rattle.std.proofs.lemmas.Option.{slice_get-map, slice_get-get_or}
 use Rattle.std.proofs.lemmas.Map.Keys.{any_passes_from_place}
 use Rattle.std.proofs.lemmas.Slice.Eq.{bytes_eq-Decides}
 use Rattle.indexmap.specs.IndexSet.{insert_key}
-use Rattle.est_trace.specs.Tables.{IsNumberOf}
+use Rattle.est_trace.specs.inside.Tables.{IsNumberOf}
 use Rattle.est_trace.proofs.Lists.{mapped_at}
 
 -- the bytes of a key

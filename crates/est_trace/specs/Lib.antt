@@ -1,9 +1,4 @@
 pub mod TraceGrammar
 pub mod TraceNodes
-pub mod Skeletons
-pub mod Lookups
-pub mod Counting
 pub mod TraceText
-pub mod Tables
-pub mod Directories
-pub mod AtPorts
+pub mod inside

@@ -5,6 +5,7 @@ use Rattle.est_language.specs.Grammar.{done, word, token, seq, alt, opt, deeper,
 use Rattle.est_language.specs.Marks.{Marks}
 use Rattle.est_syntax.specs.declared.ports.Signal.{Signal}
 use Rattle.est_syntax.specs.declared.ports.Port.{Port}
+use Rattle.est_syntax.specs.Kinds.{maxint}
 use Rattle.est_reader.specs.Tests.{Test, said, named, number}
 use Rattle.est_reader.specs.Going as going
 use Rattle.est_trace.specs.declared.direction.Direction.{Direction}
@@ -41,7 +42,7 @@ port direction p =
 
 -- "time" number
 abbrev pub time : Rule
-time = word (said "time") (token (number 0 2147483647))
+time = word (said "time") (token (number 0 maxint))
 
 -- event = "time" number | "in" port "." signal | "out" port "." signal .
 abbrev pub event : List Port → Rule

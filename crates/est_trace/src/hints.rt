@@ -2,9 +2,9 @@
 
 ghost use Rattle.std.specs.Prelude.{◌≡◌, true, map, slice_get, Some};
 ghost use Rattle.std.specs.Prelude.{IfOk, IfSome, is_some, bytes_eq};
-ghost use Rattle.est_trace.specs.TraceGrammar.{passes as does_pass, some_pass as some_do_pass};
-ghost use Rattle.est_trace.specs.Directories.{signal_name};
-ghost use Rattle.est_trace.specs.Tables.{IsNumberOf};
+ghost use Rattle.est_trace.specs.TraceGrammar as grammar;
+ghost use Rattle.est_trace.specs.inside.Directories.{signal_name};
+ghost use Rattle.est_trace.specs.inside.Tables.{IsNumberOf};
 
 use crate::direction::Direction;
 use est_syntax::ports::Signal;
@@ -40,7 +40,7 @@ impl Hints {
         signals: &[Signal],
         direction: Direction,
     ) -> Result<bool, AllocError>
-        ensures { IfOk result (λ found. found ≡ some_do_pass direction signals.now) }
+        ensures { IfOk result (λ found. found ≡ grammar.some_pass direction signals.now) }
     {
         let places = match direction {
             Direction::In => &mut self.received,
@@ -116,7 +116,7 @@ impl Hints {
 
 /// Whether the signal passes its port in this direction.
 pub fn passes(signal: &Signal, direction: Direction) -> bool
-    ensures { result ≡ does_pass direction signal.now }
+    ensures { result ≡ grammar.passes direction signal.now }
 {
     match direction {
         Direction::In => signal.receives,
@@ -133,7 +133,7 @@ fn is_named(signal: &Signal, name: &[u8]) -> bool
 
 // The number of the first signal that passes in this direction.
 fn first_passing(signals: &[Signal], direction: Direction) -> Option<usize>
-    ensures { is_some result ≡ some_do_pass direction signals.now }
+    ensures { is_some result ≡ grammar.some_pass direction signals.now }
 {
     for number in 0..signals.len() {
         if passes(&signals[number], direction) {
@@ -157,7 +157,7 @@ fn first_named(signals: &[Signal], name: &[u8]) -> Option<usize>
 
 // Whether a signal of one of these numbers passes in this direction.
 fn one_passes(numbers: &[usize], signals: &[Signal], direction: Direction) -> bool
-    ensures { result ≡ true → some_do_pass direction signals.now ≡ true }
+    ensures { result ≡ true → grammar.some_pass direction signals.now ≡ true }
 {
     for number in numbers {
         if let Some(signal) = signals.get(*number) {

@@ -5,11 +5,11 @@ ghost use Rattle.est_language.specs.Grammar.{one_of};
 ghost use Rattle.est_language.specs.Shown.{node};
 ghost use Rattle.est_skeleton.specs.Small.{most_parts};
 ghost use Rattle.est_reader.specs.Going.{Goes};
-ghost use Rattle.est_trace.specs.TraceGrammar.{signal as a_signal, port as a_port};
+ghost use Rattle.est_trace.specs.TraceGrammar as grammar;
 ghost use Rattle.est_trace.specs.TraceNodes.{an_interaction, tracing};
 ghost use Rattle.est_skeleton.specs.Differing.{HaveDifferentNames};
-ghost use Rattle.est_trace.specs.Directories.{signal_name, IsDirectory};
-ghost use Rattle.est_trace.specs.Lookups.{Chooses};
+ghost use Rattle.est_trace.specs.inside.Directories.{signal_name, IsDirectory};
+ghost use Rattle.est_trace.specs.inside.Lookups.{Chooses};
 
 use crate::direction::Direction;
 use crate::hints::Hints;
@@ -19,15 +19,15 @@ use est_reader::Reader;
 use est_syntax::kind::Values;
 use est_syntax::ports::Signal;
 
-// port "." signal
-pub fn interaction(
+/// port "." signal .
+pub fn port_signal(
     reader: &mut Reader,
     directory: &Directory,
     hints: &mut Hints,
     direction: Direction,
 ) -> Interaction
     requires { IsDirectory directory.now }
-    ensures { Goes tracing (one_of (a_port direction) directory.now.ports.now) reader.old
+    ensures { Goes tracing (one_of (grammar.port direction) directory.now.ports.now) reader.old
         (node (an_interaction result)) reader.new }
 {
     let port = port(reader, directory, hints, direction);
@@ -45,7 +45,8 @@ pub fn interaction(
 // The name of a port that some signal passes in this direction.
 fn port(reader: &mut Reader, directory: &Directory, hints: &mut Hints, direction: Direction) -> u32
     requires { IsDirectory directory.now }
-    ensures { Chooses (a_port direction) directory.now.ports.now reader.old result reader.new }
+    ensures { Chooses (grammar.port direction) directory.now.ports.now
+        reader.old result reader.new }
 {
     let found = find_port(reader, directory, hints, direction);
     reader.step(found.is_some());
@@ -56,7 +57,7 @@ fn port(reader: &mut Reader, directory: &Directory, hints: &mut Hints, direction
 fn signal(reader: &mut Reader, signals: &[Signal], hints: &mut Hints, direction: Direction) -> u32
     requires different { HaveDifferentNames signal_name signals.now }
     requires few { length signals.now ≤ most_parts }
-    ensures { Chooses (a_signal direction) signals.now reader.old result reader.new }
+    ensures { Chooses (grammar.signal direction) signals.now reader.old result reader.new }
 {
     let found = find_signal(reader, signals, hints, direction);
     reader.step(found.is_some());

@@ -3,11 +3,11 @@
 ghost use Rattle.std.specs.Prelude.{◌≡◌, ◌≤◌, length, slice_get, IfOk};
 ghost use Rattle.est_reader.specs.Moving.{Still};
 ghost use Rattle.est_skeleton.specs.Small.{most_parts};
-ghost use Rattle.est_trace.specs.TraceGrammar.{signal as a_signal, port as a_port};
+ghost use Rattle.est_trace.specs.TraceGrammar as grammar;
 ghost use Rattle.est_skeleton.specs.Differing.{HaveDifferentNames};
-ghost use Rattle.est_trace.specs.Skeletons.{ArePlain};
-ghost use Rattle.est_trace.specs.Directories.{signal_name, IsDirectory};
-ghost use Rattle.est_trace.specs.Lookups.{Finds, signals_of};
+ghost use Rattle.est_trace.specs.inside.Skeletons.{ArePlain};
+ghost use Rattle.est_trace.specs.inside.Directories.{signal_name, IsDirectory};
+ghost use Rattle.est_trace.specs.inside.Lookups.{Finds, signals_of};
 
 use crate::direction::Direction;
 use crate::hints::{Hints, passes};
@@ -59,7 +59,8 @@ pub fn find_port(
 ) -> Option<u32>
     requires { IsDirectory directory.now }
     ensures still { Still reader.old reader.new }
-    ensures found { Finds (a_port direction) directory.now.ports.now reader.old result reader.new }
+    ensures found { Finds (grammar.port direction) directory.now.ports.now
+        reader.old result reader.new }
 {
     let Some(name) = reader.name_here() else {
         return None;
@@ -88,7 +89,7 @@ pub fn find_signal(
     requires different { HaveDifferentNames signal_name signals.now }
     requires few { length signals.now ≤ most_parts }
     ensures still { Still reader.old reader.new }
-    ensures found { Finds (a_signal direction) signals.now reader.old result reader.new }
+    ensures found { Finds (grammar.signal direction) signals.now reader.old result reader.new }
 {
     let Some(name) = reader.name_here() else {
         return None;

@@ -2,7 +2,7 @@
 
 ghost use Rattle.std.specs.Prelude.{◌≡◌, false, [], ◌∷◌, ◌++◌, OnOk, bytes_eq};
 ghost use Rattle.std.specs.List.{list_any};
-ghost use Rattle.est_trace.specs.Tables.{names_in, IsNumberOf};
+ghost use Rattle.est_trace.specs.inside.Tables.{names_in, IsNumberOf};
 
 use indexmap::IndexSet;
 use std::alloc::{AllocError, Global};

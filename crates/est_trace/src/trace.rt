@@ -5,31 +5,29 @@ ghost use Rattle.est_lexer.specs.Offsets.{text_of, tokens_of};
 ghost use Rattle.est_language.specs.Grammar.{rule};
 ghost use Rattle.est_language.specs.Shown.{node};
 ghost use Rattle.est_skeleton.specs.Ports.{ports_of};
-ghost use Rattle.est_meaning.specs.Allowed.{IsAllowedTrace};
+ghost use Rattle.est_meaning.specs.Allowed.{IsAllowedTrace, most_events};
 ghost use Rattle.est_reader.specs.Moving.{SeesOne};
 ghost use Rattle.est_reader.specs.Going.{Goes};
 ghost use Rattle.est_trace.specs.TraceGrammar as grammar;
 ghost use Rattle.est_trace.specs.TraceNodes.{an_event, some_events, a_trace, tracing};
-ghost use Rattle.est_trace.specs.Skeletons.{ArePlain};
-ghost use Rattle.est_trace.specs.Directories.{IsDirectory};
-ghost use Rattle.est_trace.specs.AtPorts.{AreAtPorts};
-ghost use Rattle.est_trace.specs.Counting.{CountsEvents, CountsTrace};
+ghost use Rattle.est_trace.specs.inside.Skeletons.{ArePlain};
+ghost use Rattle.est_trace.specs.inside.Directories.{IsDirectory};
+ghost use Rattle.est_trace.specs.inside.AtPorts.{AreAtPorts};
+ghost use Rattle.est_trace.specs.inside.Counting.{CountsEvents, CountsTrace};
 ghost use Rattle.est_trace.specs.TraceText.{ReadsTrace};
 
 use crate::direction::Direction;
 use crate::error::TraceError;
 use crate::hints::Hints;
-use crate::interaction::interaction;
+use crate::interaction::port_signal;
 use crate::lookup::{Directory, directory_of};
 use est_check::Checked;
 use est_lexer::tokens::Tokens;
-use est_meaning::event::{Event, Trace};
+use est_meaning::event::{Event, MOST_EVENTS, Trace};
 use est_reader::{Outcome, Reader};
+use est_syntax::kind::MAXINT;
 use est_syntax::ports::Ports;
 use std::alloc::{AllocError, Global};
-
-/// The most events that a trace may have.
-pub const MOST_EVENTS: u32 = 200_000;
 
 /// The trace of a specification that the tokens are, or the first token that is refused.
 pub fn read_trace(alloc: Global, checked: &Checked, tokens: &Tokens) -> Result<Trace, TraceError>
@@ -48,7 +46,7 @@ fn read_events(alloc: Global, ports: &Ports, tokens: &Tokens) -> Result<Trace, T
     requires { ArePlain ports.now }
     ensures reads { ReadsTrace ports.now (text_of tokens.now) (tokens_of tokens.now) result }
     ensures at_ports { IfOk result (λ x. AreAtPorts ports.now x) }
-    ensures few { IfOk result (λ x. length x ≤ MOST_EVENTS) }
+    ensures few { IfOk result (λ x. length x ≤ most_events) }
 {
     let mut reader = Reader::new(alloc, tokens, MOST_EVENTS);
     let found = trace_of(&mut reader, ports);
@@ -144,12 +142,12 @@ fn event(reader: &mut Reader, directory: &Directory, hints: &mut Hints) -> Event
 {
     if reader.sees_word(b"in") {
         reader.take_word(b"in");
-        return Event::Arrives(interaction(reader, directory, hints, Direction::In));
+        return Event::Arrives(port_signal(reader, directory, hints, Direction::In));
     }
     if reader.sees_word(b"out") {
         reader.take_word(b"out");
-        return Event::Leaves(interaction(reader, directory, hints, Direction::Out));
+        return Event::Leaves(port_signal(reader, directory, hints, Direction::Out));
     }
     reader.take_word(b"time");
-    Event::Passes(reader.number(0, 2_147_483_647))
+    Event::Passes(reader.number(0, MAXINT))
 }

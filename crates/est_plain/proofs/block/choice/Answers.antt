@@ -1,5 +1,5 @@
 use Rattle.std.proofs.Common.{◌∙◌}
-use Rattle.est_plain.specs.PlainSituation.{referred}
+use Rattle.est_plain.specs.inside.PlainSituation.{referred}
 use Rattle.est_plain.proofs.ChoiceLaws.{choice_is}
 use Rattle.est_plain.proofs.block.choice.Goals as goal
 

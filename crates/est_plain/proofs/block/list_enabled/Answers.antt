@@ -1,5 +1,5 @@
 use Rattle.std.proofs.Common.{sym, ap, ◌∙◌}
-use Rattle.est_plain.specs.PlainSituation.{is_enabled_in, held, referred}
+use Rattle.est_plain.specs.inside.PlainSituation.{is_enabled_in, held, referred}
 use Rattle.est_plain.proofs.ChoiceLaws.{referred_at, lists_more, lists_skip}
 use Rattle.est_plain.proofs.block.list_enabled.Goals as goal
 use Rattle.est_plain.proofs.block.list_enabled.Goals.{then-is_enabled+in_ok-push, else-is_enabled}

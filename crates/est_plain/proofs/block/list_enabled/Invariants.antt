@@ -1,4 +1,4 @@
-use Rattle.est_plain.specs.PlainSituation.{ListsFirst, is_enabled_in, held, referred}
+use Rattle.est_plain.specs.inside.PlainSituation.{ListsFirst, is_enabled_in, held, referred}
 use Rattle.est_plain.proofs.block.list_enabled.Given as goal
 
 abbrev pub invariant-loop-index : goal.invariant-loop-index

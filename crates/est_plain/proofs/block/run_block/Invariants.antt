@@ -1,5 +1,5 @@
 use Rattle.std.proofs.Common.{◌≡◌, drop}
-use Rattle.est_plain.specs.PlainSituation.{block_in}
+use Rattle.est_plain.specs.inside.PlainSituation.{block_in}
 use Rattle.est_plain.proofs.block.run_block.Given as goal
 
 abbrev pub invariant-loop-statement : goal.invariant-loop-statement

@@ -1,5 +1,5 @@
 use Rattle.std.proofs.Common.{◌≡◌, drop}
-use Rattle.est_plain.specs.PlainSituation.{sent_in}
+use Rattle.est_plain.specs.inside.PlainSituation.{sent_in}
 use Rattle.est_plain.proofs.block.send.Given as goal
 
 abbrev pub invariant-loop-sending : goal.invariant-loop-sending

@@ -1,6 +1,6 @@
 use Rattle.std.proofs.Common.{◌≡◌, ◌++◌, map, take}
 use Rattle.est_syntax.specs.declared.name.Used.{Used}
-use Rattle.est_plain.specs.PlainSituation.{queue_for}
+use Rattle.est_plain.specs.inside.PlainSituation.{queue_for}
 use Rattle.est_meaning.specs.Text.{Declared}
 use Rattle.est_plain.proofs.outline.push_queues.Given as goal
 

@@ -1,5 +1,5 @@
 use Rattle.std.proofs.Common.{◌≡◌, ◌++◌, take}
-use Rattle.est_plain.specs.PlainSituation.{referred}
+use Rattle.est_plain.specs.inside.PlainSituation.{referred}
 use Rattle.est_plain.proofs.outline.push_transitions.Given as goal
 
 abbrev pub invariant-loop-transition : goal.invariant-loop-transition

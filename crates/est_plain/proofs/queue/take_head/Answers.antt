@@ -1,5 +1,5 @@
 use Rattle.std.proofs.Common.{◌<◌, length, insert, refl, ap, subst, ◌∙◌}
-use Rattle.est_plain.specs.PlainSituation.{waits_in, queue_named}
+use Rattle.est_plain.specs.inside.PlainSituation.{waits_in, queue_named}
 use Rattle.est_plain.proofs.ListLaws.{without_some, without_none}
 use Rattle.est_plain.proofs.UndoLaws.{insert_removed}
 use Rattle.est_plain.proofs.queue.take_head.Goals as goal

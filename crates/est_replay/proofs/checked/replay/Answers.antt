@@ -1,6 +1,6 @@
-use Rattle.std.proofs.Common.{◌<◌, length, subst, sym, ◌∙◌, arith}
+use Rattle.std.proofs.Common.{◌≤◌, length, subst, sym, ◌∙◌, arith}
 use Rattle.est_meaning.specs.Allowed.{IsAllowedTrace}
-use Rattle.est_replay.specs.Replay.{IsReplay}
+use Rattle.est_replay.specs.Replay.{IsReplay, most_moves}
 use Rattle.est_replay.proofs.FromStart.{starts_so, answers_from, if_ok_alike}
 use Rattle.est_replay.proofs.checked.replay.Goals as goal
 
@@ -15,7 +15,7 @@ replay_in-requires c =
       allowed = λ spec speaks. subst (λ x. IsAllowedTrace x c.as_slice-in-Ready.result.now) (sym s.0
           ∙ speaks) (subst (λ es. IsAllowedTrace c.args.checked.now es)
           (sym c.as_slice-in-Ready.ensures) c.requires.allowed);
-      few = subst (λ ms. length ms < 4294967295) (sym c.as_slice-in-Ready-2.ensures) c.requires.few;
+      few = subst (λ ms. length ms ≤ most_moves) (sym c.as_slice-in-Ready-2.ensures) c.requires.few;
     }
 
 pub returns-in-Ready : goal.returns-in-Ready

@@ -1,6 +1,6 @@
 use Rattle.std.proofs.Common.{subst}
 use Rattle.est_syntax.specs.Least.{IsIn}
-use Rattle.est_replay.specs.Standing.{HasLanded}
+use Rattle.est_replay.specs.inside.Standing.{HasLanded}
 use Rattle.est_replay.proofs.Moving.{fired_lands}
 use Rattle.est_replay.proofs.replay.fire.Goals as goal
 

@@ -1,6 +1,6 @@
 use Rattle.std.proofs.Common.{refl, sym, ◌∙◌, length, bytes_eq}
 use Rattle.std.proofs.lemmas.Option.{slice_get_read}
-use Rattle.est_trace.specs.Directories.{signal_name}
+use Rattle.est_trace.specs.inside.Directories.{signal_name}
 use Rattle.est_trace.proofs.Firsts.{none_of, number_is, no_number}
 use Rattle.est_trace.proofs.hints.first_named.Goals as goal
 

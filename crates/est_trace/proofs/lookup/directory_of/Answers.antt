@@ -2,9 +2,9 @@ use Rattle.std.proofs.Common.{refl, length, sym, ap, ◌∙◌, subst, map, take
 use Rattle.std.specs.List.{list_any}
 use Rattle.std.proofs.lemmas.List.{take_all}
 use Rattle.std.proofs.lemmas.Option.{slice_get_read}
-use Rattle.est_trace.specs.Skeletons.{ArePlain}
-use Rattle.est_trace.specs.Tables.{names_in}
-use Rattle.est_trace.specs.Directories.{port_name}
+use Rattle.est_trace.specs.inside.Skeletons.{ArePlain}
+use Rattle.est_trace.specs.inside.Tables.{names_in}
+use Rattle.est_trace.specs.inside.Directories.{port_name}
 use Rattle.est_trace.proofs.Choices.{new_name, names_more}
 use Rattle.est_trace.proofs.lookup.directory_of.Goals as goal
 

@@ -3,8 +3,8 @@ use Rattle.std.specs.Option.{option_map}
 use Rattle.std.proofs.lemmas.Option.{slice_get_within, get_or_from_slice_get}
 use Rattle.est_reader.specs.Moving.{IsNamedAt}
 use Rattle.est_trace.specs.TraceGrammar.{some_pass, dot_signal}
-use Rattle.est_trace.specs.Tables.{names_in, IsNumberOf}
-use Rattle.est_trace.specs.Directories.{port_name}
+use Rattle.est_trace.specs.inside.Tables.{names_in, IsNumberOf}
+use Rattle.est_trace.specs.inside.Directories.{port_name}
 use Rattle.est_trace.proofs.Choices.{chosen, no_word, no_name, not_allowed}
 use Rattle.est_trace.proofs.Found.{port_at}
 use Rattle.est_trace.proofs.lookup.find_port.Goals as goal

@@ -4,8 +4,8 @@ use Rattle.std.proofs.lemmas.Option.{slice_get_within, get_or_from_slice_get}
 use Rattle.est_language.specs.Grammar.{done}
 use Rattle.est_reader.specs.Moving.{IsNamedAt}
 use Rattle.est_trace.specs.TraceGrammar.{passes}
-use Rattle.est_trace.specs.Tables.{IsNumberOf}
-use Rattle.est_trace.specs.Directories.{signal_name}
+use Rattle.est_trace.specs.inside.Tables.{IsNumberOf}
+use Rattle.est_trace.specs.inside.Directories.{signal_name}
 use Rattle.est_trace.proofs.Lists.{mapped_at}
 use Rattle.est_trace.proofs.Choices.{chosen, no_word, no_name, not_allowed}
 use Rattle.est_trace.proofs.lookup.find_signal.Goals as goal

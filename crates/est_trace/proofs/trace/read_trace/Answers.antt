@@ -1,5 +1,5 @@
 use Rattle.std.proofs.Common.{sym, subst}
-use Rattle.est_trace.specs.Skeletons.{ArePlain}
+use Rattle.est_trace.specs.inside.Skeletons.{ArePlain}
 use Rattle.est_trace.proofs.AtPorts.{allowed_trace}
 use Rattle.est_trace.proofs.GoodPorts.{ports_plain}
 use Rattle.est_trace.proofs.trace.read_trace.Goals as goal

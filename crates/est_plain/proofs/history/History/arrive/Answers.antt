@@ -1,7 +1,7 @@
 use Rattle.std.proofs.Common.{ap, ◌≡◌, ◌∙◌, ◌++◌, ◌∷◌, []}
 use Rattle.est_plain.specs.declared.undo.Undo.TheVariants as undo
-use Rattle.est_plain.specs.PlainSituation.{Held, held, joined}
-use Rattle.est_plain.specs.Undo.{undone}
+use Rattle.est_plain.specs.inside.PlainSituation.{Held, held, joined}
+use Rattle.est_plain.specs.inside.Undo.{undone}
 use Rattle.est_plain.proofs.UndoLaws.{arrival_undone, room_kept, room_pushed}
 use Rattle.est_plain.proofs.history.History.arrive.Goals as goal
 

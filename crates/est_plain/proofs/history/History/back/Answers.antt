@@ -1,6 +1,6 @@
 use Rattle.std.proofs.Common.{refl}
-use Rattle.est_plain.specs.PlainSituation.{held}
-use Rattle.est_plain.specs.Undo.{undone}
+use Rattle.est_plain.specs.inside.PlainSituation.{held}
+use Rattle.est_plain.specs.inside.Undo.{undone}
 use Rattle.est_plain.proofs.UndoLaws.{room_popped, room_kept}
 use Rattle.est_plain.proofs.history.History.back.Goals as goal
 

@@ -1,5 +1,5 @@
 use Rattle.std.proofs.Common.{◌∙◌}
-use Rattle.est_plain.specs.PlainSituation.{held}
+use Rattle.est_plain.specs.inside.PlainSituation.{held}
 use Rattle.est_plain.proofs.UndoLaws.{as_many}
 use Rattle.est_plain.proofs.history.History.depth.Goals as goal
 

@@ -1,5 +1,5 @@
 use Rattle.std.proofs.Common.{refl, ap}
-use Rattle.est_plain.specs.Trail.{stack_of}
+use Rattle.est_plain.specs.inside.Trail.{stack_of}
 use Rattle.est_plain.proofs.WorldLaws.{started_limit, started_done}
 use Rattle.est_plain.proofs.RootLaws.{root_header}
 use Rattle.est_plain.proofs.world.PlainWorld.begin.Goals as goal

@@ -1,5 +1,5 @@
 use Rattle.std.proofs.Common.{arith, sym, subst}
-use Rattle.est_plain.specs.PlainSituation.{HasFew}
+use Rattle.est_plain.specs.inside.PlainSituation.{HasFew}
 use Rattle.est_plain.proofs.FewLaws.{few_ports, few_transitions}
 use Rattle.est_plain.proofs.WorldLaws.{start_limit, start_none}
 use Rattle.est_plain.proofs.world.PlainWorld.of_spec.Goals as goal

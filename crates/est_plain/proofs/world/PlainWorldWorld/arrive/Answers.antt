@@ -1,5 +1,5 @@
 use Rattle.std.proofs.Common.{refl}
-use Rattle.est_plain.specs.Trail.{trail}
+use Rattle.est_plain.specs.inside.Trail.{trail}
 use Rattle.est_plain.proofs.WorldLaws.{arrival_pushed, arrival_some}
 use Rattle.est_plain.proofs.world.PlainWorldWorld.arrive.Goals as goal
 

@@ -1,6 +1,6 @@
 use Rattle.std.proofs.Common.{[], refl}
-use Rattle.est_plain.specs.PlainSituation.{referred, held, block_in}
-use Rattle.est_plain.specs.Trail.{trail}
+use Rattle.est_plain.specs.inside.PlainSituation.{referred, held, block_in}
+use Rattle.est_plain.specs.inside.Trail.{trail}
 use Rattle.est_plain.proofs.WorldLaws.{answers_none, answers_limit}
 use Rattle.est_plain.proofs.WorldLaws.{answers_done, ends_done, ends_limit}
 use Rattle.est_plain.proofs.world.PlainWorldWorld.fire.Goals as goal

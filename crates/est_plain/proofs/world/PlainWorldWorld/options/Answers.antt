@@ -1,5 +1,5 @@
 use Rattle.std.proofs.Common.{length}
-use Rattle.est_plain.specs.PlainSituation.{referred, held}
+use Rattle.est_plain.specs.inside.PlainSituation.{referred, held}
 use Rattle.est_plain.proofs.WorldLaws.{offers_are, as_many}
 use Rattle.est_plain.proofs.world.PlainWorldWorld.options.Goals as goal
 

@@ -1,6 +1,6 @@
 use Rattle.std.proofs.Common.{get_or, refl, sym, ◌∙◌, length}
 use Rattle.std.proofs.lemmas.Option.{slice_get_read}
-use Rattle.est_trace.specs.Directories.{signal_name}
+use Rattle.est_trace.specs.inside.Directories.{signal_name}
 use Rattle.est_trace.proofs.Firsts.{number_is}
 use Rattle.est_trace.proofs.hints.Hints.tried.Goals as goal
 

@@ -1,6 +1,6 @@
 use Rattle.std.proofs.Common.{◌≡◌, false, bytes_eq, sym, ap, ◌∙◌, subst, map, ◌++◌, [], ◌∷◌}
 use Rattle.std.specs.List.{list_any}
-use Rattle.est_trace.specs.Tables.{names_in}
+use Rattle.est_trace.specs.inside.Tables.{names_in}
 use Rattle.est_trace.proofs.Tables.{key_name, key_added}
 use Rattle.est_trace.proofs.table.NameTable.add.Goals as goal
 

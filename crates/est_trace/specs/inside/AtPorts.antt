@@ -2,6 +2,7 @@
 use Rattle.std.specs.Prelude.{◌≡◌, ◌≤◌, true, List, [], All, Some, slice_get}
 use Rattle.est_syntax.specs.declared.ports.Signal.{Signal}
 use Rattle.est_syntax.specs.declared.ports.Port.{Port}
+use Rattle.est_syntax.specs.Kinds.{maxint}
 use Rattle.est_meaning.specs.declared.event.Interaction.{Interaction}
 use Rattle.est_meaning.specs.declared.event.Event.{Event}
 use Rattle.est_meaning.specs.declared.event.Event.TheVariants.{Arrives, Leaves, Passes}
@@ -25,7 +26,7 @@ pub record IsAtPort (direction : Direction) (ports : List Port)
 abbrev pub IsAtPorts : List Port → Event → Type 0
 IsAtPorts ports (Arrives interaction) = IsAtPort In ports interaction
 IsAtPorts ports (Leaves interaction) = IsAtPort Out ports interaction
-IsAtPorts ports (Passes units) = units ≤ 2147483647
+IsAtPorts ports (Passes units) = units ≤ maxint
 
 -- each of the events is
 abbrev pub AreAtPorts : List Port → List Event → Type 0

@@ -3,8 +3,8 @@ use Rattle.std.specs.Prelude.{◌≡◌, ℕ, List, map}
 use Rattle.est_syntax.specs.declared.ports.Signal.{Signal}
 use Rattle.est_syntax.specs.declared.ports.Port.{Port}
 use Rattle.est_trace.specs.declared.lookup.Directory.{Directory}
-use Rattle.est_trace.specs.Skeletons.{ArePlain}
-use Rattle.est_trace.specs.Tables.{names_in}
+use Rattle.est_trace.specs.inside.Skeletons.{ArePlain}
+use Rattle.est_trace.specs.inside.Tables.{names_in}
 
 -- the name of a signal
 abbrev pub signal_name : Signal → List ℕ

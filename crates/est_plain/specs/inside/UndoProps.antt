@@ -6,8 +6,8 @@ use Rattle.est_plain.specs.declared.situation.Waiting.{Waiting}
 use Rattle.est_plain.specs.declared.undo.Taken.{Taken}
 use Rattle.est_plain.specs.declared.undo.Undo.{Undo}
 use Rattle.est_plain.specs.declared.undo.Undo.TheVariants as undo
-use Rattle.est_plain.specs.PlainSituation.{Held}
-use Rattle.est_plain.specs.Undo.{undone, HasPlace, CanUndo, CanUndoAll}
+use Rattle.est_plain.specs.inside.PlainSituation.{Held}
+use Rattle.est_plain.specs.inside.Undo.{undone, HasPlace, CanUndo, CanUndoAll}
 
 -- that an item has its place has one proof at most
 HasPlace-prop : (room : ℕ) (taken : Option Taken) (ws : List Waiting)

@@ -7,7 +7,7 @@ use Rattle.est_meaning.specs.declared.run.Move.{Move}
 use Rattle.est_meaning.specs.Situation.{Situation}
 use Rattle.est_meaning.specs.Stack.{Stack}
 use Rattle.est_meaning.specs.Allowed.{IsAllowedTrace}
-use Rattle.est_meaning.specs.Run.{IsPrefix, AgreeFirst, Setup, Place}
+use Rattle.est_meaning.specs.Run.{AgreeFirst, Setup, Place}
 use Rattle.est_meaning.specs.Run.{IsBegun, Moves, IsBoundedRun, silent_after}
 use Rattle.est_replay.specs.declared.verdict.Why.TheVariants as why
 use Rattle.est_replay.specs.declared.verdict.Replayed.{Replayed}
@@ -69,13 +69,14 @@ HasMoved c asked p m s (Failed w) = MoveFails c (AgreesUpTo c asked) p m w
 
 -- what comes of the events of a firing
 abbrev pub HasLanded : List Event → ℕ → ℕ → Standing → List Event → Moved → Type 0
-HasLanded trace silent asked at outs (Passed next) = IsPrefix
-    (take asked (take at.events trace ++ outs)) trace × (next.events ≡ at.events + length outs)
+HasLanded trace silent asked at outs (Passed next) =
+    AgreeFirst trace (take asked (take at.events trace ++ outs))
+    × (next.events ≡ at.events + length outs)
     × (next.silent_in_row ≡ silent_after at.silent_in_row outs) × (next.silent_in_row ≤ silent)
 HasLanded trace silent asked at outs (Failed why.WrongOutput) =
-    IsPrefix (take asked (take at.events trace ++ outs)) trace → ⊥
-HasLanded trace silent asked at outs (Failed why.TooSilent) = IsPrefix
-    (take asked (take at.events trace ++ outs)) trace
+    AgreeFirst trace (take asked (take at.events trace ++ outs)) → ⊥
+HasLanded trace silent asked at outs (Failed why.TooSilent) =
+    AgreeFirst trace (take asked (take at.events trace ++ outs))
     × (silent < silent_after at.silent_in_row outs)
 HasLanded trace silent asked at outs (Failed (why.NoStart fault)) = ⊥
 HasLanded trace silent asked at outs (Failed why.Limit) = ⊥

@@ -5,7 +5,7 @@ use Rattle.est_plain.specs.declared.situation.Waiting.{Waiting}
 use Rattle.est_plain.specs.declared.undo.Taken.{Taken}
 use Rattle.est_plain.specs.declared.undo.Undo.{Undo}
 use Rattle.est_plain.specs.declared.undo.Undo.TheVariants as undo
-use Rattle.est_plain.specs.PlainSituation.{Held}
+use Rattle.est_plain.specs.inside.PlainSituation.{Held}
 
 -- the items with the one that was taken where it stood
 abbrev pub put_back : Option Taken → List Waiting → List Waiting

@@ -4,8 +4,8 @@ use Rattle.est_syntax.specs.declared.body.Body.{Body}
 use Rattle.est_meaning.specs.Stack.{Stack}
 use Rattle.est_plain.specs.declared.situation.PointQueue.{PointQueue}
 use Rattle.est_plain.specs.declared.history.History.{History}
-use Rattle.est_plain.specs.PlainSituation.{Held, held, situation_of}
-use Rattle.est_plain.specs.Undo.{befores}
+use Rattle.est_plain.specs.inside.PlainSituation.{Held, held, situation_of}
+use Rattle.est_plain.specs.inside.Undo.{befores}
 
 -- plain situations: the current one, and those below it, the latest first
 pub record Trail : Type 0 where

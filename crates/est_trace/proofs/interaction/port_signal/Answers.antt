@@ -5,10 +5,10 @@ use Rattle.est_reader.proofs.Going.{part, take}
 use Rattle.est_trace.specs.TraceGrammar.{dot_signal}
 use Rattle.est_trace.specs.TraceNodes.{numbered, tracing, values_view}
 use Rattle.est_skeleton.specs.Differing.{HaveDifferentNames}
-use Rattle.est_trace.specs.Directories.{signal_name}
+use Rattle.est_trace.specs.inside.Directories.{signal_name}
 use Rattle.est_trace.proofs.TraceFits.{known}
 use Rattle.est_trace.proofs.Parts.{signal_goes, port_goes, signals_different}
-use Rattle.est_trace.proofs.interaction.interaction.Goals as goal
+use Rattle.est_trace.proofs.interaction.port_signal.Goals as goal
 
 pub returns : goal.returns
 returns c =

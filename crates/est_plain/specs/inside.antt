@@ -1,0 +1,5 @@
+-- What only this crate says: callers know its world by what each world does.
+pub mod PlainSituation
+pub mod Undo
+pub mod UndoProps
+pub mod Trail
