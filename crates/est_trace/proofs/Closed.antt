@@ -5,8 +5,8 @@ use Rattle.est_language.proofs.Laws.{IsClosed, closed_alt, closed_when, closed_o
 use Rattle.est_syntax.specs.declared.ports.Signal.{Signal}
 use Rattle.est_syntax.specs.declared.ports.Port.{Port}
 use Rattle.est_reader.specs.Tests.{said, named}
-use Rattle.est_trace.specs.declared.direction.Direction.{Direction}
-use Rattle.est_trace.specs.declared.direction.Direction.TheVariants.{In, Out}
+use Rattle.est_syntax.specs.declared.ports.Direction.{Direction}
+use Rattle.est_syntax.specs.declared.ports.Direction.TheVariants.{Receives, Sends}
 use Rattle.est_trace.specs.TraceGrammar.{passes, some_pass, signal}
 use Rattle.est_trace.specs.TraceGrammar.{dot_signal, port, time, event, marks}
 use Rattle.est_trace.specs.TraceText.{traces}
@@ -25,9 +25,9 @@ module _ (text : List ℕ) where
 
   pub event_closed : (ports : List Port) → IsClosed (traces text) marks (event ports)
   event_closed ports =
-      closed_alt (traces text) marks time (alt (word (said "in") (one_of (port In) ports))
-      (word (said "out") (one_of (port Out) ports))) (λ o m. m)
-      (closed_alt (traces text) marks (word (said "in") (one_of (port In) ports))
-      (word (said "out") (one_of (port Out) ports))
-      (closed_one_of (traces text) marks (port In) ports (port_closed In))
-      (closed_one_of (traces text) marks (port Out) ports (port_closed Out)))
+      closed_alt (traces text) marks time (alt (word (said "in") (one_of (port Receives) ports))
+      (word (said "out") (one_of (port Sends) ports))) (λ o m. m)
+      (closed_alt (traces text) marks (word (said "in") (one_of (port Receives) ports))
+      (word (said "out") (one_of (port Sends) ports))
+      (closed_one_of (traces text) marks (port Receives) ports (port_closed Receives))
+      (closed_one_of (traces text) marks (port Sends) ports (port_closed Sends)))

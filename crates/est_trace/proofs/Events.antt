@@ -28,8 +28,8 @@ use Rattle.est_reader.proofs.Steps.{sees_it, none_meets, left_of, bit_small}
 use Rattle.est_reader.proofs.Going.{begins_it}
 use Rattle.est_reader.proofs.Turns.{lessens}
 use Rattle.est_reader.proofs.Whole.{flat_not_deep}
-use Rattle.est_trace.specs.declared.direction.Direction.{Direction}
-use Rattle.est_trace.specs.declared.direction.Direction.TheVariants.{In, Out}
+use Rattle.est_syntax.specs.declared.ports.Direction.{Direction}
+use Rattle.est_syntax.specs.declared.ports.Direction.TheVariants.{Receives, Sends}
 use Rattle.est_trace.specs.TraceGrammar.{Rule, passes, some_pass, signal, dot_signal}
 use Rattle.est_trace.specs.TraceGrammar.{port, event, marks, event_starts}
 use Rattle.est_trace.specs.TraceNodes.{some_events, an_event, layer, tracing}
@@ -72,8 +72,8 @@ port_flat direction p = when_flat (some_pass direction p.signals)
     p.signals (signal_flat direction))
 
 pub event_flat : (ports : List Port) → flat (event ports) ≡ true
-event_flat ports = both_true _ _ (one_of_flat (port In) ports (port_flat In))
-    (one_of_flat (port Out) ports (port_flat Out))
+event_flat ports = both_true _ _ (one_of_flat (port Receives) ports (port_flat Receives))
+    (one_of_flat (port Sends) ports (port_flat Sends))
 
 nested-append : (ts : List Shape) (t u : Shape)
     → nested (ts ++ t ∷ []) u ≡ nested ts (some (both t u))

@@ -9,7 +9,7 @@ use Rattle.est_syntax.specs.declared.ports.Signal.{Signal}
 use Rattle.est_syntax.specs.declared.ports.Port.{Port}
 use Rattle.est_reader.specs.Tests.{Test, named, holds}
 use Rattle.est_reader.proofs.Apart.{one_name}
-use Rattle.est_trace.specs.declared.direction.Direction.{Direction}
+use Rattle.est_syntax.specs.declared.ports.Direction.{Direction}
 use Rattle.est_trace.specs.TraceGrammar.{Rule, passes, some_pass, signal, dot_signal, port, marks}
 use Rattle.est_trace.specs.TraceText.{traces}
 use Rattle.est_skeleton.specs.Differing.{HaveDifferentNames}

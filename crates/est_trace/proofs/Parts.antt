@@ -18,7 +18,7 @@ use Rattle.est_reader.specs.Moving.{Does, Still, Steps}
 use Rattle.est_reader.specs.Going.{Shape, Finds, Fails, Goes}
 use Rattle.est_reader.proofs.Steps.{onto, after, same_on}
 use Rattle.est_reader.proofs.Going.{from}
-use Rattle.est_trace.specs.declared.direction.Direction.{Direction}
+use Rattle.est_syntax.specs.declared.ports.Direction.{Direction}
 use Rattle.est_trace.specs.TraceGrammar.{Rule, passes, some_pass, signal, dot_signal, port, marks}
 use Rattle.est_trace.specs.TraceNodes.{View, numbered, layer, tracing}
 use Rattle.est_skeleton.specs.Differing.{HaveDifferentNames}

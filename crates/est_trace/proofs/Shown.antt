@@ -23,8 +23,8 @@ use Rattle.est_reader.specs.Tests.{Test, number, value, value_in, holds}
 use Rattle.est_reader.specs.Going.{Shape}
 use Rattle.est_reader.proofs.Apart.{within}
 use Rattle.est_reader.proofs.Single.{kept_number}
-use Rattle.est_trace.specs.declared.direction.Direction.{Direction}
-use Rattle.est_trace.specs.declared.direction.Direction.TheVariants.{In, Out}
+use Rattle.est_syntax.specs.declared.ports.Direction.{Direction}
+use Rattle.est_syntax.specs.declared.ports.Direction.TheVariants.{Receives, Sends}
 use Rattle.est_trace.specs.TraceGrammar.{Rule, passes, some_pass, signal, port, event, trace}
 use Rattle.est_trace.specs.TraceNodes.{View, numbered, values_view, layer}
 use Rattle.est_trace.specs.TraceNodes.{an_interaction, an_event, some_events, a_trace}
@@ -159,12 +159,12 @@ module _ (text : List ℕ) (s : List Token) (n : ℕ) where
     at_ports (Passes units) (t_right x) (s_node e) = elim e [ ]
     at_ports (Arrives x) (t_left y) (s_node e) = elim e [ ]
     at_ports (Arrives x) (t_right (t_left (t_word k l w y))) (s_node (s_second (s_first e))) =
-        at_port In x y e
+        at_port Receives x y e
     at_ports (Arrives x) (t_right (t_right y)) (s_node (s_second e)) = elim e [ ]
     at_ports (Leaves x) (t_left y) (s_node e) = elim e [ ]
     at_ports (Leaves x) (t_right (t_left y)) (s_node (s_second e)) = elim e [ ]
     at_ports (Leaves x) (t_right (t_right (t_word k l w y))) (s_node (s_second (s_second e))) =
-        at_port Out x y e
+        at_port Sends x y e
 
     all_at_ports : (xs : List Event) {d a b : ℕ} {t : Shape} → Tree_of (rule ports) d a b t
         → Shows layer (node (some_events xs)) t → AreAtPorts ports xs

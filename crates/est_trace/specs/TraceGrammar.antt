@@ -8,8 +8,8 @@ use Rattle.est_syntax.specs.declared.ports.Port.{Port}
 use Rattle.est_syntax.specs.Kinds.{maxint}
 use Rattle.est_reader.specs.Tests.{Test, said, named, number}
 use Rattle.est_reader.specs.Going as going
-use Rattle.est_trace.specs.declared.direction.Direction.{Direction}
-use Rattle.est_trace.specs.declared.direction.Direction.TheVariants.{In, Out}
+use Rattle.est_syntax.specs.declared.ports.Direction.{Direction}
+use Rattle.est_syntax.specs.declared.ports.Direction.TheVariants.{Receives, Sends}
 
 -- The productions are named by lists of ports.
 abbrev pub Rule : Type 0
@@ -17,8 +17,8 @@ Rule = going.Rule (List Port)
 
 -- whether a signal passes its port in this direction: the port receives it, or sends it
 abbrev pub passes : Direction → Signal → Bool
-passes In signal = signal.receives
-passes Out signal = signal.sends
+passes Receives signal = signal.receives
+passes Sends signal = signal.sends
 
 -- whether some signal passes its port in this direction
 abbrev pub some_pass : Direction → List Signal → Bool
@@ -48,7 +48,8 @@ time = word (said "time") (token (number 0 maxint))
 abbrev pub event : List Port → Rule
 event ports =
     alt time
-    (alt (word (said "in") (one_of (port In) ports)) (word (said "out") (one_of (port Out) ports)))
+    (alt (word (said "in") (one_of (port Receives) ports))
+    (word (said "out") (one_of (port Sends) ports)))
 
 -- { event }, each event within a level of its own: the levels count the events.
 abbrev pub events : List Port → Rule

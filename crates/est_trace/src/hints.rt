@@ -6,8 +6,7 @@ ghost use Rattle.est_trace.specs.TraceGrammar as grammar;
 ghost use Rattle.est_trace.specs.inside.Directories.{signal_name};
 ghost use Rattle.est_trace.specs.inside.Tables.{IsNumberOf};
 
-use crate::direction::Direction;
-use est_syntax::ports::Signal;
+use est_syntax::ports::{Direction, Signal};
 use indexmap::IndexMap;
 use std::alloc::{AllocError, Global};
 
@@ -43,8 +42,8 @@ impl Hints {
         ensures { IfOk result (λ found. found ≡ grammar.some_pass direction signals.now) }
     {
         let places = match direction {
-            Direction::In => &mut self.received,
-            Direction::Out => &mut self.sent,
+            Direction::Receives => &mut self.received,
+            Direction::Sends => &mut self.sent,
         };
         if one_passes(places.as_slice(), signals, direction) {
             return Ok(true);
@@ -119,8 +118,8 @@ pub fn passes(signal: &Signal, direction: Direction) -> bool
     ensures { result ≡ grammar.passes direction signal.now }
 {
     match direction {
-        Direction::In => signal.receives,
-        Direction::Out => signal.sends,
+        Direction::Receives => signal.receives,
+        Direction::Sends => signal.sends,
     }
 }
 

@@ -11,13 +11,12 @@ ghost use Rattle.est_skeleton.specs.Differing.{HaveDifferentNames};
 ghost use Rattle.est_trace.specs.inside.Directories.{signal_name, IsDirectory};
 ghost use Rattle.est_trace.specs.inside.Lookups.{Chooses};
 
-use crate::direction::Direction;
 use crate::hints::Hints;
 use crate::lookup::{Directory, find_port, find_signal, signals_at};
 use est_meaning::event::Interaction;
 use est_reader::Reader;
 use est_syntax::kind::Values;
-use est_syntax::ports::Signal;
+use est_syntax::ports::{Direction, Signal};
 
 /// port "." signal .
 pub fn port_signal(

@@ -1,7 +1,6 @@
 //! Traces: what happens at the outside ports of a specification.
 #![tactic(auto)]
 
-mod direction;
 pub mod error;
 mod hints;
 mod interaction;

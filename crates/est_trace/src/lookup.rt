@@ -9,11 +9,10 @@ ghost use Rattle.est_trace.specs.inside.Skeletons.{ArePlain};
 ghost use Rattle.est_trace.specs.inside.Directories.{signal_name, IsDirectory};
 ghost use Rattle.est_trace.specs.inside.Lookups.{Finds, signals_of};
 
-use crate::direction::Direction;
 use crate::hints::{Hints, passes};
 use crate::table::NameTable;
 use est_reader::Reader;
-use est_syntax::ports::{Port, Ports, Signal};
+use est_syntax::ports::{Direction, Port, Ports, Signal};
 use std::alloc::{AllocError, Global};
 
 /// The ports of a specification, to be found by their names.

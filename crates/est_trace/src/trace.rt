@@ -16,7 +16,6 @@ ghost use Rattle.est_trace.specs.inside.AtPorts.{AreAtPorts};
 ghost use Rattle.est_trace.specs.inside.Counting.{CountsEvents, CountsTrace};
 ghost use Rattle.est_trace.specs.TraceText.{ReadsTrace};
 
-use crate::direction::Direction;
 use crate::error::TraceError;
 use crate::hints::Hints;
 use crate::interaction::port_signal;
@@ -26,7 +25,7 @@ use est_lexer::tokens::Tokens;
 use est_meaning::event::{Event, MOST_EVENTS, Trace};
 use est_reader::{Outcome, Reader};
 use est_syntax::kind::MAXINT;
-use est_syntax::ports::Ports;
+use est_syntax::ports::{Direction, Ports};
 use std::alloc::{AllocError, Global};
 
 /// The trace of a specification that the tokens are, or the first token that is refused.
@@ -142,11 +141,11 @@ fn event(reader: &mut Reader, directory: &Directory, hints: &mut Hints) -> Event
 {
     if reader.sees_word(b"in") {
         reader.take_word(b"in");
-        return Event::Arrives(port_signal(reader, directory, hints, Direction::In));
+        return Event::Arrives(port_signal(reader, directory, hints, Direction::Receives));
     }
     if reader.sees_word(b"out") {
         reader.take_word(b"out");
-        return Event::Leaves(port_signal(reader, directory, hints, Direction::Out));
+        return Event::Leaves(port_signal(reader, directory, hints, Direction::Sends));
     }
     reader.take_word(b"time");
     Event::Passes(reader.number(0, MAXINT))

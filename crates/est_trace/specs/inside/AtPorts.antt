@@ -6,8 +6,8 @@ use Rattle.est_syntax.specs.Kinds.{maxint}
 use Rattle.est_meaning.specs.declared.event.Interaction.{Interaction}
 use Rattle.est_meaning.specs.declared.event.Event.{Event}
 use Rattle.est_meaning.specs.declared.event.Event.TheVariants.{Arrives, Leaves, Passes}
-use Rattle.est_trace.specs.declared.direction.Direction.{Direction}
-use Rattle.est_trace.specs.declared.direction.Direction.TheVariants.{In, Out}
+use Rattle.est_syntax.specs.declared.ports.Direction.{Direction}
+use Rattle.est_syntax.specs.declared.ports.Direction.TheVariants.{Receives, Sends}
 use Rattle.est_trace.specs.TraceGrammar.{passes}
 
 -- the interaction is of one of the ports and of one of its signals, which passes it in this
@@ -24,8 +24,8 @@ pub record IsAtPort (direction : Direction) (ports : List Port)
 
 -- the event is an arrival or a departure at one of the ports, or time that passes
 abbrev pub IsAtPorts : List Port → Event → Type 0
-IsAtPorts ports (Arrives interaction) = IsAtPort In ports interaction
-IsAtPorts ports (Leaves interaction) = IsAtPort Out ports interaction
+IsAtPorts ports (Arrives interaction) = IsAtPort Receives ports interaction
+IsAtPorts ports (Leaves interaction) = IsAtPort Sends ports interaction
 IsAtPorts ports (Passes units) = units ≤ maxint
 
 -- each of the events is
