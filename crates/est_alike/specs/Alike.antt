@@ -14,15 +14,17 @@ use Rattle.est_syntax.specs.declared.kind.FieldKind.{FieldKind}
 abbrev pub Layer : Type 0
 Layer = seen.Kind-F Kind FieldKind
 
--- whether a layer is that of the integers, of the booleans, of the characters
+-- whether a layer is that of the integers
 abbrev pub is_integers : Layer → Bool
 is_integers seen.Integer = true
 is_integers _ = false
 
+-- whether it is that of the booleans
 abbrev pub is_booleans : Layer → Bool
 is_booleans seen.Boolean = true
 is_booleans _ = false
 
+-- whether it is that of the characters
 abbrev pub is_characters : Layer → Bool
 is_characters seen.Char = true
 is_characters _ = false
@@ -83,11 +85,11 @@ abbrev mutual
       (is_name name.bytes f.name.bytes && is_alike k f.kind) && row_fields rest fs
   row_fields _ _ = false
 
--- The same over lists: fields with one name and alike kinds,
+-- The same over lists: whether two fields have one name and alike kinds,
 abbrev pub is_alike_field : FieldKind → FieldKind → Bool
 is_alike_field f g = is_name f.name.bytes g.name.bytes && is_alike f.kind g.kind
 
--- and these in order.
+-- and whether two lists have such fields in order.
 abbrev pub are_alike : List FieldKind → List FieldKind → Bool
 are_alike [] [] = true
 are_alike (f ∷ fs) (g ∷ gs) = is_alike_field f g && are_alike fs gs

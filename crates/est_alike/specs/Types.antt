@@ -16,12 +16,13 @@ pub data Yielded : Type 0 where
   Set : Option Host → Yielded
   Group : Kind → Yielded
 
--- what the program keeps says so
+-- what an expression yields, of what the program keeps of it
 abbrev pub yields : ValueType → Yielded
 yields (code.Ordinal h) = Ordinal h
 yields (code.Set h) = Set h
 yields (code.Group k) = Group k.now
 
+-- the same where the program may keep nothing
 abbrev pub yielded : Option ValueType → Option Yielded
 yielded None = None
 yielded (Some t) = Some (yields t)
@@ -45,26 +46,26 @@ host_in k = held (out-Kind k)
     held (seen.Enumeration place names) = Some (host.Enumeration place)
     held _ = None
 
--- the host of the members of a set over this base
-abbrev pub set_host : Kind → Option Host
-set_host k = held (out-Kind k)
+-- the host of a kind or of what it is a part of
+abbrev pub host_of : Kind → Option Host
+host_of k = held (out-Kind k)
   where
     held : seen.Kind-F Kind FieldKind → Option Host
     held (seen.Part from low high) = host_in from
     held _ = host_in k
 
--- what a variable of a kind yields
+-- what a variable of a kind yields that is no set, by its host, if it has one
 abbrev pub type_by : Option Host → Kind → Yielded
 type_by None k = Group k
 type_by (Some h) k = Ordinal h
 
+-- what a variable of a kind yields
 abbrev pub type_of : Kind → Yielded
 type_of k = held (out-Kind k)
   where
     held : seen.Kind-F Kind FieldKind → Yielded
-    held (seen.Part from low high) = type_by (host_in from) k
-    held (seen.SetOf base) = Set (set_host base)
-    held _ = type_by (host_in k) k
+    held (seen.SetOf base) = Set (host_of base)
+    held _ = type_by (host_of k) k
 
 -- whether sets have members of one host, as `[ ]` has with each
 abbrev pub are_hosts_one : Option Host → Option Host → Bool

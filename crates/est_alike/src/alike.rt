@@ -67,7 +67,7 @@ fn is_alike_field(one: &FieldKind, other: &FieldKind) -> bool
     is_name(&one.name, &other.name) && is_alike(&one.kind, &other.kind)
 }
 
-// Whether two lists of fields have such fields in order.
+// Whether two lists have fields with the same names and alike kinds, in order.
 #[cycle(alike)]
 fn are_alike(fields: &FieldKinds, others: &FieldKinds) -> bool
     ensures { result ≡ are_alike fields.now others.now }

@@ -1,7 +1,7 @@
 //! What expressions yield, and what may be assigned to a variable (ISO 7185, 6.4.6 and 6.7.1).
 
 ghost use Rattle.std.specs.Prelude.{◌≡◌};
-ghost use Rattle.est_alike.specs.Types.{yields, is_host, host_in, set_host, type_of};
+ghost use Rattle.est_alike.specs.Types.{yields, is_host, host_in, host_of, type_by, type_of};
 ghost use Rattle.est_alike.specs.Types.{are_hosts_one, is_assignable};
 
 use crate::alike::is_alike;
@@ -54,28 +54,33 @@ pub fn host_in(kind: &Kind) -> Option<Host>
     }
 }
 
-/// What a variable of a kind yields.
-pub fn type_of(kind: &Kind) -> ValueType<'_>
-    ensures { yields result ≡ type_of kind.now }
+// The host of a kind or of what it is a part of.
+fn host_of(kind: &Kind) -> Option<Host>
+    ensures { result ≡ host_of kind.now }
 {
-    let host = match kind {
+    match kind {
         Kind::Part { host, .. } => host_in(host.get()),
-        Kind::SetOf(base) => return ValueType::Set(set_host(base.get())),
         _ => host_in(kind),
-    };
-    match host {
+    }
+}
+
+// What a variable of a kind yields that is no set.
+fn single_type(kind: &Kind) -> ValueType<'_>
+    ensures { yields result ≡ type_by (host_of kind.now) kind.now }
+{
+    match host_of(kind) {
         Some(host) => ValueType::Ordinal(host),
         None => ValueType::Group(kind),
     }
 }
 
-// The host of a kind or of what it is a part of.
-fn set_host(kind: &Kind) -> Option<Host>
-    ensures { result ≡ set_host kind.now }
+/// What a variable of a kind yields.
+pub fn type_of(kind: &Kind) -> ValueType<'_>
+    ensures { yields result ≡ type_of kind.now }
 {
     match kind {
-        Kind::Part { host, .. } => host_in(host.get()),
-        _ => host_in(kind),
+        Kind::SetOf(base) => ValueType::Set(host_of(base.get())),
+        _ => single_type(kind),
     }
 }
 

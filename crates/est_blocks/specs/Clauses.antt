@@ -1,6 +1,6 @@
 -- The rules that the clauses of transitions break (ISO 9074, transition-group and clauses).
 use Rattle.std.specs.Prelude.{ℕ, pos, int_lt, Bool, true, false, ◌&&◌, ◌||◌, not, nat_lt}
-use Rattle.std.specs.Prelude.{List, [], ◌∷◌, ◌++◌, Option, Some, None, if◌then◌else◌}
+use Rattle.std.specs.Prelude.{List, [], ◌∷◌, ◌++◌, Option, Some, None, is_some, if◌then◌else◌}
 use Rattle.est_syntax.specs.Faults.{broken, broken_if}
 use Rattle.est_syntax.specs.Kinds.{is_ordinal}
 use Rattle.est_syntax.specs.declared.name.Used.{Used}
@@ -24,7 +24,7 @@ use Rattle.est_scope.specs.Outline.{Outline, entry_at}
 use Rattle.est_scope.specs.Uses.{meaning, use_faults}
 use Rattle.est_kinds.specs.declared.value.Valued.{Valued}
 use Rattle.est_kinds.specs.Constants.{is_integer, constant_value, constant_faults, constant_place}
-use Rattle.est_kinds.specs.TypeTexts.{text_type, count, multiplied, is_declared}
+use Rattle.est_kinds.specs.TypeTexts.{text_type, count, multiplied}
 use Rattle.est_kinds.specs.Dims.{dim_faults}
 use Rattle.est_outline.specs.declared.context.ClauseKind.{ClauseKind}
 use Rattle.est_outline.specs.declared.context.ClauseKind.TheVariants as given
@@ -72,7 +72,7 @@ choices_by None = 1
 choices_by (Some m) = if is_ordinal m.kind then count m.kind else 1
 
 abbrev pub name_choices : Outline → ℕ → ℕ → Used → ℕ
-name_choices o choices n u = if is_declared (entry_at o u.place) then multiplied n choices else n
+name_choices o choices n u = if is_some (entry_at o u.place) then multiplied n choices else n
 
 abbrev pub names_choices : Outline → ℕ → ℕ → List Used → ℕ
 names_choices o choices n [] = n

@@ -1,11 +1,11 @@
 -- A text with a kind breaks no rule, and neither does a constant with a value.
-use Rattle.std.specs.Prelude.{if◌then◌else◌, nat_lt, ◌^◌, ◌&&◌}
+use Rattle.std.specs.Prelude.{if◌then◌else◌, nat_le, is_some, is_none, ◌&&◌}
 use Rattle.std.proofs.lemmas.Option.{none-some}
 use Rattle.std.proofs.Common.{◌≡◌, refl, sym, true≢false, ap, ℕ, Bool, true}
 use Rattle.std.proofs.Common.{false, List, [], ◌∷◌, ◌++◌, Option, Some, None}
 use Rattle.est_syntax.specs.Names.{spelled}
-use Rattle.est_syntax.specs.Faults.{broken}
-use Rattle.est_syntax.specs.Kinds.{is_ordinal}
+use Rattle.est_syntax.specs.Faults.{broken, broken_if}
+use Rattle.est_syntax.specs.Kinds.{maxint, is_ordinal}
 use Rattle.est_syntax.specs.declared.name.Used.{Used}
 use Rattle.est_syntax.specs.declared.constant.Constant.{Constant}
 use Rattle.est_syntax.specs.declared.constant.Constant.TheVariants as constant
@@ -23,18 +23,18 @@ use Rattle.est_scope.specs.declared.declaration.Meant.{Meant}
 use Rattle.est_scope.specs.declared.declaration.Meant.TheVariants as meant
 use Rattle.est_scope.specs.declared.declaration.Sort.TheVariants as sort
 use Rattle.est_scope.specs.Outline.{Outline, entry_at, member_at}
-use Rattle.est_scope.specs.Uses.{is_sort, meaning, twice_by, twices_faults}
-use Rattle.est_scope.specs.Uses.{agains_faults, again_faults, again_by}
+use Rattle.est_scope.specs.Uses.{is_sort, meaning, twice_faults, twices_faults}
+use Rattle.est_scope.specs.Uses.{agains_faults, again_faults}
 use Rattle.est_kinds.specs.declared.value.Valued.{Valued}
 use Rattle.est_kinds.specs.declared.value.Gathered.{Gathered}
 use Rattle.est_kinds.specs.Constants.{is_integer, signed_value, value_with, value_by}
 use Rattle.est_kinds.specs.Constants.{value_meant, named_value, constant_value, constant_place}
 use Rattle.est_kinds.specs.Constants.{constant_used, sign_faults, constant_faults, number_place}
-use Rattle.est_kinds.specs.TypeTexts.{is_declared, are_declared, enumeration, predeclared_faults}
+use Rattle.est_kinds.specs.TypeTexts.{are_declared, enumeration}
 use Rattle.est_kinds.specs.TypeTexts.{type_by, type_meant, type_used, are_bounds, range}
 use Rattle.est_kinds.specs.TypeTexts.{range_faults, limited, array, array_of, array_size}
 use Rattle.est_kinds.specs.TypeTexts.{array_faults, size_faults, set_by, set_of, set_faults}
-use Rattle.est_kinds.specs.TypeTexts.{is_member, are_members, known_fields, with_fields}
+use Rattle.est_kinds.specs.TypeTexts.{are_members, known_fields, with_fields}
 use Rattle.est_kinds.specs.TypeTexts.{record_of, record_faults, no_fields, text_type, row_type}
 use Rattle.est_kinds.specs.TypeTexts.{row_arrays, row_fields, text_faults, row_faults, row_place}
 use Rattle.est_kinds.specs.TypeTexts.{row_index_faults, row_field_faults, text_place}
@@ -61,7 +61,7 @@ entry_clean (Some e) m place h = met (is_sort sort.TypeName (Some e)) e.kind m p
 meant_clean : (o : Outline) (u : Used) (w : Meant) (m : Measured)
     → type_meant o (spelled u) w ≡ Some m → type_used o u w ≡ []
 meant_clean o u meant.Nothing m h = absurd (none-some m h)
-meant_clean o u meant.Predeclared m h = ap (predeclared_faults u.place) h
+meant_clean o u meant.Predeclared m h = ap (λ k. broken_if (is_none k) u.place rule.WrongSort) h
 meant_clean o u (meant.Unseen p) m h = absurd (none-some m h)
 meant_clean o u (meant.Seen p) m h = entry_clean (entry_at o p) m u.place h
 
@@ -75,7 +75,7 @@ value_clean (Some e) v place h = met (is_sort sort.Constant (Some e)) (value_wit
 used_clean : (o : Outline) (u : Used) (w : Meant) (v : Valued)
     → value_meant o (spelled u) w ≡ Some v → constant_used o u w ≡ []
 used_clean o u meant.Nothing v h = absurd (none-some v h)
-used_clean o u meant.Predeclared v h = rw h refl
+used_clean o u meant.Predeclared v h = ap (λ k. broken_if (is_none k) u.place rule.WrongSort) h
 used_clean o u (meant.Unseen p) v h = absurd (none-some v h)
 used_clean o u (meant.Seen p) v h = value_clean (entry_at o p) v u.place h
 
@@ -88,7 +88,7 @@ sign_clean minus true (Some w) v place h =
 
 pub constant_clean : (o : Outline) (c : Constant) (v : Valued) → constant_value o c ≡ Some v
     → constant_faults o c ≡ []
-constant_clean o (constant.Number minus sign n place) v h = met (nat_lt n (2 ^ 31)) _ v
+constant_clean o (constant.Number minus sign n place) v h = met (nat_le n maxint) _ v
     (number_place sign place) rule.NumberTooLarge h
 constant_clean o (constant.Named minus sign name place) v h =
     let s = sign_clean minus sign (named_value o name) v name.place h in
@@ -133,8 +133,8 @@ record_clean : (g : Option Gathered) (m : Measured) (place : ℕ) → record_of 
 record_clean None m place h = absurd (none-some m h)
 record_clean (Some g) m place h = ((g, refl), ap (λ l. size_faults l place) h)
 
-member_clean : (k : Option Member) (place : ℕ) (b : Bool) → is_member k && b ≡ true
-    → (again_by k place ≡ []) × (b ≡ true)
+member_clean : (k : Option Member) (place : ℕ) (b : Bool) → is_some k && b ≡ true
+    → (broken_if (is_none k) place rule.DeclaredTwice ≡ []) × (b ≡ true)
 member_clean None place b h = cc
 member_clean (Some m) place b h = (refl, h)
 
@@ -156,8 +156,8 @@ def_clean (Some g) us None x h = absurd (none-some x h)
 def_clean (Some g) us (Some k) x h = ((g, refl), (k, refl))
 
 -- the names of an enumeration that has a kind are declared once
-declared_clean : (e : Option Entry) (place : ℕ) (b : Bool) → is_declared e && b ≡ true
-    → (twice_by e place ≡ []) × (b ≡ true)
+declared_clean : (e : Option Entry) (place : ℕ) (b : Bool) → is_some e && b ≡ true
+    → (broken_if (is_none e) place rule.DeclaredTwice ≡ []) × (b ≡ true)
 declared_clean None place b h = absurd (true≢false (sym h))
 declared_clean (Some e) place b h = (refl, h)
 
@@ -165,7 +165,7 @@ names_clean : (o : Outline) (us : List Used) → are_declared o us ≡ true → 
 names_clean o [] h = refl
 names_clean o (u ∷ us) h =
     let s = declared_clean (entry_at o u.place) u.place (are_declared o us) h in
-    joined (twice_by (entry_at o u.place) u.place) _ s.0 (names_clean o us s.1)
+    joined (twice_faults o u) (twices_faults o us) s.0 (names_clean o us s.1)
 
 kept_clean : (b : Bool) (x m : Measured) → (if b then Some x else None) ≡ Some m → b ≡ true
 kept_clean true x m h = refl

@@ -13,7 +13,7 @@ abbrev pub ConstantsAreClean : Type 0
 ConstantsAreClean = (o : Outline) (c : Constant) (v : Valued) → constant_value o c ≡ Some v
     → constant_faults o c ≡ []
 
--- neither does the text of a type with a kind
+-- the text of a type with a kind breaks no rule
 abbrev pub TextsAreClean : Type 0
 TextsAreClean = (o : Outline) (t : TypeText) (m : Measured) → text_type o t ≡ Some m
     → text_faults o t ≡ []

@@ -1,8 +1,10 @@
 -- The values of constants (ISO 7185, 6.3).
 use Rattle.std.specs.Prelude.{ℕ, suc, ◌-◌, ◌^◌, min, ℤ, pos, ◌-ℤ◌, int_lt, Bool, true, false}
-use Rattle.std.specs.Prelude.{nat_lt, List, [], ◌++◌, Option, Some, None, if◌then◌else◌, codes}
+use Rattle.std.specs.Prelude.{nat_le, List, [], ◌++◌, Option, Some, None, is_none, if◌then◌else◌}
+use Rattle.std.specs.Prelude.{codes}
 use Rattle.est_syntax.specs.Names.{is_name, spelled}
-use Rattle.est_syntax.specs.Faults.{broken}
+use Rattle.est_syntax.specs.Faults.{broken, broken_if}
+use Rattle.est_syntax.specs.Kinds.{maxint}
 use Rattle.est_syntax.specs.declared.name.Used.{Used}
 use Rattle.est_syntax.specs.declared.constant.Constant.{Constant}
 use Rattle.est_syntax.specs.declared.constant.Constant.TheVariants as constant
@@ -11,16 +13,14 @@ use Rattle.est_syntax.specs.declared.kind.Kind.TheOpen as seen
 use Rattle.est_syntax.specs.declared.kind.Kind.TheVariants as kind
 use Rattle.est_syntax.specs.declared.kind.FieldKind.{FieldKind}
 use Rattle.est_syntax.specs.declared.rule.Fault.{Fault}
-use Rattle.est_syntax.specs.declared.rule.Rule.TheVariants.{UnknownName, NotSeenHere}
 use Rattle.est_syntax.specs.declared.rule.Rule.TheVariants.{WrongSort, NumberTooLarge}
 use Rattle.est_scope.specs.declared.declaration.Entry.{Entry}
 use Rattle.est_scope.specs.declared.declaration.Measured.{Measured}
 use Rattle.est_scope.specs.declared.declaration.Meant.{Meant}
-use Rattle.est_scope.specs.declared.declaration.Meant.TheVariants.{Nothing, Predeclared}
-use Rattle.est_scope.specs.declared.declaration.Meant.TheVariants.{Unseen, Seen}
+use Rattle.est_scope.specs.declared.declaration.Meant.TheVariants.{Predeclared, Seen}
 use Rattle.est_scope.specs.declared.declaration.Sort.TheVariants as sort
 use Rattle.est_scope.specs.Outline.{Outline, entry_at}
-use Rattle.est_scope.specs.Uses.{is_sort, meaning}
+use Rattle.est_scope.specs.Uses.{is_sort, meaning, meaning_faults, other_sort_faults}
 use Rattle.est_kinds.specs.declared.value.Valued.{Valued}
 
 -- an ordinal of a host
@@ -32,7 +32,7 @@ abbrev pub predeclared_constant : List ℕ → Option Valued
 predeclared_constant name =
     if is_name name (codes "false") then Some (valued kind.Boolean (pos 0)) else
     (if is_name name (codes "true") then Some (valued kind.Boolean (pos 1)) else
-    (if is_name name (codes "maxint") then Some (valued kind.Integer (pos 2147483647)) else None))
+    (if is_name name (codes "maxint") then Some (valued kind.Integer (pos maxint)) else None))
 
 -- whether a kind is that of the integers
 abbrev pub is_integer : Kind → Bool
@@ -42,42 +42,46 @@ is_integer k = integer (out-Kind k)
     integer seen.Integer = true
     integer _ = false
 
--- a value is negated, where that is an integer of the profile
+-- an ordinal of a host, where it is no greater than the greatest integer
 abbrev pub negated_by : Kind → ℤ → Option Valued
-negated_by host z = if int_lt (pos 2147483647) z then None else Some (valued host z)
+negated_by host z = if int_lt (pos maxint) z then None else Some (valued host z)
 
+-- a value is negated, where that is an integer of the profile
 abbrev pub negated : Valued → Option Valued
 negated v = negated_by v.host (pos 0 -ℤ v.ordinal)
 
 -- the integer that is written, without a sign or with one
 abbrev pub number_value : Bool → ℕ → Option Valued
 number_value minus n =
-    if nat_lt n (2 ^ 31) then Some (valued kind.Integer (if minus then pos 0 -ℤ pos n else pos n))
+    if nat_le n maxint then Some (valued kind.Integer (if minus then pos 0 -ℤ pos n else pos n))
     else None
 
--- a sign before a constant, which has to be an integer
+-- the value after a sign, which has to be an integer
 abbrev pub with_sign : Bool → Valued → Option Valued
 with_sign minus v = if is_integer v.host then (if minus then negated v else Some v) else None
 
+-- the value after a sign or none
 abbrev pub signed_value : Bool → Bool → Option Valued → Option Valued
 signed_value minus sign None = None
 signed_value minus sign (Some v) = if sign then with_sign minus v else Some v
 
--- the value of a declaration, where it is that of a constant and has one
+-- the value of this kind with this ordinal, where there are both
 abbrev pub value_with : Option Measured → Option ℤ → Option Valued
 value_with (Some m) (Some z) = Some (valued m.kind z)
 value_with _ _ = None
 
+-- the value of a declaration, where it is that of a constant and has one
 abbrev pub value_by : Option Entry → Option Valued
 value_by None = None
 value_by (Some e) = if is_sort sort.Constant (Some e) then value_with e.kind e.ordinal else None
 
--- the value of the constant that a name means
+-- the value of the constant that a name of this meaning means
 abbrev pub value_meant : Outline → List ℕ → Meant → Option Valued
 value_meant o name Predeclared = predeclared_constant name
 value_meant o name (Seen p) = value_by (entry_at o p)
 value_meant o name _ = None
 
+-- the value of the constant that a name means
 abbrev pub named_value : Outline → Used → Option Valued
 named_value o u = value_meant o (spelled u) (meaning o u)
 
@@ -94,11 +98,11 @@ constant_place (constant.Number minus sign n place) = place
 constant_place (constant.Named minus sign name place) = place
 constant_place (constant.Character code place) = place
 
--- the place of the last token of a constant: after a sign stands a number (places are numbers of 32
--- bits)
+-- the place of a number, which stands after its sign (places are numbers of 32 bits)
 abbrev pub number_place : Bool → ℕ → ℕ
 number_place sign place = if sign then min (suc place) (2 ^ 32 - 1) else place
 
+-- the place of the last token of a constant
 abbrev pub constant_last : Constant → ℕ
 constant_last (constant.Number minus sign n place) = number_place sign place
 constant_last (constant.Named minus sign name place) = name.place
@@ -106,15 +110,9 @@ constant_last (constant.Character code place) = place
 
 -- a name of this meaning where a constant is wanted
 abbrev pub constant_used : Outline → Used → Meant → List Fault
-constant_used o u Nothing = broken u.place UnknownName
-constant_used o u Predeclared = predeclared_faults u (predeclared_constant (spelled u))
-  where
-    predeclared_faults : Used → Option Valued → List Fault
-    predeclared_faults u None = broken u.place WrongSort
-    predeclared_faults u (Some v) = []
-constant_used o u (Unseen p) = broken u.place NotSeenHere
-constant_used o u (Seen p) =
-    if is_sort sort.Constant (entry_at o p) then [] else broken u.place WrongSort
+constant_used o u m = meaning_faults m u.place
+    (broken_if (is_none (predeclared_constant (spelled u))) u.place WrongSort)
+    (other_sort_faults o sort.Constant u.place)
 
 -- a sign before the name of a constant that is no integer
 abbrev pub sign_faults : Bool → ℕ → Option Valued → List Fault
@@ -125,7 +123,7 @@ sign_faults sign place (Some v) =
 -- a number that exceeds the greatest integer
 abbrev pub number_faults : Bool → ℕ → ℕ → List Fault
 number_faults sign n place =
-    if nat_lt n (2 ^ 31) then [] else broken (number_place sign place) NumberTooLarge
+    if nat_le n maxint then [] else broken (number_place sign place) NumberTooLarge
 
 -- what a constant breaks
 abbrev pub constant_faults : Outline → Constant → List Fault

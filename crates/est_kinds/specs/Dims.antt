@@ -12,7 +12,7 @@ use Rattle.est_scope.specs.Outline.{Outline}
 use Rattle.est_kinds.specs.TypeTexts.{text_type, text_faults, text_place}
 use Rattle.est_kinds.specs.TypeTexts.{count, multiplied, most_elements}
 
--- a subscript more, which is ordinal
+-- the kinds of subscripts, and that of one more, which is ordinal
 abbrev pub with_dim : Option (List Kind) → Option Measured → Option (List Kind)
 with_dim (Some ks) (Some m) = if is_ordinal m.kind then Some (ks ++ m.kind ∷ []) else None
 with_dim _ _ = None
@@ -31,19 +31,21 @@ abbrev pub elements : List Kind → ℕ
 elements [] = 1
 elements (k ∷ ks) = multiplied (count k) (elements ks)
 
--- those of what is declared with these dims
+-- how many elements what is declared with these dims has
 abbrev pub dims_elements : Option (List Kind) → ℕ
 dims_elements None = 0
 dims_elements (Some ks) = elements ks
 
--- what one of the dims breaks
+-- a dim that begins at a place and is not ordinal
 abbrev pub ordinal_faults : Option Measured → ℕ → List Fault
 ordinal_faults None place = []
 ordinal_faults (Some m) place = if is_ordinal m.kind then [] else broken place WrongKind
 
+-- what one of the dims breaks
 abbrev pub dim_faults : Outline → TypeText → List Fault
 dim_faults o t = text_faults o t ++ ordinal_faults (text_type o t) (text_place t)
 
+-- what each of the dims breaks
 abbrev pub each_dim_faults : Outline → List TypeText → List Fault
 each_dim_faults o [] = []
 each_dim_faults o (t ∷ ts) = dim_faults o t ++ each_dim_faults o ts

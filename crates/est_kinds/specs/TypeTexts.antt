@@ -2,9 +2,10 @@
 -- 6.4).
 use Rattle.std.specs.Prelude.{ℕ, suc, ◌+◌, ◌*◌, ◌-◌, ◌^◌, min, max, ℤ, pos, negsuc, ◌-ℤ◌}
 use Rattle.std.specs.Prelude.{int_lt, Bool, true, false, ◌&&◌, nat_lt, nat_eq, List, [], ◌∷◌}
-use Rattle.std.specs.Prelude.{◌++◌, map, length, Option, Some, None, if◌then◌else◌, codes}
+use Rattle.std.specs.Prelude.{◌++◌, map, length, Option, Some, None, is_some, is_none}
+use Rattle.std.specs.Prelude.{if◌then◌else◌, codes}
 use Rattle.est_syntax.specs.Names.{is_name, spelled}
-use Rattle.est_syntax.specs.Faults.{broken}
+use Rattle.est_syntax.specs.Faults.{broken, broken_if}
 use Rattle.est_syntax.specs.Kinds.{is_ordinal}
 use Rattle.est_syntax.specs.declared.name.Used.{Used}
 use Rattle.est_syntax.specs.declared.kind.Kind.{Kind, out-Kind}
@@ -17,39 +18,41 @@ use Rattle.est_syntax.specs.declared.type_text.TypeText.{end_of-VarDef, more_of-
 use Rattle.est_syntax.specs.declared.type_text.TypeText.TheVariants as text
 use Rattle.est_syntax.specs.declared.type_text.VarDef.{VarDef}
 use Rattle.est_syntax.specs.declared.rule.Fault.{Fault}
-use Rattle.est_syntax.specs.declared.rule.Rule.TheVariants.{UnknownName, NotSeenHere, WrongSort}
-use Rattle.est_syntax.specs.declared.rule.Rule.TheVariants.{WrongBounds, TooLarge, WrongKind}
+use Rattle.est_syntax.specs.declared.rule.Rule.TheVariants.{WrongSort, WrongBounds}
+use Rattle.est_syntax.specs.declared.rule.Rule.TheVariants.{TooLarge, WrongKind}
 use Rattle.est_scope.specs.declared.declaration.Entry.{Entry}
 use Rattle.est_scope.specs.declared.declaration.Measured.{Measured}
-use Rattle.est_scope.specs.declared.declaration.Member.{Member}
 use Rattle.est_scope.specs.declared.declaration.Meant.{Meant}
-use Rattle.est_scope.specs.declared.declaration.Meant.TheVariants.{Nothing, Predeclared}
-use Rattle.est_scope.specs.declared.declaration.Meant.TheVariants.{Unseen, Seen}
+use Rattle.est_scope.specs.declared.declaration.Meant.TheVariants.{Predeclared, Seen}
 use Rattle.est_scope.specs.declared.declaration.Sort.TheVariants as sort
 use Rattle.est_scope.specs.Outline.{Outline, entry_at, member_at}
-use Rattle.est_scope.specs.Uses.{is_sort, meaning, twices_faults, agains_faults}
+use Rattle.est_scope.specs.Uses.{is_sort, meaning, meaning_faults, other_sort_faults}
+use Rattle.est_scope.specs.Uses.{twices_faults, agains_faults}
 use Rattle.est_kinds.specs.declared.value.Valued.{Valued}
 use Rattle.est_kinds.specs.declared.value.Gathered.{Gathered}
 use Rattle.est_kinds.specs.Constants.{constant_value, constant_faults, constant_place}
 
--- the greatest number of scalars of a type, of its levels of arrays and records, of members of a
--- set, and of elements of an array of interaction points or module variables
+-- the greatest number of scalars of a type
 abbrev pub most_scalars : ℕ
 most_scalars = 65536
 
+-- the greatest number of its levels of arrays and records
 abbrev pub most_levels : ℕ
 most_levels = 32
 
+-- the greatest number of members of a set
 abbrev pub most_members : ℕ
 most_members = 64
 
+-- the greatest number of elements of an array of interaction points or module variables
 abbrev pub most_elements : ℕ
 most_elements = 256
 
--- sizes are numbers of 64 bits, and stay at the greatest one
+-- a sum of sizes, which are numbers of 64 bits and stay at the greatest one
 abbrev pub added : ℕ → ℕ → ℕ
 added a b = min (a + b) (2 ^ 64 - 1)
 
+-- a product of sizes
 abbrev pub multiplied : ℕ → ℕ → ℕ
 multiplied a b = min (a * b) (2 ^ 64 - 1)
 
@@ -57,12 +60,13 @@ multiplied a b = min (a * b) (2 ^ 64 - 1)
 abbrev pub scalar : Kind → Measured
 scalar k = record { kind = k; scalars = 1; levels = 0 }
 
--- a kind within the limits of a type
+-- whether so many scalars and levels are within the limits of a type
 abbrev pub is_within : ℕ → ℕ → Bool
 is_within scalars levels =
     if nat_lt most_scalars scalars then false else
     (if nat_lt most_levels levels then false else true)
 
+-- a kind within the limits of a type
 abbrev pub limited : Measured → Option Measured
 limited m = if is_within m.scalars m.levels then Some m else None
 
@@ -106,60 +110,55 @@ abbrev pub type_by : Option Entry → Option Measured
 type_by None = None
 type_by (Some e) = if is_sort sort.TypeName (Some e) then e.kind else None
 
--- the kind of the type that a name means
+-- the kind of the type that a name of this meaning means
 abbrev pub type_meant : Outline → List ℕ → Meant → Option Measured
 type_meant o name Predeclared = predeclared_type name
 type_meant o name (Seen p) = type_by (entry_at o p)
 type_meant o name _ = None
 
+-- the kind of the type that a name means
 abbrev pub named_type : Outline → Used → Option Measured
 named_type o u = type_meant o (spelled u) (meaning o u)
 
 -- a name of this meaning where a type is wanted
-abbrev pub predeclared_faults : ℕ → Option Measured → List Fault
-predeclared_faults place None = broken place WrongSort
-predeclared_faults place (Some m) = []
-
 abbrev pub type_used : Outline → Used → Meant → List Fault
-type_used o u Nothing = broken u.place UnknownName
-type_used o u Predeclared = predeclared_faults u.place (predeclared_type (spelled u))
-type_used o u (Unseen p) = broken u.place NotSeenHere
-type_used o u (Seen p) =
-    if is_sort sort.TypeName (entry_at o p) then [] else broken u.place WrongSort
+type_used o u m = meaning_faults m u.place
+    (broken_if (is_none (predeclared_type (spelled u))) u.place WrongSort)
+    (other_sort_faults o sort.TypeName u.place)
 
+-- a name where a type is wanted
 abbrev pub type_faults : Outline → Used → List Fault
 type_faults o u = type_used o u (meaning o u)
 
--- a range: both constants have one host, and the first is not greater
+-- whether two constants bound a range: both have one host, and the first is not greater
 abbrev pub are_bounds : Valued → Valued → Bool
 are_bounds a b =
     if same_host a.host b.host then (if int_lt b.ordinal a.ordinal then false else true) else false
 
+-- the kind of a range between two constants
 abbrev pub range : Option Valued → Option Valued → Option Measured
 range (Some a) (Some b) =
     if are_bounds a b then Some (scalar (kind.Part a.host a.ordinal b.ordinal)) else None
 range _ _ = None
 
+-- what a range at a place breaks by two constants that do not bound it
 abbrev pub range_faults : Option Valued → Option Valued → ℕ → List Fault
 range_faults (Some a) (Some b) place = if are_bounds a b then [] else broken place WrongBounds
 range_faults _ _ place = []
 
--- an enumeration, all of whose names are declared by it
-abbrev pub is_declared : Option Entry → Bool
-is_declared None = false
-is_declared (Some e) = true
-
+-- whether all of these names of an enumeration are declared by it
 abbrev pub are_declared : Outline → List Used → Bool
 are_declared o [] = true
-are_declared o (u ∷ us) = is_declared (entry_at o u.place) && are_declared o us
+are_declared o (u ∷ us) = is_some (entry_at o u.place) && are_declared o us
 
+-- the kind of an enumeration of names at a place, all of which are declared by it
 abbrev pub enumeration : Outline → List Used → ℕ → Option Measured
 enumeration o [] place = None
 enumeration o (u ∷ us) place =
     if are_declared o (u ∷ us)
     then Some (scalar (kind.Enumeration place (map (λ (x : Used). x.name) (u ∷ us)))) else None
 
--- an array over an index, which is ordinal
+-- the kind of an array over an index
 abbrev pub array : Measured → Measured → Measured
 array i m = record {
   kind = kind.ArrayOf i.kind m.kind;
@@ -167,47 +166,53 @@ array i m = record {
   levels = added 1 m.levels;
 }
 
+-- the same where the index is ordinal and the array is within the limits of a type
 abbrev pub array_of : Option Measured → Option Measured → Option Measured
 array_of (Some i) (Some m) = if is_ordinal i.kind then limited (array i m) else None
 array_of _ _ = None
 
--- what an array breaks by an index that begins at the first place, where the array does at the
--- second
+-- what is too large at a place has no kind
 abbrev pub size_faults : Option Measured → ℕ → List Fault
 size_faults None place = broken place TooLarge
 size_faults (Some m) place = []
 
+-- an array at a place over an index, where it is too large
 abbrev pub array_size : Measured → Option Measured → ℕ → List Fault
 array_size i None place = []
 array_size i (Some m) place = size_faults (limited (array i m)) place
 
+-- what an array breaks by an index that begins at the first place, where the array does at the
+-- second
 abbrev pub array_faults : Option Measured → Option Measured → ℕ → ℕ → List Fault
 array_faults None m first place = []
 array_faults (Some i) m first place =
     if is_ordinal i.kind then array_size i m place else broken first WrongKind
 
--- a set over a base, which is ordinal
+-- the kind of a set over a base that has not too many values
 abbrev pub set_by : Measured → Option Measured
 set_by b = if nat_lt most_members (count b.kind) then None else Some (scalar (kind.SetOf b.kind))
 
+-- the kind of a set over a base, which is ordinal
 abbrev pub set_of : Option Measured → Option Measured
 set_of None = None
 set_of (Some b) = if is_ordinal b.kind then set_by b else None
 
+-- what a set breaks by a base that begins at the first place, where the set does at the second
 abbrev pub set_faults : Option Measured → ℕ → ℕ → List Fault
 set_faults None first place = []
 set_faults (Some b) first place =
     if is_ordinal b.kind then size_faults (set_by b) place else broken first WrongKind
 
--- the fields of a record so far, with their scalars and their greatest level
+-- no fields of a record so far, with their scalars and their greatest level
 abbrev pub no_fields : Gathered
 no_fields = record { kinds = []; scalars = 0; levels = 0 }
 
+-- fields of these names and one kind
 abbrev pub field_kinds : List Used → Kind → List FieldKind
 field_kinds [] k = []
 field_kinds (u ∷ us) k = record { name = u.name; kind = k } ∷ field_kinds us k
 
--- and some names more that are declared with one type
+-- the fields so far, and some names more that are declared with one type
 abbrev pub with_fields : Option Gathered → List Used → Option Measured → Option Gathered
 with_fields (Some g) us (Some m) = Some record {
   kinds = g.kinds ++ field_kinds us m.kind;
@@ -216,25 +221,25 @@ with_fields (Some g) us (Some m) = Some record {
 }
 with_fields _ us _ = None
 
--- a record of these fields, all of whose names are declared by it
-abbrev pub is_member : Option Member → Bool
-is_member None = false
-is_member (Some m) = true
-
+-- whether all of these names of a record are declared by it
 abbrev pub are_members : Outline → List Used → Bool
 are_members o [] = true
-are_members o (u ∷ us) = is_member (member_at o u.place) && are_members o us
+are_members o (u ∷ us) = is_some (member_at o u.place) && are_members o us
 
+-- the fields so far, where all of these names are declared by their record
 abbrev pub known_fields : Outline → List Used → Option Gathered → Option Gathered
 known_fields o us g = if are_members o us then g else None
 
+-- the kind of a record of these fields
 abbrev pub fields : Gathered → Measured
 fields g = record { kind = kind.Fields g.kinds; scalars = g.scalars; levels = added 1 g.levels }
 
+-- the same where it is within the limits of a type
 abbrev pub record_of : Option Gathered → Option Measured
 record_of None = None
 record_of (Some g) = limited (fields g)
 
+-- what a record of these fields at a place breaks
 abbrev pub record_faults : Option Gathered → ℕ → List Fault
 record_faults None place = []
 record_faults (Some g) place = size_faults (limited (fields g)) place

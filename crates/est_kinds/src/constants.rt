@@ -17,13 +17,10 @@ use est_scope::declaration::{Entry, Meant, Sort};
 use est_scope::least::Least;
 use est_scope::outline::Outline;
 use est_syntax::constant::Constant;
-use est_syntax::kind::Kind;
+use est_syntax::kind::{Kind, MAXINT};
 use est_syntax::name::{Name, Used};
 use est_syntax::rule::Rule;
 use std::alloc::AllocError;
-
-// The greatest integer of the profile.
-const MAXINT: i32 = 2147483647;
 
 // The constants that are predeclared.
 fn predeclared_constant(name: &Name) -> Option<Valued>
@@ -43,7 +40,7 @@ fn predeclared_constant(name: &Name) -> Option<Valued>
     } else if bytes == b"maxint".as_slice() {
         Some(Valued {
             host: Kind::Integer,
-            ordinal: MAXINT,
+            ordinal: MAXINT as i32,
         })
     } else {
         None
@@ -111,7 +108,7 @@ fn signed(minus: bool, sign: bool, value: Option<Valued>) -> Option<Valued>
 fn entry_value(entry: &Entry) -> Result<Option<Valued>, AllocError>
     ensures { IfOk result (λ v. v ≡ value_by (Some entry.now)) }
 {
-    if !Sort::Constant.same(entry.declared.sort) {
+    if Sort::Constant != entry.declared.sort {
         return Ok(None);
     }
     match (&entry.kind, entry.ordinal) {

@@ -8,10 +8,10 @@ ghost use Rattle.est_kinds.specs.TypeTexts.{same_host, counted, count, scalar, i
 use est_scope::declaration::Measured;
 use est_syntax::kind::Kind;
 
-// The greatest number of scalars of a type.
-const MOST_SCALARS: u64 = 65536;
+/// The greatest number of scalars of a type.
+pub const MOST_SCALARS: u64 = 65536;
 
-// The greatest number of its levels of arrays and records.
+// The greatest number of levels of arrays and records of a type.
 const MOST_LEVELS: u64 = 32;
 
 /// Whether a kind is that of the integers.

@@ -7,7 +7,7 @@ pub fn constants_are_clean()
     ensures { ConstantsAreClean }
 {}
 
-/// Neither does the text of a type with a kind.
+/// The text of a type with a kind breaks no rule.
 #[tactic(auto, using(crate::proofs::Clean::text_clean))]
 pub fn texts_are_clean()
     ensures { TextsAreClean }

@@ -37,7 +37,7 @@ fn predeclared_type(name: &Name) -> Option<Measured>
 fn entry_type(entry: &Entry) -> Result<Option<Measured>, AllocError>
     ensures { IfOk result (λ m. m ≡ type_by (Some entry.now)) }
 {
-    if Sort::TypeName.same(entry.declared.sort) {
+    if Sort::TypeName == entry.declared.sort {
         copy_kind(&entry.kind)
     } else {
         Ok(None)

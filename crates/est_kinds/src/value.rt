@@ -32,7 +32,7 @@ pub fn copy_measured(measured: &Measured) -> Result<Measured, AllocError>
     })
 }
 
-/// The same of a kind that may be lacking.
+/// An equal kind with the same sizes, if there is one.
 pub fn copy_kind(kind: &Option<Measured>) -> Result<Option<Measured>, AllocError>
     ensures { IfOk result (λ m. m ≡ kind.now) }
 {

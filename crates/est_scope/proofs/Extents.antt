@@ -9,7 +9,7 @@ use Rattle.std.proofs.Common.{zero, suc, ◌+◌, ◌≤◌, ◌<◌, ◌-◌, L
 use Rattle.std.proofs.Common.{Option, Some, None, length, get_or, slice_get}
 use Rattle.est_scope.specs.declared.declaration.Extent.{Extent}
 use Rattle.est_scope.specs.Outline.{extent_at, from_or_before}
-use Rattle.est_scope.specs.Declaring.{last_from, later}
+use Rattle.est_scope.specs.Declaring.{last_from}
 
 -- so many extents begin at a place or before it, and no others
 abbrev pub IsCount : List Extent → ℕ → ℕ → Type 0
@@ -92,9 +92,6 @@ last_is (e ∷ []) from zero d w = refl
 last_is (e ∷ []) from (suc k) d w = absurd (omega (arith, w))
 last_is (e ∷ x ∷ es) from zero d w = absurd (omega (arith, w))
 last_is (e ∷ x ∷ es) from (suc k) d w = last_is (x ∷ es) e.from k d (omega (arith, w))
-
-pub later_is : (a b : ℕ) → a ≤ later a b
-later_is a b = grind arith
 
 -- one extent more, which begins no earlier
 pub push_later : (es : List Extent) (e : Extent) → IsNonDecreasingBy (λ (x : Extent). x.from) es

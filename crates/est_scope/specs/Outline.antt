@@ -1,10 +1,11 @@
 -- What a specification declares, and what a name means at a place (ISO 9074, scope of identifiers;
 -- ISO 7185, 6.2.2).
 use Rattle.std.specs.Prelude.{ℕ, Bool, true, false, nat_lt, nat_eq, List, [], ◌∷◌}
-use Rattle.std.specs.Prelude.{◌++◌, slice_get, Option, Some, None, if◌then◌else◌}
+use Rattle.std.specs.Prelude.{◌++◌, slice_get, Option, Some, None, unwrap_or, option_and_then}
+use Rattle.std.specs.Prelude.{if◌then◌else◌}
 use Rattle.std.specs.List.{list_any}
 use Rattle.std.specs.Map.{lookup}
-use Rattle.std.specs.Option.{option_or}
+use Rattle.std.specs.Option.{option_or, option_map, option_map_or}
 use Rattle.est_syntax.specs.Names.{is_name, is_predeclared}
 use Rattle.est_scope.specs.declared.declaration.Sort.{Sort}
 use Rattle.est_scope.specs.declared.declaration.Sort.TheVariants as sort
@@ -30,30 +31,26 @@ pub record Outline : Type 0 where
   pub extents : List Extent
 
 -- the names of a region, in the order of the text
-abbrev pub names_by : Option Region → Region
-names_by None = []
-names_by (Some names) = names
-
 abbrev pub names_of : Outline → ℕ → Region
-names_of o region = names_by (lookup (nat_eq region) o.regions)
+names_of o region = unwrap_or (lookup (nat_eq region) o.regions) []
 
--- where a name stands in a region, if it does
+-- where a name stands in a region, if there is one and it does
 abbrev pub standing_in : Option Region → List ℕ → Option Standing
-standing_in None name = None
-standing_in (Some names) name = lookup (is_name name) names
+standing_in r name = option_and_then (λ (names : Region). lookup (is_name name) names) r
 
+-- where a name stands in the region of this owner, if it does
 abbrev pub standing : Outline → ℕ → List ℕ → Option Standing
 standing o region name = standing_in (lookup (nat_eq region) o.regions) name
 
--- where the name of a region stands that has this number, counted from 0
+-- where a name of a region stands, if there is one
 abbrev pub place_of : Option (List ℕ × Standing) → Option ℕ
-place_of None = None
-place_of (Some n) = Some n.1.place
+place_of n = option_map (λ (x : List ℕ × Standing). x.1.place) n
 
+-- where the name of a region stands that has this number, counted from 0
 abbrev pub nth_in : Option Region → ℕ → Option ℕ
-nth_in None i = None
-nth_in (Some names) i = place_of (slice_get names i)
+nth_in r i = option_and_then (λ (names : Region). place_of (slice_get names i)) r
 
+-- the same in the region of this owner
 abbrev pub nth : Outline → ℕ → ℕ → Option ℕ
 nth o region i = nth_in (lookup (nat_eq region) o.regions) i
 
@@ -88,9 +85,9 @@ is_shared_sort sort.Procedure closed = closed
 is_shared_sort sort.Function closed = closed
 is_shared_sort _ closed = false
 
+-- whether a nested body sees a declaration around it
 abbrev pub is_shared : Option Entry → Bool
-is_shared None = false
-is_shared (Some e) = is_shared_sort e.declared.sort e.closed
+is_shared e = option_map_or (λ (x : Entry). is_shared_sort x.declared.sort x.closed) e false
 
 -- what a declaration around a body means within it
 abbrev pub seen_around : Bool → ℕ → Meant
@@ -109,10 +106,11 @@ meant_within o None name place = meant_by o (is_predeclared name) None None
 meant_within o (Some e) name place =
     meant_by o (is_predeclared name) (found o e.own name place) (found o e.around name place)
 
--- the last extent that begins at a place or before it
+-- an extent that begins at a place or before it
 abbrev pub from_or_before : ℕ → Extent → Option Extent
 from_or_before place e = if nat_lt place e.from then None else Some e
 
+-- the last extent that begins at a place or before it
 abbrev pub extent_at : List Extent → ℕ → Option Extent
 extent_at [] place = None
 extent_at (e ∷ es) place = option_or (extent_at es place) (from_or_before place e)
@@ -122,9 +120,6 @@ abbrev pub meant : Outline → List ℕ → ℕ → Meant
 meant o name place = meant_within o (extent_at o.extents place) name place
 
 -- whether a place of the text lies in the region of this owner
-abbrev pub lies_by : Option Extent → ℕ → Bool
-lies_by None region = false
-lies_by (Some e) region = list_any (nat_eq region) (e.own ++ e.around)
-
 abbrev pub lies_in : Outline → ℕ → ℕ → Bool
-lies_in o place region = lies_by (extent_at o.extents place) region
+lies_in o place region = option_map_or
+    (λ (e : Extent). list_any (nat_eq region) (e.own ++ e.around)) (extent_at o.extents place) false

@@ -4,7 +4,7 @@ ghost use Rattle.std.specs.Prelude.{◌≡◌, ◌≤◌, ◌<◌, [], length, O
 ghost use Rattle.std.specs.List.Sorted.{IsNonDecreasingBy, IsPartitionPoint};
 ghost use Rattle.std.specs.Option.{option_copied};
 ghost use Rattle.est_scope.specs.Outline.{extent_at};
-ghost use Rattle.est_scope.specs.Declaring.{last_from, later, extended};
+ghost use Rattle.est_scope.specs.Declaring.{last_from, extended};
 ghost use Rattle.est_scope.specs.declared.declaration.Extent.{Extent};
 
 use crate::declaration::{Extent, Within};
@@ -56,13 +56,6 @@ fn last_from(extents: &[Extent]) -> u32
     }
 }
 
-// The greater of two places.
-fn later(one: u32, other: u32) -> u32
-    ensures { result ≡ later one other }
-{
-    if one < other { other } else { one }
-}
-
 impl Extents {
     /// No extents.
     pub fn new(alloc: Global) -> Extents
@@ -90,7 +83,7 @@ impl Extents {
     pub fn extend(&mut self, within: &Within, place: u32) -> Result<(), AllocError>
         ensures { OnOk result (self.new ≡ extended within.now place self.old) }
     {
-        let from = later(last_from(self.list.as_slice()), place);
+        let from = last_from(self.list.as_slice()).max(place);
         let own = within.own.share()?;
         let around = within.around.share()?;
         self.list.push(Extent { from, own, around })?;

@@ -48,7 +48,7 @@ impl Least {
         self.at = lesser(self.at, Fault { place, rule });
     }
 
-    /// Notes that a rule is broken at a place where it is.
+    /// Notes that a rule is broken at a place, under a condition.
     pub fn note_if(&mut self, is_broken: bool, place: u32, rule: Rule)
         ensures { self.new.at ≡ least_with self.old.at (broken_if is_broken place rule) }
     {

@@ -4,7 +4,7 @@
 ghost use Rattle.std.specs.Prelude.{◌≡◌};
 ghost use Rattle.est_scope.specs.LeastSoFar.{least_with};
 ghost use Rattle.est_scope.specs.Outline.{entry_at};
-ghost use Rattle.est_scope.specs.Uses.{same_sort, is_sort, meaning, use_faults, uses_faults};
+ghost use Rattle.est_scope.specs.Uses.{is_sort, meaning, use_faults, uses_faults};
 ghost use Rattle.est_scope.specs.Uses.{declaration_of, twice_faults, twices_faults};
 ghost use Rattle.est_scope.specs.Uses.{again_faults, agains_faults};
 
@@ -13,29 +13,6 @@ use crate::least::Least;
 use crate::outline::Outline;
 use est_syntax::name::Used;
 use est_syntax::rule::Rule;
-
-impl Sort {
-    /// Whether two sorts are one.
-    pub fn same(self, other: Sort) -> bool
-        ensures { result ≡ same_sort self other }
-    {
-        match (self, other) {
-            (Sort::Constant, Sort::Constant) => true,
-            (Sort::TypeName, Sort::TypeName) => true,
-            (Sort::Channel, Sort::Channel) => true,
-            (Sort::Header, Sort::Header) => true,
-            (Sort::Body, Sort::Body) => true,
-            (Sort::Variable, Sort::Variable) => true,
-            (Sort::ModuleVariable, Sort::ModuleVariable) => true,
-            (Sort::Point, Sort::Point) => true,
-            (Sort::State, Sort::State) => true,
-            (Sort::StateSet, Sort::StateSet) => true,
-            (Sort::Procedure, Sort::Procedure) => true,
-            (Sort::Function, Sort::Function) => true,
-            _ => false,
-        }
-    }
-}
 
 impl Outline {
     /// What a name means at its place.
@@ -51,7 +28,7 @@ impl Outline {
     {
         match self.entry(place) {
             None => false,
-            Some(entry) => sort.same(entry.declared.sort),
+            Some(entry) => sort == entry.declared.sort,
         }
     }
 
@@ -83,7 +60,7 @@ impl Outline {
         }
     }
 
-    /// The same of each name of a list.
+    /// Notes what the uses of names break where this sort is wanted.
     pub fn check_uses(&self, sort: Sort, names: &[Used], least: &mut Least)
         ensures { least.new.at ≡ least_with least.old.at (uses_faults self.now sort names.now) }
     {
@@ -96,12 +73,11 @@ impl Outline {
     pub fn check_twice(&self, used: &Used, least: &mut Least)
         ensures { least.new.at ≡ least_with least.old.at (twice_faults self.now used.now) }
     {
-        if self.entry(used.place).is_none() {
-            least.note(used.place, Rule::DeclaredTwice);
-        }
+        let is_declared = self.entry(used.place).is_some();
+        least.note_if(!is_declared, used.place, Rule::DeclaredTwice);
     }
 
-    /// The same of each name of a list.
+    /// Notes the names that are declared where their region has them already.
     pub fn check_twices(&self, names: &[Used], least: &mut Least)
         ensures { least.new.at ≡ least_with least.old.at (twices_faults self.now names.now) }
     {
@@ -114,12 +90,11 @@ impl Outline {
     pub fn check_again(&self, used: &Used, least: &mut Least)
         ensures { least.new.at ≡ least_with least.old.at (again_faults self.now used.now) }
     {
-        if self.member(used.place).is_none() {
-            least.note(used.place, Rule::DeclaredTwice);
-        }
+        let is_member = self.member(used.place).is_some();
+        least.note_if(!is_member, used.place, Rule::DeclaredTwice);
     }
 
-    /// The same of each name of a list.
+    /// Notes the names of a channel or a record that stand there already.
     pub fn check_agains(&self, names: &[Used], least: &mut Least)
         ensures { least.new.at ≡ least_with least.old.at (agains_faults self.now names.now) }
     {

@@ -7,7 +7,7 @@ use Rattle.std.proofs.lemmas.Option.{same_Some}
 use Rattle.std.proofs.lemmas.Slice.Eq.{bytes_eq-Decides}
 use Rattle.std.specs.List.{sum_by}
 use Rattle.std.specs.Map.{lookup, set_value}
-use Rattle.std.specs.Option.{option_or}
+use Rattle.std.specs.Option.{option_or, unwrap_or}
 use Rattle.est_syntax.specs.Names.{spelled, is_name}
 use Rattle.est_syntax.specs.declared.name.Used.{Used}
 use Rattle.est_syntax.specs.declared.body.Body.{out-Body}
@@ -16,7 +16,7 @@ use Rattle.est_scope.specs.declared.declaration.Entry.{Entry}
 use Rattle.est_scope.specs.declared.declaration.Member.{Member}
 use Rattle.est_scope.specs.declared.declaration.Standing.{Standing}
 use Rattle.est_scope.specs.declared.declaration.Within.{Within}
-use Rattle.est_scope.specs.Outline.{Outline, Region, names_by, names_of}
+use Rattle.est_scope.specs.Outline.{Outline, Region, names_of}
 use Rattle.est_scope.specs.Outline.{standing_in, standing, entry_at}
 use Rattle.est_scope.specs.Declaring.{named_in, standing_of, taken, declared_by}
 use Rattle.est_scope.specs.Declaring.{put_by, amended_by, with_header}
@@ -139,10 +139,10 @@ once_borne = record {
 }
 
 once_names : (rs : Regions) (region : ℕ) → HaveOnce rs
-    → AreOnce region_name (names_by (lookup (nat_eq region) rs))
+    → AreOnce region_name (unwrap_or (lookup (nat_eq region) rs) [])
 once_names rs region h = by (lookup (nat_eq region) rs) refl
   where
-    by : (x : Option Region) → lookup (nat_eq region) rs ≡ x → AreOnce region_name (names_by x)
+    by : (x : Option Region) → lookup (nat_eq region) rs ≡ x → AreOnce region_name (unwrap_or x [])
     by None e = tt
     by (Some names) e = once_found rs region names h e
 
@@ -204,10 +204,11 @@ size_borne = record {
   more = λ n m rs l p. omega (arith, l, p);
 }
 
-size_names : (rs : Regions) (region : ℕ) → length (names_by (lookup (nat_eq region) rs)) ≤ size rs
+size_names : (rs : Regions) (region : ℕ)
+    → length (unwrap_or (lookup (nat_eq region) rs) []) ≤ size rs
 size_names rs region = by (lookup (nat_eq region) rs) refl
   where
-    by : (x : Option Region) → lookup (nat_eq region) rs ≡ x → length (names_by x) ≤ size rs
+    by : (x : Option Region) → lookup (nat_eq region) rs ≡ x → length (unwrap_or x []) ≤ size rs
     by None e = omega arith
     by (Some names) e = size_found rs region names e
 

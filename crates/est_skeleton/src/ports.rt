@@ -163,7 +163,7 @@ fn push_port(
     match outline.entry(place) {
         None => Ok(()),
         Some(entry) => {
-            if !Sort::Point.same(entry.declared.sort) {
+            if Sort::Point != entry.declared.sort {
                 return Ok(());
             }
             let signals = signals_of(outline, known, entry.side)?;

@@ -17,6 +17,7 @@ use crate::sections::{
     check_vars,
 };
 use crate::sizes::{has_first, have_states, parts_scalars};
+use est_kinds::hosts::MOST_SCALARS;
 use est_scope::least::Least;
 use est_scope::outline::Outline;
 use est_syntax::body::{Block, Body, FirstPart, Part};
@@ -29,7 +30,7 @@ use std::alloc::{AllocError, Global};
 pub fn check_scalars(scalars: u64, place: u32, least: &mut Least)
     ensures { least.new.at ≡ least_with least.old.at (scalars_faults scalars place) }
 {
-    least.note_if(scalars > 65536, place, Rule::TooLarge);
+    least.note_if(scalars > MOST_SCALARS, place, Rule::TooLarge);
 }
 
 // A body that has states needs a first one.

@@ -130,7 +130,7 @@ impl Table {
 fn ordinal_of(entry: &Entry) -> Option<i32>
     ensures { result ≡ ordinal_by (value_by (Some entry.now)) }
 {
-    if !Sort::Constant.same(entry.declared.sort) {
+    if Sort::Constant != entry.declared.sort {
         return None;
     }
     match &entry.kind {
