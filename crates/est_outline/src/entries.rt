@@ -7,6 +7,7 @@ ghost use Rattle.est_outline.specs.Entries.{module_variable, header};
 
 use est_kinds::value::Valued;
 use est_scope::declaration::{Declared, Entry, Measured, SharedKinds, Side, Sort, Within};
+use est_syntax::kind::MAXINT;
 
 /// A type or a variable.
 pub fn typed(within: &Within, sort: Sort, kind: Option<Measured>) -> Entry
@@ -70,7 +71,7 @@ pub fn constant(within: &Within, value: Option<Valued>) -> Entry
 fn ordinal_of(number: usize) -> Option<i32>
     ensures { result ≡ ordinal_of number }
 {
-    if number < 2147483648 {
+    if number as u64 <= MAXINT as u64 {
         Some(number as i32)
     } else {
         None
