@@ -9,7 +9,7 @@ ghost use Rattle.est_outline.specs.Declares.{by_part_declares, by_parts_declare,
 ghost use Rattle.est_outline.specs.Declares.{side_with, member_named, side_of, point_declares};
 ghost use Rattle.est_outline.specs.Declares.{points_declare, modvar_declares, modvars_declare};
 ghost use Rattle.est_outline.specs.Declares.{stands_before, before, after, sections_declare};
-ghost use Rattle.est_outline.specs.Declares.{has_exports, header_named, header_declares};
+ghost use Rattle.est_outline.specs.Declares.{header_named, header_declares};
 
 use crate::declares::vars;
 use crate::dims::{share_dims, shared_dims};
@@ -364,13 +364,6 @@ fn sections(
     vars(alloc, within, rest, outline)
 }
 
-// Whether there are exports.
-fn has_exports(exports: &[VarDef]) -> bool
-    ensures { result ≡ has_exports exports.now }
-{
-    !exports.is_empty()
-}
-
 /// A header, with a region for its parameters, interaction points and exports.
 pub fn header(
     alloc: Global,
@@ -386,7 +379,7 @@ pub fn header(
         within,
         &item.name,
         header_last(item),
-        entries::header(within, item.system, has_exports(item.exports.as_slice())),
+        entries::header(within, item),
     )?;
     let params = in_region(Section::Parameter, within, place)?;
     vars(alloc, &params, item.params.as_slice(), outline)?;
