@@ -25,7 +25,7 @@ use est_scope::declaration::{Sort, Within};
 use est_scope::outline::Outline;
 use est_syntax::body::{Block, Body, FirstPart, Part};
 use est_syntax::name::Used;
-use est_syntax::routine::{Formal, Routine};
+use est_syntax::routine::Routine;
 use est_syntax::specification::Spec;
 use est_syntax::transition::{Group, Transition};
 use est_uses::routine::is_closed;

@@ -1,6 +1,6 @@
 //! What the sections of declarations declare.
 
-ghost use Rattle.std.specs.Prelude.{◌≡◌, OnOk, IfOk};
+ghost use Rattle.std.specs.Prelude.{◌≡◌, OnOk};
 ghost use Rattle.est_scope.specs.declared.declaration.Sort.TheVariants as sort;
 ghost use Rattle.est_outline.specs.Entries.{plain};
 ghost use Rattle.est_outline.specs.Declares.{names_declare, constdef_declares, consts_declare};
@@ -14,15 +14,12 @@ use crate::lasts::{names_last, text_last};
 use crate::texts::{kinds_given, text_declares};
 use crate::within::in_section;
 use est_kinds::constants::{constant_last, constant_value};
-use est_kinds::dims::dims_of;
 use est_kinds::names::named_type;
 use est_kinds::texts::{text_place, text_type};
 use est_scope::declaration::{Section, Sort, Within};
 use est_scope::outline::Outline;
 use est_syntax::body::StateSet;
 use est_syntax::constant::ConstDef;
-use est_syntax::header::ModvarDef;
-use est_syntax::kind::Kinds;
 use est_syntax::name::Used;
 use est_syntax::routine::Formal;
 use est_syntax::type_text::{TypeDef, VarDef};

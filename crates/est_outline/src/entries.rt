@@ -1,7 +1,6 @@
 //! What is known of each sort of declaration.
 
 ghost use Rattle.std.specs.Prelude.{◌≡◌};
-ghost use Rattle.est_kinds.specs.TypeTexts.{scalar};
 ghost use Rattle.est_outline.specs.Entries.{plain, typed, constant, ordinal_of, numbered, point};
 ghost use Rattle.est_outline.specs.Entries.{module_variable, header};
 ghost use Rattle.est_outline.specs.Declares.{has_exports};

@@ -1,7 +1,7 @@
 //! What the parts of a specification break.
 #![tactic(auto, using(est_scope::proofs::LeastLaws::least_append, crate::proofs::PartRows::rows))]
 
-ghost use Rattle.std.specs.Prelude.{◌≡◌, OnOk, IfOk, None};
+ghost use Rattle.std.specs.Prelude.{◌≡◌, OnOk};
 ghost use Rattle.est_scope.specs.LeastSoFar.{least_with};
 ghost use Rattle.est_types.specs.DeclarationFaults.{scalars_faults};
 ghost use Rattle.est_types.specs.DeclarationFaults.{first_state_faults};
