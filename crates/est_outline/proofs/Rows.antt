@@ -42,6 +42,9 @@ record_last t ds place h =
 pub set_last : (t of : TypeText) (place : ℕ) → t ≡ text.Set of place → text_last t ≡ text_last of
 set_last t of place h = ap text_last h ∙ box_last of place
 
+-- What the functions over last places need.
+pub ruleset last_rows = (array_last, record_last, set_last)
+
 -- what they declare
 box_declares : (w : Within) (t : TypeText) (o : Outline)
     → row_declares w (hidden-the_row-TypeText-1 t) o ≡ text_declares w t o
@@ -77,3 +80,6 @@ record_declares w t ds place o h =
 pub set_declares : (w : Within) (t of : TypeText) (place : ℕ) (o : Outline) → t ≡ text.Set of place
     → text_declares w t o ≡ text_declares w of o
 set_declares w t of place o h = ap (λ x. text_declares w x o) h ∙ box_declares w of o
+
+-- What the functions over what texts declare need.
+pub ruleset declared_rows = (array_declares, record_declares, set_declares)

@@ -91,3 +91,14 @@ pub all_declares : (w : Within) (s turn : Statement) (u : Used) (t : TypeText) (
     o)
 all_declares w s turn u t place o h = ap (λ x. within_declares w x o) h
     ∙ box (inner w place) turn (all_named (inner w place) u t o)
+
+-- What the functions over statements need.
+pub ruleset rows = (
+  compound_declares,
+  if_declares,
+  case_declares,
+  while_declares,
+  repeat_declares,
+  for_declares,
+  all_declares,
+)

@@ -48,14 +48,14 @@ names_declare w [] last e o = o
 names_declare w (u ∷ us) last e o = names_declare w us last e (declared w u last e o)
 
 -- a constant
-abbrev pub const_declares : Within → ConstDef → Outline → Outline
-const_declares w c o =
+abbrev pub constdef_declares : Within → ConstDef → Outline → Outline
+constdef_declares w c o =
     declared w c.name (constant_last c.value)
     (constant w (constant_value (lying w c.name.place o) c.value)) (lying w c.name.place o)
 
 abbrev pub consts_declare : Within → List ConstDef → Outline → Outline
 consts_declare w [] o = o
-consts_declare w (c ∷ cs) o = consts_declare w cs (const_declares w c o)
+consts_declare w (c ∷ cs) o = consts_declare w cs (constdef_declares w c o)
 
 -- The constants of an enumeration, numbered from 0. They get its kind, which it has where none of
 -- them is declared twice.
@@ -100,34 +100,34 @@ abbrev mutual
       row_fields_declare w region rest (text_declares w t (names_put region names member.Field o))
 
 -- A type. Its name is declared before those within its text, and gets its kind after them.
-abbrev pub type_named : Within → TypeDef → Outline → Outline
-type_named w t o = declared w t.name (text_last t.text) (plain w sort.TypeName) o
+abbrev pub typedef_named : Within → TypeDef → Outline → Outline
+typedef_named w t o = declared w t.name (text_last t.text) (plain w sort.TypeName) o
 
-abbrev pub type_given : TypeDef → Outline → Outline
-type_given t o = amended (with_kind (text_type o t.text)) t.name.place o
+abbrev pub typedef_given : TypeDef → Outline → Outline
+typedef_given t o = amended (with_kind (text_type o t.text)) t.name.place o
 
-abbrev pub type_declares : Within → TypeDef → Outline → Outline
-type_declares w t o =
-    type_given t (text_declares w t.text (type_named w t (lying w t.name.place o)))
+abbrev pub typedef_declares : Within → TypeDef → Outline → Outline
+typedef_declares w t o =
+    typedef_given t (text_declares w t.text (typedef_named w t (lying w t.name.place o)))
 
 abbrev pub types_declare : Within → List TypeDef → Outline → Outline
 types_declare w [] o = o
-types_declare w (t ∷ ts) o = types_declare w ts (type_declares w t o)
+types_declare w (t ∷ ts) o = types_declare w ts (typedef_declares w t o)
 
 -- variables, parameters, exports or `any` variables of one type, in the same way
-abbrev pub var_named : Within → VarDef → Outline → Outline
-var_named w v o = names_declare w v.names (text_last v.text) (plain w sort.Variable) o
+abbrev pub vardef_named : Within → VarDef → Outline → Outline
+vardef_named w v o = names_declare w v.names (text_last v.text) (plain w sort.Variable) o
 
-abbrev pub var_given : VarDef → Outline → Outline
-var_given v o = kinds_given v.names (text_type o v.text) o
+abbrev pub vardef_given : VarDef → Outline → Outline
+vardef_given v o = kinds_given v.names (text_type o v.text) o
 
-abbrev pub var_declares : Within → VarDef → Outline → Outline
-var_declares w v o =
-    var_given v (text_declares w v.text (var_named w v (lying w (text_place v.text) o)))
+abbrev pub vardef_declares : Within → VarDef → Outline → Outline
+vardef_declares w v o =
+    vardef_given v (text_declares w v.text (vardef_named w v (lying w (text_place v.text) o)))
 
 abbrev pub vars_declare : Within → List VarDef → Outline → Outline
 vars_declare w [] o = o
-vars_declare w (v ∷ vs) o = vars_declare w vs (var_declares w v o)
+vars_declare w (v ∷ vs) o = vars_declare w vs (vardef_declares w v o)
 
 -- the roles of a channel, of which the first stands first
 abbrev pub roles_put : ℕ → List Used → Role → Outline → Outline
@@ -167,18 +167,18 @@ abbrev pub senders : Outline → ℕ → List Used → Senders
 senders o region us = with_senders o region us record { first = false; second = false }
 
 -- the parts of a channel
-abbrev pub part_declares : Within → ℕ → ByPart → Outline → Outline
-part_declares w region b o =
+abbrev pub by_part_declares : Within → ℕ → ByPart → Outline → Outline
+by_part_declares w region b o =
     interactions_declare w region (senders o region b.roles) b.interactions o
 
-abbrev pub by_declare : Within → ℕ → List ByPart → Outline → Outline
-by_declare w region [] o = o
-by_declare w region (b ∷ bs) o = by_declare w region bs (part_declares w region b o)
+abbrev pub by_parts_declare : Within → ℕ → List ByPart → Outline → Outline
+by_parts_declare w region [] o = o
+by_parts_declare w region (b ∷ bs) o = by_parts_declare w region bs (by_part_declares w region b o)
 
 -- a channel, with a region for its roles and interactions
 abbrev pub channel_declares : Within → Channel → Outline → Outline
 channel_declares w c o =
-    by_declare w c.name.place c.by (roles_put c.name.place c.roles First
+    by_parts_declare w c.name.place c.by (roles_put c.name.place c.roles First
     (declared w c.name (channel_last c) (plain w sort.Channel) (lying w c.name.place o)))
 
 -- the side of an interaction point, where its channel is one and has its role
@@ -269,8 +269,8 @@ statesets_declare w [] o = o
 statesets_declare w (s ∷ ss) o = statesets_declare w ss (stateset_declares w s o)
 
 -- formals of a routine
-abbrev pub formal_section : Bool → Section
-formal_section by_place = if by_place then section.Place else section.Value
+abbrev pub formal_section : Formal → Section
+formal_section f = if f.by_place then section.Place else section.Value
 
 abbrev pub formal_named : Within → Formal → Outline → Outline
 formal_named w f o = names_declare w f.names f.kind.place (plain w sort.Variable) o
@@ -281,7 +281,7 @@ formal_given f o = kinds_given f.names (named_type o f.kind) o
 abbrev pub formal_declares : Within → Formal → Outline → Outline
 formal_declares w f o =
     formal_given f
-    (formal_named (in_section (formal_section f.by_place) w) f (lying w f.kind.place o))
+    (formal_named (in_section (formal_section f) w) f (lying w f.kind.place o))
 
 abbrev pub formals_declare : Within → List Formal → Outline → Outline
 formals_declare w [] o = o

@@ -1,6 +1,7 @@
 -- What is known of each sort of declaration, and where the parts of a text stand.
-use Rattle.std.specs.Prelude.{ℕ, ◌^◌, ℤ, pos, Bool, false, nat_lt, List, []}
+use Rattle.std.specs.Prelude.{ℕ, ℤ, pos, Bool, false, nat_le, List, []}
 use Rattle.std.specs.Prelude.{◌∷◌, ◌++◌, Option, Some, None, if◌then◌else◌}
+use Rattle.est_syntax.specs.Kinds.{maxint}
 use Rattle.est_syntax.specs.declared.kind.Kind.{Kind}
 use Rattle.est_scope.specs.declared.declaration.Sort.{Sort}
 use Rattle.est_scope.specs.declared.declaration.Sort.TheVariants as sort
@@ -45,7 +46,7 @@ constant w (Some v) = entry w sort.Constant (Some (scalar v.host)) (Some v.ordin
 
 -- the constant of an enumeration with this number, whose kind is not known yet
 abbrev pub ordinal_of : ℕ → Option ℤ
-ordinal_of i = if nat_lt i (2 ^ 31) then Some (pos i) else None
+ordinal_of i = if nat_le i maxint then Some (pos i) else None
 
 abbrev pub numbered : Within → ℕ → Entry
 numbered w i = entry w sort.Constant None (ordinal_of i) None None

@@ -25,7 +25,7 @@ use est_scope::declaration::{Sort, Within};
 use est_scope::outline::Outline;
 use est_syntax::body::{Block, Body, FirstPart, Part};
 use est_syntax::name::Used;
-use est_syntax::routine::{Formal, Routine};
+use est_syntax::routine::Routine;
 use est_syntax::specification::Spec;
 use est_syntax::transition::{Group, Transition};
 use est_uses::routine::is_closed;
@@ -141,6 +141,7 @@ fn closed_by(part: &Part, outline: &mut Outline)
     }
 }
 
+// The block of a routine, a transition or a first part.
 #[cycle(part)]
 fn block_declares(
     alloc: Global,
@@ -154,6 +155,7 @@ fn block_declares(
     statements(alloc, within, block.statements.as_slice(), outline)
 }
 
+// The first part of a body, where it has one: its block stands in a region of its own.
 #[cycle(part)]
 fn first_declares(
     alloc: Global,
@@ -171,6 +173,7 @@ fn first_declares(
     block_declares(alloc, &inside, &first.block, outline)
 }
 
+// A transition: its block stands under its clauses, in a region of its own.
 #[cycle(part)]
 fn transition_declares(
     alloc: Global,
@@ -195,6 +198,7 @@ fn transition_declares(
     block_declares(alloc, &inside, &transition.block, outline)
 }
 
+// The transitions of a group, which have the clauses of those before them.
 #[cycle(part)]
 fn transitions_declare(
     alloc: Global,
@@ -213,6 +217,7 @@ fn transitions_declare(
     Ok(())
 }
 
+// A group of transitions, which begins without clauses.
 #[cycle(part)]
 fn group_declares(
     alloc: Global,
@@ -232,6 +237,7 @@ fn group_declares(
     )
 }
 
+// The groups of transitions of a body.
 #[cycle(part)]
 fn groups_declare(
     alloc: Global,
@@ -262,6 +268,7 @@ fn held_declares(
     groups_declare(alloc, within, body.groups.as_slice(), outline)
 }
 
+// A body: its header is looked up after its name is declared.
 #[cycle(part)]
 fn body_declares(
     alloc: Global,
@@ -277,6 +284,7 @@ fn body_declares(
     held_declares(alloc, &inside, body, outline)
 }
 
+// A routine: its head and its block stand in one region.
 #[cycle(part)]
 fn routine_declares(
     alloc: Global,
@@ -292,6 +300,7 @@ fn routine_declares(
     block_declares(alloc, &inside, &routine.block, outline)
 }
 
+// A part, but for whether it is a closed routine.
 #[cycle(part)]
 fn part_declares(
     alloc: Global,
@@ -332,6 +341,7 @@ fn whole_part_declares(
     Ok(())
 }
 
+// Parts in the order of the text.
 #[cycle(part)]
 fn parts_declare(
     alloc: Global,

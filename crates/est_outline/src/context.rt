@@ -1,13 +1,13 @@
 //! The clauses of a transition, as far as names go.
 
 ghost use Rattle.std.specs.Prelude.{◌≡◌, ◌≤◌, take, length, OnOk};
-ghost use Rattle.est_outline.specs.Contexts.{same_clause, region_of, dropped, given};
+ghost use Rattle.est_outline.specs.Contexts.{region_of, dropped, given};
 
 use est_items::Items;
 use std::alloc::AllocError;
 
 /// A kind of clause (ISO 9074, clause). `provided` and `provided otherwise` are one.
-#[derive(Clone, Copy)]
+#[derive(Clone, Copy, PartialEq, Eq)]
 pub enum ClauseKind {
     From,
     To,
@@ -30,28 +30,12 @@ pub struct Given {
 pub type Context = Items<Given>;
 
 impl ClauseKind {
-    /// Whether two kinds of clause are one.
-    pub fn same(self, other: ClauseKind) -> bool
-        ensures { result ≡ same_clause self other }
-    {
-        match (self, other) {
-            (ClauseKind::From, ClauseKind::From) => true,
-            (ClauseKind::To, ClauseKind::To) => true,
-            (ClauseKind::When, ClauseKind::When) => true,
-            (ClauseKind::Provided, ClauseKind::Provided) => true,
-            (ClauseKind::Any, ClauseKind::Any) => true,
-            (ClauseKind::Priority, ClauseKind::Priority) => true,
-            (ClauseKind::Delay, ClauseKind::Delay) => true,
-            _ => false,
-        }
-    }
-
     /// The region that the clause of this kind opens.
     pub fn region(self, context: &[Given]) -> Option<u32>
         ensures { result ≡ region_of self context.now }
     {
         for given in context {
-            if self.same(given.kind) {
+            if self == given.kind {
                 return given.region;
             }
         }
@@ -65,7 +49,7 @@ impl ClauseKind {
     {
         let mut count = 0;
         for given in context {
-            if self.same(given.kind) {
+            if self == given.kind {
                 return count;
             }
             count += 1;

@@ -1,11 +1,11 @@
 //! What the sections of declarations declare.
 
-ghost use Rattle.std.specs.Prelude.{◌≡◌, OnOk, IfOk};
+ghost use Rattle.std.specs.Prelude.{◌≡◌, OnOk};
 ghost use Rattle.est_scope.specs.declared.declaration.Sort.TheVariants as sort;
 ghost use Rattle.est_outline.specs.Entries.{plain};
-ghost use Rattle.est_outline.specs.Declares.{names_declare, const_declares, consts_declare};
-ghost use Rattle.est_outline.specs.Declares.{type_declares, types_declare};
-ghost use Rattle.est_outline.specs.Declares.{var_given, var_declares, vars_declare};
+ghost use Rattle.est_outline.specs.Declares.{names_declare, constdef_declares, consts_declare};
+ghost use Rattle.est_outline.specs.Declares.{typedef_declares, types_declare};
+ghost use Rattle.est_outline.specs.Declares.{vardef_given, vardef_declares, vars_declare};
 ghost use Rattle.est_outline.specs.Declares.{states_declare, stateset_declares, statesets_declare};
 ghost use Rattle.est_outline.specs.Declares.{formal_section, formal_declares, formals_declare};
 
@@ -14,23 +14,20 @@ use crate::lasts::{names_last, text_last};
 use crate::texts::{kinds_given, text_declares};
 use crate::within::in_section;
 use est_kinds::constants::{constant_last, constant_value};
-use est_kinds::dims::dims_of;
 use est_kinds::names::named_type;
 use est_kinds::texts::{text_place, text_type};
 use est_scope::declaration::{Section, Sort, Within};
 use est_scope::outline::Outline;
 use est_syntax::body::StateSet;
 use est_syntax::constant::ConstDef;
-use est_syntax::header::ModvarDef;
-use est_syntax::kind::Kinds;
 use est_syntax::name::Used;
 use est_syntax::routine::Formal;
 use est_syntax::type_text::{TypeDef, VarDef};
 use std::alloc::{AllocError, Global};
 
 // A constant.
-fn const_declares(within: &Within, item: &ConstDef, outline: &mut Outline) -> Result<(), AllocError>
-    ensures { OnOk result (outline.new ≡ const_declares within.now item.now outline.old) }
+fn constdef(within: &Within, item: &ConstDef, outline: &mut Outline) -> Result<(), AllocError>
+    ensures { OnOk result (outline.new ≡ constdef_declares within.now item.now outline.old) }
 {
     outline.lie(within, item.name.place)?;
     let value = constant_value(outline, &item.value)?;
@@ -47,19 +44,19 @@ pub fn consts(within: &Within, items: &[ConstDef], outline: &mut Outline) -> Res
     ensures { OnOk result (outline.new ≡ consts_declare within.now items.now outline.old) }
 {
     for item in items {
-        const_declares(within, item, outline)?;
+        constdef(within, item, outline)?;
     }
     Ok(())
 }
 
 // A type. Its name is declared before those within its text, and gets its kind after them.
-fn type_declares(
+fn typedef(
     alloc: Global,
     within: &Within,
     item: &TypeDef,
     outline: &mut Outline,
 ) -> Result<(), AllocError>
-    ensures { OnOk result (outline.new ≡ type_declares within.now item.now outline.old) }
+    ensures { OnOk result (outline.new ≡ typedef_declares within.now item.now outline.old) }
 {
     outline.lie(within, item.name.place)?;
     outline.declare(
@@ -84,7 +81,7 @@ pub fn types(
     ensures { OnOk result (outline.new ≡ types_declare within.now items.now outline.old) }
 {
     for item in items {
-        type_declares(alloc, within, item, outline)?;
+        typedef(alloc, within, item, outline)?;
     }
     Ok(())
 }
@@ -106,21 +103,21 @@ fn variables(
 }
 
 // The kind of variables, after what the text of their type declares.
-fn var_given(alloc: Global, item: &VarDef, outline: &mut Outline) -> Result<(), AllocError>
-    ensures { OnOk result (outline.new ≡ var_given item.now outline.old) }
+fn vardef_given(alloc: Global, item: &VarDef, outline: &mut Outline) -> Result<(), AllocError>
+    ensures { OnOk result (outline.new ≡ vardef_given item.now outline.old) }
 {
     let kind = text_type(alloc, outline, &item.text)?;
     kinds_given(item.names.as_slice(), &kind, outline)
 }
 
 // Variables of one type.
-fn var_declares(
+fn vardef(
     alloc: Global,
     within: &Within,
     item: &VarDef,
     outline: &mut Outline,
 ) -> Result<(), AllocError>
-    ensures { OnOk result (outline.new ≡ var_declares within.now item.now outline.old) }
+    ensures { OnOk result (outline.new ≡ vardef_declares within.now item.now outline.old) }
 {
     outline.lie(within, text_place(&item.text))?;
     variables(
@@ -130,7 +127,7 @@ fn var_declares(
         outline,
     )?;
     text_declares(alloc, within, &item.text, outline)?;
-    var_given(alloc, item, outline)
+    vardef_given(alloc, item, outline)
 }
 
 /// Variables, parameters, exports or `any` variables.
@@ -143,7 +140,7 @@ pub fn vars(
     ensures { OnOk result (outline.new ≡ vars_declare within.now items.now outline.old) }
 {
     for item in items {
-        var_declares(alloc, within, item, outline)?;
+        vardef(alloc, within, item, outline)?;
     }
     Ok(())
 }
@@ -182,10 +179,10 @@ pub fn statesets(
 }
 
 // The section of formals.
-fn formal_section(by_place: bool) -> Section
-    ensures { result ≡ formal_section by_place }
+fn formal_section(item: &Formal) -> Section
+    ensures { result ≡ formal_section item.now }
 {
-    if by_place {
+    if item.by_place {
         Section::Place
     } else {
         Section::Value
@@ -197,7 +194,7 @@ fn formal(within: &Within, item: &Formal, outline: &mut Outline) -> Result<(), A
     ensures { OnOk result (outline.new ≡ formal_declares within.now item.now outline.old) }
 {
     outline.lie(within, item.kind.place)?;
-    let inside = in_section(formal_section(item.by_place), within)?;
+    let inside = in_section(formal_section(item), within)?;
     variables(&inside, item.names.as_slice(), item.kind.place, outline)?;
     let kind = named_type(outline, &item.kind)?;
     kinds_given(item.names.as_slice(), &kind, outline)

@@ -1,12 +1,15 @@
 //! What is known of each sort of declaration.
 
 ghost use Rattle.std.specs.Prelude.{◌≡◌};
-ghost use Rattle.est_kinds.specs.TypeTexts.{scalar};
 ghost use Rattle.est_outline.specs.Entries.{plain, typed, constant, ordinal_of, numbered, point};
 ghost use Rattle.est_outline.specs.Entries.{module_variable, header};
+ghost use Rattle.est_outline.specs.Declares.{has_exports};
 
 use est_kinds::value::Valued;
 use est_scope::declaration::{Declared, Entry, Measured, SharedKinds, Side, Sort, Within};
+use est_syntax::header::Header;
+use est_syntax::kind::MAXINT;
+use est_syntax::type_text::VarDef;
 
 /// A type or a variable.
 pub fn typed(within: &Within, sort: Sort, kind: Option<Measured>) -> Entry
@@ -70,7 +73,7 @@ pub fn constant(within: &Within, value: Option<Valued>) -> Entry
 fn ordinal_of(number: usize) -> Option<i32>
     ensures { result ≡ ordinal_of number }
 {
-    if number < 2147483648 {
+    if number as u64 <= MAXINT as u64 {
         Some(number as i32)
     } else {
         None
@@ -143,9 +146,16 @@ pub fn module_variable(within: &Within, dims: Option<SharedKinds>, header: Optio
     }
 }
 
+// Whether there are exports.
+fn has_exports(exports: &[VarDef]) -> bool
+    ensures { result ≡ has_exports exports.now }
+{
+    !exports.is_empty()
+}
+
 /// A module header, with its attribute, and whether it has exports.
-pub fn header(within: &Within, system: bool, exports: bool) -> Entry
-    ensures { result ≡ header within.now system exports }
+pub fn header(within: &Within, item: &Header) -> Entry
+    ensures { result ≡ header within.now item.now.system (has_exports item.now.exports) }
 {
     Entry {
         declared: Declared {
@@ -160,7 +170,7 @@ pub fn header(within: &Within, system: bool, exports: bool) -> Entry
         side: None,
         header: None,
         closed: false,
-        system,
-        exports,
+        system: item.system,
+        exports: has_exports(item.exports.as_slice()),
     }
 }

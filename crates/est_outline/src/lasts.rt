@@ -1,5 +1,5 @@
 //! The last places of parts that declare names.
-#![tactic(auto, using(crate::proofs::Rows::array_last, crate::proofs::Rows::record_last, crate::proofs::Rows::set_last))]
+#![tactic(auto, using(crate::proofs::Rows::last_rows))]
 
 ghost use Rattle.std.specs.Prelude.{◌≡◌};
 ghost use Rattle.est_outline.specs.Lasts.{names_last, text_last, vars_last, interactions_last};

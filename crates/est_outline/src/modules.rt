@@ -1,15 +1,14 @@
 //! What channels, headers, interaction points and module variables declare.
 
-ghost use Rattle.std.specs.Prelude.{◌≡◌, ◌≤◌, take, drop, length, OnOk, IfOk};
+ghost use Rattle.std.specs.Prelude.{◌≡◌, ◌≤◌, take, drop, length, OnOk};
 ghost use Rattle.est_scope.specs.Declaring.{declared};
 ghost use Rattle.est_outline.specs.Entries.{point, module_variable};
 ghost use Rattle.est_outline.specs.Declares.{names_declare, roles_put, interaction_declares};
 ghost use Rattle.est_outline.specs.Declares.{interactions_declare, sender, senders};
-ghost use Rattle.est_outline.specs.Declares.{part_declares, by_declare, channel_declares};
+ghost use Rattle.est_outline.specs.Declares.{by_part_declares, by_parts_declare, channel_declares};
 ghost use Rattle.est_outline.specs.Declares.{side_with, member_named, side_of, point_declares};
 ghost use Rattle.est_outline.specs.Declares.{points_declare, modvar_declares, modvars_declare};
-ghost use Rattle.est_outline.specs.Declares.{stands_before, before, after, sections_declare};
-ghost use Rattle.est_outline.specs.Declares.{has_exports, header_named, header_declares};
+ghost use Rattle.est_outline.specs.Declares.{before, after, sections_declare, header_declares};
 
 use crate::declares::vars;
 use crate::dims::{share_dims, shared_dims};
@@ -120,14 +119,14 @@ fn senders(outline: &Outline, region: u32, roles: &[Used]) -> Senders
 }
 
 // A part of a channel.
-fn part(
+fn by_part(
     alloc: Global,
     within: &Within,
     region: u32,
     item: &ByPart,
     outline: &mut Outline,
 ) -> Result<(), AllocError>
-    ensures { OnOk result (outline.new ≡ part_declares within.now region item.now outline.old) }
+    ensures { OnOk result (outline.new ≡ by_part_declares within.now region item.now outline.old) }
 {
     let found = senders(outline, region, item.roles.as_slice());
     interactions(
@@ -141,17 +140,17 @@ fn part(
 }
 
 // The parts of a channel.
-fn by(
+fn by_parts(
     alloc: Global,
     within: &Within,
     region: u32,
     items: &[ByPart],
     outline: &mut Outline,
 ) -> Result<(), AllocError>
-    ensures { OnOk result (outline.new ≡ by_declare within.now region items.now outline.old) }
+    ensures { OnOk result (outline.new ≡ by_parts_declare within.now region items.now outline.old) }
 {
     for item in items {
-        part(alloc, within, region, item, outline)?;
+        by_part(alloc, within, region, item, outline)?;
     }
     Ok(())
 }
@@ -174,7 +173,7 @@ pub fn channel(
         plain(within, Sort::Channel),
     )?;
     roles(place, item.roles.as_slice(), Role::First, outline)?;
-    by(alloc, within, place, item.by.as_slice(), outline)
+    by_parts(alloc, within, place, item.by.as_slice(), outline)
 }
 
 // The side with a role of a channel, where it is one.
@@ -364,13 +363,6 @@ fn sections(
     vars(alloc, within, rest, outline)
 }
 
-// Whether there are exports.
-fn has_exports(exports: &[VarDef]) -> bool
-    ensures { result ≡ has_exports exports.now }
-{
-    !exports.is_empty()
-}
-
 /// A header, with a region for its parameters, interaction points and exports.
 pub fn header(
     alloc: Global,
@@ -386,7 +378,7 @@ pub fn header(
         within,
         &item.name,
         header_last(item),
-        entries::header(within, item.system, has_exports(item.exports.as_slice())),
+        entries::header(within, item),
     )?;
     let params = in_region(Section::Parameter, within, place)?;
     vars(alloc, &params, item.params.as_slice(), outline)?;

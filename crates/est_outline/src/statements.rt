@@ -1,9 +1,9 @@
 //! What statements declare: the names of `all`.
-#![tactic(auto, using(crate::proofs::StatementRows::compound_declares, crate::proofs::StatementRows::if_declares, crate::proofs::StatementRows::case_declares, crate::proofs::StatementRows::while_declares, crate::proofs::StatementRows::repeat_declares, crate::proofs::StatementRows::for_declares, crate::proofs::StatementRows::all_declares))]
+#![tactic(auto, using(crate::proofs::StatementRows::rows))]
 
 ghost use Rattle.std.specs.Prelude.{◌≡◌, OnOk, IfOk};
 ghost use Rattle.est_outline.specs.Bodies.{statement_place, over_header, all_by, all_named};
-ghost use Rattle.est_outline.specs.Bodies.{expr_place, arm_lying, within_declares};
+ghost use Rattle.est_outline.specs.Bodies.{arm_lying, within_declares};
 ghost use Rattle.est_outline.specs.Bodies.{statement_declares, statements_declare};
 ghost use Rattle.est_outline.specs.inside.DeclaredParts.{second_declares};
 ghost use Rattle.est_outline.specs.inside.DeclaredParts.{arm_declares, arms_declare};
@@ -111,7 +111,7 @@ fn over_header(outline: &Outline, over: &TypeText) -> Option<u32>
     }
 }
 
-// The name of an `all`.
+// What is known of the name of an `all`.
 fn all_by(
     alloc: Global,
     within: &Within,
@@ -130,6 +130,7 @@ fn all_by(
     }
 }
 
+// The name of an `all`.
 fn all_named(
     alloc: Global,
     within: &Within,
@@ -159,6 +160,7 @@ fn arm_lying(
     }
 }
 
+// What a statement declares, after the text lies where it begins.
 #[cycle(statement)]
 fn within_declares(
     alloc: Global,
@@ -268,6 +270,7 @@ pub fn statements(
     Ok(())
 }
 
+// A choice of a `case`.
 #[cycle(statement)]
 fn arm_declares(
     alloc: Global,
@@ -281,6 +284,7 @@ fn arm_declares(
     statement_declares(alloc, within, &arm.turn, outline)
 }
 
+// The choices of a `case`.
 #[cycle(statement)]
 fn arms_declare(
     alloc: Global,

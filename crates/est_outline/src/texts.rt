@@ -1,5 +1,5 @@
 //! What the texts of types declare: the constants of enumerations, and the fields of records.
-#![tactic(auto, using(crate::proofs::Rows::array_declares, crate::proofs::Rows::record_declares, crate::proofs::Rows::set_declares))]
+#![tactic(auto, using(crate::proofs::Rows::declared_rows))]
 
 ghost use Rattle.std.specs.Prelude.{◌≡◌, OnOk};
 ghost use Rattle.est_outline.specs.Declares.{numbers_declare, kinds_given, enumeration_declares};
@@ -120,6 +120,7 @@ pub fn text_declares(
     }
 }
 
+// Those within the texts of types.
 #[cycle(text)]
 fn texts_declare(
     alloc: Global,
@@ -151,6 +152,7 @@ fn field_declares(
     text_declares(alloc, within, &field.text, outline)
 }
 
+// The sections of fields of a record.
 #[cycle(text)]
 fn fields_declare(
     alloc: Global,

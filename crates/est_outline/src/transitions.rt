@@ -68,7 +68,7 @@ fn clause_given(
 }
 
 // A `when`, which opens the region of the parameters of its interaction.
-fn when(
+fn when_clause(
     alloc: Global,
     within: &Within,
     at: &Used,
@@ -89,7 +89,7 @@ fn when(
 }
 
 // An `any`, which opens the region of its variables.
-fn any(
+fn any_clause(
     alloc: Global,
     within: &Within,
     names: &[VarDef],
@@ -125,7 +125,7 @@ fn clause_declares(
         Clause::From { states: _, place } => (ClauseKind::From, *place),
         Clause::To { state: _, place } => (ClauseKind::To, *place),
         Clause::When { at, signal, place } => {
-            return when(alloc, within, &at.name, signal, *place, context, outline);
+            return when_clause(alloc, within, &at.name, signal, *place, context, outline);
         }
         Clause::Provided {
             condition: _,
@@ -133,7 +133,7 @@ fn clause_declares(
         } => (ClauseKind::Provided, *place),
         Clause::Otherwise { place } => (ClauseKind::Provided, *place),
         Clause::Any { names, place } => {
-            return any(alloc, within, names.as_slice(), *place, context, outline);
+            return any_clause(alloc, within, names.as_slice(), *place, context, outline);
         }
         Clause::Priority { value: _, place } => (ClauseKind::Priority, *place),
         Clause::Delay {

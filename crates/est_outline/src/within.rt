@@ -1,6 +1,6 @@
 //! Where the parts of a text stand.
 
-ghost use Rattle.std.specs.Prelude.{◌≡◌, ◌∷◌, ◌++◌, [], IfOk};
+ghost use Rattle.std.specs.Prelude.{◌≡◌, ◌++◌, [], IfOk};
 ghost use Rattle.est_outline.specs.Entries.{outermost, body_regions, in_body, inner, in_region};
 ghost use Rattle.est_outline.specs.Entries.{in_section, with_region};
 ghost use Rattle.est_outline.specs.Contexts.{under};

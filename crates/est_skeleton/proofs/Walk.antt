@@ -43,8 +43,9 @@ use Rattle.est_outline.specs.Entries.{plain, point, module_variable}
 use Rattle.est_outline.specs.Entries.{header, outermost, inner, in_region}
 use Rattle.est_outline.specs.Lasts.{channel_last, header_last}
 use Rattle.est_outline.specs.Declares.{names_declare, vars_declare, roles_put, interaction_declares}
-use Rattle.est_outline.specs.Declares.{interactions_declare, senders, by_declare, channel_declares}
-use Rattle.est_outline.specs.Declares.{side_of, point_declares, modvar_declares, sections_declare}
+use Rattle.est_outline.specs.Declares.{interactions_declare, senders, by_parts_declare}
+use Rattle.est_outline.specs.Declares.{channel_declares, side_of, point_declares, modvar_declares}
+use Rattle.est_outline.specs.Declares.{sections_declare}
 use Rattle.est_outline.specs.Declares.{header_named, header_declares, states_declare, has_exports}
 use Rattle.est_outline.specs.Bodies.{Clausal, statement_place, statements_declare, to_lying}
 use Rattle.est_outline.specs.Bodies.{clause_given, clauses_declare, body_named, header_given}
@@ -120,7 +121,7 @@ module _ (body : Used) (P : ℕ → Outline → Type 0) (kept : IsKept body P) w
 
   by_kept : (w : Within) (region : ℕ) (bs : List ByPart) → All IsPlainBy bs
       → (n m : ℕ) (o : Outline) → n + sum_by by_names bs ≤ m → P n o
-      → P m (by_declare w region bs o)
+      → P m (by_parts_declare w region bs o)
   by_kept w region [] h n m o l p = kept.more n m o (omega (arith, l)) p
   by_kept w region (b ∷ bs) h n m o l p =
       let one : IsPlainBy b = All-head IsPlainBy b bs h in

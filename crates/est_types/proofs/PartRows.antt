@@ -1,6 +1,5 @@
 -- What a part breaks by the lists that it is made of.
-use Rattle.std.proofs.Common.{◌≡◌, refl, sym, ap, ◌∙◌, ℕ, Bool}
-use Rattle.std.proofs.Common.{false, List, ◌++◌, Option, Some, None}
+use Rattle.std.proofs.Common.{◌≡◌, refl, sym, ap, ◌∙◌, ℕ, List, ◌++◌, Option, Some, None}
 use Rattle.est_syntax.specs.declared.body.Block.{Block}
 use Rattle.est_syntax.specs.declared.body.FirstPart.{FirstPart}
 use Rattle.est_syntax.specs.declared.body.Part.{Part, Row_of-Part, end_of-Part, more_of-Part}
@@ -26,26 +25,28 @@ use Rattle.est_types.specs.DeclarationFaults.{first_faults, row_groups_faults}
 use Rattle.est_types.specs.DeclarationFaults.{row_transitions_faults, clauses_faults}
 use Rattle.est_types.specs.DeclarationFaults.{row_scalars, vars_scalars, row_has_states}
 use Rattle.est_types.specs.DeclarationFaults.{names_first, first_state_faults, scalars_faults}
-use Rattle.est_types.specs.DeclarationFaults.{formals_faults, result_faults, is_function}
+use Rattle.est_types.specs.DeclarationFaults.{formals_faults, result_faults}
 use Rattle.est_types.specs.inside.DeclarationParts.{parts_scalars, have_states, has_first}
 use Rattle.est_types.specs.inside.DeclarationParts.{first_part_faults, transitions_faults}
 use Rattle.est_types.specs.inside.DeclarationParts.{groups_faults, body_faults, routine_faults}
+use Rattle.est_types.specs.declared.modules.Owner.{Owner}
+use Rattle.est_types.specs.declared.modules.Owner.TheVariants as owners
 
-parts_row : (o : Outline) (outer : Bool) (n : _) (row : Row_of-Part n)
-    → row_faults o outer row ≡ parts_faults o outer (items-the_row-Part n row)
-parts_row o outer n end_of-Part = refl
-parts_row o outer n (more_of-Part p rest) = ap (λ l. part_faults o outer p ++ l)
-    (parts_row o outer _ rest)
+parts_row : (o : Outline) (owner : Owner) (n : _) (row : Row_of-Part n)
+    → row_faults o owner row ≡ parts_faults o owner (items-the_row-Part n row)
+parts_row o owner n end_of-Part = refl
+parts_row o owner n (more_of-Part p rest) = ap (λ l. part_faults o owner p ++ l)
+    (parts_row o owner _ rest)
 
-parts_hidden : (o : Outline) (outer : Bool) (ps : List Part)
-    → row_faults o outer (hidden-the_row-Part-0 ps) ≡ parts_faults o outer ps
-parts_hidden o outer ps = parts_row o outer _ (hidden-the_row-Part-0 ps)
-    ∙ ap (parts_faults o outer) (items_hidden-the_row-Part-0 ps)
+parts_hidden : (o : Outline) (owner : Owner) (ps : List Part)
+    → row_faults o owner (hidden-the_row-Part-0 ps) ≡ parts_faults o owner ps
+parts_hidden o owner ps = parts_row o owner _ (hidden-the_row-Part-0 ps)
+    ∙ ap (parts_faults o owner) (items_hidden-the_row-Part-0 ps)
 
-parts_shown : (o : Outline) (outer : Bool) (a : _) (row : Row_of-Part _)
-    → row_faults o outer row ≡ parts_faults o outer (shown-the_row-Part-0 a row)
-parts_shown o outer a row = parts_row o outer _ row
-    ∙ ap (parts_faults o outer) (sym (items_shown-the_row-Part-0 a row))
+parts_shown : (o : Outline) (owner : Owner) (a : _) (row : Row_of-Part _)
+    → row_faults o owner row ≡ parts_faults o owner (shown-the_row-Part-0 a row)
+parts_shown o owner a row = parts_row o owner _ row
+    ∙ ap (parts_faults o owner) (sym (items_shown-the_row-Part-0 a row))
 
 pub scalars_row : (o : Outline) (sum : ℕ) (n : _) (row : Row_of-Part n)
     → row_scalars o sum row ≡ parts_scalars o sum (items-the_row-Part n row)
@@ -95,7 +96,7 @@ states_hidden ps = states_row _ (hidden-the_row-Part-0 ps)
 first_at : (o : Outline) (f : Option FirstPart)
     → first_faults o (back-Body-first f) ≡ first_part_faults o f
 first_at o None = refl
-first_at o (Some f) = parts_hidden o false f.block.parts
+first_at o (Some f) = parts_hidden o owners.Body f.block.parts
 
 named_at : (f : Option FirstPart) → names_first (back-Body-first f) ≡ has_first f
 named_at None = refl
@@ -105,7 +106,7 @@ transitions_row : (o : Outline) (n : _) (row : Row_of-Transition n)
     → row_transitions_faults o row ≡ transitions_faults o (items-the_row-Transition n row)
 transitions_row o n end_of-Transition = refl
 transitions_row o n (more_of-Transition cs name a parts statements place rest) =
-    λ i. (clauses_faults o cs ++ parts_shown o false a parts i) ++ transitions_row o _ rest i
+    λ i. (clauses_faults o cs ++ parts_shown o owners.Body a parts i) ++ transitions_row o _ rest i
 
 groups_row : (o : Outline) (n : _) (row : Row_of-Group n)
     → row_groups_faults o row ≡ groups_faults o (items-the_row-Group n row)
@@ -123,25 +124,28 @@ groups_hidden : (o : Outline) (gs : List Group) → row_groups_faults o (hidden-
 groups_hidden o gs = groups_row o _ (hidden-the_row-Group-1 gs)
     ∙ ap (groups_faults o) (items_hidden-the_row-Group-1 gs)
 
-body_is : (o : Outline) (outer : Bool) (b : Body)
-    → part_faults o outer (part.Body b) ≡ body_faults o b
-body_is o outer b =
-    ap (λ x. part_faults o outer (part.Body x)) (is-Body' b)
-    ∙ (λ i. twice_faults o (out-Body b).name ++ parts_hidden o false (out-Body b).parts i
+body_is : (o : Outline) (owner : Owner) (b : Body)
+    → part_faults o owner (part.Body b) ≡ body_faults o b
+body_is o owner b =
+    ap (λ x. part_faults o owner (part.Body x)) (is-Body' b)
+    ∙ (λ i. twice_faults o (out-Body b).name ++ parts_hidden o owners.Body (out-Body b).parts i
     ++ first_at o (out-Body b).first i ++ groups_hidden o (out-Body b).groups i
     ++ first_state_faults (states_hidden (out-Body b).parts i) (named_at (out-Body b).first i)
     (out-Body b).name.place
     ++ scalars_faults (scalars_hidden o (out-Body b).parts i) (out-Body b).name.place)
 
 -- a body and a routine by their parts
-pub body_at : (o : Outline) (outer : Bool) (p : Part) (b : Body) → p ≡ part.Body b
-    → part_faults o outer p ≡ body_faults o b
-body_at o outer p b h = ap (part_faults o outer) h ∙ body_is o outer b
+pub body_at : (o : Outline) (owner : Owner) (p : Part) (b : Body) → p ≡ part.Body b
+    → part_faults o owner p ≡ body_faults o b
+body_at o owner p b h = ap (part_faults o owner) h ∙ body_is o owner b
 
-pub routine_at : (o : Outline) (outer : Bool) (p : Part) (r : Routine) → p ≡ part.Routine r
-    → part_faults o outer p ≡ routine_faults o r
-routine_at o outer p r h =
-    ap (part_faults o outer) h
-    ∙ (λ i. twice_faults o r.name ++ formals_faults o (is_function r.result) r.formals
-    ++ result_faults o r.result ++ parts_hidden o false r.block.parts i
+pub routine_at : (o : Outline) (owner : Owner) (p : Part) (r : Routine) → p ≡ part.Routine r
+    → part_faults o owner p ≡ routine_faults o r
+routine_at o owner p r h =
+    ap (part_faults o owner) h
+    ∙ (λ i. twice_faults o r.name ++ formals_faults o r.result r.formals
+    ++ result_faults o r.result ++ parts_hidden o owners.Body r.block.parts i
     ++ scalars_faults (scalars_hidden o r.block.parts i) r.name.place)
+
+-- What the functions over parts need.
+pub ruleset rows = (body_at, routine_at)

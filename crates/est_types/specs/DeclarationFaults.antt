@@ -2,7 +2,7 @@
 -- declarations, or within the formals or the result of a routine (ISO 9074, constraints; ISO 7185,
 -- 6.2 to 6.6).
 use Rattle.std.specs.Prelude.{ℕ, ◌-◌, Bool, true, false, ◌&&◌, not, nat_lt, List}
-use Rattle.std.specs.Prelude.{[], ◌∷◌, ◌++◌, Option, Some, None, if◌then◌else◌}
+use Rattle.std.specs.Prelude.{[], ◌∷◌, ◌++◌, Option, Some, None, is_some, if◌then◌else◌}
 use Rattle.est_syntax.specs.Faults.{broken, broken_if}
 use Rattle.est_syntax.specs.declared.name.Used.{Used}
 use Rattle.est_syntax.specs.declared.constant.ConstDef.{ConstDef}
@@ -43,14 +43,16 @@ use Rattle.est_kinds.specs.TypeTexts.{text_faults, type_faults, added, most_scal
 use Rattle.est_kinds.specs.Dims.{dims_faults}
 use Rattle.est_outline.specs.Declares.{member_named}
 use Rattle.est_outline.specs.Bodies.{outline_of}
+use Rattle.est_types.specs.declared.modules.Owner.{Owner}
+use Rattle.est_types.specs.declared.modules.Owner.TheVariants as owners
 
 -- constants
-abbrev pub const_faults : Outline → ConstDef → List Fault
-const_faults o c = twice_faults o c.name ++ constant_faults o c.value
+abbrev pub constdef_faults : Outline → ConstDef → List Fault
+constdef_faults o c = twice_faults o c.name ++ constant_faults o c.value
 
-abbrev pub consts_faults : Outline → List ConstDef → List Fault
-consts_faults o [] = []
-consts_faults o (c ∷ cs) = const_faults o c ++ consts_faults o cs
+abbrev pub constdefs_faults : Outline → List ConstDef → List Fault
+constdefs_faults o [] = []
+constdefs_faults o (c ∷ cs) = constdef_faults o c ++ constdefs_faults o cs
 
 -- types
 abbrev pub typedef_faults : Outline → TypeDef → List Fault
@@ -61,12 +63,12 @@ typedefs_faults o [] = []
 typedefs_faults o (t ∷ ts) = typedef_faults o t ++ typedefs_faults o ts
 
 -- variables, parameters or exports
-abbrev pub var_faults : Outline → VarDef → List Fault
-var_faults o v = twices_faults o v.names ++ text_faults o v.text
+abbrev pub vardef_faults : Outline → VarDef → List Fault
+vardef_faults o v = twices_faults o v.names ++ text_faults o v.text
 
-abbrev pub vars_faults : Outline → List VarDef → List Fault
-vars_faults o [] = []
-vars_faults o (v ∷ vs) = var_faults o v ++ vars_faults o vs
+abbrev pub vardefs_faults : Outline → List VarDef → List Fault
+vardefs_faults o [] = []
+vardefs_faults o (v ∷ vs) = vardef_faults o v ++ vardefs_faults o vs
 
 -- the use of a role, which is looked up in its channel
 abbrev pub role_used : Option Member → ℕ → List Fault
@@ -83,22 +85,22 @@ roles_faults o channel (u ∷ us) = role_faults o channel u ++ roles_faults o ch
 
 -- channels
 abbrev pub interaction_faults : Outline → InteractionDef → List Fault
-interaction_faults o i = again_faults o i.name ++ vars_faults o i.params
+interaction_faults o i = again_faults o i.name ++ vardefs_faults o i.params
 
 abbrev pub interactions_faults : Outline → List InteractionDef → List Fault
 interactions_faults o [] = []
 interactions_faults o (i ∷ is) = interaction_faults o i ++ interactions_faults o is
 
-abbrev pub by_faults : Outline → ℕ → ByPart → List Fault
-by_faults o channel b = roles_faults o channel b.roles ++ interactions_faults o b.interactions
+abbrev pub by_part_faults : Outline → ℕ → ByPart → List Fault
+by_part_faults o channel b = roles_faults o channel b.roles ++ interactions_faults o b.interactions
 
-abbrev pub bys_faults : Outline → ℕ → List ByPart → List Fault
-bys_faults o channel [] = []
-bys_faults o channel (b ∷ bs) = by_faults o channel b ++ bys_faults o channel bs
+abbrev pub by_parts_faults : Outline → ℕ → List ByPart → List Fault
+by_parts_faults o channel [] = []
+by_parts_faults o channel (b ∷ bs) = by_part_faults o channel b ++ by_parts_faults o channel bs
 
 abbrev pub channel_faults : Outline → Channel → List Fault
 channel_faults o c =
-    twice_faults o c.name ++ agains_faults o c.roles ++ bys_faults o c.name.place c.by
+    twice_faults o c.name ++ agains_faults o c.roles ++ by_parts_faults o c.name.place c.by
 
 -- interaction points, whose role is looked up where their channel is one
 abbrev pub side_faults : Outline → Option ℕ → Used → List Fault
@@ -118,32 +120,33 @@ points_faults o (p ∷ ps) = point_faults o p ++ points_faults o ps
 -- headers
 abbrev pub header_faults : Outline → Header → List Fault
 header_faults o h =
-    twice_faults o h.name ++ vars_faults o h.params ++ points_faults o h.points
-    ++ vars_faults o h.exports
+    twice_faults o h.name ++ vardefs_faults o h.params ++ points_faults o h.points
+    ++ vardefs_faults o h.exports
 
 -- module variables: those of the specification are of systems, those of bodies are not
 abbrev pub is_system : Option Entry → Bool
 is_system None = false
 is_system (Some e) = e.system
 
-abbrev pub same_truth : Bool → Bool → Bool
-same_truth true b = b
-same_truth false b = not b
+-- whether an owner may have modules of a header with this attribute
+abbrev pub may_own : Owner → Bool → Bool
+may_own owners.Specification system = system
+may_own owners.Body system = not system
 
-abbrev pub attribute_faults : Outline → Bool → Option ℕ → ℕ → List Fault
-attribute_faults o outer None place = []
-attribute_faults o outer (Some p) place =
-    if same_truth outer (is_system (entry_at o p)) then [] else broken place WrongAttribute
+abbrev pub attribute_faults : Outline → Owner → Option ℕ → ℕ → List Fault
+attribute_faults o owner None place = []
+attribute_faults o owner (Some p) place =
+    if may_own owner (is_system (entry_at o p)) then [] else broken place WrongAttribute
 
-abbrev pub modvar_faults : Outline → Bool → ModvarDef → List Fault
-modvar_faults o outer m =
+abbrev pub modvar_faults : Outline → Owner → ModvarDef → List Fault
+modvar_faults o owner m =
     twices_faults o m.names ++ dims_faults o m.dims m.place
     ++ use_faults o sort.Header m.header
-    ++ attribute_faults o outer (declaration_of o sort.Header m.header) m.header.place
+    ++ attribute_faults o owner (declaration_of o sort.Header m.header) m.header.place
 
-abbrev pub modvars_faults : Outline → Bool → List ModvarDef → List Fault
-modvars_faults o outer [] = []
-modvars_faults o outer (m ∷ ms) = modvar_faults o outer m ++ modvars_faults o outer ms
+abbrev pub modvars_faults : Outline → Owner → List ModvarDef → List Fault
+modvars_faults o owner [] = []
+modvars_faults o owner (m ∷ ms) = modvar_faults o owner m ++ modvars_faults o owner ms
 
 -- state sets
 abbrev pub stateset_faults : Outline → StateSet → List Fault
@@ -153,28 +156,25 @@ abbrev pub statesets_faults : Outline → List StateSet → List Fault
 statesets_faults o [] = []
 statesets_faults o (s ∷ ss) = stateset_faults o s ++ statesets_faults o ss
 
--- formals: a function has none by place. The word `var` stands before the first name.
+-- formals of a routine with this result: a function has one, and no formals by place. The word
+-- `var` stands before the first name.
 abbrev pub word_place : List Used → ℕ
 word_place [] = 0
 word_place (u ∷ us) = u.place - 1
 
-abbrev pub formal_faults : Outline → Bool → Formal → List Fault
-formal_faults o function f =
+abbrev pub formal_faults : Outline → Option Used → Formal → List Fault
+formal_faults o result f =
     twices_faults o f.names ++ type_faults o f.kind
-    ++ broken_if (function && f.by_place) (word_place f.names) NotInFunction
+    ++ broken_if (is_some result && f.by_place) (word_place f.names) NotInFunction
 
-abbrev pub formals_faults : Outline → Bool → List Formal → List Fault
-formals_faults o function [] = []
-formals_faults o function (f ∷ fs) = formal_faults o function f ++ formals_faults o function fs
+abbrev pub formals_faults : Outline → Option Used → List Formal → List Fault
+formals_faults o result [] = []
+formals_faults o result (f ∷ fs) = formal_faults o result f ++ formals_faults o result fs
 
 -- the result of a function
 abbrev pub result_faults : Outline → Option Used → List Fault
 result_faults o None = []
 result_faults o (Some u) = type_faults o u
-
-abbrev pub is_function : Option Used → Bool
-is_function None = false
-is_function (Some u) = true
 
 -- the `any` variables of a transition
 abbrev pub chosen_faults : Outline → VarDef → List Fault
@@ -224,46 +224,42 @@ row_has_states end_of-Part = false
 row_has_states (more_of-Part (part.States us) rest) = true
 row_has_states (more_of-Part _ rest) = row_has_states rest
 
-abbrev pub is_first : Option Used → Bool
-is_first None = false
-is_first (Some u) = true
-
 abbrev pub names_first : Held-Body-first → Bool
 names_first first.None' = false
-names_first (first.Some' to a parts statements place) = is_first to
+names_first (first.Some' to a parts statements place) = is_some to
 
 abbrev pub first_state_faults : Bool → Bool → ℕ → List Fault
 first_state_faults states named place = broken_if (states && not named) place NoFirstState
 
--- What parts break: `outer` says that they are those of the specification.
+-- What the parts of an owner break.
 abbrev mutual
-  pub part_faults : Outline → Bool → Part → List Fault
-  part_faults o outer (part.Consts cs) = consts_faults o cs
-  part_faults o outer (part.Types ts) = typedefs_faults o ts
-  part_faults o outer (part.Channel c) = channel_faults o c
-  part_faults o outer (part.Header h) = header_faults o h
-  part_faults o outer (part.Body (Body' name header a parts f b groups)) =
-      twice_faults o name ++ row_faults o false parts
+  pub part_faults : Outline → Owner → Part → List Fault
+  part_faults o owner (part.Consts cs) = constdefs_faults o cs
+  part_faults o owner (part.Types ts) = typedefs_faults o ts
+  part_faults o owner (part.Channel c) = channel_faults o c
+  part_faults o owner (part.Header h) = header_faults o h
+  part_faults o owner (part.Body (Body' name header a parts f b groups)) =
+      twice_faults o name ++ row_faults o owners.Body parts
       ++ first_faults o f ++ row_groups_faults o groups
       ++ first_state_faults (row_has_states parts) (names_first f) name.place
       ++ scalars_faults (row_scalars o 0 parts) name.place
-  part_faults o outer (part.Modvars ms) = modvars_faults o outer ms
-  part_faults o outer (part.Points ps) = points_faults o ps
-  part_faults o outer (part.Vars vs) = vars_faults o vs
-  part_faults o outer (part.States us) = twices_faults o us
-  part_faults o outer (part.StateSets ss) = statesets_faults o ss
-  part_faults o outer (part.Routine' name formals result a parts statements place) =
-      twice_faults o name ++ formals_faults o (is_function result) formals
-      ++ result_faults o result ++ row_faults o false parts
+  part_faults o owner (part.Modvars ms) = modvars_faults o owner ms
+  part_faults o owner (part.Points ps) = points_faults o ps
+  part_faults o owner (part.Vars vs) = vardefs_faults o vs
+  part_faults o owner (part.States us) = twices_faults o us
+  part_faults o owner (part.StateSets ss) = statesets_faults o ss
+  part_faults o owner (part.Routine' name formals result a parts statements place) =
+      twice_faults o name ++ formals_faults o result formals
+      ++ result_faults o result ++ row_faults o owners.Body parts
       ++ scalars_faults (row_scalars o 0 parts) name.place
 
-  pub row_faults : Outline → Bool → {n : _} → Row_of-Part n → List Fault
-  row_faults o outer end_of-Part = []
-  row_faults o outer (more_of-Part p rest) = part_faults o outer p ++ row_faults o outer rest
+  pub row_faults : Outline → Owner → {n : _} → Row_of-Part n → List Fault
+  row_faults o owner end_of-Part = []
+  row_faults o owner (more_of-Part p rest) = part_faults o owner p ++ row_faults o owner rest
 
   pub first_faults : Outline → Held-Body-first → List Fault
   first_faults o first.None' = []
-  first_faults o (first.Some' to a parts statements place) = row_faults o false parts
+  first_faults o (first.Some' to a parts statements place) = row_faults o owners.Body parts
 
   pub row_groups_faults : Outline → {n : _} → Row_of-Group n → List Fault
   row_groups_faults o end_of-Group = []
@@ -273,12 +269,12 @@ abbrev mutual
   pub row_transitions_faults : Outline → {n : _} → Row_of-Transition n → List Fault
   row_transitions_faults o end_of-Transition = []
   row_transitions_faults o (more_of-Transition cs name a parts statements place rest) =
-      (clauses_faults o cs ++ row_faults o false parts) ++ row_transitions_faults o rest
+      (clauses_faults o cs ++ row_faults o owners.Body parts) ++ row_transitions_faults o rest
 
-abbrev pub parts_faults : Outline → Bool → List Part → List Fault
-parts_faults o outer [] = []
-parts_faults o outer (p ∷ ps) = part_faults o outer p ++ parts_faults o outer ps
+abbrev pub parts_faults : Outline → Owner → List Part → List Fault
+parts_faults o owner [] = []
+parts_faults o owner (p ∷ ps) = part_faults o owner p ++ parts_faults o owner ps
 
 -- all that the declarations of a specification break
 abbrev pub declaration_faults : Spec → List Fault
-declaration_faults s = parts_faults (outline_of s) true s.parts
+declaration_faults s = parts_faults (outline_of s) owners.Specification s.parts

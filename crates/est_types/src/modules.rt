@@ -5,14 +5,15 @@ ghost use Rattle.std.specs.Prelude.{◌≡◌, OnOk};
 ghost use Rattle.est_scope.specs.LeastSoFar.{least_with};
 ghost use Rattle.est_scope.specs.Outline.{entry_at};
 ghost use Rattle.est_types.specs.DeclarationFaults.{role_faults, roles_faults, interaction_faults};
-ghost use Rattle.est_types.specs.DeclarationFaults.{interactions_faults, by_faults, bys_faults};
+ghost use Rattle.est_types.specs.DeclarationFaults.{interactions_faults, by_part_faults};
+ghost use Rattle.est_types.specs.DeclarationFaults.{by_parts_faults};
 ghost use Rattle.est_types.specs.DeclarationFaults.{channel_faults, side_faults, point_faults};
 ghost use Rattle.est_types.specs.DeclarationFaults.{points_faults, header_faults};
-ghost use Rattle.est_types.specs.DeclarationFaults.{is_system, same_truth};
+ghost use Rattle.est_types.specs.DeclarationFaults.{is_system, may_own};
 ghost use Rattle.est_types.specs.DeclarationFaults.{attribute_faults};
 ghost use Rattle.est_types.specs.DeclarationFaults.{modvar_faults, modvars_faults};
 
-use crate::sections::check_vars;
+use crate::sections::check_vardefs;
 use est_kinds::dims::check_dims;
 use est_outline::modules::member_named;
 use est_scope::declaration::{Member, Sort};
@@ -23,6 +24,13 @@ use est_syntax::header::{Header, ModvarDef, Point};
 use est_syntax::name::Used;
 use est_syntax::rule::Rule;
 use std::alloc::{AllocError, Global};
+
+/// What has the parts that are checked: the specification, or else a body, a routine or a block.
+#[derive(Clone, Copy)]
+pub enum Owner {
+    Specification,
+    Body,
+}
 
 // The use of a role, which is looked up in its channel.
 fn check_role(outline: &Outline, channel: u32, used: &Used, least: &mut Least)
@@ -56,7 +64,7 @@ fn check_interaction(
         (least.new.at ≡ least_with least.old.at (interaction_faults outline.now item.now)) }
 {
     outline.check_again(&item.name, least);
-    check_vars(alloc, outline, item.params.as_slice(), least)
+    check_vardefs(alloc, outline, item.params.as_slice(), least)
 }
 
 // Interactions.
@@ -76,7 +84,7 @@ fn check_interactions(
 }
 
 // A part of a channel.
-fn check_by(
+fn check_by_part(
     alloc: Global,
     outline: &Outline,
     channel: u32,
@@ -84,14 +92,14 @@ fn check_by(
     least: &mut Least,
 ) -> Result<(), AllocError>
     ensures { OnOk result
-        (least.new.at ≡ least_with least.old.at (by_faults outline.now channel item.now)) }
+        (least.new.at ≡ least_with least.old.at (by_part_faults outline.now channel item.now)) }
 {
     check_roles(outline, channel, item.roles.as_slice(), least);
     check_interactions(alloc, outline, item.interactions.as_slice(), least)
 }
 
 // The parts of a channel.
-fn check_bys(
+fn check_by_parts(
     alloc: Global,
     outline: &Outline,
     channel: u32,
@@ -99,10 +107,10 @@ fn check_bys(
     least: &mut Least,
 ) -> Result<(), AllocError>
     ensures { OnOk result
-        (least.new.at ≡ least_with least.old.at (bys_faults outline.now channel items.now)) }
+        (least.new.at ≡ least_with least.old.at (by_parts_faults outline.now channel items.now)) }
 {
     for item in items {
-        check_by(alloc, outline, channel, item, least)?;
+        check_by_part(alloc, outline, channel, item, least)?;
     }
     Ok(())
 }
@@ -119,7 +127,7 @@ pub fn check_channel(
 {
     outline.check_twice(&item.name, least);
     outline.check_agains(item.roles.as_slice(), least);
-    check_bys(alloc, outline, item.name.place, item.by.as_slice(), least)
+    check_by_parts(alloc, outline, item.name.place, item.by.as_slice(), least)
 }
 
 // The role of an interaction point, which is looked up where its channel is one.
@@ -176,9 +184,9 @@ pub fn check_header(
         (least.new.at ≡ least_with least.old.at (header_faults outline.now item.now)) }
 {
     outline.check_twice(&item.name, least);
-    check_vars(alloc, outline, item.params.as_slice(), least)?;
+    check_vardefs(alloc, outline, item.params.as_slice(), least)?;
     check_points(alloc, outline, item.points.as_slice(), least)?;
-    check_vars(alloc, outline, item.exports.as_slice(), least)
+    check_vardefs(alloc, outline, item.exports.as_slice(), least)
 }
 
 // Whether the header at a place is that of a system.
@@ -191,26 +199,29 @@ fn is_system(outline: &Outline, place: u32) -> bool
     }
 }
 
-// Whether two answers are one.
-fn same_truth(one: bool, other: bool) -> bool
-    ensures { result ≡ same_truth one other }
+// Whether an owner may have modules of a header with this attribute.
+fn may_own(owner: Owner, system: bool) -> bool
+    ensures { result ≡ may_own owner system }
 {
-    if one { other } else { !other }
+    match owner {
+        Owner::Specification => system,
+        Owner::Body => !system,
+    }
 }
 
 // The attribute of the header of a module variable.
 fn check_attribute(
     outline: &Outline,
-    outer: bool,
+    owner: Owner,
     header: Option<u32>,
     place: u32,
     least: &mut Least,
 )
     ensures { least.new.at
-        ≡ least_with least.old.at (attribute_faults outline.now outer header place) }
+        ≡ least_with least.old.at (attribute_faults outline.now owner header place) }
 {
     if let Some(header) = header {
-        if !same_truth(outer, is_system(outline, header)) {
+        if !may_own(owner, is_system(outline, header)) {
             least.note(place, Rule::WrongAttribute);
         }
     }
@@ -220,18 +231,18 @@ fn check_attribute(
 fn check_modvar(
     alloc: Global,
     outline: &Outline,
-    outer: bool,
+    owner: Owner,
     item: &ModvarDef,
     least: &mut Least,
 ) -> Result<(), AllocError>
     ensures { OnOk result
-        (least.new.at ≡ least_with least.old.at (modvar_faults outline.now outer item.now)) }
+        (least.new.at ≡ least_with least.old.at (modvar_faults outline.now owner item.now)) }
 {
     outline.check_twices(item.names.as_slice(), least);
     drop(check_dims(alloc, outline, item.dims.as_slice(), item.place, least)?);
     outline.check_use(Sort::Header, &item.header, least);
     let header = outline.declaration_of(Sort::Header, &item.header);
-    check_attribute(outline, outer, header, item.header.place, least);
+    check_attribute(outline, owner, header, item.header.place, least);
     Ok(())
 }
 
@@ -239,15 +250,15 @@ fn check_modvar(
 pub fn check_modvars(
     alloc: Global,
     outline: &Outline,
-    outer: bool,
+    owner: Owner,
     items: &[ModvarDef],
     least: &mut Least,
 ) -> Result<(), AllocError>
     ensures { OnOk result
-        (least.new.at ≡ least_with least.old.at (modvars_faults outline.now outer items.now)) }
+        (least.new.at ≡ least_with least.old.at (modvars_faults outline.now owner items.now)) }
 {
     for item in items {
-        check_modvar(alloc, outline, outer, item, least)?;
+        check_modvar(alloc, outline, owner, item, least)?;
     }
     Ok(())
 }

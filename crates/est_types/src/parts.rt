@@ -1,20 +1,20 @@
 //! What the parts of a specification break.
-#![tactic(auto, using(est_scope::proofs::LeastLaws::least_append, crate::proofs::PartRows::body_at, crate::proofs::PartRows::routine_at))]
+#![tactic(auto, using(est_scope::proofs::LeastLaws::least_append, crate::proofs::PartRows::rows))]
 
-ghost use Rattle.std.specs.Prelude.{◌≡◌, OnOk, IfOk, None};
+ghost use Rattle.std.specs.Prelude.{◌≡◌, OnOk};
 ghost use Rattle.est_scope.specs.LeastSoFar.{least_with};
-ghost use Rattle.est_types.specs.DeclarationFaults.{is_function, scalars_faults};
+ghost use Rattle.est_types.specs.DeclarationFaults.{scalars_faults};
 ghost use Rattle.est_types.specs.DeclarationFaults.{first_state_faults};
 ghost use Rattle.est_types.specs.DeclarationFaults.{part_faults, parts_faults};
 ghost use Rattle.est_types.specs.inside.DeclarationParts.{block_faults, first_part_faults};
 ghost use Rattle.est_types.specs.inside.DeclarationParts.{transition_faults, transitions_faults};
 ghost use Rattle.est_types.specs.inside.DeclarationParts.{group_faults, groups_faults, body_faults};
-ghost use Rattle.est_types.specs.inside.DeclarationParts.{routine_faults};
+ghost use Rattle.est_types.specs.inside.DeclarationParts.{routine_faults, have_states, has_first};
 
-use crate::modules::{check_channel, check_header, check_modvars, check_points};
+use crate::modules::{Owner, check_channel, check_header, check_modvars, check_points};
 use crate::sections::{
-    check_clauses, check_consts, check_formals, check_result, check_statesets, check_typedefs,
-    check_vars,
+    check_clauses, check_constdefs, check_formals, check_result, check_statesets, check_typedefs,
+    check_vardefs,
 };
 use crate::sizes::{has_first, have_states, parts_scalars};
 use est_kinds::hosts::MOST_SCALARS;
@@ -34,12 +34,18 @@ pub fn check_scalars(scalars: u64, place: u32, least: &mut Least)
 }
 
 // A body that has states needs a first one.
-fn check_first_state(states: bool, named: bool, place: u32, least: &mut Least)
-    ensures { least.new.at ≡ least_with least.old.at (first_state_faults states named place) }
+fn check_first_state(parts: &[Part], first: &Option<FirstPart>, place: u32, least: &mut Least)
+    ensures { least.new.at ≡ least_with least.old.at
+        (first_state_faults (have_states parts.now) (has_first first.now) place) }
 {
-    least.note_if(states && !named, place, Rule::NoFirstState);
+    least.note_if(
+        have_states(parts) && !has_first(first),
+        place,
+        Rule::NoFirstState,
+    );
 }
 
+// The block of a routine, a transition or a first part: its statements are checked elsewhere.
 #[cycle(part)]
 fn check_block(
     alloc: Global,
@@ -50,9 +56,10 @@ fn check_block(
     ensures { OnOk result
         (least.new.at ≡ least_with least.old.at (block_faults outline.now block.now)) }
 {
-    check_parts(alloc, outline, false, block.parts.as_slice(), least)
+    check_parts(alloc, outline, Owner::Body, block.parts.as_slice(), least)
 }
 
+// The first part of a body, where it has one.
 #[cycle(part)]
 fn check_first_part(
     alloc: Global,
@@ -69,6 +76,7 @@ fn check_first_part(
     }
 }
 
+// A transition.
 #[cycle(part)]
 fn check_transition(
     alloc: Global,
@@ -83,6 +91,7 @@ fn check_transition(
     check_block(alloc, outline, &item.block, least)
 }
 
+// The transitions of a group.
 #[cycle(part)]
 fn check_transitions(
     alloc: Global,
@@ -99,6 +108,7 @@ fn check_transitions(
     Ok(())
 }
 
+// A group of transitions.
 #[cycle(part)]
 fn check_group(
     alloc: Global,
@@ -112,6 +122,7 @@ fn check_group(
     check_transitions(alloc, outline, item.transitions.as_slice(), least)
 }
 
+// The groups of transitions of a body.
 #[cycle(part)]
 fn check_groups(
     alloc: Global,
@@ -128,6 +139,7 @@ fn check_groups(
     Ok(())
 }
 
+// A body: what it lacks or has too much of is told at its name.
 #[cycle(part)]
 fn check_body(
     alloc: Global,
@@ -140,19 +152,15 @@ fn check_body(
 {
     let parts = body.parts.as_slice();
     outline.check_twice(&body.name, least);
-    check_parts(alloc, outline, false, parts, least)?;
+    check_parts(alloc, outline, Owner::Body, parts, least)?;
     check_first_part(alloc, outline, &body.first, least)?;
     check_groups(alloc, outline, body.groups.as_slice(), least)?;
-    check_first_state(
-        have_states(parts),
-        has_first(&body.first),
-        body.name.place,
-        least,
-    );
+    check_first_state(parts, &body.first, body.name.place, least);
     check_scalars(parts_scalars(outline, parts), body.name.place, least);
     Ok(())
 }
 
+// A routine: that its variables are too many is told at its name.
 #[cycle(part)]
 fn check_routine(
     alloc: Global,
@@ -164,35 +172,35 @@ fn check_routine(
         (least.new.at ≡ least_with least.old.at (routine_faults outline.now routine.now)) }
 {
     let parts = routine.block.parts.as_slice();
-    let function = routine.result.is_some();
     outline.check_twice(&routine.name, least);
-    check_formals(outline, function, routine.formals.as_slice(), least);
+    check_formals(outline, &routine.result, routine.formals.as_slice(), least);
     check_result(outline, &routine.result, least);
-    check_parts(alloc, outline, false, parts, least)?;
+    check_parts(alloc, outline, Owner::Body, parts, least)?;
     check_scalars(parts_scalars(outline, parts), routine.name.place, least);
     Ok(())
 }
 
+// A part of an owner, of which module variables alone depend on it.
 #[cycle(part)]
 fn check_part(
     alloc: Global,
     outline: &Outline,
-    outer: bool,
+    owner: Owner,
     part: &Part,
     least: &mut Least,
 ) -> Result<(), AllocError>
     ensures { OnOk result
-        (least.new.at ≡ least_with least.old.at (part_faults outline.now outer part.now)) }
+        (least.new.at ≡ least_with least.old.at (part_faults outline.now owner part.now)) }
 {
     match part {
-        Part::Consts(items) => check_consts(outline, items.as_slice(), least),
+        Part::Consts(items) => check_constdefs(outline, items.as_slice(), least),
         Part::Types(items) => check_typedefs(alloc, outline, items.as_slice(), least),
         Part::Channel(item) => check_channel(alloc, outline, item, least),
         Part::Header(item) => check_header(alloc, outline, item, least),
         Part::Body(body) => check_body(alloc, outline, body, least),
-        Part::Modvars(items) => check_modvars(alloc, outline, outer, items.as_slice(), least),
+        Part::Modvars(items) => check_modvars(alloc, outline, owner, items.as_slice(), least),
         Part::Points(items) => check_points(alloc, outline, items.as_slice(), least),
-        Part::Vars(items) => check_vars(alloc, outline, items.as_slice(), least),
+        Part::Vars(items) => check_vardefs(alloc, outline, items.as_slice(), least),
         Part::States(names) => {
             outline.check_twices(names.as_slice(), least);
             Ok(())
@@ -205,20 +213,20 @@ fn check_part(
     }
 }
 
-/// Parts: `outer` says that they are those of the specification.
+/// The parts of an owner, in the order of the text.
 #[cycle(part)]
 pub fn check_parts(
     alloc: Global,
     outline: &Outline,
-    outer: bool,
+    owner: Owner,
     parts: &[Part],
     least: &mut Least,
 ) -> Result<(), AllocError>
     ensures { OnOk result
-        (least.new.at ≡ least_with least.old.at (parts_faults outline.now outer parts.now)) }
+        (least.new.at ≡ least_with least.old.at (parts_faults outline.now owner parts.now)) }
 {
     for part in parts {
-        check_part(alloc, outline, outer, part, least)?;
+        check_part(alloc, outline, owner, part, least)?;
     }
     Ok(())
 }

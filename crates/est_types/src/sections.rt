@@ -3,8 +3,9 @@
 
 ghost use Rattle.std.specs.Prelude.{◌≡◌, OnOk};
 ghost use Rattle.est_scope.specs.LeastSoFar.{least_with};
-ghost use Rattle.est_types.specs.DeclarationFaults.{const_faults, consts_faults, typedef_faults};
-ghost use Rattle.est_types.specs.DeclarationFaults.{typedefs_faults, var_faults, vars_faults};
+ghost use Rattle.est_types.specs.DeclarationFaults.{constdef_faults, constdefs_faults};
+ghost use Rattle.est_types.specs.DeclarationFaults.{typedef_faults};
+ghost use Rattle.est_types.specs.DeclarationFaults.{typedefs_faults, vardef_faults, vardefs_faults};
 ghost use Rattle.est_types.specs.DeclarationFaults.{stateset_faults, statesets_faults, word_place};
 ghost use Rattle.est_types.specs.DeclarationFaults.{formal_faults, formals_faults, result_faults};
 ghost use Rattle.est_types.specs.DeclarationFaults.{chosen_faults, any_faults};
@@ -26,9 +27,9 @@ use est_syntax::type_text::{TypeDef, VarDef};
 use std::alloc::{AllocError, Global};
 
 // A constant.
-fn check_const(outline: &Outline, item: &ConstDef, least: &mut Least) -> Result<(), AllocError>
+fn check_constdef(outline: &Outline, item: &ConstDef, least: &mut Least) -> Result<(), AllocError>
     ensures { OnOk result
-        (least.new.at ≡ least_with least.old.at (const_faults outline.now item.now)) }
+        (least.new.at ≡ least_with least.old.at (constdef_faults outline.now item.now)) }
 {
     outline.check_twice(&item.name, least);
     drop(check_constant(outline, &item.value, least)?);
@@ -36,16 +37,16 @@ fn check_const(outline: &Outline, item: &ConstDef, least: &mut Least) -> Result<
 }
 
 /// Constants.
-pub fn check_consts(
+pub fn check_constdefs(
     outline: &Outline,
     items: &[ConstDef],
     least: &mut Least,
 ) -> Result<(), AllocError>
     ensures { OnOk result
-        (least.new.at ≡ least_with least.old.at (consts_faults outline.now items.now)) }
+        (least.new.at ≡ least_with least.old.at (constdefs_faults outline.now items.now)) }
 {
     for item in items {
-        check_const(outline, item, least)?;
+        check_constdef(outline, item, least)?;
     }
     Ok(())
 }
@@ -82,14 +83,14 @@ pub fn check_typedefs(
 }
 
 // Variables of one type.
-fn check_var(
+fn check_vardef(
     alloc: Global,
     outline: &Outline,
     item: &VarDef,
     least: &mut Least,
 ) -> Result<(), AllocError>
     ensures { OnOk result
-        (least.new.at ≡ least_with least.old.at (var_faults outline.now item.now)) }
+        (least.new.at ≡ least_with least.old.at (vardef_faults outline.now item.now)) }
 {
     outline.check_twices(item.names.as_slice(), least);
     drop(check_text(alloc, outline, &item.text, least)?);
@@ -97,17 +98,17 @@ fn check_var(
 }
 
 /// Variables, parameters or exports.
-pub fn check_vars(
+pub fn check_vardefs(
     alloc: Global,
     outline: &Outline,
     items: &[VarDef],
     least: &mut Least,
 ) -> Result<(), AllocError>
     ensures { OnOk result
-        (least.new.at ≡ least_with least.old.at (vars_faults outline.now items.now)) }
+        (least.new.at ≡ least_with least.old.at (vardefs_faults outline.now items.now)) }
 {
     for item in items {
-        check_var(alloc, outline, item, least)?;
+        check_vardef(alloc, outline, item, least)?;
     }
     Ok(())
 }
@@ -139,27 +140,27 @@ fn word_place(names: &[Used]) -> u32
     }
 }
 
-// Formals of one type, of a function or a procedure.
-fn check_formal(outline: &Outline, function: bool, item: &Formal, least: &mut Least)
+// Formals of one type, of a routine with this result.
+fn check_formal(outline: &Outline, of: &Option<Used>, item: &Formal, least: &mut Least)
     ensures { least.new.at
-        ≡ least_with least.old.at (formal_faults outline.now function item.now) }
+        ≡ least_with least.old.at (formal_faults outline.now of.now item.now) }
 {
     outline.check_twices(item.names.as_slice(), least);
     check_type(outline, &item.kind, least);
     least.note_if(
-        function && item.by_place,
+        of.is_some() && item.by_place,
         word_place(item.names.as_slice()),
         Rule::NotInFunction,
     );
 }
 
-/// Formals of a function or a procedure.
-pub fn check_formals(outline: &Outline, function: bool, items: &[Formal], least: &mut Least)
+/// Formals of a routine with this result: a function has one.
+pub fn check_formals(outline: &Outline, of: &Option<Used>, items: &[Formal], least: &mut Least)
     ensures { least.new.at
-        ≡ least_with least.old.at (formals_faults outline.now function items.now) }
+        ≡ least_with least.old.at (formals_faults outline.now of.now items.now) }
 {
     for item in items {
-        check_formal(outline, function, item, least);
+        check_formal(outline, of, item, least);
     }
 }
 

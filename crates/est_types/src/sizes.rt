@@ -2,7 +2,7 @@
 
 ghost use Rattle.std.specs.Prelude.{◌≡◌};
 ghost use Rattle.est_scope.specs.Outline.{entry_at};
-ghost use Rattle.est_types.specs.DeclarationFaults.{scalars_in, scalars_by};
+ghost use Rattle.est_types.specs.DeclarationFaults.{scalars_by};
 ghost use Rattle.est_types.specs.DeclarationFaults.{names_scalars, vars_scalars};
 ghost use Rattle.est_types.specs.inside.DeclarationParts.{parts_scalars, have_states, has_first};
 

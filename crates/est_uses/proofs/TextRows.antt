@@ -12,7 +12,7 @@ use Rattle.est_syntax.specs.declared.type_text.TypeText.TheBlock.{hidden-the_row
 use Rattle.est_syntax.specs.declared.type_text.TypeText.TheVariants as text
 use Rattle.est_syntax.specs.declared.type_text.VarDef.{VarDef}
 use Rattle.est_uses.specs.NamesInTexts.{text_names, text_box, texts_row}
-use Rattle.est_uses.specs.NamesInTexts.{fields_row, texts_names, var_defs_names}
+use Rattle.est_uses.specs.NamesInTexts.{fields_row, texts_names, vardefs_names}
 
 pub texts_listed : (n : _) (row : Row_of-TypeText n)
     → texts_row row ≡ texts_names (items-the_row-TypeText n row)
@@ -30,15 +30,15 @@ unfolding hidden-the_row-TypeText-1 denote.Hole.Carrier.hidden
 text_hidden t = refl
 
 pub fields_listed : (n : _) (row : Row_of-VarDef n)
-    → fields_row row ≡ var_defs_names (items-the_row-VarDef n row)
+    → fields_row row ≡ vardefs_names (items-the_row-VarDef n row)
 fields_listed n end_of-VarDef = refl
 fields_listed n (more_of-VarDef names t rest) = ap (λ l. text_names t ++ l) (fields_listed _ rest)
 
 pub fields_hidden : (ds : List VarDef)
-    → fields_row (hidden-the_row-VarDef-2 ds) ≡ var_defs_names ds
+    → fields_row (hidden-the_row-VarDef-2 ds) ≡ vardefs_names ds
 fields_hidden ds =
     fields_listed _ (hidden-the_row-VarDef-2 ds)
-    ∙ ap var_defs_names (items_hidden-the_row-VarDef-2 ds)
+    ∙ ap vardefs_names (items_hidden-the_row-VarDef-2 ds)
 
 pub array_at : (t : TypeText) (index : List TypeText) (element : TypeText) (place : ℕ)
     → t ≡ text.Array index element place
@@ -47,7 +47,7 @@ array_at t index element place h =
     ap text_names h ∙ (λ i. texts_hidden index i ++ text_hidden element i)
 
 pub fields_at : (t : TypeText) (ds : List VarDef) (place : ℕ)
-    → t ≡ text.Fields ds place → text_names t ≡ var_defs_names ds
+    → t ≡ text.Fields ds place → text_names t ≡ vardefs_names ds
 fields_at t ds place h = ap text_names h ∙ fields_hidden ds
 
 pub base_at : (t base : TypeText) (place : ℕ)

@@ -51,10 +51,10 @@ texts_names [] = []
 texts_names (t ∷ ts) = text_names t ++ texts_names ts
 
 -- Names declared with one type look up what its text does.
-abbrev pub var_def_names : VarDef → List Used
-var_def_names d = text_names d.text
+abbrev pub vardef_names : VarDef → List Used
+vardef_names d = text_names d.text
 
 -- Such declarations look up what each of them does.
-abbrev pub var_defs_names : List VarDef → List Used
-var_defs_names [] = []
-var_defs_names (d ∷ ds) = var_def_names d ++ var_defs_names ds
+abbrev pub vardefs_names : List VarDef → List Used
+vardefs_names [] = []
+vardefs_names (d ∷ ds) = vardef_names d ++ vardefs_names ds

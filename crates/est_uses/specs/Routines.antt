@@ -9,32 +9,32 @@ use Rattle.est_syntax.specs.declared.routine.Formal.{Formal}
 use Rattle.est_syntax.specs.declared.routine.Routine.{Routine, out-Routine}
 use Rattle.est_syntax.specs.declared.type_text.TypeDef.{TypeDef}
 use Rattle.est_uses.specs.NamesInStatements.{statements_names}
-use Rattle.est_uses.specs.NamesInTexts.{constant_names, text_names, var_defs_names}
+use Rattle.est_uses.specs.NamesInTexts.{constant_names, text_names, vardefs_names}
 
 -- A constant's definition looks up what its value does.
-abbrev pub const_def_names : ConstDef → List Used
-const_def_names d = constant_names d.value
+abbrev pub constdef_names : ConstDef → List Used
+constdef_names d = constant_names d.value
 
 -- Definitions of constants look up what each of them does.
-abbrev pub const_defs_names : List ConstDef → List Used
-const_defs_names [] = []
-const_defs_names (d ∷ ds) = const_def_names d ++ const_defs_names ds
+abbrev pub constdefs_names : List ConstDef → List Used
+constdefs_names [] = []
+constdefs_names (d ∷ ds) = constdef_names d ++ constdefs_names ds
 
 -- A type's definition looks up what its text does.
-abbrev pub type_def_names : TypeDef → List Used
-type_def_names d = text_names d.text
+abbrev pub typedef_names : TypeDef → List Used
+typedef_names d = text_names d.text
 
 -- Definitions of types look up what each of them does.
-abbrev pub type_defs_names : List TypeDef → List Used
-type_defs_names [] = []
-type_defs_names (d ∷ ds) = type_def_names d ++ type_defs_names ds
+abbrev pub typedefs_names : List TypeDef → List Used
+typedefs_names [] = []
+typedefs_names (d ∷ ds) = typedef_names d ++ typedefs_names ds
 
 -- A part of a routine's block looks up what its definitions do: it has constants, types or
 -- variables.
 abbrev pub part_names : Part → List Used
-part_names (part.Consts defs) = const_defs_names defs
-part_names (part.Types defs) = type_defs_names defs
-part_names (part.Vars defs) = var_defs_names defs
+part_names (part.Consts defs) = constdefs_names defs
+part_names (part.Types defs) = typedefs_names defs
+part_names (part.Vars defs) = vardefs_names defs
 part_names _ = []
 
 -- The parts of such a block look up what each of them does.

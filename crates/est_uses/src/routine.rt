@@ -3,13 +3,13 @@
 
 ghost use Rattle.std.specs.Prelude.{◌≡◌};
 ghost use Rattle.est_uses.specs.Closed.{all_free, is_closed};
-ghost use Rattle.est_uses.specs.Routines.{const_def_names, const_defs_names, type_def_names};
-ghost use Rattle.est_uses.specs.Routines.{type_defs_names, part_names, parts_names, block_names};
+ghost use Rattle.est_uses.specs.Routines.{constdef_names, constdefs_names, typedef_names};
+ghost use Rattle.est_uses.specs.Routines.{typedefs_names, part_names, parts_names, block_names};
 ghost use Rattle.est_uses.specs.Routines.{formal_names, formals_names, result_names};
 
 use crate::free::is_free;
 use crate::statement::statements;
-use crate::text::{constant, type_text, var_defs};
+use crate::text::{constant, type_text, vardefs};
 use est_scope::outline::Outline;
 use est_syntax::body::{Block, Part};
 use est_syntax::constant::ConstDef;
@@ -18,18 +18,18 @@ use est_syntax::routine::{Formal, Routine};
 use est_syntax::type_text::TypeDef;
 
 // Whether the routine may name what the definition of a constant looks up.
-fn const_def(outline: &Outline, routine: u32, def: &ConstDef) -> bool
-    ensures { result ≡ all_free outline.now routine (const_def_names def.now) }
+fn constdef(outline: &Outline, routine: u32, def: &ConstDef) -> bool
+    ensures { result ≡ all_free outline.now routine (constdef_names def.now) }
 {
     constant(outline, routine, &def.value)
 }
 
 // Whether the routine may name what definitions of constants look up.
-fn const_defs(outline: &Outline, routine: u32, defs: &[ConstDef]) -> bool
-    ensures { result ≡ all_free outline.now routine (const_defs_names defs.now) }
+fn constdefs(outline: &Outline, routine: u32, defs: &[ConstDef]) -> bool
+    ensures { result ≡ all_free outline.now routine (constdefs_names defs.now) }
 {
     for def in defs {
-        if !const_def(outline, routine, def) {
+        if !constdef(outline, routine, def) {
             return false;
         }
     }
@@ -37,18 +37,18 @@ fn const_defs(outline: &Outline, routine: u32, defs: &[ConstDef]) -> bool
 }
 
 // Whether the routine may name what the definition of a type looks up.
-fn type_def(outline: &Outline, routine: u32, def: &TypeDef) -> bool
-    ensures { result ≡ all_free outline.now routine (type_def_names def.now) }
+fn typedef(outline: &Outline, routine: u32, def: &TypeDef) -> bool
+    ensures { result ≡ all_free outline.now routine (typedef_names def.now) }
 {
     type_text(outline, routine, &def.text)
 }
 
 // Whether the routine may name what definitions of types look up.
-fn type_defs(outline: &Outline, routine: u32, defs: &[TypeDef]) -> bool
-    ensures { result ≡ all_free outline.now routine (type_defs_names defs.now) }
+fn typedefs(outline: &Outline, routine: u32, defs: &[TypeDef]) -> bool
+    ensures { result ≡ all_free outline.now routine (typedefs_names defs.now) }
 {
     for def in defs {
-        if !type_def(outline, routine, def) {
+        if !typedef(outline, routine, def) {
             return false;
         }
     }
@@ -60,9 +60,9 @@ fn part(outline: &Outline, routine: u32, part: &Part) -> bool
     ensures { result ≡ all_free outline.now routine (part_names part.now) }
 {
     match part {
-        Part::Consts(defs) => const_defs(outline, routine, defs.as_slice()),
-        Part::Types(defs) => type_defs(outline, routine, defs.as_slice()),
-        Part::Vars(defs) => var_defs(outline, routine, defs.as_slice()),
+        Part::Consts(defs) => constdefs(outline, routine, defs.as_slice()),
+        Part::Types(defs) => typedefs(outline, routine, defs.as_slice()),
+        Part::Vars(defs) => vardefs(outline, routine, defs.as_slice()),
         _ => true,
     }
 }

@@ -112,21 +112,21 @@ pub fn statement(outline: &Outline, routine: u32, one: &Statement) -> bool
             second,
             ..
         } => {
-            guarded(outline, routine, first.get(), condition.get())
-                && optional(outline, routine, second)
+            if_statement(outline, routine, first.get(), condition.get())
+                && else_part(outline, routine, second)
         }
         Statement::Case {
             value,
             arms: list,
             ..
-        } => chosen(outline, routine, list.as_slice(), value.get()),
+        } => case_statement(outline, routine, list.as_slice(), value.get()),
         Statement::While {
             condition,
             turn,
             ..
-        } => guarded(outline, routine, turn.get(), condition.get()),
+        } => while_statement(outline, routine, turn.get(), condition.get()),
         Statement::Repeat { turn, until, .. } => {
-            repeated(outline, routine, turn.as_slice(), until.get())
+            repeat_statement(outline, routine, turn.as_slice(), until.get())
         }
         Statement::For {
             name,
@@ -134,24 +134,29 @@ pub fn statement(outline: &Outline, routine: u32, one: &Statement) -> bool
             last,
             turn,
             ..
-        } => counted(outline, routine, turn.get(), name, first.get(), last.get()),
-        Statement::All { over, turn, .. } => ranging(outline, routine, turn.get(), over.get()),
+        } => for_statement(outline, routine, turn.get(), name, first.get(), last.get()),
+        Statement::All { over, turn, .. } => all_statement(
+            outline,
+            routine,
+            turn.get(),
+            over.get(),
+        ),
         _ => plain(outline, routine, one),
     }
 }
 
-// Whether the routine may name what a condition looks up, and the statement under it.
+// Whether the routine may name what the condition of an `if` and the statement under it look up.
 #[cycle(statement)]
-fn guarded(outline: &Outline, routine: u32, turn: &Statement, condition: &Expr) -> bool
+fn if_statement(outline: &Outline, routine: u32, first: &Statement, condition: &Expr) -> bool
     ensures { result ≡ all_free outline.now routine
-        (expr_names condition.now ++ statement_names turn.now) }
+        (expr_names condition.now ++ statement_names first.now) }
 {
-    expr(outline, routine, condition) && statement(outline, routine, turn)
+    expr(outline, routine, condition) && statement(outline, routine, first)
 }
 
-// Whether the routine may name what a statement looks up, where there is one.
+// Whether the routine may name what the other statement of an `if` looks up, where there is one.
 #[cycle(statement)]
-fn optional(outline: &Outline, routine: u32, turn: &Option<Boxed<Statement>>) -> bool
+fn else_part(outline: &Outline, routine: u32, turn: &Option<Boxed<Statement>>) -> bool
     ensures { result ≡ all_free outline.now routine (option_statement_names turn.now) }
 {
     match turn {
@@ -160,18 +165,27 @@ fn optional(outline: &Outline, routine: u32, turn: &Option<Boxed<Statement>>) ->
     }
 }
 
-// Whether the routine may name what a value looks up, and the choices by it.
+// Whether the routine may name what a `case` looks up: its value and its choices.
 #[cycle(statement)]
-fn chosen(outline: &Outline, routine: u32, list: &[Arm], value: &Expr) -> bool
+fn case_statement(outline: &Outline, routine: u32, list: &[Arm], value: &Expr) -> bool
     ensures { result ≡ all_free outline.now routine
         (expr_names value.now ++ arms_names list.now) }
 {
     expr(outline, routine, value) && arms(outline, routine, list)
 }
 
-// Whether the routine may name what statements look up, and the condition after them.
+// Whether the routine may name what a `while` looks up: its condition and its statement.
 #[cycle(statement)]
-fn repeated(outline: &Outline, routine: u32, turn: &[Statement], until: &Expr) -> bool
+fn while_statement(outline: &Outline, routine: u32, turn: &Statement, condition: &Expr) -> bool
+    ensures { result ≡ all_free outline.now routine
+        (expr_names condition.now ++ statement_names turn.now) }
+{
+    expr(outline, routine, condition) && statement(outline, routine, turn)
+}
+
+// Whether the routine may name what a `repeat` looks up: its statements and its condition.
+#[cycle(statement)]
+fn repeat_statement(outline: &Outline, routine: u32, turn: &[Statement], until: &Expr) -> bool
     ensures { result ≡ all_free outline.now routine
         (statements_names turn.now ++ expr_names until.now) }
 {
@@ -181,7 +195,7 @@ fn repeated(outline: &Outline, routine: u32, turn: &[Statement], until: &Expr) -
 // Whether the routine may name what a `for` looks up: its variable, its first and last value, and
 // its statement.
 #[cycle(statement)]
-fn counted(
+fn for_statement(
     outline: &Outline,
     routine: u32,
     turn: &Statement,
@@ -200,7 +214,7 @@ fn counted(
 
 // Whether the routine may name what an `all` looks up: its type or header, and its statement.
 #[cycle(statement)]
-fn ranging(outline: &Outline, routine: u32, turn: &Statement, over: &TypeText) -> bool
+fn all_statement(outline: &Outline, routine: u32, turn: &Statement, over: &TypeText) -> bool
     ensures { result ≡ all_free outline.now routine
         (text_names over.now ++ statement_names turn.now) }
 {

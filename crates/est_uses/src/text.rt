@@ -5,7 +5,7 @@ ghost use Rattle.std.specs.Prelude.{◌≡◌};
 ghost use Rattle.est_uses.specs.Closed.{all_free};
 ghost use Rattle.est_uses.specs.NamesInTexts.{constant_names, constants_names};
 ghost use Rattle.est_uses.specs.NamesInTexts.{text_names, texts_names};
-ghost use Rattle.est_uses.specs.NamesInTexts.{var_def_names, var_defs_names};
+ghost use Rattle.est_uses.specs.NamesInTexts.{vardef_names, vardefs_names};
 
 use crate::free::is_free;
 use est_scope::outline::Outline;
@@ -48,7 +48,7 @@ pub fn type_text(outline: &Outline, routine: u32, text: &TypeText) -> bool
         TypeText::Array { index, of, .. } => {
             type_texts(outline, routine, index.as_slice()) && type_text(outline, routine, of.get())
         }
-        TypeText::Fields { fields, .. } => var_defs(outline, routine, fields.as_slice()),
+        TypeText::Fields { fields, .. } => vardefs(outline, routine, fields.as_slice()),
         TypeText::Set { of, .. } => type_text(outline, routine, of.get()),
     }
 }
@@ -68,19 +68,19 @@ fn type_texts(outline: &Outline, routine: u32, texts: &[TypeText]) -> bool
 
 // Whether the routine may name what names declared with one type look up.
 #[cycle(type_text)]
-fn var_def(outline: &Outline, routine: u32, def: &VarDef) -> bool
-    ensures { result ≡ all_free outline.now routine (var_def_names def.now) }
+fn vardef(outline: &Outline, routine: u32, def: &VarDef) -> bool
+    ensures { result ≡ all_free outline.now routine (vardef_names def.now) }
 {
     type_text(outline, routine, &def.text)
 }
 
 /// Whether the routine may name what names declared with their types look up.
 #[cycle(type_text)]
-pub fn var_defs(outline: &Outline, routine: u32, defs: &[VarDef]) -> bool
-    ensures { result ≡ all_free outline.now routine (var_defs_names defs.now) }
+pub fn vardefs(outline: &Outline, routine: u32, defs: &[VarDef]) -> bool
+    ensures { result ≡ all_free outline.now routine (vardefs_names defs.now) }
 {
     for def in defs {
-        if !var_def(outline, routine, def) {
+        if !vardef(outline, routine, def) {
             return false;
         }
     }

@@ -1,5 +1,6 @@
 -- What the parts of a body break, over lists.
 use Rattle.std.specs.Prelude.{ℕ, Bool, true, false, List, [], ◌∷◌, ◌++◌, Option, Some, None}
+use Rattle.std.specs.Prelude.{is_some}
 use Rattle.est_syntax.specs.declared.rule.Fault.{Fault}
 use Rattle.est_syntax.specs.declared.body.Block.{Block}
 use Rattle.est_syntax.specs.declared.body.FirstPart.{FirstPart}
@@ -12,8 +13,9 @@ use Rattle.est_syntax.specs.declared.transition.Transition.{Transition}
 use Rattle.est_scope.specs.Outline.{Outline}
 use Rattle.est_scope.specs.Uses.{twice_faults}
 use Rattle.est_types.specs.DeclarationFaults.{parts_faults, clauses_faults, formals_faults}
-use Rattle.est_types.specs.DeclarationFaults.{result_faults, is_function, vars_scalars}
-use Rattle.est_types.specs.DeclarationFaults.{scalars_faults, is_first, first_state_faults}
+use Rattle.est_types.specs.DeclarationFaults.{result_faults, vars_scalars, scalars_faults}
+use Rattle.est_types.specs.DeclarationFaults.{first_state_faults}
+use Rattle.est_types.specs.declared.modules.Owner.TheVariants as owners
 
 -- the scalars of the `var` sections among parts
 abbrev pub parts_scalars : Outline → ℕ → List Part → ℕ
@@ -28,10 +30,10 @@ have_states (_ ∷ rest) = have_states rest
 
 abbrev pub has_first : Option FirstPart → Bool
 has_first None = false
-has_first (Some f) = is_first f.to
+has_first (Some f) = is_some f.to
 
 abbrev pub block_faults : Outline → Block → List Fault
-block_faults o b = parts_faults o false b.parts
+block_faults o b = parts_faults o owners.Body b.parts
 
 abbrev pub first_part_faults : Outline → Option FirstPart → List Fault
 first_part_faults o None = []
@@ -53,7 +55,7 @@ groups_faults o (g ∷ gs) = group_faults o g ++ groups_faults o gs
 
 abbrev pub body_faults : Outline → Body → List Fault
 body_faults o b =
-    twice_faults o (out-Body b).name ++ parts_faults o false (out-Body b).parts
+    twice_faults o (out-Body b).name ++ parts_faults o owners.Body (out-Body b).parts
     ++ first_part_faults o (out-Body b).first ++ groups_faults o (out-Body b).groups
     ++ first_state_faults (have_states (out-Body b).parts) (has_first (out-Body b).first)
     (out-Body b).name.place
@@ -62,7 +64,7 @@ body_faults o b =
 abbrev pub routine_faults : Outline → Routine → List Fault
 routine_faults o r =
     twice_faults o (out-Routine r).name
-    ++ formals_faults o (is_function (out-Routine r).result) (out-Routine r).formals
+    ++ formals_faults o (out-Routine r).result (out-Routine r).formals
     ++ result_faults o (out-Routine r).result
-    ++ parts_faults o false (out-Routine r).block.parts
+    ++ parts_faults o owners.Body (out-Routine r).block.parts
     ++ scalars_faults (parts_scalars o 0 (out-Routine r).block.parts) (out-Routine r).name.place

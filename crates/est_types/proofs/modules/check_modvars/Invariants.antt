@@ -4,6 +4,6 @@ use Rattle.est_types.specs.DeclarationFaults.{modvars_faults}
 use Rattle.est_types.proofs.modules.check_modvars.Given as goal
 
 abbrev pub invariant-loop-item : goal.invariant-loop-item
-invariant-loop-item l = least_with l.least.at (modvars_faults l.outline l.outer
-    (drop l.item-index l.items)) ≡ least_with l.fn.least.at (modvars_faults l.outline l.outer
+invariant-loop-item l = least_with l.least.at (modvars_faults l.outline l.owner
+    (drop l.item-index l.items)) ≡ least_with l.fn.least.at (modvars_faults l.outline l.owner
     l.items)

@@ -16,6 +16,6 @@ check_groups-loop-item-preserved t c = least_loop (groups_faults c.args.outline.
     c.item-item.is c.in_ok-check_group.ensures c.loop-item.invariant
 
 pub check_parts-loop-part-preserved : goal.check_parts-loop-part-preserved
-check_parts-loop-part-preserved t c = least_loop (parts_faults c.args.outline.now c.args.outer)
-    (part_faults c.args.outline.now c.args.outer) _ _ _ _ _ _ (λ y ys. refl) c.loop-part-test.true
+check_parts-loop-part-preserved t c = least_loop (parts_faults c.args.outline.now c.args.owner)
+    (part_faults c.args.outline.now c.args.owner) _ _ _ _ _ _ (λ y ys. refl) c.loop-part-test.true
     c.part-item.is c.in_ok-check_part.ensures c.loop-part.invariant

@@ -14,5 +14,5 @@ invariant-check_groups-loop-item l = least_with l.least.at
     (groups_faults l.outline l.items)
 
 abbrev pub invariant-check_parts-loop-part : goal.invariant-check_parts-loop-part
-invariant-check_parts-loop-part l = least_with l.least.at (parts_faults l.outline l.outer
-    (drop l.part-index l.parts)) ≡ least_with l.fn.least.at (parts_faults l.outline l.outer l.parts)
+invariant-check_parts-loop-part l = least_with l.least.at (parts_faults l.outline l.owner
+    (drop l.part-index l.parts)) ≡ least_with l.fn.least.at (parts_faults l.outline l.owner l.parts)

@@ -1,8 +1,0 @@
-use Rattle.std.proofs.Common.{◌≡◌, drop}
-use Rattle.est_scope.specs.LeastSoFar.{least_with}
-use Rattle.est_types.specs.DeclarationFaults.{bys_faults}
-use Rattle.est_types.proofs.modules.check_bys.Given as goal
-
-abbrev pub invariant-loop-item : goal.invariant-loop-item
-invariant-loop-item l = least_with l.least.at (bys_faults l.outline l.channel
-    (drop l.item-index l.items)) ≡ least_with l.fn.least.at (bys_faults l.outline l.channel l.items)

@@ -1,9 +1,0 @@
-use Rattle.std.proofs.Common.{refl}
-use Rattle.est_scope.proofs.LeastLaws.{least_loop}
-use Rattle.est_types.specs.DeclarationFaults.{vars_faults, var_faults}
-use Rattle.est_types.proofs.sections.check_vars.Goals as goal
-
-pub loop-item-preserved : goal.loop-item-preserved
-loop-item-preserved c = least_loop (vars_faults c.args.outline.now) (var_faults c.args.outline.now)
-    _ _ _ _ _ _ (λ y ys. refl) c.loop-item-test.true c.item-item.is c.in_ok-check_var.ensures
-    c.loop-item.invariant
