@@ -263,7 +263,8 @@ queue_given_is (Some q) = f_in (queue_is q)
 abbrev pub of_dimensions : Sort
 of_dimensions = of_option (of_at (of_pair (of_parts short_types) of_nothing))
 
-pub dimensions_are : (place : ℕ) (ds : List TypeText) → IsOf of_dimensions (shown.dimensions place ds)
+pub dimensions_are : (place : ℕ) (ds : List TypeText)
+    → IsOf of_dimensions (shown.dimensions place ds)
 dimensions_are place [] = f_out
 dimensions_are place (d ∷ ds) =
     f_in (f_at place (f_pair (are a_short_type short_types (λ x. refl) (d ∷ ds)) f_empty))
@@ -439,6 +440,7 @@ pub expr_given_is : (o : Option Expr) → IsOf (of_option (of_part exprs)) (show
 expr_given_is None = f_out
 expr_given_is (Some e) = f_in (f_part (an_expr e) refl)
 
-pub access_given_is : (o : Option Access) → IsOf (of_option (of_part accesses)) (shown.access_given o)
+pub access_given_is : (o : Option Access)
+    → IsOf (of_option (of_part accesses)) (shown.access_given o)
 access_given_is None = f_out
 access_given_is (Some a) = f_in (f_part (an_access a) refl)
