@@ -1,18 +1,25 @@
 //! The table of a specification.
 
-ghost use Rattle.std.specs.Prelude.{◌≡◌, IfOk, None};
+ghost use Rattle.std.specs.Prelude.{◌≡◌, IfOk, None, Some};
+ghost use Rattle.std.specs.Option.{option_copied, option_map};
 ghost use Rattle.est_syntax.specs.Least.{IsIn, IsLeast};
+ghost use Rattle.est_scope.specs.Outline.{meant};
 ghost use Rattle.est_scope.specs.LeastSoFar.{least_with};
+ghost use Rattle.est_kinds.specs.Constants.{value_by};
 ghost use Rattle.est_outline.specs.Bodies.{outline_of};
 ghost use Rattle.est_types.specs.DeclarationFaults.{parts_faults, declaration_faults};
+ghost use Rattle.est_types.specs.Table.{declaration, kind_of, constant_of, dims_at};
 ghost use Rattle.est_types.specs.declared.modules.Owner.TheVariants as owners;
 
 use crate::modules::Owner;
 use crate::parts::check_parts;
 use est_items::Boxed;
 use est_outline::bodies::outline_of;
+use est_scope::declaration::{Declared, Entry, Meant, Sort};
 use est_scope::least::Least;
 use est_scope::outline::Outline;
+use est_syntax::kind::{Kind, Kinds};
+use est_syntax::name::Name;
 use est_syntax::rule::Fault;
 use est_syntax::specification::Spec;
 use std::alloc::{AllocError, Global};
@@ -52,6 +59,13 @@ impl Drop for Table {
 }
 
 impl Table {
+    /// What a name means at a place.
+    pub fn meant(&self, name: &Name, place: u32) -> Meant
+        ensures { result ≡ meant self.now.outline name.now.bytes place }
+    {
+        self.kept.get().outline.meant(name, place)
+    }
+
     /// All that the specification declares.
     pub fn outline(&self) -> &Outline
         ensures { result.now ≡ self.now.outline }
@@ -59,11 +73,71 @@ impl Table {
         &self.kept.get().outline
     }
 
+    /// The sort and the body of the name that is declared at a place.
+    pub fn declaration(&self, place: u32) -> Option<&Declared>
+        ensures { option_copied result ≡ declaration self.now.outline place }
+    {
+        match self.kept.get().outline.entry(place) {
+            None => None,
+            Some(entry) => Some(&entry.declared),
+        }
+    }
+
+    /// The kind of the name that is declared at a place, for a function that of its result.
+    pub fn kind_of(&self, place: u32) -> Option<&Kind>
+        ensures { option_copied result ≡ kind_of self.now.outline place }
+    {
+        match self.kept.get().outline.entry(place) {
+            None => None,
+            Some(entry) => match &entry.kind {
+                None => None,
+                Some(measured) => Some(&measured.kind),
+            },
+        }
+    }
+
+    /// The ordinal of the constant that is declared at a place.
+    pub fn constant_of(&self, place: u32) -> Option<i32>
+        ensures { result ≡ constant_of self.now.outline place }
+    {
+        match self.kept.get().outline.entry(place) {
+            None => None,
+            Some(entry) => ordinal_of(entry),
+        }
+    }
+
+    /// The kinds of the subscripts of the interaction point or module variable that is declared at
+    /// a place: an empty list where it has no subscripts.
+    pub fn dims_of(&self, place: u32) -> Option<&Kinds>
+        ensures { option_copied result ≡ dims_at self.now.outline place }
+    {
+        match self.kept.get().outline.entry(place) {
+            None => None,
+            Some(entry) => match &entry.dims {
+                None => None,
+                Some(kinds) => Some(kinds.get()),
+            },
+        }
+    }
+
     /// The least rule that the declarations break, by place, and then by its number.
     pub fn first_fault(&self) -> Option<Fault>
         ensures { result ≡ self.now.fault }
     {
         self.kept.get().fault
+    }
+}
+
+// The ordinal of a declaration, where it is that of a constant and has one.
+fn ordinal_of(entry: &Entry) -> Option<i32>
+    ensures { result ≡ option_map (λ v. v.ordinal) (value_by (Some entry.now)) }
+{
+    if Sort::Constant != entry.declared.sort {
+        return None;
+    }
+    match &entry.kind {
+        None => None,
+        Some(_) => entry.ordinal,
     }
 }
 
