@@ -53,7 +53,7 @@ use Rattle.est_expressions.specs.Operators.{left_of, do_agree, do_match, result_
 use Rattle.est_expressions.specs.Operators.{operated, disagrees, right_faults, signed, sign_faults}
 use Rattle.est_expressions.specs.Operators.{with_member, member_disagrees, spanned, span_faults}
 use Rattle.est_expressions.specs.Selections.{Selection, Broken, Value, Component, Modules, Module}
-use Rattle.est_expressions.specs.Selections.{SomeModule, parameter, parameter_type, takes_so_many}
+use Rattle.est_expressions.specs.Selections.{SomeModule, declared_type, parameter, takes_so_many}
 use Rattle.est_expressions.specs.Selections.{argument_of, head_by, head_in, head_meant, head}
 use Rattle.est_expressions.specs.Selections.{predeclared_head, predeclared_faults, sort_faults}
 use Rattle.est_expressions.specs.Selections.{entry_faults, meant_faults, head_faults}
@@ -187,7 +187,7 @@ received_clean o None i t place h = absurd (true≢false (sym h))
 received_clean o (Some (receiver.Subscripts p)) i t place h =
     given_clean (subscript_in (dims_in (entry_at o p)) i) t place h
 received_clean o (Some (receiver.Parameters p)) i t place h =
-    given_clean (parameter_type (parameter o p i)) t place h
+    given_clean (declared_type (parameter o p i)) t place h
 received_clean o (Some (receiver.Function f)) i t place h = argument_clean f t place h
 
 count_clean : (o : Outline) (r : Option Receiver) (n name : ℕ) → is_number o r n ≡ true

@@ -1,6 +1,8 @@
 -- What a name in an expression stands for (ISO 7185, 6.5 and 6.7.1; ISO 9074, exported variables).
 use Rattle.std.specs.Prelude.{ℕ, ◌-◌, Bool, true, false, ◌||◌, ◌&&◌, not, nat_eq}
-use Rattle.std.specs.Prelude.{List, [], ◌∷◌, Option, Some, None, if◌then◌else◌, codes}
+use Rattle.std.specs.Prelude.{List, [], ◌∷◌, Option, Some, None, is_some, option_and_then}
+use Rattle.std.specs.Prelude.{if◌then◌else◌, codes}
+use Rattle.std.specs.Option.{option_map}
 use Rattle.est_syntax.specs.Names.{is_name, spelled}
 use Rattle.est_syntax.specs.Faults.{broken}
 use Rattle.est_syntax.specs.declared.kind.Kind.{Kind}
@@ -51,10 +53,13 @@ selects (code.Modules p) = Modules p
 selects (code.Module p) = Module p
 selects code.SomeModule = SomeModule
 
--- the type of a declaration, where it has a kind
+-- the type of what has this kind, where it has one
 abbrev pub type_in : Option Measured → Option Yielded
-type_in None = None
-type_in (Some m) = Some (type_of m.kind)
+type_in kind = option_map (λ (m : Measured). type_of m.kind) kind
+
+-- the type of what is declared, where it has a kind
+abbrev pub declared_type : Option Entry → Option Yielded
+declared_type entry = option_and_then (λ (e : Entry). type_in e.kind) entry
 
 -- what a call, an `init` or an `output` gives a value or a variable to
 abbrev pub is_parameter : Section → Bool
@@ -64,35 +69,26 @@ is_parameter section.Place = true
 is_parameter section.Interaction = true
 is_parameter _ = false
 
-abbrev pub parameter_by : Option Entry → Option Entry
-parameter_by None = None
-parameter_by (Some e) = if is_parameter e.section then Some e else None
+-- a declaration, where it is a parameter
+abbrev pub parameter_in : Entry → Option Entry
+parameter_in e = if is_parameter e.section then Some e else None
 
+-- the parameter at a place, if one is declared there
 abbrev pub parameter_at : Outline → Option ℕ → Option Entry
-parameter_at o None = None
-parameter_at o (Some p) = parameter_by (entry_at o p)
+parameter_at o place = option_and_then parameter_in (option_and_then (entry_at o) place)
 
 -- the parameter that has this number, counted from 0, of what is declared at a place: its region
 -- begins with its parameters
 abbrev pub parameter : Outline → ℕ → ℕ → Option Entry
 parameter o place i = parameter_at o (nth o place i)
 
-abbrev pub is_there : Option Entry → Bool
-is_there None = false
-is_there (Some e) = true
-
 -- whether there is a parameter for each argument
 abbrev pub has_before : Outline → ℕ → ℕ → Bool
-has_before o place n = nat_eq n 0 || is_there (parameter o place (n - 1))
+has_before o place n = nat_eq n 0 || is_some (parameter o place (n - 1))
 
 -- whether there are as many parameters as this
 abbrev pub takes_so_many : Outline → ℕ → ℕ → Bool
-takes_so_many o place n = has_before o place n && not (is_there (parameter o place n))
-
--- the type of a parameter
-abbrev pub parameter_type : Option Entry → Option Yielded
-parameter_type None = None
-parameter_type (Some e) = type_in e.kind
+takes_so_many o place n = has_before o place n && not (is_some (parameter o place n))
 
 -- the functions that are predeclared (ISO 7185, 6.6.6): those of integers alone, and all
 abbrev pub integer_function : List ℕ → Option Required

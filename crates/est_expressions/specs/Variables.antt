@@ -1,7 +1,8 @@
 -- Components of variables, and exported variables of modules (ISO 7185, 6.5.3; ISO 9074, exported
 -- variables).
 use Rattle.std.specs.Prelude.{ℕ, Bool, true, false, List, [], ◌∷◌}
-use Rattle.std.specs.Prelude.{◌++◌, Option, Some, None, if◌then◌else◌}
+use Rattle.std.specs.Prelude.{◌++◌, Option, Some, None, option_and_then, if◌then◌else◌}
+use Rattle.std.specs.Option.{option_map_or}
 use Rattle.est_syntax.specs.Names.{is_name, spelled}
 use Rattle.est_syntax.specs.Faults.{broken}
 use Rattle.est_syntax.specs.declared.kind.Kind.{Kind, out-Kind}
@@ -86,24 +87,22 @@ is_export e = exported e.section e.declared.sort
     exported section.Header sort.Variable = true
     exported _ _ = false
 
+-- the header of a declaration, if it has one
 abbrev pub header_in : Option Entry → Option ℕ
-header_in None = None
-header_in (Some e) = e.header
+header_in entry = option_and_then (λ (e : Entry). e.header) entry
 
-abbrev pub declared_at : Outline → Option Standing → Option Entry
-declared_at o None = None
-declared_at o (Some s) = entry_at o s.place
-
+-- what a header declares under a name
 abbrev pub of_header : Outline → ℕ → Used → Option Entry
-of_header o header u = declared_at o (standing o header (spelled u))
+of_header o header u =
+    option_and_then (λ (s : Standing). entry_at o s.place) (standing o header (spelled u))
 
 abbrev pub export_by : Option Entry → Selection
 export_by None = Broken
 export_by (Some e) = if is_export e then variable_head e.kind else Broken
 
+-- whether a header has exported variables
 abbrev pub has_exports : Option Entry → Bool
-has_exports None = false
-has_exports (Some e) = e.exports
+has_exports header = option_map_or (λ (e : Entry). e.exports) header false
 
 abbrev pub export_of : Outline → Option ℕ → Used → Selection
 export_of o None u = Broken
