@@ -1,10 +1,11 @@
 -- An expression that yields something breaks no rule.
-use Rattle.std.specs.Prelude.{if◌then◌else◌, nat_lt, ◌^◌, ◌&&◌}
+use Rattle.std.specs.Prelude.{if◌then◌else◌, nat_le, ◌&&◌}
 use Rattle.std.proofs.lemmas.Option.{none-some}
 use Rattle.std.proofs.Common.{◌≡◌, refl, sym, ap, ◌∙◌, true≢false, ℕ, ◌+◌, Bool}
 use Rattle.std.proofs.Common.{true, false, List, [], ◌++◌, Option, Some, None}
 use Rattle.est_syntax.specs.Names.{spelled}
 use Rattle.est_syntax.specs.Faults.{broken}
+use Rattle.est_syntax.specs.Kinds.{maxint}
 use Rattle.est_syntax.specs.declared.expression.Expr.{Expr, Expr', Held-Expr-relation}
 use Rattle.est_syntax.specs.declared.expression.Expr.{Expr-relation-None', Expr-relation-Some'}
 use Rattle.est_syntax.specs.declared.expression.Factor.{Factor, Row_of-Expr, end_of-Expr}
@@ -417,7 +418,7 @@ mutual
 
   factor_clean : (o : Outline) (f : Factor) (x : Yielded) → factor_type o f ≡ Some x
       → factor_faults o f ≡ []
-  factor_clean o (factor.Number n place) x h = met (nat_lt n (2 ^ 31)) _ x place rule.NumberTooLarge
+  factor_clean o (factor.Number n place) x h = met (nat_le n maxint) _ x place rule.NumberTooLarge
       h
   factor_clean o (factor.Character c place) x h = refl
   factor_clean o (factor.Group' p e place) x h = box_clean o e x h

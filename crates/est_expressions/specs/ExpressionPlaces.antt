@@ -1,7 +1,8 @@
 -- The places of expressions, and numbers in them (ISO 7185, 6.7.1).
-use Rattle.std.specs.Prelude.{ℕ, ◌-◌, ◌^◌, Bool, nat_lt, List, []}
+use Rattle.std.specs.Prelude.{ℕ, ◌-◌, Bool, nat_le, List, []}
 use Rattle.std.specs.Prelude.{Option, Some, None, if◌then◌else◌}
 use Rattle.est_syntax.specs.Faults.{broken}
+use Rattle.est_syntax.specs.Kinds.{maxint}
 use Rattle.est_syntax.specs.declared.expression.Expr.{Expr, out-Expr}
 use Rattle.est_syntax.specs.declared.expression.Factor.{Factor}
 use Rattle.est_syntax.specs.declared.expression.Factor.TheVariants as factor
@@ -36,7 +37,8 @@ expr_place e = (out-Expr e).place
 
 -- a number, which is an integer up to the greatest one
 abbrev pub number_type : ℕ → Option Yielded
-number_type n = if nat_lt n (2 ^ 31) then Some (Ordinal host.Integer) else None
+number_type n = if nat_le n maxint then Some (Ordinal host.Integer) else None
 
+-- what one breaks that exceeds it
 abbrev pub too_large_faults : ℕ → ℕ → List Fault
-too_large_faults n place = if nat_lt n (2 ^ 31) then [] else broken place NumberTooLarge
+too_large_faults n place = if nat_le n maxint then [] else broken place NumberTooLarge
