@@ -113,7 +113,7 @@ fn check_simple<'o>(
     let first = check_term(outline, &simple.first, least);
     let place = term_place(&simple.first);
     check_sign(simple.sign, first, place, least);
-    check_sum(
+    check_sum_steps(
         outline,
         signed(simple.sign, first),
         sign_place(simple.sign, place),
@@ -124,7 +124,7 @@ fn check_simple<'o>(
 
 // Checks the steps of a sum, which begins at a place, after its first operand.
 #[cycle(expressions)]
-fn check_sum<'o>(
+fn check_sum_steps<'o>(
     outline: &'o Outline,
     first: Option<ValueType<'o>>,
     place: u32,
@@ -167,7 +167,7 @@ fn check_term<'o>(outline: &'o Outline, term: &Term, least: &mut Least) -> Optio
     ensures faults { least.new.at ≡ least_with least.old.at (term_faults outline.now term.now) }
 {
     let first = check_factor(outline, &term.first, least);
-    check_product(
+    check_product_steps(
         outline,
         first,
         factor_place(&term.first),
@@ -178,7 +178,7 @@ fn check_term<'o>(outline: &'o Outline, term: &Term, least: &mut Least) -> Optio
 
 // Checks the steps of a product, which begins at a place, after its first operand.
 #[cycle(expressions)]
-fn check_product<'o>(
+fn check_product_steps<'o>(
     outline: &'o Outline,
     first: Option<ValueType<'o>>,
     place: u32,
@@ -229,7 +229,7 @@ fn check_factor<'o>(
         Factor::Number { number, place } => check_number(*number, *place, least),
         Factor::Character { code: _, place: _ } => Some(ValueType::Ordinal(Host::Char)),
         Factor::Group { of, place: _ } => check_expr(outline, of.get(), least),
-        Factor::Not { of, place: _ } => check_not(outline, of.get(), least),
+        Factor::Not { of, place: _ } => check_negation(outline, of.get(), least),
         Factor::Set { members, place: _ } => check_members(outline, members.as_slice(), least),
         Factor::Variable {
             name,
@@ -244,9 +244,13 @@ fn check_factor<'o>(
     }
 }
 
-// Checks the operand of a `not`.
+// Checks a negation, by its operand.
 #[cycle(expressions)]
-fn check_not<'o>(outline: &'o Outline, factor: &Factor, least: &mut Least) -> Option<ValueType<'o>>
+fn check_negation<'o>(
+    outline: &'o Outline,
+    factor: &Factor,
+    least: &mut Least,
+) -> Option<ValueType<'o>>
     ensures kind { yielded result ≡ kept wanted.Boolean (factor_type outline.now factor.now) }
     ensures faults { least.new.at ≡ least_with least.old.at
         (factor_faults outline.now factor.now
@@ -289,14 +293,14 @@ fn check_member<'o>(
 {
     let low = check_expr(outline, &member.low, least);
     wants(Wanted::Ordinal, low, member.low.place, least);
-    let kind = check_high(outline, low, &member.high, least);
+    let kind = check_later_end(outline, low, &member.high, least);
     check_host(set, low, member.low.place, least);
     with_member(set, kind)
 }
 
-// Checks the last one of members from one to another, if there is one.
+// Checks the later end of members from one to another, if there is one.
 #[cycle(expressions)]
-fn check_high<'o>(
+fn check_later_end<'o>(
     outline: &'o Outline,
     low: Option<ValueType<'o>>,
     high: &Option<Expr>,

@@ -28,8 +28,8 @@ invariant-check_members-loop-member l =
     × (least_with l.least.at (members_faults l.outline (yielded l.set) (drop l.member-index l.list))
     ≡ least_with l.fn.least.at (members_faults l.outline (Some (Set None)) l.list))
 
-abbrev pub invariant-check_product-loop-step : goal.invariant-check_product-loop-step
-invariant-check_product-loop-step l =
+abbrev pub invariant-check_product_steps-loop-step : goal.invariant-check_product_steps-loop-step
+invariant-check_product_steps-loop-step l =
     (multiplied l.outline (yielded l.kind) (drop l.step-index l.steps) ≡ multiplied l.outline
     (yielded l.fn.first) l.steps)
     × (least_with l.least.at (multiplied_faults l.outline (yielded l.kind) l.place
@@ -53,8 +53,8 @@ invariant-check_selectors-loop-selector l =
     (drop l.selector-index l.path))
     ≡ least_with l.fn.least.at (selected_faults l.outline (selects l.fn.start) l.name l.path))
 
-abbrev pub invariant-check_sum-loop-step : goal.invariant-check_sum-loop-step
-invariant-check_sum-loop-step l =
+abbrev pub invariant-check_sum_steps-loop-step : goal.invariant-check_sum_steps-loop-step
+invariant-check_sum_steps-loop-step l =
     (summed l.outline (yielded l.kind) (drop l.step-index l.steps) ≡ summed l.outline
     (yielded l.fn.first) l.steps)
     × (least_with l.least.at (summed_faults l.outline (yielded l.kind) l.place
