@@ -485,7 +485,8 @@ fn check_call<'o>(
     let first = &arguments[0];
     let kind = check_expr(outline, first, least);
     let taken = check_one(outline, receiver, 0, kind, first.place, least);
-    let all = check_rest(outline, receiver, 1, taken, name.place, arguments, least);
+    let rest = check_rest(outline, receiver, 1, name.place, arguments, least);
+    let all = taken && rest;
     call_by(outline, receiver, all, kind)
 }
 
@@ -503,27 +504,25 @@ pub fn check_taken(
     ensures faults { least.new.at ≡ least_with least.old.at
         (are_taken_faults outline.now receiver 0 name exprs.now) }
 {
-    check_rest(outline, receiver, 0, true, name, exprs, least)
+    check_rest(outline, receiver, 0, name, exprs, least)
 }
 
-// The same from a number on, where those before were taken or not.
+// The same of those from a number on.
 #[cycle(expressions)]
 fn check_rest(
     outline: &Outline,
     receiver: Option<Receiver>,
     from: usize,
-    before: bool,
     name: u32,
     exprs: &[Expr],
     least: &mut Least,
 ) -> bool
     requires { from ≤ length exprs.now }
-    ensures taken { result
-        ≡ before && are_taken outline.now receiver from (drop from exprs.now) }
+    ensures taken { result ≡ are_taken outline.now receiver from (drop from exprs.now) }
     ensures faults { least.new.at ≡ least_with least.old.at
         (are_taken_faults outline.now receiver from name (drop from exprs.now)) }
 {
-    let mut taken = before;
+    let mut taken = true;
     for number in from..exprs.len() {
         taken = check_numbered(outline, receiver, number, taken, &exprs[number], least);
     }
@@ -531,7 +530,7 @@ fn check_rest(
     taken && enough
 }
 
-// The same of the one that has this number.
+// Whether the one that has this number is taken, and those before it were. Notes what it breaks.
 #[cycle(expressions)]
 fn check_numbered(
     outline: &Outline,

@@ -39,7 +39,7 @@ invariant-check_product_steps-loop-step l =
 abbrev pub invariant-check_rest-loop-number : goal.invariant-check_rest-loop-number
 invariant-check_rest-loop-number l =
     ((l.taken && are_taken l.outline l.receiver l.number (drop l.number l.exprs))
-    ≡ (l.before && are_taken l.outline l.receiver l.from (drop l.from l.exprs)))
+    ≡ are_taken l.outline l.receiver l.from (drop l.from l.exprs))
     × (least_with l.least.at (are_taken_faults l.outline l.receiver l.number l.name
     (drop l.number l.exprs))
     ≡ least_with l.fn.least.at (are_taken_faults l.outline l.receiver l.from l.name
