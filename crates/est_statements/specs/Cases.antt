@@ -2,6 +2,7 @@
 use Rattle.std.specs.Prelude.{ℕ, ℤ, Bool, false, List, [], ◌∷◌, ◌++◌}
 use Rattle.std.specs.Prelude.{Option, Some, None, if◌then◌else◌}
 use Rattle.std.specs.Map.{lookup}
+use Rattle.std.specs.Option.{option_map_or}
 use Rattle.std.specs.Ordering.{int_eq}
 use Rattle.indexmap.specs.IndexMap.{insert_entry}
 use Rattle.est_syntax.specs.Faults.{broken}
@@ -25,8 +26,7 @@ chosen_host _ = None
 
 -- whether a constant is of this host
 abbrev pub is_kind_of : Host → Option Host → Bool
-is_kind_of h None = false
-is_kind_of h (Some g) = is_host h g
+is_kind_of h other = option_map_or (is_host h) other false
 
 -- the ordinal of a constant of the host
 abbrev pub ordinal_of : Option Host → Option Valued → Option ℤ

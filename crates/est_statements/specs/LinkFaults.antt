@@ -1,6 +1,7 @@
 -- Links between interaction points (ISO 9074, connect, disconnect, attach and detach).
 use Rattle.std.specs.Prelude.{ℕ, nat_eq, Bool, true, false, ◌&&◌, not, List}
 use Rattle.std.specs.Prelude.{[], ◌++◌, Option, Some, None, if◌then◌else◌}
+use Rattle.std.specs.Option.{option_map_or}
 use Rattle.est_syntax.specs.Names.{spelled}
 use Rattle.est_syntax.specs.Faults.{broken}
 use Rattle.est_syntax.specs.declared.channel.Role.{Role}
@@ -105,8 +106,7 @@ internal_faults o (Some p) place =
     if is_internal_point (entry_at o p) then [] else broken place WrongLink
 
 abbrev pub is_external_entry : Option Entry → Bool
-is_external_entry None = false
-is_external_entry (Some e) = is_external e.section
+is_external_entry entry = option_map_or (λ (e : Entry). is_external e.section) entry false
 
 abbrev pub external_faults : Outline → Option ℕ → ℕ → List Fault
 external_faults o None place = []

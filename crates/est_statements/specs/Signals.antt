@@ -1,5 +1,6 @@
 -- Interaction points and what passes them (ISO 9074, output and when-clause).
-use Rattle.std.specs.Prelude.{ℕ, Bool, List, [], ◌∷◌, ◌++◌, Option, Some, None, if◌then◌else◌}
+use Rattle.std.specs.Prelude.{ℕ, Bool, List, [], ◌∷◌, ◌++◌, Option, Some, None, option_and_then}
+use Rattle.std.specs.Prelude.{if◌then◌else◌}
 use Rattle.est_syntax.specs.Names.{spelled}
 use Rattle.est_syntax.specs.Faults.{broken}
 use Rattle.est_syntax.specs.declared.channel.Role.{Role}
@@ -25,15 +26,11 @@ use Rattle.est_expressions.specs.declared.receivers.Receiver.TheVariants as rece
 use Rattle.est_expressions.specs.Expressions.{are_taken_faults}
 use Rattle.est_expressions.specs.Accesses.{access_faults}
 
--- the channel and the role of the interaction point that a name means
-abbrev pub side_in : Option Entry → Option Side
-side_in None = None
-side_in (Some e) = e.side
-
+-- the channel and the role of the interaction point that is declared at a place
 abbrev pub side_at : Outline → Option ℕ → Option Side
-side_at o None = None
-side_at o (Some p) = side_in (entry_at o p)
+side_at o place = option_and_then (λ (e : Entry). e.side) (option_and_then (entry_at o) place)
 
+-- the channel and the role of the interaction point that a name means
 abbrev pub point_side : Outline → Used → Option Side
 point_side o at = side_at o (declaration_of o sort.Point at)
 
@@ -68,10 +65,12 @@ abbrev pub signal_in : Option Member → ℕ → Option Receiver
 signal_in (Some (member.Interaction s)) place = Some (receiver.Parameters place)
 signal_in _ place = None
 
+-- the interaction that stands in a channel, if one does
 abbrev pub signal_standing : Outline → Option Standing → Option Receiver
-signal_standing o None = None
-signal_standing o (Some s) = signal_in (member_at o s.place) s.place
+signal_standing o found =
+    option_and_then (λ (s : Standing). signal_in (member_at o s.place) s.place) found
 
+-- the interaction that a name means at a point of this side
 abbrev pub signal_of : Outline → Option Side → Used → Option Receiver
 signal_of o None u = None
 signal_of o (Some s) u = signal_standing o (standing o s.channel (spelled u))

@@ -3,6 +3,7 @@
 use Rattle.std.specs.Prelude.{ℕ, Bool, true, false, ◌&&◌, not, nat_lt, nat_eq, List, [], ◌∷◌}
 use Rattle.std.specs.Prelude.{◌++◌, Option, Some, None, if◌then◌else◌, length, slice_get}
 use Rattle.std.specs.List.{list_any}
+use Rattle.std.specs.Option.{option_map}
 use Rattle.est_syntax.specs.Names.{spelled}
 use Rattle.est_syntax.specs.Faults.{broken}
 use Rattle.est_syntax.specs.declared.expression.Expr.{Expr, out-Expr}
@@ -239,8 +240,7 @@ bare e = bare_by (out-Expr e).left (out-Expr e).relation
 
 -- what the program keeps says so
 abbrev pub variable_of : Option VariableAccess → Option Variable
-variable_of None = None
-variable_of (Some b) = Some (b.name.now, b.path.now)
+variable_of access = option_map (λ (a : VariableAccess). (a.name.now, a.path.now)) access
 
 -- what stands for a `var` parameter of this kind is alike to it
 abbrev pub unlike_faults : Option Measured → Selection → ℕ → List Fault
