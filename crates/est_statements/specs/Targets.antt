@@ -1,7 +1,8 @@
 -- What statements may write (ISO 7185, 6.8.2.2 and 6.8.3.9; ISO 9074, exported variables and
 -- module variables).
 use Rattle.std.specs.Prelude.{ℕ, Bool, true, false, ◌&&◌, not, nat_lt, nat_eq, List, [], ◌∷◌}
-use Rattle.std.specs.Prelude.{◌++◌, Option, Some, None, if◌then◌else◌, length, slice_get}
+use Rattle.std.specs.Prelude.{◌++◌, Option, Some, None, is_some, unwrap_or, if◌then◌else◌}
+use Rattle.std.specs.Prelude.{length, slice_get}
 use Rattle.std.specs.List.{list_any}
 use Rattle.std.specs.Option.{option_map}
 use Rattle.est_syntax.specs.Names.{spelled}
@@ -111,31 +112,24 @@ is_target_sort sort.ModuleVariable = true
 is_target_sort sort.Function = true
 is_target_sort _ = false
 
--- The subscripts of a module variable are counted also where it may not be written: those that
--- stand first, and after which stand no others.
-abbrev pub subscripts_in : Option Selector → ℕ
-subscripts_in None = 0
+-- how many subscripts a selector has, if it has some
+abbrev pub subscripts_in : Option Selector → Option ℕ
+subscripts_in None = None
 subscripts_in (Some x) = held (out-Selector x)
   where
     held : opened.Selector-F Factor Selector Expr Member ProductStep Relation Simple SumStep Term
-        → ℕ
-    held (opened.Index es place) = length es
-    held (opened.Field u) = 0
+        → Option ℕ
+    held (opened.Index es place) = Some (length es)
+    held (opened.Field u) = None
 
-abbrev pub is_index : Option Selector → Bool
-is_index None = false
-is_index (Some x) = held (out-Selector x)
-  where
-    held : opened.Selector-F Factor Selector Expr Member ProductStep Relation Simple SumStep Term
-        → Bool
-    held (opened.Index es place) = true
-    held (opened.Field u) = false
-
+-- whether as many subscripts as these kinds stand first, and no others after them
 abbrev pub are_subscripts : List Kind → List Selector → Bool
 are_subscripts ks path =
-    nat_eq (length ks) (subscripts_in (slice_get path 0))
-    && not (is_index (slice_get path 0) && is_index (slice_get path 1))
+    nat_eq (length ks) (unwrap_or (subscripts_in (slice_get path 0)) 0)
+    && not (is_some (subscripts_in (slice_get path 0))
+    && is_some (subscripts_in (slice_get path 1)))
 
+-- the subscripts of a module variable are counted also where it may not be written
 abbrev pub subscripts_faults : Option (List Kind) → List Selector → ℕ → List Fault
 subscripts_faults None path place = []
 subscripts_faults (Some ks) path place =
