@@ -1,6 +1,6 @@
 -- The rules that the clauses of transitions break (ISO 9074, transition-group and clauses).
 use Rattle.std.specs.Prelude.{ℕ, pos, int_lt, Bool, true, false, ◌&&◌, ◌||◌, not, nat_lt}
-use Rattle.std.specs.Prelude.{List, [], ◌∷◌, ◌++◌, Option, Some, None, if◌then◌else◌}
+use Rattle.std.specs.Prelude.{List, [], ◌∷◌, ◌++◌, Option, Some, None, is_some, if◌then◌else◌}
 use Rattle.est_syntax.specs.Faults.{broken, broken_if}
 use Rattle.est_syntax.specs.Kinds.{is_ordinal}
 use Rattle.est_syntax.specs.declared.name.Used.{Used}
@@ -24,12 +24,12 @@ use Rattle.est_scope.specs.Outline.{Outline, entry_at}
 use Rattle.est_scope.specs.Uses.{meaning, use_faults}
 use Rattle.est_kinds.specs.declared.value.Valued.{Valued}
 use Rattle.est_kinds.specs.Constants.{is_integer, constant_value, constant_faults, constant_place}
-use Rattle.est_kinds.specs.TypeTexts.{text_type, count, multiplied, is_declared}
+use Rattle.est_kinds.specs.TypeTexts.{text_type, count, multiplied}
 use Rattle.est_kinds.specs.Dims.{dim_faults}
 use Rattle.est_outline.specs.declared.context.ClauseKind.{ClauseKind}
 use Rattle.est_outline.specs.declared.context.ClauseKind.TheVariants as given
 use Rattle.est_outline.specs.declared.context.Given.{Given}
-use Rattle.est_outline.specs.Contexts.{dropped, given as with_given, region_of}
+use Rattle.est_outline.specs.Contexts as context
 use Rattle.est_expressions.specs.declared.operators.Wanted.TheVariants as wanted
 use Rattle.est_statements.specs.Signals.{signal_faults}
 use Rattle.est_statements.specs.Statements.{wanted_faults}
@@ -72,7 +72,7 @@ choices_by None = 1
 choices_by (Some m) = if is_ordinal m.kind then count m.kind else 1
 
 abbrev pub name_choices : Outline → ℕ → ℕ → Used → ℕ
-name_choices o choices n u = if is_declared (entry_at o u.place) then multiplied n choices else n
+name_choices o choices n u = if is_some (entry_at o u.place) then multiplied n choices else n
 
 abbrev pub names_choices : Outline → ℕ → ℕ → List Used → ℕ
 names_choices o choices n [] = n
@@ -147,19 +147,16 @@ clause_place (clause.Priority value place) = place
 clause_place (clause.Delay least most place) = place
 
 abbrev pub with_clause : List Given → Clause → List Given
-with_clause gs c = with_given (kind_of c) (Some (clause_place c)) (dropped (kind_of c) gs)
+with_clause gs c =
+    context.given (kind_of c) (Some (clause_place c)) (context.dropped (kind_of c) gs)
 
 abbrev pub with_clauses : List Given → List Clause → List Given
 with_clauses gs [] = gs
 with_clauses gs (c ∷ cs) = with_clauses (with_clause gs c) cs
 
 -- whether a transition has a clause of a kind
-abbrev pub is_there : Option ℕ → Bool
-is_there None = false
-is_there (Some place) = true
-
 abbrev pub has : ClauseKind → List Given → Bool
-has k gs = is_there (region_of k gs)
+has k gs = is_some (context.region_of k gs)
 
 -- a delay stands without a `when` and without an `any`
 abbrev pub delay_by : Option ℕ → List Given → List Fault
@@ -167,4 +164,4 @@ delay_by None gs = []
 delay_by (Some place) gs = broken_if (has given.When gs || has given.Any gs) place DelayNotAlone
 
 abbrev pub delay_faults : List Given → List Fault
-delay_faults gs = delay_by (region_of given.Delay gs) gs
+delay_faults gs = delay_by (context.region_of given.Delay gs) gs
