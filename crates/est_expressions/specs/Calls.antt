@@ -46,30 +46,36 @@ abbrev pub count_faults : Outline → Option Receiver → ℕ → ℕ → List F
 count_faults o None n place = []
 count_faults o (Some r) n place = number_faults o r n place
 
--- what is called: a function that is declared or predeclared
+-- what is called where this is declared at a place: a function
 abbrev pub declared_callee : Bool → ℕ → Option Receiver
 declared_callee function p = if function then Some (receiver.Parameters p) else None
 
+-- what is called by a name that is predeclared, where it is a function's
 abbrev pub required_callee : Option Required → Option Receiver
 required_callee function = option_map (λ (f : Required). receiver.Function f) function
 
+-- what a name of this meaning calls
 abbrev pub callee_meant : Outline → List ℕ → Meant → Option Receiver
 callee_meant o name Predeclared = required_callee (required_function name)
 callee_meant o name (Seen p) = declared_callee (is_sort sort.Function (entry_at o p)) p
 callee_meant o name _ = None
 
+-- what a name calls
 abbrev pub callee : Outline → Used → Option Receiver
 callee o u = callee_meant o (spelled u) (meaning o u)
 
+-- what a name breaks that calls nothing
 abbrev pub no_callee : Option Receiver → ℕ → List Fault
 no_callee None place = broken place WrongSort
 no_callee (Some r) place = []
 
+-- what a name of this meaning breaks where a function is called
 abbrev pub callee_faults_by : Outline → List ℕ → Meant → ℕ → List Fault
 callee_faults_by o name Nothing place = broken place UnknownName
 callee_faults_by o name (Unseen p) place = broken place NotSeenHere
 callee_faults_by o name m place = no_callee (callee_meant o name m) place
 
+-- what a name breaks where a function is called
 abbrev pub callee_faults : Outline → Used → List Fault
 callee_faults o u = callee_faults_by o (spelled u) (meaning o u) u.place
 

@@ -13,7 +13,7 @@ use Rattle.est_syntax.specs.declared.rule.Rule.TheVariants.{NumberTooLarge}
 use Rattle.est_alike.specs.declared.types.Host.TheVariants as host
 use Rattle.est_alike.specs.Types.{Yielded, Ordinal}
 
--- the places of first tokens: a sign stands before its operand
+-- the place of the first token of an operand
 abbrev pub factor_place : Factor → ℕ
 factor_place (factor.Number n place) = place
 factor_place (factor.Character c place) = place
@@ -23,15 +23,19 @@ factor_place (factor.Set' n members place) = place
 factor_place (factor.Variable' name n path place) = place
 factor_place (factor.Call' name n arguments place) = place
 
+-- that of a product
 abbrev pub term_place : Term → ℕ
 term_place (Term' first n rest) = factor_place first
 
+-- that of a sum whose first operand begins at this place: a sign stands before it
 abbrev pub sign_place : Bool → ℕ → ℕ
 sign_place sign place = if sign then place - 1 else place
 
+-- that of a sum
 abbrev pub simple_place : Simple → ℕ
 simple_place (Simple' minus sign first n rest) = sign_place sign (term_place first)
 
+-- that of an expression
 abbrev pub expr_place : Expr → ℕ
 expr_place e = (out-Expr e).place
 

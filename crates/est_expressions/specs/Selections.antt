@@ -90,13 +90,14 @@ has_before o place n = nat_eq n 0 || is_some (parameter o place (n - 1))
 abbrev pub takes_so_many : Outline → ℕ → ℕ → Bool
 takes_so_many o place n = has_before o place n && not (is_some (parameter o place n))
 
--- the functions that are predeclared (ISO 7185, 6.6.6): those of integers alone, and all
+-- the functions of integers that are predeclared (ISO 7185, 6.6.6)
 abbrev pub integer_function : List ℕ → Option Required
 integer_function name =
     if is_name name (codes "abs") then Some required.Abs else
     (if is_name name (codes "odd") then Some required.Odd else
     (if is_name name (codes "sqr") then Some required.Sqr else None))
 
+-- all functions that are predeclared (ISO 7185, 6.6.6)
 abbrev pub required_function : List ℕ → Option Required
 required_function name =
     if is_name name (codes "ord") then Some required.Ord else
@@ -104,13 +105,14 @@ required_function name =
     (if is_name name (codes "succ") then Some required.Succ else
     (if is_name name (codes "pred") then Some required.Pred else integer_function name)))
 
--- what they take and give
+-- what they take
 abbrev pub argument_of : Required → Wanted
 argument_of required.Ord = wanted.Ordinal
 argument_of required.Succ = wanted.Ordinal
 argument_of required.Pred = wanted.Ordinal
 argument_of _ = wanted.Integer
 
+-- what they give for an argument of a type
 abbrev pub value_of : Required → Yielded → Yielded
 value_of required.Chr t = Ordinal host.Char
 value_of required.Odd t = Ordinal host.Boolean
@@ -123,6 +125,7 @@ abbrev pub host_value : Option Host → Selection
 host_value None = Broken
 host_value (Some h) = Value (Ordinal h)
 
+-- what the name of something predeclared is in an expression: a constant, or nothing
 abbrev pub predeclared_head : Option Valued → Selection
 predeclared_head None = Broken
 predeclared_head (Some v) = host_value (host_in v.host)
@@ -147,7 +150,7 @@ module_head (Some (k ∷ ks)) p = Modules p
 abbrev pub function_head : Bool → Option Measured → Selection
 function_head takes k = if takes then value_head k else Broken
 
--- what a declaration is in an expression
+-- what a declaration of this sort is in an expression
 abbrev pub head_by : Outline → ℕ → Entry → Sort → Selection
 head_by o p e sort.Constant = value_head e.kind
 head_by o p e sort.Variable = variable_head e.kind
@@ -155,29 +158,32 @@ head_by o p e sort.ModuleVariable = module_head e.dims p
 head_by o p e sort.Function = function_head (takes_so_many o p 0) e.kind
 head_by o p e _ = Broken
 
+-- what is declared at a place is in an expression
 abbrev pub head_in : Outline → ℕ → Option Entry → Selection
 head_in o p None = Broken
 head_in o p (Some e) = head_by o p e e.declared.sort
 
--- what a name is in an expression
+-- what a name of this meaning is in an expression
 abbrev pub head_meant : Outline → List ℕ → Meant → Selection
 head_meant o name Predeclared = predeclared_head (predeclared_constant name)
 head_meant o name (Seen p) = head_in o p (entry_at o p)
 head_meant o name _ = Broken
 
+-- what a name is in an expression
 abbrev pub head : Outline → Used → Selection
 head o u = head_meant o (spelled u) (meaning o u)
 
--- what the name of something predeclared breaks
+-- what the name of something predeclared breaks that is no constant
 abbrev pub function_faults : Option Required → ℕ → List Fault
 function_faults None place = broken place WrongSort
 function_faults (Some f) place = broken place WrongNumber
 
+-- what the name of something predeclared breaks
 abbrev pub predeclared_faults : Option Valued → List ℕ → ℕ → List Fault
 predeclared_faults None name place = function_faults (required_function name) place
 predeclared_faults (Some v) name place = []
 
--- and that of a declaration
+-- what the name of a declaration of this sort breaks
 abbrev pub sort_faults : Outline → ℕ → Sort → ℕ → List Fault
 sort_faults o p sort.Constant place = []
 sort_faults o p sort.Variable place = []
@@ -185,16 +191,18 @@ sort_faults o p sort.ModuleVariable place = []
 sort_faults o p sort.Function place = if takes_so_many o p 0 then [] else broken place WrongNumber
 sort_faults o p _ place = broken place WrongSort
 
+-- what the name of something declared breaks
 abbrev pub entry_faults : Outline → ℕ → Option Entry → ℕ → List Fault
 entry_faults o p None place = broken place WrongSort
 entry_faults o p (Some e) place = sort_faults o p e.declared.sort place
 
--- what a name breaks in an expression
+-- what a name of this meaning breaks in an expression
 abbrev pub meant_faults : Outline → List ℕ → Meant → ℕ → List Fault
 meant_faults o name Nothing place = broken place UnknownName
 meant_faults o name Predeclared place = predeclared_faults (predeclared_constant name) name place
 meant_faults o name (Unseen p) place = broken place NotSeenHere
 meant_faults o name (Seen p) place = entry_faults o p (entry_at o p) place
 
+-- what a name breaks in an expression
 abbrev pub head_faults : Outline → Used → List Fault
 head_faults o u = meant_faults o (spelled u) (meaning o u) u.place

@@ -39,11 +39,12 @@ abbrev pub started_faults : Outline → Option ℕ → ℕ → List Fault
 started_faults o None place = []
 started_faults o (Some p) place = started_by (entry_at o p) place
 
--- a body whose text has ended, for the header of the module variable
+-- what a body breaks that is not for the header of the module variable
 abbrev pub header_faults : Option ℕ → Option ℕ → ℕ → List Fault
 header_faults (Some h) (Some g) place = if nat_eq h g then [] else broken place WrongBody
 header_faults _ _ place = []
 
+-- what a body breaks whose text has not ended, or that is not for that header
 abbrev pub body_faults : Outline → Option ℕ → Option ℕ → ℕ → List Fault
 body_faults o header None place = []
 body_faults o header (Some body) place =
@@ -54,6 +55,7 @@ body_faults o header (Some body) place =
 abbrev pub parameters_of : Option ℕ → Option Receiver
 parameters_of header = option_map (λ (h : ℕ). receiver.Parameters h) header
 
+-- what an `init` breaks
 abbrev pub init_faults : Outline → Access → Used → List Expr → List Fault
 init_faults o target body arguments =
     access_faults o sort.ModuleVariable target

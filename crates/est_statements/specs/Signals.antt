@@ -41,11 +41,13 @@ may_pass Sends Second s = s.second
 may_pass Receives First s = s.second
 may_pass Receives Second s = s.first
 
+-- what a name of a channel breaks that is no interaction, or that does not pass this way
 abbrev pub direction_faults : Direction → Role → Option Member → ℕ → List Fault
 direction_faults d r (Some (member.Interaction s)) place =
     if may_pass d r s then [] else broken place WrongDirection
 direction_faults d r _ place = broken place WrongSort
 
+-- what a name breaks that stands in a channel, or does not
 abbrev pub standing_faults : Outline → Direction → Role → Option Standing → ℕ → List Fault
 standing_faults o d r None place = broken place UnknownName
 standing_faults o d r (Some s) place = direction_faults d r (member_at o s.place) place
@@ -56,6 +58,7 @@ signal_by_faults o d None u = []
 signal_by_faults o d (Some s) u =
     standing_faults o d s.role (standing o s.channel (spelled u)) u.place
 
+-- what an interaction point and the name of an interaction break that passes it
 abbrev pub signal_faults : Outline → Direction → Access → Used → List Fault
 signal_faults o d at u =
     access_faults o sort.Point at ++ signal_by_faults o d (point_side o at.name) u
@@ -82,6 +85,7 @@ sending_faults o s =
     ++ are_taken_faults o (signal_of o (point_side o s.at.name) s.signal) 0 s.signal.place
     s.arguments
 
+-- interactions that are sent, in order
 abbrev pub sendings_faults : Outline → List Sending → List Fault
 sendings_faults o [] = []
 sendings_faults o (s ∷ ss) = sending_faults o s ++ sendings_faults o ss

@@ -84,23 +84,26 @@ is_writable f loops p s sort.ModuleVariable = is_procedural f
 is_writable f loops p s sort.Function = is_own f p && is_uncontrolled loops p
 is_writable f loops p s _ = false
 
--- what a declaration is as a target, where it may be written
+-- what a declaration of this sort is as a target
 abbrev pub target_by : ℕ → Entry → Sort → Selection
 target_by p e sort.Variable = variable_head e.kind
 target_by p e sort.ModuleVariable = module_head e.dims p
 target_by p e sort.Function = value_head e.kind
 target_by p e _ = Broken
 
+-- what is declared is as a target, where it may be written
 abbrev pub target_in : Option ℕ → List ℕ → ℕ → Option Entry → Selection
 target_in f loops p None = Broken
 target_in f loops p (Some e) =
     if is_writable f loops p e.section e.declared.sort then target_by p e e.declared.sort
     else Broken
 
+-- what a name of this meaning is as a target
 abbrev pub target_meant : Outline → Option ℕ → List ℕ → Meant → Selection
 target_meant o f loops (Seen p) = target_in f loops p (entry_at o p)
 target_meant o f loops _ = Broken
 
+-- what a name is as a target
 abbrev pub target : Outline → Option ℕ → List ℕ → Used → Selection
 target o f loops u = target_meant o f loops (meaning o u)
 
@@ -129,42 +132,48 @@ are_subscripts ks path =
     && not (is_some (subscripts_in (slice_get path 0))
     && is_some (subscripts_in (slice_get path 1)))
 
--- the subscripts of a module variable are counted also where it may not be written
+-- what too few or too many subscripts break
 abbrev pub subscripts_faults : Option (List Kind) → List Selector → ℕ → List Fault
 subscripts_faults None path place = []
 subscripts_faults (Some ks) path place =
     if are_subscripts ks path then [] else broken place WrongNumber
 
+-- the subscripts of a module variable are counted also where it may not be written
 abbrev pub counted_faults : Sort → Option (List Kind) → List Selector → ℕ → List Fault
 counted_faults sort.ModuleVariable dims path place = subscripts_faults dims path place
 counted_faults _ dims path place = []
 
--- what the name of a target breaks
+-- what the name of a declaration breaks that may not be written
 abbrev pub sort_target_faults : Entry → List Selector → ℕ → List Fault
 sort_target_faults e path place =
     if is_target_sort e.declared.sort
     then broken place NotWritable ++ counted_faults e.declared.sort e.dims path place
     else broken place WrongSort
 
+-- what the name of a declaration breaks as a target
 abbrev pub entry_target_faults :
     Option ℕ → List ℕ → ℕ → Entry → List Selector → ℕ → List Fault
 entry_target_faults f loops p e path place =
     if is_writable f loops p e.section e.declared.sort then []
     else sort_target_faults e path place
 
+-- what the name of something declared breaks as a target
 abbrev pub target_in_faults :
     Option ℕ → List ℕ → ℕ → Option Entry → List Selector → ℕ → List Fault
 target_in_faults f loops p None path place = broken place WrongSort
 target_in_faults f loops p (Some e) path place = entry_target_faults f loops p e path place
 
+-- what the name of something predeclared breaks as a target that is no constant
 abbrev pub function_target : Option Required → ℕ → List Fault
 function_target None place = broken place WrongSort
 function_target (Some f) place = broken place NotWritable
 
+-- what the name of something predeclared breaks as a target
 abbrev pub predeclared_target : Option Valued → List ℕ → ℕ → List Fault
 predeclared_target None name place = function_target (required_function name) place
 predeclared_target (Some v) name place = broken place NotWritable
 
+-- what a name of this meaning breaks as a target
 abbrev pub target_meant_faults :
     Outline → Option ℕ → List ℕ → Used → List Selector → Meant → List Fault
 target_meant_faults o f loops u path Nothing = broken u.place UnknownName
@@ -174,6 +183,7 @@ target_meant_faults o f loops u path (Unseen p) = broken u.place NotSeenHere
 target_meant_faults o f loops u path (Seen p) =
     target_in_faults f loops p (entry_at o p) path u.place
 
+-- what a name breaks as a target
 abbrev pub target_faults : Outline → Option ℕ → List ℕ → Used → List Selector → List Fault
 target_faults o f loops u path = target_meant_faults o f loops u path (meaning o u)
 
@@ -188,6 +198,7 @@ end_faults _ place = []
 abbrev pub path_target : Outline → Option ℕ → List ℕ → Used → List Selector → Selection
 path_target o f loops u path = selected o (target o f loops u) path
 
+-- what it breaks
 abbrev pub path_target_faults : Outline → Option ℕ → List ℕ → Used → List Selector → List Fault
 path_target_faults o f loops u path =
     target_faults o f loops u path ++ selected_faults o (target o f loops u) u.place path
@@ -199,10 +210,11 @@ assign_faults o f loops u path e =
     path_target_faults o f loops u path ++ expr_faults o e
     ++ gives (selected_type (path_target o f loops u path)) (expr_type o e) (expr_place e)
 
--- the variable that an expression is, if it is one and nothing else
+-- a variable: its name and its selectors
 abbrev pub Variable : Type 0
 Variable = Used × List Selector
 
+-- the variable that an operand is, if it is one and nothing else
 abbrev pub bare_factor : Factor → Option Variable
 bare_factor x = held (out-Factor x)
   where
@@ -211,24 +223,30 @@ bare_factor x = held (out-Factor x)
     held (opened.Variable name path place) = Some (name, path)
     held _ = None
 
+-- that of a product of this operand and these steps
 abbrev pub bare_product : Factor → List ProductStep → Option Variable
 bare_product x [] = bare_factor x
 bare_product x (s ∷ ss) = None
 
+-- that of a product
 abbrev pub bare_term : Term → Option Variable
 bare_term t = bare_product (out-Term t).first (out-Term t).rest
 
+-- that of a sum of a sign, if there is one, this operand and these steps
 abbrev pub bare_sum : Bool → Term → List SumStep → Option Variable
 bare_sum false t [] = bare_term t
 bare_sum _ t ss = None
 
+-- that of a sum
 abbrev pub bare_simple : Simple → Option Variable
 bare_simple s = bare_sum (out-Simple s).sign (out-Simple s).first (out-Simple s).rest
 
+-- that of an expression of this sum and a relation, if there is one
 abbrev pub bare_by : Simple → Option Relation → Option Variable
 bare_by s None = bare_simple s
 bare_by s (Some r) = None
 
+-- that of an expression
 abbrev pub bare : Expr → Option Variable
 bare e = bare_by (out-Expr e).left (out-Expr e).relation
 
@@ -242,6 +260,7 @@ unlike_faults (Some m) (Component k) place =
     if is_alike m.kind k then [] else broken place WrongKind
 unlike_faults m s place = []
 
+-- what an argument for such a parameter breaks, which is this variable or none
 abbrev pub place_faults_by :
     Outline → Option ℕ → List ℕ → Option Measured → Expr → Option Variable → List Fault
 place_faults_by o f loops m e None = expr_faults o e ++ broken (expr_place e) NotWritable
