@@ -70,3 +70,6 @@ transitions_at p b h =
     ap part_transitions h
     ∙ ap (λ x. part_transitions (part.Body x)) (is-Body' b)
     ∙ (λ i. added (groups_hidden (out-Body b).groups i) (parts_hidden (out-Body b).parts i))
+
+-- what the functions over parts need
+pub ruleset rows = (bodies_at, transitions_at)

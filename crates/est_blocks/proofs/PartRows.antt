@@ -19,6 +19,7 @@ use Rattle.est_syntax.specs.declared.routine.Routine.{Routine}
 use Rattle.est_scope.specs.declared.declaration.Sort.TheVariants as sort
 use Rattle.est_scope.specs.Outline.{Outline}
 use Rattle.est_scope.specs.Uses.{use_faults}
+use Rattle.est_scope.proofs.LeastLaws.{least_append}
 use Rattle.est_outline.specs.declared.context.Given.{Given}
 use Rattle.est_types.proofs.PartRows.{scalars_hidden, scalars_shown}
 use Rattle.est_blocks.specs.Clauses.{clauses_faults, with_clauses, delay_faults, next_faults}
@@ -81,3 +82,6 @@ body_at o p b h = ap (part_faults o) h ∙ body_is o b
 pub routine_at : (o : Outline) (p : Part) (r : Routine) → p ≡ part.Routine r
     → part_faults o p ≡ routine_faults o r
 routine_at o p r h = ap (part_faults o) h
+
+-- what the functions over parts need
+pub ruleset rows = (least_append, body_at, routine_at)

@@ -63,6 +63,7 @@ abbrev mutual
       ++ block_faults o place (row_scalars o 0 parts) statements)
       ++ row_transitions_faults o (with_clauses gs cs) rest
 
+-- what parts break, in order
 abbrev pub parts_faults : Outline → List Part → List Fault
 parts_faults o [] = []
 parts_faults o (p ∷ ps) = part_faults o p ++ parts_faults o ps

@@ -29,12 +29,12 @@ use Rattle.est_kinds.specs.Dims.{dim_faults}
 use Rattle.est_outline.specs.declared.context.ClauseKind.{ClauseKind}
 use Rattle.est_outline.specs.declared.context.ClauseKind.TheVariants as given
 use Rattle.est_outline.specs.declared.context.Given.{Given}
-use Rattle.est_outline.specs.Contexts.{dropped, given as with_given, region_of}
+use Rattle.est_outline.specs.Contexts as context
 use Rattle.est_expressions.specs.declared.operators.Wanted.TheVariants as wanted
 use Rattle.est_statements.specs.Signals.{signal_faults}
 use Rattle.est_statements.specs.Statements.{wanted_faults}
 
--- a name where a state or a state set is wanted
+-- whether a state or a state set is declared
 abbrev pub is_state_sort : Option Entry → Bool
 is_state_sort None = false
 is_state_sort (Some e) = held e.declared.sort
@@ -44,15 +44,18 @@ is_state_sort (Some e) = held e.declared.sort
     held sort.StateSet = true
     held _ = false
 
+-- what a name of this meaning breaks where a state or a state set is wanted
 abbrev pub state_used : Outline → ℕ → Meant → List Fault
 state_used o place Nothing = broken place UnknownName
 state_used o place Predeclared = broken place WrongSort
 state_used o place (Unseen p) = broken place NotSeenHere
 state_used o place (Seen p) = if is_state_sort (entry_at o p) then [] else broken place WrongSort
 
+-- what a name breaks where a state or a state set is wanted
 abbrev pub state_faults : Outline → Used → List Fault
 state_faults o u = state_used o u.place (meaning o u)
 
+-- what names break there
 abbrev pub states_faults : Outline → List Used → List Fault
 states_faults o [] = []
 states_faults o (u ∷ us) = state_faults o u ++ states_faults o us
@@ -66,30 +69,36 @@ next_faults o (Some u) = use_faults o sort.State u
 abbrev pub most_tuples : ℕ
 most_tuples = 1024
 
--- How many choices the variables of an `any` have, of those whose type is ordinal, each name once.
+-- how many choices a variable of this kind has, if the kind is ordinal
 abbrev pub choices_by : Option Measured → ℕ
 choices_by None = 1
 choices_by (Some m) = if is_ordinal m.kind then count m.kind else 1
 
+-- the choices so far, with those of a name more, where it is declared there
 abbrev pub name_choices : Outline → ℕ → ℕ → Used → ℕ
 name_choices o choices n u = if is_some (entry_at o u.place) then multiplied n choices else n
 
+-- the choices so far, with those of more names of one type
 abbrev pub names_choices : Outline → ℕ → ℕ → List Used → ℕ
 names_choices o choices n [] = n
 names_choices o choices n (u ∷ us) = names_choices o choices (name_choices o choices n u) us
 
+-- How many choices the variables of an `any` have, of those whose type is ordinal, each name once,
+-- after so many choices.
 abbrev pub tuples : Outline → ℕ → List VarDef → ℕ
 tuples o n [] = n
 tuples o n (v ∷ vs) = tuples o (names_choices o (choices_by (text_type o v.text)) n v.names) vs
 
--- what an `any` breaks
+-- what variables of an `any` break that have one type
 abbrev pub domain_faults : Outline → VarDef → List Fault
 domain_faults o v = dim_faults o v.text
 
+-- what the variables of an `any` break
 abbrev pub domains_faults : Outline → List VarDef → List Fault
 domains_faults o [] = []
 domains_faults o (v ∷ vs) = domain_faults o v ++ domains_faults o vs
 
+-- what an `any` breaks
 abbrev pub any_faults : Outline → List VarDef → ℕ → List Fault
 any_faults o vs place =
     domains_faults o vs ++ broken_if (nat_lt most_tuples (tuples o 1 vs)) place TooLarge
@@ -98,6 +107,7 @@ any_faults o vs place =
 abbrev pub is_priority : Valued → Bool
 is_priority v = is_integer v.host && not (int_lt v.ordinal (pos 0))
 
+-- what a value breaks that is no priority
 abbrev pub priority_faults : Option Valued → ℕ → List Fault
 priority_faults None place = []
 priority_faults (Some v) place = if is_priority v then [] else broken place WrongKind
@@ -120,12 +130,12 @@ clause_faults o (clause.Priority value place) =
 clause_faults o (clause.Delay least most place) =
     wanted_faults o wanted.Integer least ++ most_faults o most
 
+-- what clauses break, each by itself
 abbrev pub clauses_faults : Outline → List Clause → List Fault
 clauses_faults o [] = []
 clauses_faults o (c ∷ cs) = clause_faults o c ++ clauses_faults o cs
 
--- The clauses of a transition, each with the place of its first token: a clause takes the place of
--- that of its kind, and of all that were given after that one.
+-- the kind of a clause: an `otherwise` stands where a `provided` may
 abbrev pub kind_of : Clause → ClauseKind
 kind_of (clause.From states place) = given.From
 kind_of (clause.To state place) = given.To
@@ -136,6 +146,7 @@ kind_of (clause.Any names place) = given.Any
 kind_of (clause.Priority value place) = given.Priority
 kind_of (clause.Delay least most place) = given.Delay
 
+-- the place of its first token
 abbrev pub clause_place : Clause → ℕ
 clause_place (clause.From states place) = place
 clause_place (clause.To state place) = place
@@ -146,25 +157,26 @@ clause_place (clause.Any names place) = place
 clause_place (clause.Priority value place) = place
 clause_place (clause.Delay least most place) = place
 
+-- The clauses of a transition with one more, by the place of its first token: a clause takes the
+-- place of that of its kind, and of all that were given after that one.
 abbrev pub with_clause : List Given → Clause → List Given
-with_clause gs c = with_given (kind_of c) (Some (clause_place c)) (dropped (kind_of c) gs)
+with_clause gs c =
+    context.given (kind_of c) (Some (clause_place c)) (context.dropped (kind_of c) gs)
 
+-- the clauses of a transition with more of them, in order
 abbrev pub with_clauses : List Given → List Clause → List Given
 with_clauses gs [] = gs
 with_clauses gs (c ∷ cs) = with_clauses (with_clause gs c) cs
 
 -- whether a transition has a clause of a kind
-abbrev pub is_there : Option ℕ → Bool
-is_there None = false
-is_there (Some place) = true
-
 abbrev pub has : ClauseKind → List Given → Bool
-has k gs = is_there (region_of k gs)
+has k gs = is_some (context.region_of k gs)
 
 -- a delay stands without a `when` and without an `any`
 abbrev pub delay_by : Option ℕ → List Given → List Fault
 delay_by None gs = []
 delay_by (Some place) gs = broken_if (has given.When gs || has given.Any gs) place DelayNotAlone
 
+-- what a delay among the clauses of a transition breaks
 abbrev pub delay_faults : List Given → List Fault
-delay_faults gs = delay_by (region_of given.Delay gs) gs
+delay_faults gs = delay_by (context.region_of given.Delay gs) gs

@@ -28,6 +28,7 @@ abbrev mutual
   row_bodies end_of-Part = 0
   row_bodies (more_of-Part p rest) = added (part_bodies p) (row_bodies rest)
 
+-- the same of parts in a list
 abbrev pub bodies : List Part → ℕ
 bodies [] = 0
 bodies (p ∷ ps) = added (part_bodies p) (bodies ps)
@@ -53,6 +54,7 @@ abbrev mutual
   row_transitions (more_of-Transition cs name a parts statements place rest) =
       suc (row_transitions rest)
 
+-- the same of parts in a list
 abbrev pub transitions : List Part → ℕ
 transitions [] = 0
 transitions (p ∷ ps) = added (part_transitions p) (transitions ps)
@@ -68,16 +70,18 @@ names_elements o [] = 0
 names_elements o ((name, s) ∷ names) =
     added (declared_elements (entry_at o s.place)) (names_elements o names)
 
--- the header of the module that a specification starts, and its ports
+-- the header of the module that a specification starts, by its initialization
 abbrev pub started_header : Outline → Statement → Option ℕ
 started_header o (statement.Init target body arguments place) =
     header_at o (declaration_of o sort.ModuleVariable target.name)
 started_header o _ = None
 
+-- the elements of the interaction points of a header
 abbrev pub header_elements : Outline → Option ℕ → ℕ
 header_elements o None = 0
 header_elements o (Some header) = names_elements o (names_of o header)
 
+-- the ports of a specification
 abbrev pub ports : Outline → Spec → ℕ
 ports o s = header_elements o (started_header o s.first)
 
@@ -85,6 +89,7 @@ ports o s = header_elements o (started_header o s.first)
 abbrev pub counted : ℕ → ℕ
 counted n = min n (2 ^ 32 - 1)
 
+-- the numbers of a specification, whose outline this is
 abbrev pub counts_by : Outline → Spec → Counts
 counts_by o s = record {
   bodies = counted (bodies s.parts);
@@ -92,5 +97,6 @@ counts_by o s = record {
   ports = counted (ports o s);
 }
 
+-- the numbers of a specification
 unfoldable pub counts_of : Spec → Counts
 counts_of s = counts_by (outline_of s) s

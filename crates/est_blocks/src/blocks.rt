@@ -1,5 +1,5 @@
 //! The statements of routines and bodies, and the transitions.
-#![tactic(auto, using(est_scope::proofs::LeastLaws::least_append, crate::proofs::PartRows::body_at, crate::proofs::PartRows::routine_at))]
+#![tactic(auto, using(crate::proofs::PartRows::rows))]
 
 ghost use Rattle.std.specs.Prelude.{◌≡◌, OnOk};
 ghost use Rattle.est_scope.specs.LeastSoFar.{least_with};
@@ -166,6 +166,7 @@ fn check_routine(
     check_statements(alloc, outline, function, &[], statements, least)
 }
 
+// A body: its header, its parts, its initialize part and its transitions.
 #[cycle(part)]
 fn check_body(
     alloc: Global,
@@ -182,6 +183,7 @@ fn check_body(
     check_groups(alloc, outline, body.groups.as_slice(), least)
 }
 
+// A body or a routine. No other part has statements.
 #[cycle(part)]
 fn check_part(
     alloc: Global,

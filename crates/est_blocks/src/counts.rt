@@ -1,5 +1,5 @@
 //! How many bodies, transitions and ports a specification has.
-#![tactic(auto, using(crate::proofs::CountRows::bodies_at, crate::proofs::CountRows::transitions_at))]
+#![tactic(auto, using(crate::proofs::CountRows::rows))]
 
 ghost use Rattle.std.specs.Prelude.{◌≡◌};
 ghost use Rattle.est_scope.specs.Outline.{entry_at};
@@ -26,6 +26,7 @@ pub struct Counts {
     pub ports: u32,
 }
 
+// A body, and the bodies within it.
 #[cycle(bodies)]
 fn body_bodies(body: &Body) -> u64
     ensures { result ≡ body_bodies body.now }
@@ -33,6 +34,7 @@ fn body_bodies(body: &Body) -> u64
     bodies(body.parts.as_slice()).saturating_add(1)
 }
 
+// The bodies that a part declares, those within bodies too.
 #[cycle(bodies)]
 fn part_bodies(part: &Part) -> u64
     ensures { result ≡ part_bodies part.now }
@@ -66,6 +68,7 @@ fn group_counts(groups: &[Group]) -> u64
     sum
 }
 
+// The transitions of a body, and of the bodies within it.
 #[cycle(transitions)]
 fn body_transitions(body: &Body) -> u64
     ensures { result ≡ body_transitions body.now }
@@ -73,6 +76,7 @@ fn body_transitions(body: &Body) -> u64
     group_counts(body.groups.as_slice()).saturating_add(transitions(body.parts.as_slice()))
 }
 
+// The transitions of the bodies that a part declares.
 #[cycle(transitions)]
 fn part_transitions(part: &Part) -> u64
     ensures { result ≡ part_transitions part.now }
@@ -148,8 +152,8 @@ fn header_elements(outline: &Outline, header: Option<u32>) -> u64
 fn counted(number: u64) -> u32
     ensures { result ≡ counted number }
 {
-    if number > 4294967295 {
-        4294967295
+    if number > u32::MAX as u64 {
+        u32::MAX
     } else {
         number as u32
     }

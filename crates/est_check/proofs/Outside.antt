@@ -18,3 +18,6 @@ pub header_is : (s : Spec) (o : Outline) (body : Option ℕ) → o ≡ outline_o
     → header_at o body ≡ header_meant s body
 unfolding header_meant
 header_is s o body e = ap (λ x. header_at x body) e
+
+-- what the function over a checked specification needs
+pub ruleset outside = (ports_are, body_is, header_is)

@@ -14,7 +14,7 @@ abbrev pub IsFound : Spec → Specification → Type 0
 IsFound s (found.Skeleton checked) = (checked ≡ s) × IsSkeleton s × IsGood s
 IsFound s (found.Whole counts) = (IsSkeleton s → ⊥) × IsGood s × (counts ≡ counts_of s)
 
--- it breaks this rule first; want of memory says nothing of it
+-- it breaks this rule first; out of memory says nothing of it
 abbrev pub IsRefused : Spec → CheckError → Type 0
 IsRefused s (errors.Fault place rule) = IsLeastFault s (Some record { place = place; rule = rule })
 IsRefused s (errors.Memory error) = Unit {0}

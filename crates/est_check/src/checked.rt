@@ -42,7 +42,8 @@ impl Model for Checked {
 
     ghost view = { λ c. c.kept.tree };
 
-    ghost invariant = { λ c. IsChecked c.kept.tree c.kept.ports c.kept.body c.kept.header c.kept.counts };
+    ghost invariant = { λ c. IsChecked c.kept.tree c.kept.ports c.kept.body c.kept.header
+        c.kept.counts };
 }
 
 // In words, so that no crate above follows the tree and the ports down to their last list.
@@ -54,7 +55,7 @@ impl Drop for Checked {
 }
 
 impl Checked {
-    /// Keeps a tree. Where memory runs out it is dropped.
+    // Keeps a tree. Where memory runs out it is dropped.
     pub(crate) fn new(
         alloc: Global,
         tree: SyntaxTree,

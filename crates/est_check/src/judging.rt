@@ -25,7 +25,7 @@ use est_syntax::tree::SyntaxTree;
 use est_types::table::{Table, declare};
 use std::alloc::Global;
 
-/// What is kept of a specification that breaks no rule, beside its tree.
+// What is kept of a specification that breaks no rule, beside its tree.
 #[derive(Drop)]
 pub(crate) enum Kept {
     Skeleton {
@@ -38,7 +38,7 @@ pub(crate) enum Kept {
 }
 
 // What is kept of a specification with this table, which breaks no rule and has these numbers.
-#[tactic(auto, using(crate::proofs::Outside::ports_are, crate::proofs::Outside::body_is, crate::proofs::Outside::header_is))]
+#[tactic(auto, using(crate::proofs::Outside::outside))]
 fn kept_of(alloc: Global, table: &Table, spec: &Spec, counts: Counts) -> Result<Kept, CheckError>
     requires outline { table.now.outline ≡ outline_of spec.now }
     requires good { IsGood spec.now }

@@ -1,9 +1,9 @@
 //! Checked specifications (ISO 9074, constraints).
 #![tactic(auto)]
 
-pub mod checked;
-pub mod error;
-pub mod judging;
+mod checked;
+mod error;
+mod judging;
 
 pub use checked::{Checked, Specification};
 pub use error::CheckError;

@@ -1,10 +1,11 @@
 -- An expression that yields something breaks no rule.
-use Rattle.std.specs.Prelude.{if◌then◌else◌, nat_lt, ◌^◌, ◌&&◌}
+use Rattle.std.specs.Prelude.{if◌then◌else◌, nat_le, ◌&&◌}
 use Rattle.std.proofs.lemmas.Option.{none-some}
 use Rattle.std.proofs.Common.{◌≡◌, refl, sym, ap, ◌∙◌, true≢false, ℕ, ◌+◌, Bool}
 use Rattle.std.proofs.Common.{true, false, List, [], ◌++◌, Option, Some, None}
 use Rattle.est_syntax.specs.Names.{spelled}
 use Rattle.est_syntax.specs.Faults.{broken}
+use Rattle.est_syntax.specs.Kinds.{maxint}
 use Rattle.est_syntax.specs.declared.expression.Expr.{Expr, Expr', Held-Expr-relation}
 use Rattle.est_syntax.specs.declared.expression.Expr.{Expr-relation-None', Expr-relation-Some'}
 use Rattle.est_syntax.specs.declared.expression.Factor.{Factor, Row_of-Expr, end_of-Expr}
@@ -53,7 +54,7 @@ use Rattle.est_expressions.specs.Operators.{left_of, do_agree, do_match, result_
 use Rattle.est_expressions.specs.Operators.{operated, disagrees, right_faults, signed, sign_faults}
 use Rattle.est_expressions.specs.Operators.{with_member, member_disagrees, spanned, span_faults}
 use Rattle.est_expressions.specs.Selections.{Selection, Broken, Value, Component, Modules, Module}
-use Rattle.est_expressions.specs.Selections.{SomeModule, parameter, parameter_type, takes_so_many}
+use Rattle.est_expressions.specs.Selections.{SomeModule, declared_type, parameter, takes_so_many}
 use Rattle.est_expressions.specs.Selections.{argument_of, head_by, head_in, head_meant, head}
 use Rattle.est_expressions.specs.Selections.{predeclared_head, predeclared_faults, sort_faults}
 use Rattle.est_expressions.specs.Selections.{entry_faults, meant_faults, head_faults}
@@ -187,7 +188,7 @@ received_clean o None i t place h = absurd (true≢false (sym h))
 received_clean o (Some (receiver.Subscripts p)) i t place h =
     given_clean (subscript_in (dims_in (entry_at o p)) i) t place h
 received_clean o (Some (receiver.Parameters p)) i t place h =
-    given_clean (parameter_type (parameter o p i)) t place h
+    given_clean (declared_type (parameter o p i)) t place h
 received_clean o (Some (receiver.Function f)) i t place h = argument_clean f t place h
 
 count_clean : (o : Outline) (r : Option Receiver) (n name : ℕ) → is_number o r n ≡ true
@@ -417,7 +418,7 @@ mutual
 
   factor_clean : (o : Outline) (f : Factor) (x : Yielded) → factor_type o f ≡ Some x
       → factor_faults o f ≡ []
-  factor_clean o (factor.Number n place) x h = met (nat_lt n (2 ^ 31)) _ x place rule.NumberTooLarge
+  factor_clean o (factor.Number n place) x h = met (nat_le n maxint) _ x place rule.NumberTooLarge
       h
   factor_clean o (factor.Character c place) x h = refl
   factor_clean o (factor.Group' p e place) x h = box_clean o e x h

@@ -1,5 +1,6 @@
 -- The name of an interaction point or of a module variable with its subscripts (ISO 9074).
-use Rattle.std.specs.Prelude.{ℕ, List, ◌++◌, Option, Some, None}
+use Rattle.std.specs.Prelude.{ℕ, List, ◌++◌, Option}
+use Rattle.std.specs.Option.{option_map}
 use Rattle.est_syntax.specs.declared.expression.Access.{Access}
 use Rattle.est_syntax.specs.declared.rule.Fault.{Fault}
 use Rattle.est_scope.specs.declared.declaration.Sort.{Sort}
@@ -9,11 +10,11 @@ use Rattle.est_expressions.specs.declared.receivers.Receiver.{Receiver}
 use Rattle.est_expressions.specs.declared.receivers.Receiver.TheVariants as receiver
 use Rattle.est_expressions.specs.Expressions.{are_taken_faults}
 
--- what takes the subscripts
+-- what takes the subscripts of what is declared at a place
 abbrev pub subscripts_at : Option ℕ → Option Receiver
-subscripts_at None = None
-subscripts_at (Some p) = Some (receiver.Subscripts p)
+subscripts_at place = option_map (λ (p : ℕ). receiver.Subscripts p) place
 
+-- what a name with its subscripts breaks where this sort is wanted
 abbrev pub access_faults : Outline → Sort → Access → List Fault
 access_faults o s a =
     use_faults o s a.name

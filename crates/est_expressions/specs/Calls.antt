@@ -1,12 +1,12 @@
 -- What takes subscripts or arguments, and what calls yield (ISO 7185, 6.7.3; ISO 9074, interaction
 -- points and module variables).
 use Rattle.std.specs.Prelude.{ℕ, Bool, false, List, [], Option, Some, None, if◌then◌else◌}
+use Rattle.std.specs.Option.{option_map}
 use Rattle.est_syntax.specs.Names.{spelled}
 use Rattle.est_syntax.specs.Faults.{broken}
 use Rattle.est_syntax.specs.declared.name.Used.{Used}
 use Rattle.est_syntax.specs.declared.rule.Fault.{Fault}
 use Rattle.est_syntax.specs.declared.rule.Rule.TheVariants.{UnknownName, NotSeenHere, WrongSort}
-use Rattle.est_scope.specs.declared.declaration.Entry.{Entry}
 use Rattle.est_scope.specs.declared.declaration.Sort.TheVariants as sort
 use Rattle.est_scope.specs.declared.declaration.Meant.{Meant}
 use Rattle.est_scope.specs.declared.declaration.Meant.TheVariants.{Nothing, Predeclared}
@@ -17,7 +17,7 @@ use Rattle.est_alike.specs.Types.{Yielded}
 use Rattle.est_expressions.specs.declared.names.Required.{Required}
 use Rattle.est_expressions.specs.declared.receivers.Receiver.{Receiver}
 use Rattle.est_expressions.specs.declared.receivers.Receiver.TheVariants as receiver
-use Rattle.est_expressions.specs.Selections.{Selection, Modules, type_in}
+use Rattle.est_expressions.specs.Selections.{Selection, Modules, declared_type}
 use Rattle.est_expressions.specs.Selections.{required_function, value_of}
 use Rattle.est_expressions.specs.Receivers.{receives, received_faults, takes_number, number_faults}
 
@@ -26,63 +26,69 @@ abbrev pub subscripts_of : Selection → Option Receiver
 subscripts_of (Modules p) = Some (receiver.Subscripts p)
 subscripts_of _ = None
 
+-- whether what stands with this number is taken: not where nothing is known of what would take it
 abbrev pub is_received : Outline → Option Receiver → ℕ → Option Yielded → Bool
 is_received o None i t = false
 is_received o (Some r) i t = receives o r i t
 
+-- what it breaks at its place
 abbrev pub taken_faults : Outline → Option Receiver → ℕ → Option Yielded → ℕ → List Fault
 taken_faults o None i t place = []
 taken_faults o (Some r) i t place = received_faults o r i t place
 
+-- whether so many are taken
 abbrev pub is_number : Outline → Option Receiver → ℕ → Bool
 is_number o None n = false
 is_number o (Some r) n = takes_number o r n
 
+-- what their number breaks, after a name at a place
 abbrev pub count_faults : Outline → Option Receiver → ℕ → ℕ → List Fault
 count_faults o None n place = []
 count_faults o (Some r) n place = number_faults o r n place
 
--- what is called: a function that is declared or predeclared
+-- what is called where this is declared at a place: a function
 abbrev pub declared_callee : Bool → ℕ → Option Receiver
 declared_callee function p = if function then Some (receiver.Parameters p) else None
 
+-- what is called by a name that is predeclared, where it is a function's
 abbrev pub required_callee : Option Required → Option Receiver
-required_callee None = None
-required_callee (Some f) = Some (receiver.Function f)
+required_callee function = option_map (λ (f : Required). receiver.Function f) function
 
+-- what a name of this meaning calls
 abbrev pub callee_meant : Outline → List ℕ → Meant → Option Receiver
 callee_meant o name Predeclared = required_callee (required_function name)
 callee_meant o name (Seen p) = declared_callee (is_sort sort.Function (entry_at o p)) p
 callee_meant o name _ = None
 
+-- what a name calls
 abbrev pub callee : Outline → Used → Option Receiver
 callee o u = callee_meant o (spelled u) (meaning o u)
 
+-- what a name breaks that calls nothing
 abbrev pub no_callee : Option Receiver → ℕ → List Fault
 no_callee None place = broken place WrongSort
 no_callee (Some r) place = []
 
+-- what a name of this meaning breaks where a function is called
 abbrev pub callee_faults_by : Outline → List ℕ → Meant → ℕ → List Fault
 callee_faults_by o name Nothing place = broken place UnknownName
 callee_faults_by o name (Unseen p) place = broken place NotSeenHere
 callee_faults_by o name m place = no_callee (callee_meant o name m) place
 
+-- what a name breaks where a function is called
 abbrev pub callee_faults : Outline → Used → List Fault
 callee_faults o u = callee_faults_by o (spelled u) (meaning o u) u.place
 
--- what a call yields, of its first argument, where its arguments are taken
-abbrev pub kind_yields : Option Entry → Option Yielded
-kind_yields None = None
-kind_yields (Some e) = type_in e.kind
-
+-- what a predeclared function yields for an argument
 abbrev pub value_by : Required → Option Yielded → Option Yielded
-value_by f None = None
-value_by f (Some t) = Some (value_of f t)
+value_by f t = option_map (value_of f) t
 
+-- what a call yields, of its first argument
 abbrev pub call_yields : Outline → Option Receiver → Option Yielded → Option Yielded
-call_yields o (Some (receiver.Parameters p)) t = kind_yields (entry_at o p)
+call_yields o (Some (receiver.Parameters p)) t = declared_type (entry_at o p)
 call_yields o (Some (receiver.Function f)) t = value_by f t
 call_yields o _ t = None
 
+-- the same, where its arguments are taken
 abbrev pub call_by : Outline → Option Receiver → Bool → Option Yielded → Option Yielded
 call_by o r taken t = if taken then call_yields o r t else None

@@ -240,108 +240,127 @@ abbrev mutual
       (expr_faults o e ++ component_faults s (expr_type o e) (expr_place e) name)
       ++ row_component_faults o (component s (expr_type o e)) name rest
 
--- The same over lists. What follows the first sum of an expression, the first operand of a sum and
--- that of a product:
+-- The same over lists and options. What an expression yields, of what its first sum does:
 abbrev pub related : Outline → Option Yielded → Option Relation → Option Yielded
 related o t None = t
 related o t (Some r) = with_simple o t r
 
+-- what the relation to a sum breaks that begins at a place
 abbrev pub related_faults : Outline → Option Yielded → ℕ → Option Relation → List Fault
 related_faults o t place None = []
 related_faults o t place (Some r) = with_simple_faults o t place r
 
+-- what a sum yields, of what its first operand does
 abbrev pub summed : Outline → Option Yielded → List SumStep → Option Yielded
 summed o t [] = t
 summed o t (s ∷ ss) = summed o (with_term o t s) ss
 
+-- what the steps of a sum break, which begins at a place
 abbrev pub summed_faults : Outline → Option Yielded → ℕ → List SumStep → List Fault
 summed_faults o t place [] = []
 summed_faults o t place (s ∷ ss) =
     with_term_faults o t place s ++ summed_faults o (with_term o t s) place ss
 
+-- what a product yields with one step more
 abbrev pub with_factor : Outline → Option Yielded → ProductStep → Option Yielded
 with_factor o t s = operated s.operator t (factor_type o s.right)
 
+-- what a product yields, of what its first operand does
 abbrev pub multiplied : Outline → Option Yielded → List ProductStep → Option Yielded
 multiplied o t [] = t
 multiplied o t (s ∷ ss) = multiplied o (with_factor o t s) ss
 
+-- what a step of a product breaks, which begins at a place
 abbrev pub with_factor_faults : Outline → Option Yielded → ℕ → ProductStep → List Fault
 with_factor_faults o t place s =
     operation_faults s.operator t place (factor_faults o s.right) (factor_type o s.right)
     (factor_place s.right)
 
+-- what the steps of a product break, which begins at a place
 abbrev pub multiplied_faults : Outline → Option Yielded → ℕ → List ProductStep → List Fault
 multiplied_faults o t place [] = []
 multiplied_faults o t place (s ∷ ss) =
     with_factor_faults o t place s
     ++ multiplied_faults o (with_factor o t s) place ss
 
--- expressions by themselves, and arguments or subscripts
+-- what expressions break, each by itself
 abbrev pub exprs_faults : Outline → List Expr → List Fault
 exprs_faults o [] = []
 exprs_faults o (e ∷ es) = expr_faults o e ++ exprs_faults o es
 
+-- what the first of some expressions yields
 abbrev pub first_type : Outline → List Expr → Option Yielded
 first_type o [] = None
 first_type o (e ∷ es) = expr_type o e
 
+-- whether arguments or subscripts are taken, from this number on, and as many as there are
 abbrev pub are_taken : Outline → Option Receiver → ℕ → List Expr → Bool
 are_taken o r i [] = is_number o r i
 are_taken o r i (e ∷ es) = is_received o r i (expr_type o e) && are_taken o r (i + 1) es
 
+-- what an argument or a subscript with this number breaks
 abbrev pub one_faults : Outline → Option Receiver → ℕ → Expr → List Fault
 one_faults o r i e = expr_faults o e ++ taken_faults o r i (expr_type o e) (expr_place e)
 
+-- what arguments or subscripts break, from this number on, after a name
 abbrev pub are_taken_faults : Outline → Option Receiver → ℕ → ℕ → List Expr → List Fault
 are_taken_faults o r i name [] = count_faults o r i name
 are_taken_faults o r i name (e ∷ es) = one_faults o r i e ++ are_taken_faults o r (i + 1) name es
 
--- subscripts of an array, and selectors
+-- what the subscripts of an array make of what stands before them
 abbrev pub components : Outline → Selection → List Expr → Selection
 components o s [] = s
 components o s (e ∷ es) = components o (component s (expr_type o e)) es
 
+-- what a subscript of an array breaks
 abbrev pub one_component_faults : Outline → Selection → ℕ → Expr → List Fault
 one_component_faults o s name e =
     expr_faults o e ++ component_faults s (expr_type o e) (expr_place e) name
 
+-- what the subscripts of an array break
 abbrev pub components_faults : Outline → Selection → ℕ → List Expr → List Fault
 components_faults o s name [] = []
 components_faults o s name (e ∷ es) =
     one_component_faults o s name e
     ++ components_faults o (component s (expr_type o e)) name es
 
+-- what the subscripts in one pair of brackets make of what stands before them
 abbrev pub with_index : Outline → Selection → List Expr → Selection
 with_index o s es = chosen_by s (components o s es) (are_taken o (subscripts_of s) 0 es)
 
+-- what they break
 abbrev pub with_index_faults : Outline → Selection → ℕ → List Expr → List Fault
 with_index_faults o s name es =
     index_faults s (components_faults o s name es)
     (are_taken_faults o (subscripts_of s) 0 name es) (exprs_faults o es) name
 
+-- what selectors make of what stands before them
 abbrev pub selected : Outline → Selection → List Selector → Selection
 selected o s [] = s
 selected o s (x ∷ xs) = selected o (selection o s x) xs
 
+-- what they break, after a name
 abbrev pub selected_faults : Outline → Selection → ℕ → List Selector → List Fault
 selected_faults o s name [] = []
 selected_faults o s name (x ∷ xs) =
     selection_faults o s name x ++ selected_faults o (selection o s x) name xs
 
--- members of a set
+-- what a member of a set yields, or members from one to a later end
 abbrev pub high_type : Outline → Option Yielded → Option Expr → Option Yielded
 high_type o t None = kept wanted.Ordinal t
 high_type o t (Some e) = spanned t (expr_type o e)
 
+-- what the later end breaks, if there is one
 abbrev pub high_faults : Outline → Option Yielded → Option Expr → List Fault
 high_faults o t None = []
 high_faults o t (Some e) = expr_faults o e ++ span_faults t (expr_type o e) (expr_place e)
 
+-- what a set yields with more members
 abbrev pub members : Outline → Option Yielded → List Member → Option Yielded
 members o t [] = t
 members o t (m ∷ ms) = members o (with_members o t m) ms
 
+-- what more members of a set break
 abbrev pub members_faults : Outline → Option Yielded → List Member → List Fault
 members_faults o t [] = []
 members_faults o t (m ∷ ms) = with_members_faults o t m ++ members_faults o (with_members o t m) ms

@@ -12,15 +12,17 @@ use Rattle.est_alike.specs.Types.{Yielded, Ordinal, Set, is_host, are_hosts_one,
 use Rattle.est_expressions.specs.declared.operators.Wanted.{Wanted}
 use Rattle.est_expressions.specs.declared.operators.Wanted.TheVariants as wanted
 
--- whether a type is an ordinal, an ordinal of a host, a set
+-- whether a type is an ordinal
 abbrev pub is_ordinal : Yielded → Bool
 is_ordinal (Ordinal h) = true
 is_ordinal _ = false
 
+-- whether a type is an ordinal of this host
 abbrev pub is_of : Host → Yielded → Bool
 is_of h (Ordinal g) = is_host h g
 is_of h _ = false
 
+-- whether a type is a set
 abbrev pub is_set : Yielded → Bool
 is_set (Set h) = true
 is_set _ = false
@@ -106,6 +108,7 @@ is_relation _ = false
 abbrev pub result_of : Operator → Yielded → Yielded → Yielded
 result_of op l r = if is_relation op then Ordinal host.Boolean else united l r
 
+-- what an operator yields of two operands, where they go together
 abbrev pub matched : Operator → Yielded → Yielded → Option Yielded
 matched op l r = if do_match op l r then Some (result_of op l r) else None
 
@@ -114,26 +117,29 @@ abbrev pub operated : Operator → Option Yielded → Option Yielded → Option 
 operated op (Some l) (Some r) = if is_taken (left_of op) l then matched op l r else None
 operated op _ _ = None
 
--- what the right operand breaks, at its place
+-- what a right operand breaks, at its place, that does not go with the left one
 abbrev pub disagrees : Operator → Yielded → Yielded → ℕ → List Fault
 disagrees op l r place = if do_match op l r then [] else broken place WrongKind
 
+-- what a right operand breaks, at its place, where the left one is taken
 abbrev pub right_faults : Operator → Option Yielded → Option Yielded → ℕ → List Fault
 right_faults op (Some l) (Some r) place =
     if is_taken (left_of op) l then disagrees op l r place else []
 right_faults op _ _ place = []
 
--- the sign of a sum wants an integer
+-- what an operand yields after its sign, if there is one, which wants an integer
 abbrev pub signed : Bool → Option Yielded → Option Yielded
 signed sign t = if sign then kept wanted.Integer t else t
 
+-- what the operand breaks there
 abbrev pub sign_faults : Bool → Option Yielded → ℕ → List Fault
 sign_faults sign t place = if sign then wants wanted.Integer t place else []
 
--- members of a set so far, and one more
+-- a set of members of a host, if it has some, with one more of this host
 abbrev pub with_host : Option Host → Host → Option Yielded
 with_host g h = if are_hosts_one (Some h) g then Some (Set (Some h)) else None
 
+-- a set with one member more
 abbrev pub with_member : Option Yielded → Option Yielded → Option Yielded
 with_member (Some (Set g)) (Some (Ordinal h)) = with_host g h
 with_member _ _ = None
@@ -149,6 +155,7 @@ abbrev pub spanned : Option Yielded → Option Yielded → Option Yielded
 spanned (Some l) (Some r) = if is_ordinal l then (if do_agree l r then Some l else None) else None
 spanned _ _ = None
 
+-- what the later of them breaks, at its place
 abbrev pub span_faults : Option Yielded → Option Yielded → ℕ → List Fault
 span_faults (Some l) (Some r) place =
     if is_ordinal l then (if do_agree l r then [] else broken place WrongKind) else []

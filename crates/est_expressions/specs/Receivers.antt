@@ -1,7 +1,8 @@
 -- What takes the subscripts or the arguments that stand after a name (ISO 7185, 6.5.3.2 and 6.7.3;
 -- ISO 9074, interaction points and module variables).
 use Rattle.std.specs.Prelude.{ℕ, Bool, true, false, nat_eq, List, [], length}
-use Rattle.std.specs.Prelude.{slice_get, Option, Some, None, if◌then◌else◌}
+use Rattle.std.specs.Prelude.{slice_get, Option, Some, None, option_and_then, if◌then◌else◌}
+use Rattle.std.specs.Option.{option_map, option_map_or}
 use Rattle.est_syntax.specs.Faults.{broken}
 use Rattle.est_syntax.specs.declared.kind.Kind.{Kind}
 use Rattle.est_syntax.specs.declared.rule.Fault.{Fault}
@@ -13,31 +14,25 @@ use Rattle.est_expressions.specs.declared.names.Required.{Required}
 use Rattle.est_expressions.specs.declared.receivers.Receiver.{Receiver}
 use Rattle.est_expressions.specs.declared.receivers.Receiver.TheVariants as receiver
 use Rattle.est_expressions.specs.Operators.{is_taken, wants, gives, is_given}
-use Rattle.est_expressions.specs.Selections.{parameter, parameter_type, takes_so_many, argument_of}
+use Rattle.est_expressions.specs.Selections.{declared_type, parameter, takes_so_many, argument_of}
 
 -- the kinds of the subscripts of a declaration
 abbrev pub dims_in : Option Entry → Option (List Kind)
-dims_in None = None
-dims_in (Some e) = e.dims
+dims_in entry = option_and_then (λ (e : Entry). e.dims) entry
 
--- the type of the subscript with this number
-abbrev pub kind_type : Option Kind → Option Yielded
-kind_type None = None
-kind_type (Some k) = Some (type_of k)
-
+-- the type of the subscript with this number, of those of these kinds
 abbrev pub subscript_in : Option (List Kind) → ℕ → Option Yielded
 subscript_in None i = None
-subscript_in (Some ks) i = kind_type (slice_get ks i)
+subscript_in (Some ks) i = option_map type_of (slice_get ks i)
 
 -- whether a predeclared function takes this
 abbrev pub is_argument : Required → Option Yielded → Bool
-is_argument f None = false
-is_argument f (Some t) = is_taken (argument_of f) t
+is_argument f t = option_map_or (is_taken (argument_of f)) t false
 
 -- whether what stands with this number, counted from 0, is taken
 abbrev pub receives : Outline → Receiver → ℕ → Option Yielded → Bool
 receives o (receiver.Subscripts p) i t = is_given (subscript_in (dims_in (entry_at o p)) i) t
-receives o (receiver.Parameters p) i t = is_given (parameter_type (parameter o p i)) t
+receives o (receiver.Parameters p) i t = is_given (declared_type (parameter o p i)) t
 receives o (receiver.Function f) i t = is_argument f t
 
 -- what it breaks at its place
@@ -45,14 +40,15 @@ abbrev pub received_faults : Outline → Receiver → ℕ → Option Yielded →
 received_faults o (receiver.Subscripts p) i t place =
     gives (subscript_in (dims_in (entry_at o p)) i) t place
 received_faults o (receiver.Parameters p) i t place =
-    gives (parameter_type (parameter o p i)) t place
+    gives (declared_type (parameter o p i)) t place
 received_faults o (receiver.Function f) i t place = wants (argument_of f) t place
 
--- whether so many are taken
+-- whether there are so many subscripts of these kinds
 abbrev pub are_so_many : Option (List Kind) → ℕ → Bool
 are_so_many None n = true
 are_so_many (Some ks) n = nat_eq (length ks) n
 
+-- whether so many are taken
 abbrev pub takes_number : Outline → Receiver → ℕ → Bool
 takes_number o (receiver.Subscripts p) n = are_so_many (dims_in (entry_at o p)) n
 takes_number o (receiver.Parameters p) n = takes_so_many o p n

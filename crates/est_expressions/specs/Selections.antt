@@ -1,6 +1,8 @@
 -- What a name in an expression stands for (ISO 7185, 6.5 and 6.7.1; ISO 9074, exported variables).
 use Rattle.std.specs.Prelude.{ℕ, ◌-◌, Bool, true, false, ◌||◌, ◌&&◌, not, nat_eq}
-use Rattle.std.specs.Prelude.{List, [], ◌∷◌, Option, Some, None, if◌then◌else◌, codes}
+use Rattle.std.specs.Prelude.{List, [], ◌∷◌, Option, Some, None, is_some, option_and_then}
+use Rattle.std.specs.Prelude.{if◌then◌else◌, codes}
+use Rattle.std.specs.Option.{option_map}
 use Rattle.est_syntax.specs.Names.{is_name, spelled}
 use Rattle.est_syntax.specs.Faults.{broken}
 use Rattle.est_syntax.specs.declared.kind.Kind.{Kind}
@@ -51,10 +53,13 @@ selects (code.Modules p) = Modules p
 selects (code.Module p) = Module p
 selects code.SomeModule = SomeModule
 
--- the type of a declaration, where it has a kind
+-- the type of what has this kind, where it has one
 abbrev pub type_in : Option Measured → Option Yielded
-type_in None = None
-type_in (Some m) = Some (type_of m.kind)
+type_in kind = option_map (λ (m : Measured). type_of m.kind) kind
+
+-- the type of what is declared, where it has a kind
+abbrev pub declared_type : Option Entry → Option Yielded
+declared_type entry = option_and_then (λ (e : Entry). type_in e.kind) entry
 
 -- what a call, an `init` or an `output` gives a value or a variable to
 abbrev pub is_parameter : Section → Bool
@@ -64,43 +69,35 @@ is_parameter section.Place = true
 is_parameter section.Interaction = true
 is_parameter _ = false
 
-abbrev pub parameter_by : Option Entry → Option Entry
-parameter_by None = None
-parameter_by (Some e) = if is_parameter e.section then Some e else None
+-- a declaration, where it is a parameter
+abbrev pub parameter_in : Entry → Option Entry
+parameter_in e = if is_parameter e.section then Some e else None
 
+-- the parameter at a place, if one is declared there
 abbrev pub parameter_at : Outline → Option ℕ → Option Entry
-parameter_at o None = None
-parameter_at o (Some p) = parameter_by (entry_at o p)
+parameter_at o place = option_and_then parameter_in (option_and_then (entry_at o) place)
 
 -- the parameter that has this number, counted from 0, of what is declared at a place: its region
 -- begins with its parameters
 abbrev pub parameter : Outline → ℕ → ℕ → Option Entry
 parameter o place i = parameter_at o (nth o place i)
 
-abbrev pub is_there : Option Entry → Bool
-is_there None = false
-is_there (Some e) = true
-
 -- whether there is a parameter for each argument
 abbrev pub has_before : Outline → ℕ → ℕ → Bool
-has_before o place n = nat_eq n 0 || is_there (parameter o place (n - 1))
+has_before o place n = nat_eq n 0 || is_some (parameter o place (n - 1))
 
 -- whether there are as many parameters as this
 abbrev pub takes_so_many : Outline → ℕ → ℕ → Bool
-takes_so_many o place n = has_before o place n && not (is_there (parameter o place n))
+takes_so_many o place n = has_before o place n && not (is_some (parameter o place n))
 
--- the type of a parameter
-abbrev pub parameter_type : Option Entry → Option Yielded
-parameter_type None = None
-parameter_type (Some e) = type_in e.kind
-
--- the functions that are predeclared (ISO 7185, 6.6.6): those of integers alone, and all
+-- the functions of integers that are predeclared (ISO 7185, 6.6.6)
 abbrev pub integer_function : List ℕ → Option Required
 integer_function name =
     if is_name name (codes "abs") then Some required.Abs else
     (if is_name name (codes "odd") then Some required.Odd else
     (if is_name name (codes "sqr") then Some required.Sqr else None))
 
+-- all functions that are predeclared (ISO 7185, 6.6.6)
 abbrev pub required_function : List ℕ → Option Required
 required_function name =
     if is_name name (codes "ord") then Some required.Ord else
@@ -108,13 +105,14 @@ required_function name =
     (if is_name name (codes "succ") then Some required.Succ else
     (if is_name name (codes "pred") then Some required.Pred else integer_function name)))
 
--- what they take and give
+-- what they take
 abbrev pub argument_of : Required → Wanted
 argument_of required.Ord = wanted.Ordinal
 argument_of required.Succ = wanted.Ordinal
 argument_of required.Pred = wanted.Ordinal
 argument_of _ = wanted.Integer
 
+-- what they give for an argument of a type
 abbrev pub value_of : Required → Yielded → Yielded
 value_of required.Chr t = Ordinal host.Char
 value_of required.Odd t = Ordinal host.Boolean
@@ -127,6 +125,7 @@ abbrev pub host_value : Option Host → Selection
 host_value None = Broken
 host_value (Some h) = Value (Ordinal h)
 
+-- what the name of something predeclared is in an expression: a constant, or nothing
 abbrev pub predeclared_head : Option Valued → Selection
 predeclared_head None = Broken
 predeclared_head (Some v) = host_value (host_in v.host)
@@ -151,7 +150,7 @@ module_head (Some (k ∷ ks)) p = Modules p
 abbrev pub function_head : Bool → Option Measured → Selection
 function_head takes k = if takes then value_head k else Broken
 
--- what a declaration is in an expression
+-- what a declaration of this sort is in an expression
 abbrev pub head_by : Outline → ℕ → Entry → Sort → Selection
 head_by o p e sort.Constant = value_head e.kind
 head_by o p e sort.Variable = variable_head e.kind
@@ -159,29 +158,32 @@ head_by o p e sort.ModuleVariable = module_head e.dims p
 head_by o p e sort.Function = function_head (takes_so_many o p 0) e.kind
 head_by o p e _ = Broken
 
+-- what is declared at a place is in an expression
 abbrev pub head_in : Outline → ℕ → Option Entry → Selection
 head_in o p None = Broken
 head_in o p (Some e) = head_by o p e e.declared.sort
 
--- what a name is in an expression
+-- what a name of this meaning is in an expression
 abbrev pub head_meant : Outline → List ℕ → Meant → Selection
 head_meant o name Predeclared = predeclared_head (predeclared_constant name)
 head_meant o name (Seen p) = head_in o p (entry_at o p)
 head_meant o name _ = Broken
 
+-- what a name is in an expression
 abbrev pub head : Outline → Used → Selection
 head o u = head_meant o (spelled u) (meaning o u)
 
--- what the name of something predeclared breaks
+-- what the name of something predeclared breaks that is no constant
 abbrev pub function_faults : Option Required → ℕ → List Fault
 function_faults None place = broken place WrongSort
 function_faults (Some f) place = broken place WrongNumber
 
+-- what the name of something predeclared breaks
 abbrev pub predeclared_faults : Option Valued → List ℕ → ℕ → List Fault
 predeclared_faults None name place = function_faults (required_function name) place
 predeclared_faults (Some v) name place = []
 
--- and that of a declaration
+-- what the name of a declaration of this sort breaks
 abbrev pub sort_faults : Outline → ℕ → Sort → ℕ → List Fault
 sort_faults o p sort.Constant place = []
 sort_faults o p sort.Variable place = []
@@ -189,16 +191,18 @@ sort_faults o p sort.ModuleVariable place = []
 sort_faults o p sort.Function place = if takes_so_many o p 0 then [] else broken place WrongNumber
 sort_faults o p _ place = broken place WrongSort
 
+-- what the name of something declared breaks
 abbrev pub entry_faults : Outline → ℕ → Option Entry → ℕ → List Fault
 entry_faults o p None place = broken place WrongSort
 entry_faults o p (Some e) place = sort_faults o p e.declared.sort place
 
--- what a name breaks in an expression
+-- what a name of this meaning breaks in an expression
 abbrev pub meant_faults : Outline → List ℕ → Meant → ℕ → List Fault
 meant_faults o name Nothing place = broken place UnknownName
 meant_faults o name Predeclared place = predeclared_faults (predeclared_constant name) name place
 meant_faults o name (Unseen p) place = broken place NotSeenHere
 meant_faults o name (Seen p) place = entry_faults o p (entry_at o p) place
 
+-- what a name breaks in an expression
 abbrev pub head_faults : Outline → Used → List Fault
 head_faults o u = meant_faults o (spelled u) (meaning o u) u.place

@@ -1,7 +1,8 @@
 -- Components of variables, and exported variables of modules (ISO 7185, 6.5.3; ISO 9074, exported
 -- variables).
 use Rattle.std.specs.Prelude.{ℕ, Bool, true, false, List, [], ◌∷◌}
-use Rattle.std.specs.Prelude.{◌++◌, Option, Some, None, if◌then◌else◌}
+use Rattle.std.specs.Prelude.{◌++◌, Option, Some, None, option_and_then, if◌then◌else◌}
+use Rattle.std.specs.Option.{option_map_or}
 use Rattle.est_syntax.specs.Names.{is_name, spelled}
 use Rattle.est_syntax.specs.Faults.{broken}
 use Rattle.est_syntax.specs.declared.kind.Kind.{Kind, out-Kind}
@@ -28,16 +29,19 @@ abbrev pub indexed : seen.Kind-F Kind FieldKind → Yielded → Selection
 indexed (seen.ArrayOf index of) t = if is_assignable (type_of index) t then Component of else Broken
 indexed _ t = Broken
 
+-- a component of what stands before a subscript
 abbrev pub component : Selection → Option Yielded → Selection
 component (Component k) (Some t) = indexed (out-Kind k) t
 component _ _ = Broken
 
+-- what a subscript of a variable of this kind breaks, at its place or at the variable's name
 abbrev pub subscript_faults : seen.Kind-F Kind FieldKind → Option Yielded → ℕ → ℕ → List Fault
 subscript_faults (seen.ArrayOf index of) None place name = []
 subscript_faults (seen.ArrayOf index of) (Some t) place name =
     if is_assignable (type_of index) t then [] else broken place WrongKind
 subscript_faults _ t place name = broken name WrongKind
 
+-- what a subscript breaks after what stands before it
 abbrev pub component_faults : Selection → Option Yielded → ℕ → ℕ → List Fault
 component_faults (Component k) t place name = subscript_faults (out-Kind k) t place name
 component_faults _ t place name = []
@@ -62,18 +66,22 @@ abbrev pub field_in : List FieldKind → List ℕ → Option Kind
 field_in [] name = None
 field_in (f ∷ fs) name = if is_name name f.name.bytes then Some f.kind else field_in fs name
 
+-- a field of a record variable, where there is one of this name
 abbrev pub field_found : Option Kind → Selection
 field_found None = Broken
 field_found (Some k) = Component k
 
+-- a field of a variable of this kind
 abbrev pub field_of : seen.Kind-F Kind FieldKind → List ℕ → Selection
 field_of (seen.Fields fs) name = field_found (field_in fs name)
 field_of _ name = Broken
 
+-- what a name breaks that is no field's
 abbrev pub found_faults : Option Kind → ℕ → List Fault
 found_faults None place = broken place UnknownName
 found_faults (Some k) place = []
 
+-- what a field of a variable of this kind breaks, at its place or at the variable's name
 abbrev pub field_faults : seen.Kind-F Kind FieldKind → Used → ℕ → List Fault
 field_faults (seen.Fields fs) u name = found_faults (field_in fs (spelled u)) u.place
 field_faults _ u name = broken name WrongKind
@@ -86,34 +94,36 @@ is_export e = exported e.section e.declared.sort
     exported section.Header sort.Variable = true
     exported _ _ = false
 
+-- the header of a declaration, if it has one
 abbrev pub header_in : Option Entry → Option ℕ
-header_in None = None
-header_in (Some e) = e.header
+header_in entry = option_and_then (λ (e : Entry). e.header) entry
 
-abbrev pub declared_at : Outline → Option Standing → Option Entry
-declared_at o None = None
-declared_at o (Some s) = entry_at o s.place
-
+-- what a header declares under a name
 abbrev pub of_header : Outline → ℕ → Used → Option Entry
-of_header o header u = declared_at o (standing o header (spelled u))
+of_header o header u =
+    option_and_then (λ (s : Standing). entry_at o s.place) (standing o header (spelled u))
 
+-- the exported variable that is declared, if one is
 abbrev pub export_by : Option Entry → Selection
 export_by None = Broken
 export_by (Some e) = if is_export e then variable_head e.kind else Broken
 
+-- whether a header has exported variables
 abbrev pub has_exports : Option Entry → Bool
-has_exports None = false
-has_exports (Some e) = e.exports
+has_exports header = option_map_or (λ (e : Entry). e.exports) header false
 
+-- an exported variable of a module of this header
 abbrev pub export_of : Outline → Option ℕ → Used → Selection
 export_of o None u = Broken
 export_of o (Some header) u =
     if has_exports (entry_at o header) then export_by (of_header o header u) else Broken
 
+-- what a name breaks that is no exported variable's
 abbrev pub no_export : Option Entry → ℕ → List Fault
 no_export None place = broken place UnknownName
 no_export (Some e) place = if is_export e then [] else broken place WrongSort
 
+-- what an exported variable breaks of a module of this header
 abbrev pub export_faults : Outline → Option ℕ → Used → ℕ → List Fault
 export_faults o None u name = []
 export_faults o (Some header) u name =
@@ -126,6 +136,7 @@ with_field o (Component k) u = field_of (out-Kind k) (spelled u)
 with_field o (Module p) u = export_of o (header_in (entry_at o p)) u
 with_field o _ u = Broken
 
+-- what it breaks there
 abbrev pub with_field_faults : Outline → Selection → Used → ℕ → List Fault
 with_field_faults o (Component k) u name = field_faults (out-Kind k) u name
 with_field_faults o (Module p) u name = export_faults o (header_in (entry_at o p)) u name
@@ -134,12 +145,13 @@ with_field_faults o (Value t) u name = broken name WrongKind
 with_field_faults o SomeModule u name = []
 with_field_faults o Broken u name = []
 
--- what a name with its selectors yields, and what it breaks that it stands for a module
+-- what a name with its selectors yields
 abbrev pub selected_type : Selection → Option Yielded
 selected_type (Value t) = Some t
 selected_type (Component k) = Some (type_of k)
 selected_type _ = None
 
+-- what a name with its selectors breaks that stands for a module, or for several
 abbrev pub end_faults : Selection → ℕ → List Fault
 end_faults (Modules p) name = broken name WrongNumber
 end_faults (Module p) name = broken name WrongKind

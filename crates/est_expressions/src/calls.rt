@@ -8,10 +8,10 @@ ghost use Rattle.est_scope.specs.declared.declaration.Sort.TheVariants as sort;
 ghost use Rattle.est_scope.specs.Outline.{entry_at};
 ghost use Rattle.est_scope.specs.Uses.{is_sort};
 ghost use Rattle.est_alike.specs.Types.{yielded};
-ghost use Rattle.est_expressions.specs.Selections.{required_function};
+ghost use Rattle.est_expressions.specs.Selections.{declared_type, required_function};
 ghost use Rattle.est_expressions.specs.Calls.{is_received, taken_faults, is_number, count_faults};
 ghost use Rattle.est_expressions.specs.Calls.{declared_callee, required_callee, callee, no_callee};
-ghost use Rattle.est_expressions.specs.Calls.{callee_faults, kind_yields, value_by, call_by};
+ghost use Rattle.est_expressions.specs.Calls.{callee_faults, value_by, call_by};
 
 use crate::names::{Required, required_function, type_in};
 use crate::receivers::{Receiver, check_number, check_received};
@@ -120,8 +120,8 @@ pub fn check_callee(outline: &Outline, used: &Used, least: &mut Least) -> Option
 }
 
 // What a call of a function yields that is declared at a place.
-fn kind_yields(outline: &Outline, place: u32) -> Option<ValueType<'_>>
-    ensures { yielded result ≡ kind_yields (entry_at outline.now place) }
+fn declared_type(outline: &Outline, place: u32) -> Option<ValueType<'_>>
+    ensures { yielded result ≡ declared_type (entry_at outline.now place) }
 {
     match outline.entry(place) {
         None => None,
@@ -152,7 +152,7 @@ pub fn call_by<'o>(
         return None;
     }
     match receiver {
-        Some(Receiver::Parameters(place)) => kind_yields(outline, place),
+        Some(Receiver::Parameters(place)) => declared_type(outline, place),
         Some(Receiver::Function(function)) => value_by(function, first),
         _ => None,
     }

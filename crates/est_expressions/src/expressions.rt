@@ -113,7 +113,7 @@ fn check_simple<'o>(
     let first = check_term(outline, &simple.first, least);
     let place = term_place(&simple.first);
     check_sign(simple.sign, first, place, least);
-    check_sum(
+    check_sum_steps(
         outline,
         signed(simple.sign, first),
         sign_place(simple.sign, place),
@@ -124,7 +124,7 @@ fn check_simple<'o>(
 
 // Checks the steps of a sum, which begins at a place, after its first operand.
 #[cycle(expressions)]
-fn check_sum<'o>(
+fn check_sum_steps<'o>(
     outline: &'o Outline,
     first: Option<ValueType<'o>>,
     place: u32,
@@ -167,7 +167,7 @@ fn check_term<'o>(outline: &'o Outline, term: &Term, least: &mut Least) -> Optio
     ensures faults { least.new.at ≡ least_with least.old.at (term_faults outline.now term.now) }
 {
     let first = check_factor(outline, &term.first, least);
-    check_product(
+    check_product_steps(
         outline,
         first,
         factor_place(&term.first),
@@ -178,7 +178,7 @@ fn check_term<'o>(outline: &'o Outline, term: &Term, least: &mut Least) -> Optio
 
 // Checks the steps of a product, which begins at a place, after its first operand.
 #[cycle(expressions)]
-fn check_product<'o>(
+fn check_product_steps<'o>(
     outline: &'o Outline,
     first: Option<ValueType<'o>>,
     place: u32,
@@ -229,7 +229,7 @@ fn check_factor<'o>(
         Factor::Number { number, place } => check_number(*number, *place, least),
         Factor::Character { code: _, place: _ } => Some(ValueType::Ordinal(Host::Char)),
         Factor::Group { of, place: _ } => check_expr(outline, of.get(), least),
-        Factor::Not { of, place: _ } => check_not(outline, of.get(), least),
+        Factor::Not { of, place: _ } => check_negation(outline, of.get(), least),
         Factor::Set { members, place: _ } => check_members(outline, members.as_slice(), least),
         Factor::Variable {
             name,
@@ -244,9 +244,13 @@ fn check_factor<'o>(
     }
 }
 
-// Checks the operand of a `not`.
+// Checks a negation, by its operand.
 #[cycle(expressions)]
-fn check_not<'o>(outline: &'o Outline, factor: &Factor, least: &mut Least) -> Option<ValueType<'o>>
+fn check_negation<'o>(
+    outline: &'o Outline,
+    factor: &Factor,
+    least: &mut Least,
+) -> Option<ValueType<'o>>
     ensures kind { yielded result ≡ kept wanted.Boolean (factor_type outline.now factor.now) }
     ensures faults { least.new.at ≡ least_with least.old.at
         (factor_faults outline.now factor.now
@@ -289,14 +293,14 @@ fn check_member<'o>(
 {
     let low = check_expr(outline, &member.low, least);
     wants(Wanted::Ordinal, low, member.low.place, least);
-    let kind = check_high(outline, low, &member.high, least);
+    let kind = check_later_end(outline, low, &member.high, least);
     check_host(set, low, member.low.place, least);
     with_member(set, kind)
 }
 
-// Checks the last one of members from one to another, if there is one.
+// Checks the later end of members from one to another, if there is one.
 #[cycle(expressions)]
-fn check_high<'o>(
+fn check_later_end<'o>(
     outline: &'o Outline,
     low: Option<ValueType<'o>>,
     high: &Option<Expr>,
@@ -481,7 +485,8 @@ fn check_call<'o>(
     let first = &arguments[0];
     let kind = check_expr(outline, first, least);
     let taken = check_one(outline, receiver, 0, kind, first.place, least);
-    let all = check_rest(outline, receiver, 1, taken, name.place, arguments, least);
+    let rest = check_rest(outline, receiver, 1, name.place, arguments, least);
+    let all = taken && rest;
     call_by(outline, receiver, all, kind)
 }
 
@@ -499,27 +504,25 @@ pub fn check_taken(
     ensures faults { least.new.at ≡ least_with least.old.at
         (are_taken_faults outline.now receiver 0 name exprs.now) }
 {
-    check_rest(outline, receiver, 0, true, name, exprs, least)
+    check_rest(outline, receiver, 0, name, exprs, least)
 }
 
-// The same from a number on, where those before were taken or not.
+// The same of those from a number on.
 #[cycle(expressions)]
 fn check_rest(
     outline: &Outline,
     receiver: Option<Receiver>,
     from: usize,
-    before: bool,
     name: u32,
     exprs: &[Expr],
     least: &mut Least,
 ) -> bool
     requires { from ≤ length exprs.now }
-    ensures taken { result
-        ≡ before && are_taken outline.now receiver from (drop from exprs.now) }
+    ensures taken { result ≡ are_taken outline.now receiver from (drop from exprs.now) }
     ensures faults { least.new.at ≡ least_with least.old.at
         (are_taken_faults outline.now receiver from name (drop from exprs.now)) }
 {
-    let mut taken = before;
+    let mut taken = true;
     for number in from..exprs.len() {
         taken = check_numbered(outline, receiver, number, taken, &exprs[number], least);
     }
@@ -527,7 +530,7 @@ fn check_rest(
     taken && enough
 }
 
-// The same of the one that has this number.
+// Whether the one that has this number is taken, and those before it were. Notes what it breaks.
 #[cycle(expressions)]
 fn check_numbered(
     outline: &Outline,

@@ -9,7 +9,7 @@ ghost use Rattle.est_kinds.specs.Constants.{predeclared_constant};
 ghost use Rattle.est_alike.specs.Types.{yields, yielded};
 ghost use Rattle.est_expressions.specs.Selections.{selects, type_in, is_parameter, parameter_at};
 ghost use Rattle.est_expressions.specs.Selections.{parameter, has_before, takes_so_many};
-ghost use Rattle.est_expressions.specs.Selections.{parameter_type, integer_function};
+ghost use Rattle.est_expressions.specs.Selections.{declared_type, integer_function};
 ghost use Rattle.est_expressions.specs.Selections.{required_function, argument_of};
 ghost use Rattle.est_expressions.specs.Selections.{value_of, predeclared_head, value_head};
 ghost use Rattle.est_expressions.specs.Selections.{variable_head, module_head};
@@ -116,7 +116,7 @@ pub fn takes_so_many(outline: &Outline, place: u32, number: usize) -> bool
 
 /// The type of a parameter.
 pub fn parameter_type(outline: &Outline, place: u32, number: usize) -> Option<ValueType<'_>>
-    ensures { yielded result ≡ parameter_type (parameter outline.now place number) }
+    ensures { yielded result ≡ declared_type (parameter outline.now place number) }
 {
     match parameter(outline, place, number) {
         None => None,

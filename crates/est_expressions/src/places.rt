@@ -11,6 +11,7 @@ ghost use Rattle.est_expressions.specs.ExpressionPlaces.{number_type, too_large_
 use est_alike::types::{Host, ValueType};
 use est_scope::least::Least;
 use est_syntax::expression::{Factor, Simple, Term};
+use est_syntax::kind::MAXINT;
 use est_syntax::rule::Rule;
 
 /// The place of the first token of an operand.
@@ -62,7 +63,7 @@ pub fn check_number<'k>(number: u64, place: u32, least: &mut Least) -> Option<Va
     ensures kind { yielded result ≡ number_type number }
     ensures faults { least.new.at ≡ least_with least.old.at (too_large_faults number place) }
 {
-    if number < 2147483648 {
+    if number <= MAXINT as u64 {
         Some(ValueType::Ordinal(Host::Integer))
     } else {
         least.note(place, Rule::NumberTooLarge);

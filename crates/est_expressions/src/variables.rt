@@ -127,8 +127,8 @@ fn is_export(entry: &Entry) -> bool
     }
 }
 
-// The header of a module variable.
-fn header_in(outline: &Outline, place: u32) -> Option<u32>
+/// The header of what is declared at a place, if it has one.
+pub fn header_in(outline: &Outline, place: u32) -> Option<u32>
     ensures { result ≡ header_in (entry_at outline.now place) }
 {
     match outline.entry(place) {

@@ -1,5 +1,5 @@
 -- The root of a skeleton that breaks no rule has a body.
-use Rattle.std.proofs.Common.{◌≡◌, true, List, [], ◌∷◌, ◌++◌, Some, None, find}
+use Rattle.std.proofs.Common.{◌≡◌, true, List, [], ◌∷◌, ◌++◌, map, Some, None, find}
 use Rattle.std.proofs.Common.{cond, nat_eq, option_and_then, refl, ap, ◌∙◌, arith}
 use Rattle.std.specs.List.{filter_map}
 use Rattle.std.proofs.lemmas.Bool.Decides.{nat_tests}
@@ -10,13 +10,13 @@ use Rattle.est_syntax.specs.declared.header.ModvarDef.{ModvarDef}
 use Rattle.est_syntax.specs.declared.body.Part.TheVariants as part
 use Rattle.est_syntax.specs.declared.specification.Spec.{Spec}
 use Rattle.est_blocks.specs.LeastFault.{IsGood}
-use Rattle.est_skeleton.specs.Skeleton.{IsSkeleton, channel_parts}
+use Rattle.est_skeleton.specs.Skeleton.{IsSkeleton}
 use Rattle.est_skeleton.proofs.BodyLaw.{body_is}
 use Rattle.est_meaning.specs.Text.{body_in, body_at, root_of}
 
 -- the one body of a skeleton
 bodies_are : (cs : List Channel) (h : Header) (b : Body) (m : ModvarDef)
-    → filter_map body_in (channel_parts cs ++ part.Header h ∷ part.Body b ∷ part.Modvars (m ∷ [])
+    → filter_map body_in (map part.Channel cs ++ part.Header h ∷ part.Body b ∷ part.Modvars (m ∷ [])
     ∷ []) ≡ b ∷ []
 bodies_are [] h b m = refl
 bodies_are (c ∷ cs) h b m = bodies_are cs h b m

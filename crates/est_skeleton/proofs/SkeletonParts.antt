@@ -1,6 +1,6 @@
 -- The parts of a skeleton, one after the other, are those of its tree.
 use Rattle.std.proofs.Common.{◌≡◌, ◌<◌, refl, ap, subst, sym, suc}
-use Rattle.std.proofs.Common.{List, [], ◌∷◌, ◌++◌, length, arith}
+use Rattle.std.proofs.Common.{List, [], ◌∷◌, ◌++◌, map, length, arith}
 use Rattle.std.specs.List.{All}
 use Rattle.std.proofs.lemmas.List.Elements.{All-cons, All-nil}
 use Rattle.est_syntax.specs.declared.channel.Channel.{Channel}
@@ -10,7 +10,7 @@ use Rattle.est_syntax.specs.declared.body.Body.{Body}
 use Rattle.est_syntax.specs.declared.body.Part.{Part}
 use Rattle.est_syntax.specs.declared.body.Part.TheVariants as part
 use Rattle.est_syntax.specs.declared.specification.Spec.{Spec}
-use Rattle.est_skeleton.specs.Skeleton.{channel_parts, IsPlainChannel, IsPlainHeader}
+use Rattle.est_skeleton.specs.Skeleton.{IsPlainChannel, IsPlainHeader}
 use Rattle.est_skeleton.specs.Skeleton.{IsPlainBody, IsPlainVariable, IsSkeleton}
 use Rattle.est_skeleton.specs.inside.SkeletonParts.{AreParts, BeginWithChannel, IsForm}
 
@@ -20,7 +20,7 @@ record Split (ps : List Part) : Type 0 where
   header : Header
   body : Body
   variable : ModvarDef
-  parts : ps ≡ channel_parts channels ++ part.Header header ∷ part.Body body ∷ part.Modvars
+  parts : ps ≡ map part.Channel channels ++ part.Header header ∷ part.Body body ∷ part.Modvars
       (variable ∷ []) ∷ []
   plain_channels : All IsPlainChannel channels
   plain_header : IsPlainHeader header
@@ -56,7 +56,7 @@ split _ x = absurd x
 
 joined : (cs : List Channel) (h : Header) (b : Body) (m : ModvarDef) → All IsPlainChannel cs
     → IsPlainHeader h → IsPlainBody b → IsPlainVariable m
-    → AreParts (channel_parts cs ++ part.Header h ∷ part.Body b ∷ part.Modvars (m ∷ []) ∷ [])
+    → AreParts (map part.Channel cs ++ part.Header h ∷ part.Body b ∷ part.Modvars (m ∷ []) ∷ [])
 joined [] h b m cs_plain h_plain b_plain m_plain = (h_plain, b_plain, m_plain)
 joined (c ∷ cs) h b m cs_plain h_plain b_plain m_plain = (
   cs_plain 0 c (omega arith),
@@ -64,7 +64,7 @@ joined (c ∷ cs) h b m cs_plain h_plain b_plain m_plain = (
 )
 
 some_channel : (cs : List Channel) (h : Header) (ps : List Part)
-    → BeginWithChannel (channel_parts cs ++ part.Header h ∷ ps) → 0 < length cs
+    → BeginWithChannel (map part.Channel cs ++ part.Header h ∷ ps) → 0 < length cs
 some_channel [] h ps b = absurd b
 some_channel (c ∷ cs) h ps b = omega arith
 
@@ -72,8 +72,8 @@ begin : (ps : List Part) → BeginWithChannel ps → AreParts ps
 begin (part.Channel c ∷ ps) h = h
 begin _ h = absurd h
 
-begun : (cs : List Channel) (ps : List Part) → 0 < length cs → AreParts (channel_parts cs ++ ps)
-    → BeginWithChannel (channel_parts cs ++ ps)
+begun : (cs : List Channel) (ps : List Part) → 0 < length cs → AreParts (map part.Channel cs ++ ps)
+    → BeginWithChannel (map part.Channel cs ++ ps)
 begun [] ps l h = absurd (omega (arith, l))
 begun (c ∷ cs) ps l h = h
 

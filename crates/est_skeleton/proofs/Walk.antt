@@ -1,5 +1,5 @@
 -- What holds of the outline of each skeleton, as it grows by its declarations.
-use Rattle.std.proofs.Common.{◌≡◌, ℕ, suc, ◌+◌, ◌≤◌, true, false, List, [], ◌∷◌, ◌++◌}
+use Rattle.std.proofs.Common.{◌≡◌, ℕ, suc, ◌+◌, ◌≤◌, true, false, List, [], ◌∷◌, ◌++◌, map}
 use Rattle.std.proofs.Common.{length, refl, sym, ap, subst, Option, Some, None, arith}
 use Rattle.std.specs.List.{All, sum_by}
 use Rattle.std.proofs.lemmas.List.Elements.{All-head, All-tail}
@@ -54,7 +54,7 @@ use Rattle.est_outline.specs.inside.DeclaredParts.{block_declares, first_declare
 use Rattle.est_outline.specs.inside.DeclaredParts.{transitions_declare, group_declares}
 use Rattle.est_outline.specs.inside.DeclaredParts.{groups_declare, held_declares}
 use Rattle.est_outline.proofs.PartRows.{body_at}
-use Rattle.est_skeleton.specs.Skeleton.{channel_parts, IsOne, IsPlainInteraction}
+use Rattle.est_skeleton.specs.Skeleton.{IsOne, IsPlainInteraction}
 use Rattle.est_skeleton.specs.Skeleton.{IsPlainBy, IsPlainChannel, IsPlainHeader}
 use Rattle.est_skeleton.specs.Skeleton.{IsEmpty, IsPlain, IsPlainBlock, IsWhen, IsToWhen}
 use Rattle.est_skeleton.specs.Skeleton.{AreClauses, IsPlainTransition, IsPlainGroup}
@@ -327,14 +327,15 @@ module _ (body : Used) (P : ℕ → Outline → Type 0) (kept : IsKept body P) w
   parts_kept : (cs : List Channel) (rest : List Part) → All IsPlainChannel cs
       → ((n m : ℕ) (o : Outline) → n + sum_by part_names rest ≤ m → P n o
       → P m (parts_declare outermost rest o))
-      → (n m : ℕ) (o : Outline) → n + sum_by part_names (channel_parts cs ++ rest) ≤ m → P n o
-      → P m (parts_declare outermost (channel_parts cs ++ rest) o)
+      → (n m : ℕ) (o : Outline) → n + sum_by part_names (map part.Channel cs ++ rest) ≤ m → P n o
+      → P m (parts_declare outermost (map part.Channel cs ++ rest) o)
   unfolding out-Part denote.Hole.Carrier.out
   parts_kept [] rest h last n m o l p = last n m o l p
   parts_kept (c ∷ cs) rest h last n m o l p =
       let n1 = n + part_names (part.Channel c) in
+      let few : n + sum_by part_names (part.Channel c ∷ (map part.Channel cs ++ rest)) ≤ m = l in
       parts_kept cs rest (All-tail IsPlainChannel c cs h) last n1 m (channel_declares outermost c o)
-      (omega (arith, l, sum_by-cons part_names (part.Channel c) (channel_parts cs ++ rest)))
+      (omega (arith, few, sum_by-cons part_names (part.Channel c) (map part.Channel cs ++ rest)))
       (channel_kept outermost c (All-head IsPlainChannel c cs h) n n1 o (omega arith) p)
 
 -- what is kept holds of the outline of a skeleton
@@ -348,4 +349,4 @@ walk s sk P kept =
     (subst (λ ps. P (sum_by part_names ps) (parts_declare outermost ps empty)) (sym sk.parts)
     (parts_kept name P kept sk.channels last sk.plain_channels (last_kept name P kept sk.header
     sk.body sk.variable sk.plain_header sk.plain refl) 0
-    (sum_by part_names (channel_parts sk.channels ++ last)) empty (omega arith) kept.begins))
+    (sum_by part_names (map part.Channel sk.channels ++ last)) empty (omega arith) kept.begins))

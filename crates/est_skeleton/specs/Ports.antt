@@ -49,6 +49,7 @@ bare_port name signals = record {
   signals = signals;
 }
 
+-- the interaction point that is declared with this name, if one is
 abbrev pub port_by : Outline → List ℕ → Option Entry → List Port
 port_by o name None = []
 port_by o name (Some e) =
@@ -64,18 +65,20 @@ abbrev pub header_ports : Outline → Option ℕ → List Port
 header_ports o None = []
 header_ports o (Some header) = ports_in o (names_of o header)
 
--- the ports of a specification are the interaction points of the one module that it starts
+-- the interaction points of the module that this statement starts, if it starts one
 abbrev pub ports_by : Outline → Statement → List Port
 ports_by o first = header_ports o (started_header o first)
 
+-- the ports of a specification are the interaction points of the one module that it starts
 unfoldable pub ports_of : Spec → List Port
 ports_of s = ports_by (outline_of s) s.first
 
--- the body with which it starts that module, by the place of its name
+-- the body with which this statement starts a module, by the place of its name
 abbrev pub body_by : Outline → Statement → Option ℕ
 body_by o (statement.Init target body arguments place) = declaration_of o sort.Body body
 body_by o _ = None
 
+-- the body with which a specification starts its module, by the place of its name
 unfoldable pub body_started : Spec → Option ℕ
 body_started s = body_by (outline_of s) s.first
 

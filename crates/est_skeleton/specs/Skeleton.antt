@@ -1,6 +1,6 @@
 -- The trees of skeletons: specifications with channels, one header, one body with states, and one
 -- module variable. What is asked is the form of the tree alone: names and places may be any.
-use Rattle.std.specs.Prelude.{◌≡◌, ◌<◌, true, List, [], ◌∷◌, ◌++◌, Some, None, length}
+use Rattle.std.specs.Prelude.{◌≡◌, ◌<◌, true, List, [], ◌∷◌, ◌++◌, map, Some, None, length}
 use Rattle.std.specs.List.{All}
 use Rattle.est_syntax.specs.declared.name.Used.{Used}
 use Rattle.est_syntax.specs.declared.channel.InteractionDef.{InteractionDef}
@@ -22,11 +22,6 @@ use Rattle.est_syntax.specs.declared.body.Body.{Body, out-Body}
 use Rattle.est_syntax.specs.declared.body.Part.{Part}
 use Rattle.est_syntax.specs.declared.body.Part.TheVariants as part
 use Rattle.est_syntax.specs.declared.specification.Spec.{Spec}
-
--- these channels as parts
-abbrev pub channel_parts : List Channel → List Part
-channel_parts [] = []
-channel_parts (c ∷ cs) = part.Channel c ∷ channel_parts cs
 
 -- a list of one item, of which P holds
 abbrev pub IsOne : {X : Type 0} → (X → Type 0) → List X → Type 0
@@ -146,7 +141,7 @@ pub record IsSkeleton (s : Spec) : Type 0 where
   pub variable : ModvarDef
   pub queue : s.queue ≡ None
   pub scale : s.scale ≡ None
-  pub parts : s.parts ≡ channel_parts channels ++ part.Header header ∷ part.Body body
+  pub parts : s.parts ≡ map part.Channel channels ++ part.Header header ∷ part.Body body
       ∷ part.Modvars (variable ∷ []) ∷ []
   pub some : 0 < length channels
   pub plain_channels : All IsPlainChannel channels

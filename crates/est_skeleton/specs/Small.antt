@@ -14,14 +14,15 @@ abbrev pub state_names : Part → ℕ
 state_names (part.States us) = length us
 state_names _ = 0
 
--- the interactions after one `by` of a channel, the points and the module variables of one
--- declaration
+-- the interactions after one `by` of a channel
 abbrev pub by_names : ByPart → ℕ
 by_names b = length b.interactions
 
+-- the interaction points of one declaration
 abbrev pub point_names : Point → ℕ
 point_names p = length p.names
 
+-- the module variables of one declaration
 abbrev pub modvar_names : ModvarDef → ℕ
 modvar_names m = length m.names
 
@@ -33,10 +34,11 @@ part_names (part.Body b) = 1 + sum_by state_names (out-Body b).parts
 part_names (part.Modvars ms) = sum_by modvar_names ms
 part_names _ = 0
 
--- the transitions of the bodies among parts
+-- the transitions of a group
 abbrev pub group_transitions : Group → ℕ
 group_transitions g = length (out-Group g).transitions
 
+-- the transitions of a part, if it is a body
 abbrev pub part_transitions : Part → ℕ
 part_transitions (part.Body b) = sum_by group_transitions (out-Body b).groups
 part_transitions _ = 0

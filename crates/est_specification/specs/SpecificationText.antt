@@ -34,7 +34,7 @@ IsGoodText text tokens (found.Skeleton spec) = IsSpecification text tokens spec
 IsGoodText text tokens (found.Whole counts) = HasNumbers text tokens counts
 
 -- The tokens are refused by the grammar at this place, or have one tree, which breaks this rule
--- first; want of memory says nothing of them.
+-- first; out of memory says nothing of them.
 abbrev pub IsNoSpecification : List ℕ → List Token → SpecificationError → Type 0
 IsNoSpecification text tokens (errors.BadToken place) =
     IsRefusal text tokens (refusals.BadToken place)

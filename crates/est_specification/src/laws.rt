@@ -14,9 +14,9 @@ pub fn sentences_are_small()
     ensures { SentencesAreSmall }
 {}
 
-/// Texts of the same tokens, but for layout, comments and letter case, have the same answer, each
-/// place told by the number of its token. And a token that the grammar refuses is refused whatever
-/// stands after it.
+/// What is a right answer for a text is one for each text of the same tokens, whatever their
+/// layout, comments and letter case, each place told by the number of its token. And a token that
+/// the grammar refuses is refused whatever stands after it.
 pub fn layout_means_nothing()
     ensures layout { LayoutMeansNothing }
     ensures rest { RefusalsStay }

@@ -3,7 +3,7 @@
 
 mod error;
 pub mod laws;
-pub mod read;
+mod read;
 
 pub use error::SpecificationError;
 pub use est_check::Specification;

@@ -162,4 +162,4 @@ for_least o f loops s name first down last turn place before at after is done re
     ∙ ap (least_with before) (sym (for_at o f loops s name first down last turn place is))
 
 -- What the functions over statements need.
-pub ruleset rows = (compound_at, case_at, while_at, repeat_at)
+pub ruleset rows = (least_append, compound_at, case_at, while_at, repeat_at)

@@ -1,5 +1,7 @@
 -- Modules that are started and let go of (ISO 9074, init-statement and release-statement).
-use Rattle.std.specs.Prelude.{ℕ, nat_eq, List, [], ◌++◌, Option, Some, None, if◌then◌else◌}
+use Rattle.std.specs.Prelude.{ℕ, nat_eq, List, [], ◌++◌, Option, Some, None, option_and_then}
+use Rattle.std.specs.Prelude.{if◌then◌else◌}
+use Rattle.std.specs.Option.{option_map}
 use Rattle.est_syntax.specs.Faults.{broken}
 use Rattle.est_syntax.specs.declared.expression.Access.{Access}
 use Rattle.est_syntax.specs.declared.expression.Expr.{Expr}
@@ -20,27 +22,29 @@ use Rattle.est_expressions.specs.Accesses.{access_faults}
 
 -- the header of the module variable or body that is declared at a place
 abbrev pub header_at : Outline → Option ℕ → Option ℕ
-header_at o None = None
-header_at o (Some p) = header_in (entry_at o p)
+header_at o place = header_in (option_and_then (entry_at o) place)
 
 -- the name of an `all` gets no module
 abbrev pub section_faults : Section → ℕ → List Fault
 section_faults section.All place = broken place NotWritable
 section_faults _ place = []
 
+-- the same of a declaration
 abbrev pub started_by : Option Entry → ℕ → List Fault
 started_by None place = []
 started_by (Some e) place = section_faults e.section place
 
+-- the same of what is declared at a place
 abbrev pub started_faults : Outline → Option ℕ → ℕ → List Fault
 started_faults o None place = []
 started_faults o (Some p) place = started_by (entry_at o p) place
 
--- a body whose text has ended, for the header of the module variable
+-- what a body breaks that is not for the header of the module variable
 abbrev pub header_faults : Option ℕ → Option ℕ → ℕ → List Fault
 header_faults (Some h) (Some g) place = if nat_eq h g then [] else broken place WrongBody
 header_faults _ _ place = []
 
+-- what a body breaks whose text has not ended, or that is not for that header
 abbrev pub body_faults : Outline → Option ℕ → Option ℕ → ℕ → List Fault
 body_faults o header None place = []
 body_faults o header (Some body) place =
@@ -49,9 +53,9 @@ body_faults o header (Some body) place =
 
 -- the parameters of a body are those of its header
 abbrev pub parameters_of : Option ℕ → Option Receiver
-parameters_of None = None
-parameters_of (Some header) = Some (receiver.Parameters header)
+parameters_of header = option_map (λ (h : ℕ). receiver.Parameters h) header
 
+-- what an `init` breaks
 abbrev pub init_faults : Outline → Access → Used → List Expr → List Fault
 init_faults o target body arguments =
     access_faults o sort.ModuleVariable target

@@ -1,5 +1,6 @@
 -- Interaction points and what passes them (ISO 9074, output and when-clause).
-use Rattle.std.specs.Prelude.{ℕ, Bool, List, [], ◌∷◌, ◌++◌, Option, Some, None, if◌then◌else◌}
+use Rattle.std.specs.Prelude.{ℕ, Bool, List, [], ◌∷◌, ◌++◌, Option, Some, None, option_and_then}
+use Rattle.std.specs.Prelude.{if◌then◌else◌}
 use Rattle.est_syntax.specs.Names.{spelled}
 use Rattle.est_syntax.specs.Faults.{broken}
 use Rattle.est_syntax.specs.declared.channel.Role.{Role}
@@ -25,15 +26,11 @@ use Rattle.est_expressions.specs.declared.receivers.Receiver.TheVariants as rece
 use Rattle.est_expressions.specs.Expressions.{are_taken_faults}
 use Rattle.est_expressions.specs.Accesses.{access_faults}
 
--- the channel and the role of the interaction point that a name means
-abbrev pub side_in : Option Entry → Option Side
-side_in None = None
-side_in (Some e) = e.side
-
+-- the channel and the role of the interaction point that is declared at a place
 abbrev pub side_at : Outline → Option ℕ → Option Side
-side_at o None = None
-side_at o (Some p) = side_in (entry_at o p)
+side_at o place = option_and_then (λ (e : Entry). e.side) (option_and_then (entry_at o) place)
 
+-- the channel and the role of the interaction point that a name means
 abbrev pub point_side : Outline → Used → Option Side
 point_side o at = side_at o (declaration_of o sort.Point at)
 
@@ -44,11 +41,13 @@ may_pass Sends Second s = s.second
 may_pass Receives First s = s.second
 may_pass Receives Second s = s.first
 
+-- what a name of a channel breaks that is no interaction, or that does not pass this way
 abbrev pub direction_faults : Direction → Role → Option Member → ℕ → List Fault
 direction_faults d r (Some (member.Interaction s)) place =
     if may_pass d r s then [] else broken place WrongDirection
 direction_faults d r _ place = broken place WrongSort
 
+-- what a name breaks that stands in a channel, or does not
 abbrev pub standing_faults : Outline → Direction → Role → Option Standing → ℕ → List Fault
 standing_faults o d r None place = broken place UnknownName
 standing_faults o d r (Some s) place = direction_faults d r (member_at o s.place) place
@@ -59,6 +58,7 @@ signal_by_faults o d None u = []
 signal_by_faults o d (Some s) u =
     standing_faults o d s.role (standing o s.channel (spelled u)) u.place
 
+-- what an interaction point and the name of an interaction break that passes it
 abbrev pub signal_faults : Outline → Direction → Access → Used → List Fault
 signal_faults o d at u =
     access_faults o sort.Point at ++ signal_by_faults o d (point_side o at.name) u
@@ -68,10 +68,12 @@ abbrev pub signal_in : Option Member → ℕ → Option Receiver
 signal_in (Some (member.Interaction s)) place = Some (receiver.Parameters place)
 signal_in _ place = None
 
+-- the interaction that stands in a channel, if one does
 abbrev pub signal_standing : Outline → Option Standing → Option Receiver
-signal_standing o None = None
-signal_standing o (Some s) = signal_in (member_at o s.place) s.place
+signal_standing o found =
+    option_and_then (λ (s : Standing). signal_in (member_at o s.place) s.place) found
 
+-- the interaction that a name means at a point of this side
 abbrev pub signal_of : Outline → Option Side → Used → Option Receiver
 signal_of o None u = None
 signal_of o (Some s) u = signal_standing o (standing o s.channel (spelled u))
@@ -83,6 +85,7 @@ sending_faults o s =
     ++ are_taken_faults o (signal_of o (point_side o s.at.name) s.signal) 0 s.signal.place
     s.arguments
 
+-- interactions that are sent, in order
 abbrev pub sendings_faults : Outline → List Sending → List Fault
 sendings_faults o [] = []
 sendings_faults o (s ∷ ss) = sending_faults o s ++ sendings_faults o ss

@@ -51,25 +51,29 @@ abbrev pub function_faults : Option ℕ → ℕ → List Fault
 function_faults None place = []
 function_faults (Some f) place = broken place NotInFunction
 
--- an argument of a procedure, which is a variable where its parameter is one by place
+-- whether a parameter of this section is given a variable
 abbrev pub is_place : Section → Bool
 is_place section.Place = true
 is_place _ = false
 
+-- what an argument of a procedure breaks, which is a variable where its parameter is given one
 abbrev pub argument_by : Outline → Option ℕ → List ℕ → Option Entry → Expr → List Fault
 argument_by o f loops None e = expr_faults o e
 argument_by o f loops (Some g) e =
     if is_place g.section then place_faults o f loops g.kind e
     else expr_faults o e ++ gives (type_in g.kind) (expr_type o e) (expr_place e)
 
+-- what an argument breaks for the parameter with this number, counted from 0
 abbrev pub argument_faults : Outline → Option ℕ → List ℕ → ℕ → ℕ → Expr → List Fault
 argument_faults o f loops p i e = argument_by o f loops (parameter o p i) e
 
+-- what the arguments of a procedure break, from this number on, after its name
 abbrev pub arguments_faults : Outline → Option ℕ → List ℕ → ℕ → ℕ → ℕ → List Expr → List Fault
 arguments_faults o f loops p i name [] = number_faults o (receiver.Parameters p) i name
 arguments_faults o f loops p i name (e ∷ es) =
     argument_faults o f loops p i e ++ arguments_faults o f loops p (i + 1) name es
 
+-- what arguments break after a name, which is that of a procedure or of none
 abbrev pub called_faults :
     Outline → Option ℕ → List ℕ → Option ℕ → ℕ → List Expr → List Fault
 called_faults o f loops None name es = exprs_faults o es
@@ -81,13 +85,15 @@ call_faults o f loops name es =
     use_faults o sort.Procedure name
     ++ called_faults o f loops (declaration_of o sort.Procedure name) name.place es
 
--- the head of a `for`: its control variable is ordinal, and its bounds are of that host
+-- the type of the control variable of a `for`
 abbrev pub control_type : Outline → Option ℕ → List ℕ → Used → Option Yielded
 control_type o f loops name = selected_type (target o f loops name)
 
+-- what the first or last value of a `for` breaks, which is of the host of its control variable
 abbrev pub bound_faults : Outline → Option Yielded → Expr → List Fault
 bound_faults o t e = expr_faults o e ++ gives (kept wanted.Ordinal t) (expr_type o e) (expr_place e)
 
+-- what the head of a `for` breaks: its control variable is ordinal
 abbrev pub for_faults : Outline → Option ℕ → List ℕ → Used → Expr → Expr → List Fault
 for_faults o f loops name first last =
     (target_faults o f loops name [] ++ end_faults (target o f loops name) name.place
@@ -95,19 +101,21 @@ for_faults o f loops name first last =
     ++ bound_faults o (control_type o f loops name) first
     ++ bound_faults o (control_type o f loops name) last
 
--- the loops around its statement
+-- the loops around the statement of a `for`, whose control variable has this meaning
 abbrev pub with_control : Meant → List ℕ → List ℕ
 with_control (Seen p) loops = p ∷ loops
 with_control _ loops = loops
 
+-- the loops around the statement of a `for`
 abbrev pub within_loop : Outline → List ℕ → Used → List ℕ
 within_loop o loops name = with_control (meaning o name) loops
 
--- what an `all` goes over: a header, or an ordinal type
+-- what the text breaks that an `all` goes over: a header, or an ordinal type
 abbrev pub over_by : Outline → TypeText → Option ℕ → List Fault
 over_by o t None = dim_faults o t
 over_by o t (Some header) = []
 
+-- what the text breaks that an `all` goes over
 abbrev pub over_faults : Outline → TypeText → List Fault
 over_faults o (text.Named u) = over_by o (text.Named u) (declaration_of o sort.Header u)
 over_faults o t = dim_faults o t
@@ -188,15 +196,18 @@ abbrev pub option_faults : Outline → Option ℕ → List ℕ → Option Statem
 option_faults o f loops None = []
 option_faults o f loops (Some s) = statement_faults o f loops s
 
+-- what statements break, in order
 abbrev pub statements_faults : Outline → Option ℕ → List ℕ → List Statement → List Fault
 statements_faults o f loops [] = []
 statements_faults o f loops (s ∷ ss) =
     statement_faults o f loops s ++ statements_faults o f loops ss
 
+-- what a choice of a `case` breaks, after those before it
 abbrev pub arm_faults : Outline → Option ℕ → List ℕ → Option Host → Chosen → Arm → List Fault
 arm_faults o f loops h seen a =
     choices_faults o h seen a.constants ++ statement_faults o f loops a.turn
 
+-- what choices of a `case` break, after those before them
 abbrev pub arms_faults :
     Outline → Option ℕ → List ℕ → Option Host → Chosen → List Arm → List Fault
 arms_faults o f loops h seen [] = []

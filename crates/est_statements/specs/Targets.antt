@@ -1,8 +1,10 @@
 -- What statements may write (ISO 7185, 6.8.2.2 and 6.8.3.9; ISO 9074, exported variables and
 -- module variables).
 use Rattle.std.specs.Prelude.{ℕ, Bool, true, false, ◌&&◌, not, nat_lt, nat_eq, List, [], ◌∷◌}
-use Rattle.std.specs.Prelude.{◌++◌, Option, Some, None, if◌then◌else◌, length, slice_get}
+use Rattle.std.specs.Prelude.{◌++◌, Option, Some, None, is_some, unwrap_or, if◌then◌else◌}
+use Rattle.std.specs.Prelude.{length, slice_get}
 use Rattle.std.specs.List.{list_any}
+use Rattle.std.specs.Option.{option_map}
 use Rattle.est_syntax.specs.Names.{spelled}
 use Rattle.est_syntax.specs.Faults.{broken}
 use Rattle.est_syntax.specs.declared.expression.Expr.{Expr, out-Expr}
@@ -82,23 +84,26 @@ is_writable f loops p s sort.ModuleVariable = is_procedural f
 is_writable f loops p s sort.Function = is_own f p && is_uncontrolled loops p
 is_writable f loops p s _ = false
 
--- what a declaration is as a target, where it may be written
+-- what a declaration of this sort is as a target
 abbrev pub target_by : ℕ → Entry → Sort → Selection
 target_by p e sort.Variable = variable_head e.kind
 target_by p e sort.ModuleVariable = module_head e.dims p
 target_by p e sort.Function = value_head e.kind
 target_by p e _ = Broken
 
+-- what is declared is as a target, where it may be written
 abbrev pub target_in : Option ℕ → List ℕ → ℕ → Option Entry → Selection
 target_in f loops p None = Broken
 target_in f loops p (Some e) =
     if is_writable f loops p e.section e.declared.sort then target_by p e e.declared.sort
     else Broken
 
+-- what a name of this meaning is as a target
 abbrev pub target_meant : Outline → Option ℕ → List ℕ → Meant → Selection
 target_meant o f loops (Seen p) = target_in f loops p (entry_at o p)
 target_meant o f loops _ = Broken
 
+-- what a name is as a target
 abbrev pub target : Outline → Option ℕ → List ℕ → Used → Selection
 target o f loops u = target_meant o f loops (meaning o u)
 
@@ -110,66 +115,65 @@ is_target_sort sort.ModuleVariable = true
 is_target_sort sort.Function = true
 is_target_sort _ = false
 
--- The subscripts of a module variable are counted also where it may not be written: those that
--- stand first, and after which stand no others.
-abbrev pub subscripts_in : Option Selector → ℕ
-subscripts_in None = 0
+-- how many subscripts a selector has, if it has some
+abbrev pub subscripts_in : Option Selector → Option ℕ
+subscripts_in None = None
 subscripts_in (Some x) = held (out-Selector x)
   where
     held : opened.Selector-F Factor Selector Expr Member ProductStep Relation Simple SumStep Term
-        → ℕ
-    held (opened.Index es place) = length es
-    held (opened.Field u) = 0
+        → Option ℕ
+    held (opened.Index es place) = Some (length es)
+    held (opened.Field u) = None
 
-abbrev pub is_index : Option Selector → Bool
-is_index None = false
-is_index (Some x) = held (out-Selector x)
-  where
-    held : opened.Selector-F Factor Selector Expr Member ProductStep Relation Simple SumStep Term
-        → Bool
-    held (opened.Index es place) = true
-    held (opened.Field u) = false
-
+-- whether as many subscripts as these kinds stand first, and no others after them
 abbrev pub are_subscripts : List Kind → List Selector → Bool
 are_subscripts ks path =
-    nat_eq (length ks) (subscripts_in (slice_get path 0))
-    && not (is_index (slice_get path 0) && is_index (slice_get path 1))
+    nat_eq (length ks) (unwrap_or (subscripts_in (slice_get path 0)) 0)
+    && not (is_some (subscripts_in (slice_get path 0))
+    && is_some (subscripts_in (slice_get path 1)))
 
+-- what too few or too many subscripts break
 abbrev pub subscripts_faults : Option (List Kind) → List Selector → ℕ → List Fault
 subscripts_faults None path place = []
 subscripts_faults (Some ks) path place =
     if are_subscripts ks path then [] else broken place WrongNumber
 
+-- the subscripts of a module variable are counted also where it may not be written
 abbrev pub counted_faults : Sort → Option (List Kind) → List Selector → ℕ → List Fault
 counted_faults sort.ModuleVariable dims path place = subscripts_faults dims path place
 counted_faults _ dims path place = []
 
--- what the name of a target breaks
+-- what the name of a declaration breaks that may not be written
 abbrev pub sort_target_faults : Entry → List Selector → ℕ → List Fault
 sort_target_faults e path place =
     if is_target_sort e.declared.sort
     then broken place NotWritable ++ counted_faults e.declared.sort e.dims path place
     else broken place WrongSort
 
+-- what the name of a declaration breaks as a target
 abbrev pub entry_target_faults :
     Option ℕ → List ℕ → ℕ → Entry → List Selector → ℕ → List Fault
 entry_target_faults f loops p e path place =
     if is_writable f loops p e.section e.declared.sort then []
     else sort_target_faults e path place
 
+-- what the name of something declared breaks as a target
 abbrev pub target_in_faults :
     Option ℕ → List ℕ → ℕ → Option Entry → List Selector → ℕ → List Fault
 target_in_faults f loops p None path place = broken place WrongSort
 target_in_faults f loops p (Some e) path place = entry_target_faults f loops p e path place
 
+-- what the name of something predeclared breaks as a target that is no constant
 abbrev pub function_target : Option Required → ℕ → List Fault
 function_target None place = broken place WrongSort
 function_target (Some f) place = broken place NotWritable
 
+-- what the name of something predeclared breaks as a target
 abbrev pub predeclared_target : Option Valued → List ℕ → ℕ → List Fault
 predeclared_target None name place = function_target (required_function name) place
 predeclared_target (Some v) name place = broken place NotWritable
 
+-- what a name of this meaning breaks as a target
 abbrev pub target_meant_faults :
     Outline → Option ℕ → List ℕ → Used → List Selector → Meant → List Fault
 target_meant_faults o f loops u path Nothing = broken u.place UnknownName
@@ -179,6 +183,7 @@ target_meant_faults o f loops u path (Unseen p) = broken u.place NotSeenHere
 target_meant_faults o f loops u path (Seen p) =
     target_in_faults f loops p (entry_at o p) path u.place
 
+-- what a name breaks as a target
 abbrev pub target_faults : Outline → Option ℕ → List ℕ → Used → List Selector → List Fault
 target_faults o f loops u path = target_meant_faults o f loops u path (meaning o u)
 
@@ -193,6 +198,7 @@ end_faults _ place = []
 abbrev pub path_target : Outline → Option ℕ → List ℕ → Used → List Selector → Selection
 path_target o f loops u path = selected o (target o f loops u) path
 
+-- what it breaks
 abbrev pub path_target_faults : Outline → Option ℕ → List ℕ → Used → List Selector → List Fault
 path_target_faults o f loops u path =
     target_faults o f loops u path ++ selected_faults o (target o f loops u) u.place path
@@ -204,10 +210,11 @@ assign_faults o f loops u path e =
     path_target_faults o f loops u path ++ expr_faults o e
     ++ gives (selected_type (path_target o f loops u path)) (expr_type o e) (expr_place e)
 
--- the variable that an expression is, if it is one and nothing else
+-- a variable: its name and its selectors
 abbrev pub Variable : Type 0
 Variable = Used × List Selector
 
+-- the variable that an operand is, if it is one and nothing else
 abbrev pub bare_factor : Factor → Option Variable
 bare_factor x = held (out-Factor x)
   where
@@ -216,31 +223,36 @@ bare_factor x = held (out-Factor x)
     held (opened.Variable name path place) = Some (name, path)
     held _ = None
 
+-- that of a product of this operand and these steps
 abbrev pub bare_product : Factor → List ProductStep → Option Variable
 bare_product x [] = bare_factor x
 bare_product x (s ∷ ss) = None
 
+-- that of a product
 abbrev pub bare_term : Term → Option Variable
 bare_term t = bare_product (out-Term t).first (out-Term t).rest
 
+-- that of a sum of a sign, if there is one, this operand and these steps
 abbrev pub bare_sum : Bool → Term → List SumStep → Option Variable
 bare_sum false t [] = bare_term t
 bare_sum _ t ss = None
 
+-- that of a sum
 abbrev pub bare_simple : Simple → Option Variable
 bare_simple s = bare_sum (out-Simple s).sign (out-Simple s).first (out-Simple s).rest
 
+-- that of an expression of this sum and a relation, if there is one
 abbrev pub bare_by : Simple → Option Relation → Option Variable
 bare_by s None = bare_simple s
 bare_by s (Some r) = None
 
+-- that of an expression
 abbrev pub bare : Expr → Option Variable
 bare e = bare_by (out-Expr e).left (out-Expr e).relation
 
 -- what the program keeps says so
 abbrev pub variable_of : Option VariableAccess → Option Variable
-variable_of None = None
-variable_of (Some b) = Some (b.name.now, b.path.now)
+variable_of access = option_map (λ (a : VariableAccess). (a.name.now, a.path.now)) access
 
 -- what stands for a `var` parameter of this kind is alike to it
 abbrev pub unlike_faults : Option Measured → Selection → ℕ → List Fault
@@ -248,6 +260,7 @@ unlike_faults (Some m) (Component k) place =
     if is_alike m.kind k then [] else broken place WrongKind
 unlike_faults m s place = []
 
+-- what an argument for such a parameter breaks, which is this variable or none
 abbrev pub place_faults_by :
     Outline → Option ℕ → List ℕ → Option Measured → Expr → Option Variable → List Fault
 place_faults_by o f loops m e None = expr_faults o e ++ broken (expr_place e) NotWritable

@@ -60,7 +60,7 @@ fn end_of(outline: &Outline, used: &Used) -> Option<u32>
 }
 
 // Notes a name that means neither.
-fn check_end(outline: &Outline, used: &Used, least: &mut Least)
+fn check_end_name(outline: &Outline, used: &Used, least: &mut Least)
     ensures { least.new.at ≡ least_with least.old.at
         (end_used outline.now used.now.place (meaning outline.now used.now)) }
 {
@@ -88,7 +88,7 @@ fn subscripts_at(place: Option<u32>) -> Option<Receiver>
 fn check_single(outline: &Outline, access: &Access, least: &mut Least)
     ensures { least.new.at ≡ least_with least.old.at (single_faults outline.now access.now) }
 {
-    check_end(outline, &access.name, least);
+    check_end_name(outline, &access.name, least);
     let receiver = subscripts_at(end_of(outline, &access.name));
     check_taken(
         outline,

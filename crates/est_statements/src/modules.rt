@@ -4,7 +4,6 @@
 ghost use Rattle.std.specs.Prelude.{◌≡◌};
 ghost use Rattle.est_scope.specs.LeastSoFar.{least_with};
 ghost use Rattle.est_scope.specs.Outline.{entry_at};
-ghost use Rattle.est_expressions.specs.Variables.{header_in};
 ghost use Rattle.est_statements.specs.Modules.{header_at, section_faults, started_by};
 ghost use Rattle.est_statements.specs.Modules.{started_faults, header_faults, body_faults};
 ghost use Rattle.est_statements.specs.Modules.{parameters_of, init_faults};
@@ -12,22 +11,13 @@ ghost use Rattle.est_statements.specs.Modules.{parameters_of, init_faults};
 use est_expressions::accesses::check_access;
 use est_expressions::expressions::check_taken;
 use est_expressions::receivers::Receiver;
+use est_expressions::variables::header_in;
 use est_scope::declaration::{Section, Sort};
 use est_scope::least::Least;
 use est_scope::outline::Outline;
 use est_syntax::expression::{Access, Expr};
 use est_syntax::name::Used;
 use est_syntax::rule::Rule;
-
-// The header of what is declared at a place.
-fn header_in(outline: &Outline, place: u32) -> Option<u32>
-    ensures { result ≡ header_in (entry_at outline.now place) }
-{
-    match outline.entry(place) {
-        None => None,
-        Some(entry) => entry.header,
-    }
-}
 
 /// The header of the module variable or body that is declared at a place.
 pub fn header_at(outline: &Outline, place: Option<u32>) -> Option<u32>

@@ -1,5 +1,5 @@
 //! The rules that statements break (ISO 7185, 6.8; ISO 9074, statements).
-#![tactic(auto, using(est_scope::proofs::LeastLaws::least_append, crate::proofs::StatementRows::rows))]
+#![tactic(auto, using(crate::proofs::StatementRows::rows))]
 
 ghost use Rattle.std.specs.Prelude.{◌≡◌, ◌++◌, [], IfOk, OnOk};
 ghost use Rattle.est_scope.specs.LeastSoFar.{least_with};

@@ -11,7 +11,7 @@ ghost use Rattle.est_expressions.specs.Selections.{selects, required_function};
 ghost use Rattle.est_statements.specs.Targets.{is_written_section, is_within, is_uncontrolled};
 ghost use Rattle.est_statements.specs.Targets.{may_write, is_own};
 ghost use Rattle.est_statements.specs.Targets.{is_procedural, is_writable, target_by, target_in};
-ghost use Rattle.est_statements.specs.Targets.{subscripts_in, is_index, are_subscripts};
+ghost use Rattle.est_statements.specs.Targets.{subscripts_in, are_subscripts};
 ghost use Rattle.est_statements.specs.Targets.{subscripts_faults, counted_faults};
 ghost use Rattle.est_statements.specs.Targets.{sort_target_faults};
 ghost use Rattle.est_statements.specs.Targets.{target, is_target_sort, entry_target_faults};
@@ -170,32 +170,23 @@ fn is_target_sort(sort: Sort) -> bool
     }
 }
 
-// How many subscripts a selector has.
-fn subscripts_in(selector: Option<&Selector>) -> usize
+// How many subscripts a selector has, if it has some.
+fn subscripts_in(selector: Option<&Selector>) -> Option<usize>
     ensures { result ≡ subscripts_in (option_copied selector.entry) }
 {
     match selector {
-        Some(Selector::Index { exprs, place: _ }) => exprs.len(),
-        _ => 0,
+        Some(Selector::Index { exprs, place: _ }) => Some(exprs.len()),
+        _ => None,
     }
 }
 
-// Whether it has some.
-fn is_index(selector: Option<&Selector>) -> bool
-    ensures { result ≡ is_index (option_copied selector.entry) }
-{
-    match selector {
-        Some(Selector::Index { exprs: _, place: _ }) => true,
-        _ => false,
-    }
-}
-
-// Whether these subscripts stand first, and no others behind them.
+// Whether as many subscripts as these kinds stand first, and no others after them.
 fn are_subscripts(kinds: &[Kind], path: &[Selector]) -> bool
     ensures { result ≡ are_subscripts kinds.now path.now }
 {
-    let more = is_index(path.get(0)) && is_index(path.get(1));
-    kinds.len() == subscripts_in(path.get(0)) && !more
+    let first = subscripts_in(path.get(0));
+    let more = first.is_some() && subscripts_in(path.get(1)).is_some();
+    kinds.len() == first.unwrap_or(0) && !more
 }
 
 // Notes too few or too many subscripts.

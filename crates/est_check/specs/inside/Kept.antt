@@ -8,6 +8,7 @@ use Rattle.est_skeleton.specs.Skeleton.{IsSkeleton}
 use Rattle.est_check.specs.declared.judging.Kept.{Kept}
 use Rattle.est_check.specs.declared.judging.Kept.TheVariants as kept
 
+-- what is kept is that of this specification, which breaks no rule
 abbrev pub IsKept : Spec → Kept → Type 0
 IsKept s (kept.Skeleton ports body header counts) =
     IsSkeleton s × IsGood s × (ports ≡ ports_of s) × (body ≡ body_started s)

@@ -38,8 +38,8 @@ check_rest-loop-number-preserved t c = (
       c.index-exprs-number.is c.check_numbered-taken.ensures.faults c.loop-number.invariant.1,
 )
 
-pub check_sum-loop-step-preserved : goal.check_sum-loop-step-preserved
-check_sum-loop-step-preserved t c = (
+pub check_sum_steps-loop-step-preserved : goal.check_sum_steps-loop-step-preserved
+check_sum_steps-loop-step-preserved t c = (
   after_loop (summed c.args.outline.now) (with_term c.args.outline.now) _ _ _ _ _ _ (λ s y ys. refl)
       c.loop-step-test.true c.step-item.is c.check_sum_step-kind.ensures.kind
       c.loop-step.invariant.0,
@@ -50,8 +50,8 @@ check_sum-loop-step-preserved t c = (
       c.loop-step.invariant.1,
 )
 
-pub check_product-loop-step-preserved : goal.check_product-loop-step-preserved
-check_product-loop-step-preserved t c = (
+pub check_product_steps-loop-step-preserved : goal.check_product_steps-loop-step-preserved
+check_product_steps-loop-step-preserved t c = (
   after_loop (multiplied c.args.outline.now) (with_factor c.args.outline.now) _ _ _ _ _ _
       (λ s y ys. refl) c.loop-step-test.true c.step-item.is c.check_product_step-kind.ensures.kind
       c.loop-step.invariant.0,

@@ -28,8 +28,8 @@ invariant-check_members-loop-member l =
     × (least_with l.least.at (members_faults l.outline (yielded l.set) (drop l.member-index l.list))
     ≡ least_with l.fn.least.at (members_faults l.outline (Some (Set None)) l.list))
 
-abbrev pub invariant-check_product-loop-step : goal.invariant-check_product-loop-step
-invariant-check_product-loop-step l =
+abbrev pub invariant-check_product_steps-loop-step : goal.invariant-check_product_steps-loop-step
+invariant-check_product_steps-loop-step l =
     (multiplied l.outline (yielded l.kind) (drop l.step-index l.steps) ≡ multiplied l.outline
     (yielded l.fn.first) l.steps)
     × (least_with l.least.at (multiplied_faults l.outline (yielded l.kind) l.place
@@ -39,7 +39,7 @@ invariant-check_product-loop-step l =
 abbrev pub invariant-check_rest-loop-number : goal.invariant-check_rest-loop-number
 invariant-check_rest-loop-number l =
     ((l.taken && are_taken l.outline l.receiver l.number (drop l.number l.exprs))
-    ≡ (l.before && are_taken l.outline l.receiver l.from (drop l.from l.exprs)))
+    ≡ are_taken l.outline l.receiver l.from (drop l.from l.exprs))
     × (least_with l.least.at (are_taken_faults l.outline l.receiver l.number l.name
     (drop l.number l.exprs))
     ≡ least_with l.fn.least.at (are_taken_faults l.outline l.receiver l.from l.name
@@ -53,8 +53,8 @@ invariant-check_selectors-loop-selector l =
     (drop l.selector-index l.path))
     ≡ least_with l.fn.least.at (selected_faults l.outline (selects l.fn.start) l.name l.path))
 
-abbrev pub invariant-check_sum-loop-step : goal.invariant-check_sum-loop-step
-invariant-check_sum-loop-step l =
+abbrev pub invariant-check_sum_steps-loop-step : goal.invariant-check_sum_steps-loop-step
+invariant-check_sum_steps-loop-step l =
     (summed l.outline (yielded l.kind) (drop l.step-index l.steps) ≡ summed l.outline
     (yielded l.fn.first) l.steps)
     × (least_with l.least.at (summed_faults l.outline (yielded l.kind) l.place
