@@ -6,7 +6,7 @@ use Rattle.est_syntax.specs.Kinds.{is_ordinal}
 use Rattle.est_syntax.specs.declared.name.Used.{Used}
 use Rattle.est_syntax.specs.declared.ports.Direction.TheVariants.{Receives}
 use Rattle.est_syntax.specs.declared.rule.Fault.{Fault}
-use Rattle.est_syntax.specs.declared.rule.Rule.TheVariants.{UnknownName, NotSeenHere, WrongSort}
+use Rattle.est_syntax.specs.declared.rule.Rule.TheVariants.{WrongSort}
 use Rattle.est_syntax.specs.declared.rule.Rule.TheVariants.{TooLarge, WrongKind, DelayNotAlone}
 use Rattle.est_syntax.specs.declared.transition.Clause.{Clause}
 use Rattle.est_syntax.specs.declared.transition.Clause.TheVariants as clause
@@ -16,12 +16,10 @@ use Rattle.est_syntax.specs.declared.type_text.VarDef.{VarDef}
 use Rattle.est_scope.specs.declared.declaration.Entry.{Entry}
 use Rattle.est_scope.specs.declared.declaration.Measured.{Measured}
 use Rattle.est_scope.specs.declared.declaration.Meant.{Meant}
-use Rattle.est_scope.specs.declared.declaration.Meant.TheVariants.{Nothing, Predeclared}
-use Rattle.est_scope.specs.declared.declaration.Meant.TheVariants.{Unseen, Seen}
 use Rattle.est_scope.specs.declared.declaration.Sort.{Sort}
 use Rattle.est_scope.specs.declared.declaration.Sort.TheVariants as sort
 use Rattle.est_scope.specs.Outline.{Outline, entry_at}
-use Rattle.est_scope.specs.Uses.{meaning, use_faults}
+use Rattle.est_scope.specs.Uses.{meaning, meaning_faults, use_faults}
 use Rattle.est_kinds.specs.declared.value.Valued.{Valued}
 use Rattle.est_kinds.specs.Constants.{is_integer, constant_value, constant_faults, constant_place}
 use Rattle.est_kinds.specs.TypeTexts.{text_type, count, multiplied}
@@ -46,10 +44,8 @@ is_state_sort (Some e) = held e.declared.sort
 
 -- what a name of this meaning breaks where a state or a state set is wanted
 abbrev pub state_used : Outline → ℕ → Meant → List Fault
-state_used o place Nothing = broken place UnknownName
-state_used o place Predeclared = broken place WrongSort
-state_used o place (Unseen p) = broken place NotSeenHere
-state_used o place (Seen p) = if is_state_sort (entry_at o p) then [] else broken place WrongSort
+state_used o place m = meaning_faults m place (broken place WrongSort)
+    (λ (p : ℕ). if is_state_sort (entry_at o p) then [] else broken place WrongSort)
 
 -- what a name breaks where a state or a state set is wanted
 abbrev pub state_faults : Outline → Used → List Fault

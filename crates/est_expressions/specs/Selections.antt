@@ -8,19 +8,17 @@ use Rattle.est_syntax.specs.Faults.{broken}
 use Rattle.est_syntax.specs.declared.kind.Kind.{Kind}
 use Rattle.est_syntax.specs.declared.name.Used.{Used}
 use Rattle.est_syntax.specs.declared.rule.Fault.{Fault}
-use Rattle.est_syntax.specs.declared.rule.Rule.TheVariants.{UnknownName, NotSeenHere}
 use Rattle.est_syntax.specs.declared.rule.Rule.TheVariants.{WrongSort, WrongNumber}
 use Rattle.est_scope.specs.declared.declaration.Entry.{Entry}
 use Rattle.est_scope.specs.declared.declaration.Measured.{Measured}
 use Rattle.est_scope.specs.declared.declaration.Meant.{Meant}
-use Rattle.est_scope.specs.declared.declaration.Meant.TheVariants.{Nothing, Predeclared}
-use Rattle.est_scope.specs.declared.declaration.Meant.TheVariants.{Unseen, Seen}
+use Rattle.est_scope.specs.declared.declaration.Meant.TheVariants.{Predeclared, Seen}
 use Rattle.est_scope.specs.declared.declaration.Section.{Section}
 use Rattle.est_scope.specs.declared.declaration.Section.TheVariants as section
 use Rattle.est_scope.specs.declared.declaration.Sort.{Sort}
 use Rattle.est_scope.specs.declared.declaration.Sort.TheVariants as sort
 use Rattle.est_scope.specs.Outline.{Outline, entry_at, nth}
-use Rattle.est_scope.specs.Uses.{meaning}
+use Rattle.est_scope.specs.Uses.{meaning, meaning_faults}
 use Rattle.est_kinds.specs.declared.value.Valued.{Valued}
 use Rattle.est_kinds.specs.Constants.{predeclared_constant}
 use Rattle.est_alike.specs.declared.types.Host.{Host}
@@ -198,10 +196,9 @@ entry_faults o p (Some e) place = sort_faults o p e.declared.sort place
 
 -- what a name of this meaning breaks in an expression
 abbrev pub meant_faults : Outline → List ℕ → Meant → ℕ → List Fault
-meant_faults o name Nothing place = broken place UnknownName
-meant_faults o name Predeclared place = predeclared_faults (predeclared_constant name) name place
-meant_faults o name (Unseen p) place = broken place NotSeenHere
-meant_faults o name (Seen p) place = entry_faults o p (entry_at o p) place
+meant_faults o name m place =
+    meaning_faults m place (predeclared_faults (predeclared_constant name) name place)
+    (λ (p : ℕ). entry_faults o p (entry_at o p) place)
 
 -- what a name breaks in an expression
 abbrev pub head_faults : Outline → Used → List Fault

@@ -10,12 +10,10 @@ use Rattle.est_syntax.specs.declared.expression.Access.{Access}
 use Rattle.est_syntax.specs.declared.expression.EndPoint.{EndPoint}
 use Rattle.est_syntax.specs.declared.name.Used.{Used}
 use Rattle.est_syntax.specs.declared.rule.Fault.{Fault}
-use Rattle.est_syntax.specs.declared.rule.Rule.TheVariants.{UnknownName, NotSeenHere}
-use Rattle.est_syntax.specs.declared.rule.Rule.TheVariants.{WrongSort, WrongLink}
+use Rattle.est_syntax.specs.declared.rule.Rule.TheVariants.{UnknownName, WrongSort, WrongLink}
 use Rattle.est_scope.specs.declared.declaration.Entry.{Entry}
 use Rattle.est_scope.specs.declared.declaration.Meant.{Meant}
-use Rattle.est_scope.specs.declared.declaration.Meant.TheVariants.{Nothing, Predeclared}
-use Rattle.est_scope.specs.declared.declaration.Meant.TheVariants.{Unseen, Seen}
+use Rattle.est_scope.specs.declared.declaration.Meant.TheVariants.{Seen}
 use Rattle.est_scope.specs.declared.declaration.Section.{Section}
 use Rattle.est_scope.specs.declared.declaration.Section.TheVariants as section
 use Rattle.est_scope.specs.declared.declaration.Side.{Side}
@@ -23,7 +21,7 @@ use Rattle.est_scope.specs.declared.declaration.Sort.{Sort}
 use Rattle.est_scope.specs.declared.declaration.Sort.TheVariants as sort
 use Rattle.est_scope.specs.declared.declaration.Standing.{Standing}
 use Rattle.est_scope.specs.Outline.{Outline, entry_at, standing}
-use Rattle.est_scope.specs.Uses.{is_sort, meaning, declaration_of}
+use Rattle.est_scope.specs.Uses.{is_sort, meaning, meaning_faults, declaration_of}
 use Rattle.est_expressions.specs.Expressions.{are_taken_faults}
 use Rattle.est_expressions.specs.Accesses.{subscripts_at, access_faults}
 use Rattle.est_statements.specs.Signals.{side_at, point_side}
@@ -50,10 +48,8 @@ end_of o u = end_meant o (meaning o u)
 
 -- what a name of this meaning breaks that stands alone
 abbrev pub end_used : Outline → ℕ → Meant → List Fault
-end_used o place Nothing = broken place UnknownName
-end_used o place Predeclared = broken place WrongSort
-end_used o place (Unseen p) = broken place NotSeenHere
-end_used o place (Seen p) = if is_end_sort (entry_at o p) then [] else broken place WrongSort
+end_used o place m = meaning_faults m place (broken place WrongSort)
+    (λ (p : ℕ). if is_end_sort (entry_at o p) then [] else broken place WrongSort)
 
 -- what a name with its subscripts breaks that stands alone
 abbrev pub single_faults : Outline → Access → List Fault

@@ -20,19 +20,18 @@ use Rattle.est_syntax.specs.declared.expression.Term.{Term, out-Term}
 use Rattle.est_syntax.specs.declared.kind.Kind.{Kind}
 use Rattle.est_syntax.specs.declared.name.Used.{Used}
 use Rattle.est_syntax.specs.declared.rule.Fault.{Fault}
-use Rattle.est_syntax.specs.declared.rule.Rule.TheVariants.{UnknownName, NotSeenHere, WrongSort}
-use Rattle.est_syntax.specs.declared.rule.Rule.TheVariants.{WrongKind, WrongNumber, NotWritable}
+use Rattle.est_syntax.specs.declared.rule.Rule.TheVariants.{WrongSort, WrongKind}
+use Rattle.est_syntax.specs.declared.rule.Rule.TheVariants.{WrongNumber, NotWritable}
 use Rattle.est_scope.specs.declared.declaration.Entry.{Entry}
 use Rattle.est_scope.specs.declared.declaration.Measured.{Measured}
 use Rattle.est_scope.specs.declared.declaration.Meant.{Meant}
-use Rattle.est_scope.specs.declared.declaration.Meant.TheVariants.{Nothing, Predeclared}
-use Rattle.est_scope.specs.declared.declaration.Meant.TheVariants.{Unseen, Seen}
+use Rattle.est_scope.specs.declared.declaration.Meant.TheVariants.{Seen}
 use Rattle.est_scope.specs.declared.declaration.Section.{Section}
 use Rattle.est_scope.specs.declared.declaration.Section.TheVariants as section
 use Rattle.est_scope.specs.declared.declaration.Sort.{Sort}
 use Rattle.est_scope.specs.declared.declaration.Sort.TheVariants as sort
 use Rattle.est_scope.specs.Outline.{Outline, entry_at}
-use Rattle.est_scope.specs.Uses.{meaning}
+use Rattle.est_scope.specs.Uses.{meaning, meaning_faults}
 use Rattle.est_kinds.specs.declared.value.Valued.{Valued}
 use Rattle.est_kinds.specs.Constants.{predeclared_constant}
 use Rattle.est_alike.specs.Alike.{is_alike}
@@ -176,12 +175,9 @@ predeclared_target (Some v) name place = broken place NotWritable
 -- what a name of this meaning breaks as a target
 abbrev pub target_meant_faults :
     Outline → Option ℕ → List ℕ → Used → List Selector → Meant → List Fault
-target_meant_faults o f loops u path Nothing = broken u.place UnknownName
-target_meant_faults o f loops u path Predeclared =
-    predeclared_target (predeclared_constant (spelled u)) (spelled u) u.place
-target_meant_faults o f loops u path (Unseen p) = broken u.place NotSeenHere
-target_meant_faults o f loops u path (Seen p) =
-    target_in_faults f loops p (entry_at o p) path u.place
+target_meant_faults o f loops u path m = meaning_faults m u.place
+    (predeclared_target (predeclared_constant (spelled u)) (spelled u) u.place)
+    (λ (p : ℕ). target_in_faults f loops p (entry_at o p) path u.place)
 
 -- what a name breaks as a target
 abbrev pub target_faults : Outline → Option ℕ → List ℕ → Used → List Selector → List Fault
