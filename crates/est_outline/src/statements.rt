@@ -30,74 +30,22 @@ pub fn statement_place(statement: &Statement) -> u32
 {
     match statement {
         Statement::Empty { place } => *place,
-        Statement::Compound { turn: _, place } => *place,
-        Statement::Assign {
-            target: _,
-            path: _,
-            value: _,
-            place,
-        } => *place,
-        Statement::Call {
-            name: _,
-            arguments: _,
-            place,
-        } => *place,
-        Statement::If {
-            condition: _,
-            first: _,
-            second: _,
-            place,
-        } => *place,
-        Statement::Case {
-            value: _,
-            arms: _,
-            place,
-        } => *place,
-        Statement::While {
-            condition: _,
-            turn: _,
-            place,
-        } => *place,
-        Statement::Repeat {
-            turn: _,
-            until: _,
-            place,
-        } => *place,
-        Statement::For {
-            name: _,
-            first: _,
-            down: _,
-            last: _,
-            turn: _,
-            place,
-        } => *place,
-        Statement::All {
-            name: _,
-            over: _,
-            turn: _,
-            place,
-        } => *place,
-        Statement::Output { sendings: _, place } => *place,
-        Statement::Init {
-            target: _,
-            body: _,
-            arguments: _,
-            place,
-        } => *place,
-        Statement::Release { target: _, place } => *place,
-        Statement::Connect {
-            one: _,
-            other: _,
-            place,
-        } => *place,
-        Statement::Disconnect { end: _, place } => *place,
-        Statement::Attach {
-            own: _,
-            child: _,
-            point: _,
-            place,
-        } => *place,
-        Statement::Detach { end: _, place } => *place,
+        Statement::Compound { place, .. } => *place,
+        Statement::Assign { place, .. } => *place,
+        Statement::Call { place, .. } => *place,
+        Statement::If { place, .. } => *place,
+        Statement::Case { place, .. } => *place,
+        Statement::While { place, .. } => *place,
+        Statement::Repeat { place, .. } => *place,
+        Statement::For { place, .. } => *place,
+        Statement::All { place, .. } => *place,
+        Statement::Output { place, .. } => *place,
+        Statement::Init { place, .. } => *place,
+        Statement::Release { place, .. } => *place,
+        Statement::Connect { place, .. } => *place,
+        Statement::Disconnect { place, .. } => *place,
+        Statement::Attach { place, .. } => *place,
+        Statement::Detach { place, .. } => *place,
     }
 }
 
@@ -171,44 +119,18 @@ fn within_declares(
     ensures { OnOk result (outline.new ≡ within_declares within.now statement.now outline.old) }
 {
     match statement {
-        Statement::Compound { turn, place: _ } => {
-            statements(alloc, within, turn.as_slice(), outline)
-        }
-        Statement::If {
-            condition: _,
-            first,
-            second,
-            place: _,
-        } => {
+        Statement::Compound { turn, .. } => statements(alloc, within, turn.as_slice(), outline),
+        Statement::If { first, second, .. } => {
             statement_declares(alloc, within, first.get(), outline)?;
             second_declares(alloc, within, second, outline)
         }
-        Statement::Case {
-            value: _,
-            arms,
-            place: _,
-        } => arms_declare(alloc, within, arms.as_slice(), outline),
-        Statement::While {
-            condition: _,
-            turn,
-            place: _,
-        } => statement_declares(alloc, within, turn.get(), outline),
-        Statement::Repeat {
-            turn,
-            until,
-            place: _,
-        } => {
+        Statement::Case { arms, .. } => arms_declare(alloc, within, arms.as_slice(), outline),
+        Statement::While { turn, .. } => statement_declares(alloc, within, turn.get(), outline),
+        Statement::Repeat { turn, until, .. } => {
             statements(alloc, within, turn.as_slice(), outline)?;
             outline.lie(within, until.get().place)
         }
-        Statement::For {
-            name: _,
-            first: _,
-            down: _,
-            last: _,
-            turn,
-            place: _,
-        } => statement_declares(alloc, within, turn.get(), outline),
+        Statement::For { turn, .. } => statement_declares(alloc, within, turn.get(), outline),
         Statement::All {
             name,
             over,
