@@ -3,7 +3,8 @@
 ghost use Rattle.std.specs.Prelude.{◌≡◌, IfOk, IfErr, Err, MatchResult};
 ghost use Rattle.est_lexer.specs.Offsets.{text_of, tokens_of};
 ghost use Rattle.est_language.specs.Refusals.{wrong_at};
-ghost use Rattle.est_grammar.specs.Answer.{HasOneTree, IsRefusal, IsMemory, Says};
+ghost use Rattle.est_grammar.specs.Answer.{HasOneTree, IsRefusal, Says};
+ghost use Rattle.est_grammar.specs.inside.OutOfMemory.{IsMemory};
 
 use crate::error::ParseError;
 use crate::specification::specification;
