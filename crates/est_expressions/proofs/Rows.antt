@@ -484,6 +484,13 @@ pub group_yields : (o : Outline) (f : Factor) (e held : Expr) (place : ℕ) (t :
 group_yields o f e held place t is holds h = h ∙ ap (expr_type o) holds
     ∙ sym (group_type_at o f e place is)
 
+pub variable_gives : (o : Outline) (f : Factor) (name : Used) (path held : List Selector)
+    (place : ℕ) (t : Option Yielded) → f ≡ factor.Variable name path place → held ≡ path
+    → t ≡ selected_type (selected o (head o name) held) → t ≡ factor_type o f
+variable_gives o f name path held place t is holds h =
+    h ∙ ap (λ l. selected_type (selected o (head o name) l)) holds
+    ∙ sym (variable_type_at o f name path place is)
+
 pub call_gives : (o : Outline) (f : Factor) (name : Used) (es held : List Expr) (place : ℕ)
     (t : Option Yielded) → f ≡ factor.Call name es place → held ≡ es
     → t ≡ call_by o (callee o name) (are_taken o (callee o name) 0 held) (first_type o held)

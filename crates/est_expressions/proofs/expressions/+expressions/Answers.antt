@@ -8,7 +8,7 @@ use Rattle.est_expressions.specs.Expressions.{summed_faults, with_factor_faults,
 use Rattle.est_expressions.specs.Expressions.{exprs_faults, one_component_faults}
 use Rattle.est_expressions.specs.Expressions.{components_faults, selection_faults, selected_faults}
 use Rattle.est_expressions.specs.Expressions.{with_members_faults, members_faults}
-use Rattle.est_expressions.proofs.Rows.{group_yields, call_gives, call_breaks}
+use Rattle.est_expressions.proofs.Rows.{group_yields, variable_gives, call_gives, call_breaks}
 use Rattle.est_expressions.proofs.Turns.{after_loop, broken_loop, taken_turn, taken_broken_turn}
 use Rattle.est_expressions.proofs.expressions.+expressions.Goals as goal
 
@@ -21,6 +21,11 @@ check_exprs-loop-expr-preserved t c =
 pub check_factor-returns-in-Group-clause-kind : goal.check_factor-returns-in-Group-clause-kind
 check_factor-returns-in-Group-clause-kind t c = group_yields _ _ _ _ _ _ c.in-Group.is c.get.ensures
     c.check_expr.ensures.kind
+
+pub check_factor-returns-in-Variable-clause-kind :
+    goal.check_factor-returns-in-Variable-clause-kind
+check_factor-returns-in-Variable-clause-kind t c = variable_gives _ _ _ _ _ _ _ c.in-Variable.is
+    c.as_slice-in-Variable.ensures c.check_variable.ensures.kind
 
 pub check_factor-returns-in-Call-clause-kind : goal.check_factor-returns-in-Call-clause-kind
 check_factor-returns-in-Call-clause-kind t c = call_gives _ _ _ _ _ _ _ c.in-Call.is
