@@ -36,7 +36,7 @@ SECTION = re.compile(rf"\b({'|'.join(SORTS)})\b")
 QUEUES = ["", "individual queue", "common queue"]
 # Dimensions of the module variable of the system, with subscripts for them.
 SYSTEMS = [
-    ("array [ 1 .. 2 ] of", "[ 1 ]"), ("array [ boolean ] of", "[ not true ]"), ("array [ char ] of", "[ chr ( 7 ) ]"),
+    ("array [ 1 .. 2 ] of", "[ 1 ]"), ("array [ char ] of", "[ chr ( 7 ) ]"),
     ("array [ 1 .. 2 , boolean ] of", "[ 1 , true ]"), ("array [ 0 .. 3 , 0 .. 63 ] of", "[ 1 + 1 , ord ( 'a' ) ]"),
     ("array [ boolean , 1 .. 3 , 'a' .. 'c' ] of", "[ odd ( 1 ) , 3 , 'b' ]"),
 ]

@@ -104,7 +104,7 @@ class Growth:
             return False
         system = self.maker.known["header"][0]
         module, body = self.draw.sample(NAMES, 2)
-        dims, subscripts = self.draw.choice(SYSTEMS) if self.often(0.3) else ("", "")
+        dims, subscripts = self.draw.choice(SYSTEMS) if self.often(0.4) else ("", "")
         self.add_some(lambda: f"modvar {module} : {dims} {system} ;{self.more_modvars(system)}")
         self.add_some(self.taker)
         for _ in range(self.draw.choice([0, 2, 6])):
@@ -321,7 +321,7 @@ def with_a_statement(draw, parts):
         checker = read(parts)
         phrases = Phrases(draw, checker, checker.scopes[number], draw.choice([0, 0, 0.05, 0.1, 0.2, 0.3]))
         before, _, _ = parts[blocks[number]].rpartition(" end ;")
-        text = f"{before} ; {phrases.one(phrases.statement, phrases.statement, phrases.naming)} end ;"
+        text = f"{before} ; {phrases.one(phrases.statement, phrases.naming)} end ;"
         if is_sentence([*parts[: blocks[number]], text, *parts[blocks[number] + 1 :]]):
             parts[blocks[number]] = text
     return parts

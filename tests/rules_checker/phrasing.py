@@ -307,9 +307,9 @@ class Phrases:
         """Constants of a kind, mostly of different values."""
         texts, found = [], set()
         for _ in range(self.draw.choice([1, 2, 3, 5])):
-            text = self.literal(kind) or "1"
-            sign = ""
-            if text[0] != "'" and (is_integer(kind) or self.often(self.wrong)):
+            own = self.draw.choice(HOSTS) if self.often(self.wrong) else kind
+            text, sign = self.literal(own) or "1", ""
+            if text[0] != "'" and (is_integer(own) or self.often(self.wrong)):
                 sign = self.one("", "", "- ", "+ ")
             value = self.value_of(text) * (-1 if sign == "- " else 1)
             if value not in found or self.often(self.wrong * 2):
