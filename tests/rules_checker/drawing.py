@@ -10,22 +10,36 @@ EDGES = """0 1 2 3 5 7 63 64 65 127 128 255 256 257 511 512 32768 65535 65536 65
 4294967295 4294967296 999999999999999999""".split()
 
 
+NAMED = r"(\w+(?: , \w+)*)"
+# What a part declares after a word, until the next such word: the sort, and a form that has the names.
 SORTS = {
-    "constant": r"const (\w+)",
-    "enumerated": r"= \( (\w+(?: , \w+)*) \)",
-    "type": r"type (\w+)",
-    "channel": r"channel (\w+)",
-    "role": r"channel \w+ \( (\w+ , \w+)",
-    "interaction": r"by [^:]* : (\w+)",
-    "header": r"module (\w+)",
-    "body": r"body (\w+)",
-    "point": r"ip (\w+)",
-    "variable": r"(?:var|export|activity \() (\w+(?: , \w+)*)",
-    "modvar": r"modvar (\w+)",
-    "state": r"state (\w+(?: , \w+)*)",
-    "stateset": r"stateset (\w+)",
-    "routine": r"(?:procedure|function) (\w+)",
+    "const": [("constant", r"(\w+) = ")],
+    "type": [("type", r"(\w+) = "), ("enumerated", rf"= \( {NAMED} \)")],
+    "channel": [("channel", r"^ (\w+)"), ("role", r"^ \w+ \( (\w+ , \w+)")],
+    "by": [("interaction", r": (\w+)")],
+    "module": [("header", r"^ (\w+)")],
+    "activity": [("variable", rf"^ \( {NAMED}")],
+    "systemactivity": [("variable", rf"^ \( {NAMED}")],
+    "body": [("body", r"^ (\w+)")],
+    "ip": [("point", rf"{NAMED} : ")],
+    "var": [("variable", rf"{NAMED} : ")],
+    "export": [("variable", rf"{NAMED} : ")],
+    "modvar": [("modvar", rf"{NAMED} : ")],
+    "state": [("state", rf"^ {NAMED}")],
+    "stateset": [("stateset", r"(\w+) = ")],
+    "procedure": [("routine", r"^ (\w+)")],
+    "function": [("routine", r"^ (\w+)")],
+    "begin": [],
 }
+SECTION = re.compile(rf"\b({'|'.join(SORTS)})\b")
+# Queue disciplines, of a specification and of interaction points.
+QUEUES = ["", "individual queue", "common queue"]
+# Dimensions of the module variable of the system, with subscripts for them.
+SYSTEMS = [
+    ("array [ 1 .. 2 ] of", "[ 1 ]"), ("array [ char ] of", "[ chr ( 7 ) ]"),
+    ("array [ 1 .. 2 , boolean ] of", "[ 1 , true ]"), ("array [ 0 .. 3 , 0 .. 63 ] of", "[ 1 + 1 , ord ( 'a' ) ]"),
+    ("array [ boolean , 1 .. 3 , 'a' .. 'c' ] of", "[ odd ( 1 ) , 3 , 'b' ]"),
+]
 
 
 class Maker:
@@ -38,9 +52,11 @@ class Maker:
 
     def note(self, part):
         """Keeps the names that the part declares, by their sorts."""
-        for sort, form in SORTS.items():
-            for names in re.findall(form, part):
-                self.known[sort] += names.split(" , ")
+        pieces = SECTION.split(part)
+        for word, rest in zip(pieces[1::2], pieces[2::2]):
+            for sort, form in SORTS[word]:
+                for names in re.findall(form, rest):
+                    self.known[sort] += names.split(" , ")
 
     def known_as(self, *sorts):
         """A name, mostly one that is declared somewhere as one of these sorts."""
@@ -62,6 +78,17 @@ class Maker:
 
     def names(self):
         return " , ".join(self.name() for _ in range(self.draw.choice([1, 1, 1, 2, 3])))
+
+    def several(self, word, definition):
+        """A section of one definition or some, of which the later ones may name what the earlier ones declare."""
+        known, section = self.known, word
+        self.known = collections.defaultdict(list, {sort: list(names) for sort, names in known.items()})
+        for _ in range(self.draw.choice([1, 1, 1, 2, 3])):
+            more = definition()
+            self.note(f"{word} {more}")
+            section += f" {more}"
+        self.known = known
+        return section
 
     def number(self):
         return str(self.draw.randint(0, 9)) if self.often(0.8) else self.draw.choice(EDGES)
@@ -104,7 +131,7 @@ class Maker:
 
         def record():
             fields = " ; ".join(f"{self.names()} : {inner()}" for _ in range(self.draw.choice([1, 2, 3])))
-            return f"{packed}record {fields} end"
+            return f"{packed}record {fields} {self.one('', '', ';')} end"
 
         def of_set():
             return f"{packed}set of {self.one(inner, '0 .. 63', '0 .. 64')}"
@@ -127,14 +154,20 @@ class Maker:
             return self.one("array [ 1 .. 256 ] of", "array [ 1 .. 257 ] of", "array [ 1 .. 16 , 1 .. 16 ] of")
         return "array [ " + " , ".join(self.short() for _ in range(self.draw.choice([1, 1, 2, 3]))) + " ] of"
 
+    def start(self):
+        """The beginning of a specification. The name of its time scale declares nothing."""
+        queue = self.draw.choice(QUEUES)
+        queue = f"default {queue} ;" if queue else ""
+        return f"specification s ; {queue} {self.one('', lambda: f'timescale {self.name()} ;')}"
+
     def consts(self):
-        return f"const {self.name()} = {self.constant()} ;"
+        return self.several("const", lambda: f"{self.name()} = {self.constant()} ;")
 
     def types(self):
-        return f"type {self.name()} = {self.text()} ;"
+        return self.several("type", lambda: f"{self.name()} = {self.text()} ;")
 
     def vars(self):
-        return f"var {self.names()} : {self.text()} ;"
+        return self.several("var", lambda: f"{self.names()} : {self.text()} ;")
 
     def full(self):
         """Variables of about as many scalars as there may be."""
@@ -154,28 +187,37 @@ class Maker:
         return f"channel {name} ( {one} , {other} ) ; {' '.join(by)}"
 
     def point(self):
-        at = f"{self.known_as('channel')} ( {self.known_as('role')} )"
-        return f"{self.names()} : {self.dims()} {at} {self.one('', '', 'common queue')} ;"
+        """The definition of interaction points, mostly of a role that their channel has."""
+        channel, role = self.known_as("channel"), self.known_as("role")
+        if channel in self.known["channel"] and self.often(0.95):
+            at = self.known["channel"].index(channel) * 2
+            role = self.draw.choice(self.known["role"][at : at + 2])
+        return f"{self.names()} : {self.dims()} {channel} ( {role} ) {self.draw.choice(QUEUES)} ;"
 
     def points(self):
-        return "ip " + self.point()
+        return self.several("ip", self.point)
+
+    def exports(self):
+        return self.several("export", lambda: f"{self.names()} : {self.short()} ;")
 
     def header(self):
-        sections = [
-            self.one(self.points, lambda: f"export {self.names()} : {self.short()} ;")
-            for _ in range(self.draw.choice([0, 1, 1, 2]))
-        ]
+        sections = [self.one(self.points, self.exports) for _ in range(self.draw.choice([0, 1, 1, 2]))]
         attribute = self.one("activity", "activity", "systemactivity")
         return f"module {self.name()} {attribute} {self.params()} ; {' '.join(sections)} end ;"
 
     def modvars(self):
-        return f"modvar {self.names()} : {self.dims()} {self.known_as('header')} ;"
+        return self.several("modvar", lambda: f"{self.names()} : {self.dims()} {self.known_as('header')} ;")
 
     def states(self):
-        return f"state {self.names()} ;"
+        names = [self.name() for _ in range(self.draw.choice([1, 1, 2, 3, 4, 6]))]
+        return f"state {' , '.join(names)} ;"
+
+    def stateset(self):
+        states = [self.known_as("state") for _ in range(self.draw.choice([1, 1, 2, 2, 3, 4]))]
+        return f"{self.name()} = [ {' , '.join(states)} ] ;"
 
     def statesets(self):
-        return f"stateset {self.name()} = [ {self.known_as('state')} , {self.known_as('state')} ] ;"
+        return self.several("stateset", self.stateset)
 
     def section(self):
         return self.one(self.consts, self.types, self.vars, self.vars, self.full)
@@ -188,7 +230,7 @@ class Maker:
     def routine(self):
         is_function = self.often()
         formals = " ; ".join(
-            f"{'var' if self.often(0.02 if is_function else 0.4) else ''} {self.names()} : {self.type_name()}"
+            f"{'var' if self.often(0.05 if is_function else 0.4) else ''} {self.names()} : {self.type_name()}"
             for _ in range(self.draw.choice([1, 1, 2]))
         )
         formals = f"( {formals} )" if self.often(0.6) else ""
@@ -207,10 +249,9 @@ class Maker:
 
     def common(self):
         return self.one(
-            self.consts, self.consts, self.types, self.types, self.channel, self.header, self.routine, self.modvars,
+            self.consts, self.consts, self.types, self.types, self.channel, self.header, self.routine, self.routine,
+            self.modvars,
         )
 
     def own(self):
-        return self.one(self.points, self.vars, self.vars, self.full, self.states, self.statesets)
-
-
+        return self.one(self.points, self.points, self.vars, self.vars, self.full, self.states, self.statesets)

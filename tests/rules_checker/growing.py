@@ -1,25 +1,42 @@
 """Draws texts. A text grows part by part, and of the parts that break a rule only some are kept; then single
 tokens of it are replaced, and parts of it are dropped and swapped."""
 
-from .drawing import EDGES, NAMES, OTHERS, TYPES, Maker
+import functools
+
+from .drawing import EDGES, NAMES, OTHERS, SYSTEMS, TYPES, Maker
 from .kinds import BOOLEAN, INTEGER
 from .phrasing import Phrases
-from .tokens import WORDS, Refused
-from .verdict import checked, judged
+from .tokens import WORDS, Refused, tokens_of
+from .verdict import checked_tokens
 
-START = "specification s ; default individual queue ;"
-FIRST_STATE = "initialize to a begin end ;"
+
+@functools.lru_cache(5000)
+def tokens_of_part(part):
+    return tokens_of(part.encode())
 
 
 def read(parts):
-    return checked(" ".join(parts).encode())
+    """The checker that has read the text of the parts, with a blank between them."""
+    tokens, at = [], 0
+    for part in parts:
+        tokens += [token._replace(at=token.at + at) for token in tokens_of_part(part)]
+        at += len(part) + 1
+    return checked_tokens(tokens)
+
+
+def is_sentence(parts):
+    try:
+        return bool(read(parts))
+    except Refused:
+        return False
 
 
 class Growth:
     """A text that grows. It has one body for its system, in which most of it stands."""
 
     def __init__(self, draw):
-        self.draw, self.maker, self.parts = draw, Maker(draw), [START]
+        self.draw, self.maker = draw, Maker(draw)
+        self.parts = [self.maker.start()]
         self.chance = draw.choice([0, 0, 0, 0, 0.03])
         # While it begins, the names of the last `init` are still to come.
         self.broken = 2
@@ -87,8 +104,9 @@ class Growth:
             return False
         system = self.maker.known["header"][0]
         module, body = self.draw.sample(NAMES, 2)
-        dims = "" if self.often(0.9) else "array [ 1 .. 2 ] of "
-        self.add_some(lambda: f"modvar {module} : {dims}{system} ;")
+        dims, subscripts = self.draw.choice(SYSTEMS) if self.often(0.4) else ("", "")
+        self.add_some(lambda: f"modvar {module} : {dims} {system} ;{self.more_modvars(system)}")
+        self.add_some(self.taker)
         for _ in range(self.draw.choice([0, 2, 6])):
             self.add_declaration()
         if not self.add_some(lambda: f"body {body} for {system} ;", opened=1):
@@ -100,9 +118,11 @@ class Growth:
         formals = known.formals
         literals = {"integer": "1", "boolean": "true", "char": "'a'"}
         values = " , ".join(literals.get(kind and kind.host, "1") for kind in formals)
-        access = module + (" [ 1 ]" if dims else "")
-        self.end = f"initialize begin init {access} with {body} {'( ' + values + ' )' if values else ''} end ; end ."
+        arguments = f"( {values} )" if values else ""
+        last = ";" if self.often(0.2) else ""
+        self.end = f"initialize begin init {module} {subscripts} with {body} {arguments} {last} end ; end ."
         self.broken = 0
+        self.begin_body()
         for header in self.maker.known["header"][1:]:
             self.add_some(lambda: f"modvar {self.maker.names()} : {self.maker.dims()} {header} ;")
             if self.add_some(lambda: f"body {self.maker.name()} for {header} ;", opened=1):
@@ -118,19 +138,42 @@ class Growth:
         return f"channel {next(names)} ( {one} , {other} ) ; {' '.join(by)}"
 
     def header(self, attribute):
-        known, maker = self.maker.known, self.maker
+        maker = self.maker
         kinds = [self.draw.choice(TYPES) for _ in range(self.draw.choice([0, 0, 1, 2]))]
         params = " ; ".join(f"{maker.name()} : {kind}" for kind in kinds)
         sections = []
-        for _ in range(self.draw.choice([1, 2, 3])):
-            channel = self.draw.choice(known["channel"])
-            at = known["channel"].index(channel) * 2
-            role = self.draw.choice(known["role"][at : at + 2] or ["a"])
-            sections.append(f"ip {maker.names()} : {maker.dims()} {channel} ( {role} ) ;")
+        for _ in range(self.draw.choice([1, 1, 2])):
+            sections.append(maker.points())
             if self.often(0.7):
-                sections.append(f"export {maker.names()} : {maker.short()} ;")
+                sections.append(maker.exports())
         params = f"( {params} )" if params else ""
         return f"module {maker.name()} {attribute} {params} ; {' '.join(sections)} end ;"
+
+    def taker(self):
+        """A procedure with `var` formals."""
+        known, maker = self.maker.known, self.maker
+        formals = " ; ".join(
+            f"{self.draw.choice(['var', 'var', ''])} {maker.name()} : {self.draw.choice(TYPES + known['type'])}"
+            for _ in range(self.draw.choice([1, 2, 3]))
+        )
+        return f"procedure {maker.name()} ( {formals} ) ; begin end ;"
+
+    def ordinals(self):
+        """Variables that are mostly ordinal."""
+        return f"var {self.maker.names()} : {self.draw.choice(TYPES + self.maker.known['type'])} ;"
+
+    def begin_body(self):
+        """Variables, points and module variables with which a body begins."""
+        self.add_some(self.ordinals)
+        if self.often():
+            self.add_some(self.maker.points)
+        if self.often():
+            self.add_child()
+
+    def more_modvars(self, header):
+        """The definitions of some module variables more in a section."""
+        count = self.draw.choice([0, 0, 1, 2])
+        return "".join(f" {self.maker.names()} : {self.maker.dims()} {header} ;" for _ in range(count))
 
     def add_declaration(self):
         is_body = len(self.phases) > 1
@@ -146,13 +189,26 @@ class Growth:
     def add_child(self):
         """A module variable of a header that is seen here."""
         header, _ = self.here().of_sort("header")
-        self.add_some(lambda: f"modvar {self.maker.names()} : {self.maker.dims()} {header} ;")
+        more = self.more_modvars(header)
+        self.add_some(lambda: f"modvar {self.maker.names()} : {self.maker.dims()} {header} ;{more}")
+
+    def add_states(self):
+        """A section of states, or one of state sets of the states that are in force."""
+        here = self.here()
+        states = [name for name, declared in here.named.items() if declared.sort == "state"]
+        if not states:
+            self.add_some(self.maker.states)
+            return
+        self.add_some(
+            lambda: self.maker.several("stateset", lambda: f"{self.maker.name()} = [ {here.some_of(states)} ] ;")
+        )
 
     def add_body(self):
         header, _ = self.here().of_sort("header")
         for _ in range(10):
             if self.add(f"body {self.maker.name()} for {header} ;", opened=1):
                 self.phases.append(0)
+                self.begin_body()
                 return
 
     def first_state(self):
@@ -174,7 +230,7 @@ class Growth:
             clauses.append(f"when {here.sending(is_sent=False)}")
         states = [name for name, declared in here.named.items() if declared.sort in ("state", "stateset")]
         if states and self.often():
-            clauses.append(f"from {self.draw.choice(states)}")
+            clauses.append(f"from {here.some_of(states)}")
         if states and self.often():
             clauses.append(self.draw.choice(["to same", f"to {self.draw.choice(states)}"]))
         if self.often(0.2):
@@ -205,7 +261,7 @@ class Growth:
         return guarded if self.count_of(self.text_with(f"{guarded} {block}")) <= self.broken else clauses
 
     def close(self):
-        if self.phases[-1] == 0 and self.often(0.97):
+        if self.phases[-1] == 0 and self.often(0.99):
             self.add_initialize()
             if self.phases[-1] == 0 and self.first_state():
                 self.add(f"initialize {self.first_state()}begin end ;")
@@ -221,6 +277,8 @@ class Growth:
                 self.add_body()
             elif phase == 0 and lot < 0.35:
                 self.add_child()
+            elif phase == 0 and lot < 0.45:
+                self.add_states()
             elif phase == 0 and lot < 0.75:
                 self.add_declaration()
             elif phase == 0:
@@ -242,10 +300,12 @@ def grown(draw):
 
 def mutated(draw, parts):
     """The same with a change or two, mostly such that it is a sentence still."""
-    change = draw.choice([with_a_statement, with_a_statement, with_a_clause, changed_once, changed_once])
+    change = draw.choice([
+        *[with_a_statement] * 5, *[with_a_clause] * 2, *[changed_once] * 4, with_another_end, with_a_function,
+    ])
     for _ in range(10):
         changed = change(draw, parts)
-        if judged(" ".join(changed).encode()):
+        if is_sentence(changed):
             break
     return changed
 
@@ -259,10 +319,10 @@ def with_a_statement(draw, parts):
     for _ in range(draw.choice([1, 1, 2])):
         number = draw.randrange(len(blocks))
         checker = read(parts)
-        phrases = Phrases(draw, checker, checker.scopes[number], draw.choice([0.05, 0.1, 0.2, 0.3]))
+        phrases = Phrases(draw, checker, checker.scopes[number], draw.choice([0, 0, 0.05, 0.1, 0.2, 0.3]))
         before, _, _ = parts[blocks[number]].rpartition(" end ;")
-        text = f"{before} ; {phrases.statement()} end ;"
-        if judged(" ".join([*parts[: blocks[number]], text, *parts[blocks[number] + 1 :]]).encode()):
+        text = f"{before} ; {phrases.one(phrases.statement, phrases.naming)} end ;"
+        if is_sentence([*parts[: blocks[number]], text, *parts[blocks[number] + 1 :]]):
             parts[blocks[number]] = text
     return parts
 
@@ -276,16 +336,49 @@ def with_a_clause(draw, parts):
     if words[0] in ("procedure", "function", "pure", "initialize"):
         return with_a_statement(draw, parts)
     checker = read(parts)
-    phrases = Phrases(draw, checker, checker.scopes[number], draw.choice([0.05, 0.1, 0.3]))
+    phrases = Phrases(draw, checker, checker.scopes[number], draw.choice([0, 0.05, 0.1, 0.3]))
     clause = phrases.one(
         lambda: f"delay ( {phrases.value(INTEGER)} )", lambda: f"delay ( {phrases.value(INTEGER)} , * )",
         lambda: f"when {phrases.sending(is_sent=False)}", lambda: f"provided {phrases.value(BOOLEAN)}",
         Maker(draw, parts).tuples, lambda: f"priority {phrases.literal(INTEGER)}", "provided otherwise",
-        lambda: f"from {phrases.of_sort('state', 'stateset')[0]}", lambda: f"to {phrases.of_sort('state')[0]}",
+        lambda: f"from {phrases.some_states()}", lambda: f"to {phrases.of_sort('state')[0]}",
     )
     at = 1 if words[0] == "trans" else 0
     parts[blocks[number]] = " ".join([*words[:at], clause, *words[at:]])
     return parts
+
+
+def with_another_end(draw, parts):
+    """The same with another last statement, in which something may be wrong."""
+    checker = read(parts)
+    phrases = Phrases(draw, checker, (checker.region, None, None), draw.choice([0, 0.05, 0.2]))
+    init, last = phrases.init(), draw.choice(["", ";"])
+    return [*parts[:-1], f"initialize begin {init} {last} end ; end ."] if init else changed_once(draw, parts)
+
+
+def with_a_function(draw, parts):
+    """The same with `var` before formals of a function, which may be one more."""
+    parts, maker = list(parts), Maker(draw, parts)
+    functions = [at for at, part in enumerate(parts) if "function" in part.split()[:2]]
+    if functions and draw.random() < 0.5:
+        at = draw.choice(functions)
+        tokens = parts.pop(at).split()
+    else:
+        at = draw.randrange(1, len(parts))
+        formals = " ; ".join(f"{maker.names()} : {maker.type_name()}" for _ in range(draw.choice([1, 2, 3])))
+        tokens = f"function {maker.name()} ( {formals} ) : {maker.type_name()} ; {maker.block()}".split()
+    parts.insert(at, with_var_formals(draw, tokens))
+    return parts
+
+
+def with_var_formals(draw, tokens):
+    """The tokens of a function with `var` before some of its formals."""
+    start = tokens.index("function") + 2
+    if tokens[start] == "(":
+        places = [at + 1 for at in range(start, tokens.index(")")) if tokens[at] in ("(", ";")]
+        for at in sorted(draw.sample(places, draw.randrange(1, len(places) + 1)), reverse=True):
+            tokens = [*tokens[:at], *["var"] * (tokens[at] != "var"), *tokens[at:]]
+    return " ".join(tokens)
 
 
 def changed_once(draw, parts):
@@ -333,7 +426,7 @@ def replaced(draw, maker, tokens):
     if tokens[0] == "module" and draw.random() < 0.3:
         return " ".join([*tokens[:2], draw.choice(["activity", "systemactivity"]), *tokens[3:]])
     if draw.random() < 0.1:
-        return " ".join(tokens[:at] + ["var" if tokens[0] == "function" else "-"] + tokens[at:])
+        return " ".join([*tokens[:at], "-", *tokens[at:]])
     if tokens[at][0].isdigit():
         tokens[at] = draw.choice(EDGES + names)
     else:

@@ -1,8 +1,8 @@
 """Draws statements and expressions whose kinds mostly fit, from the names that are in force somewhere."""
 
 from .expressions import FUNCTIONS
-from .kinds import BOOLEAN, CHAR, EMPTY, INTEGER, Group, Set, can_be_assigned, is_ordinal, is_set
-from .scopes import PREDECLARED
+from .kinds import BOOLEAN, CHAR, EMPTY, INTEGER, Group, Set, can_be_assigned, is_integer, is_ordinal, is_set
+from .scopes import PREDECLARED, Declared
 
 HOSTS = (INTEGER, INTEGER, BOOLEAN, CHAR)
 
@@ -12,6 +12,8 @@ class Phrases:
 
     def __init__(self, draw, checker, scope, wrong):
         self.draw, self.wrong, self.level = draw, wrong, 0
+        # The names of the `all` statements around over headers, and what controls the `for` statements around.
+        self.of_all, self.loops = [], []
         self.region, self.routine, self.inside = scope
         checker.region = self.region
         self.named = {}
@@ -27,6 +29,14 @@ class Phrases:
 
     def often(self, chance=0.5):
         return self.draw.random() < chance
+
+    def some_of(self, names):
+        """One name of a list or several, as they stand after `from`."""
+        return " , ".join(self.draw.choice(names) for _ in range(self.draw.choice([1, 1, 2, 3, 4])))
+
+    def some_states(self):
+        """States and state sets, of which one may be something else."""
+        return self.some_of([self.of_sort("state", "stateset")[0] for _ in range(4)])
 
     def one(self, *forms):
         form = self.draw.choice(forms)
@@ -56,9 +66,9 @@ class Phrases:
 
     def is_writable(self, declared):
         if declared.sort == "function":
-            return declared is self.routine
+            return declared is self.routine and declared not in self.loops
         is_free = not self.routine or self.routine.sort != "function" or declared.region is self.inside
-        return is_free and not declared.is_fixed
+        return is_free and not declared.is_fixed and declared not in self.loops
 
     def start_of(self, name, declared):
         if declared.sort != "modvar" or not declared.header or self.often(self.wrong):
@@ -205,15 +215,21 @@ class Phrases:
         if depth:
             inner = lambda: self.statement(depth - 1)
             forms += [
-                lambda: f"begin {inner()} ; {inner()} end",
+                lambda: f"begin {inner()} ; {inner()} {self.last()} end",
                 lambda: f"if {self.value(BOOLEAN)} then {inner()}" + (f" else {inner()}" if self.often(0.3) else ""),
                 lambda: f"while {self.value(BOOLEAN)} do {inner()}",
-                lambda: f"repeat {inner()} until {self.value(BOOLEAN)}",
-                lambda: self.loop(inner),
-                lambda: self.case(inner),
-                lambda: self.all(inner),
+                lambda: f"repeat {inner()} {self.last()} until {self.value(BOOLEAN)}",
+                *[lambda: self.naming(depth)] * 6,
             ]
         return self.one(*forms) or ""
+
+    def naming(self, depth=2):
+        """A statement that has another one within, and names or constants in front of it."""
+        return self.draw.choice([self.loop, self.case, self.all])(lambda: self.statement(depth - 1))
+
+    def last(self):
+        """What may stand after the last statement or arm."""
+        return self.one("", "", "", ";")
 
     def assign(self):
         kind = self.any_kind()
@@ -227,37 +243,113 @@ class Phrases:
         name, procedure = self.of_sort("procedure")
         if procedure.sort != "procedure":
             return name
+        return self.call_of(name, procedure)
+
+    def call_of(self, name, procedure, taken=None, taken_kind=None):
+        """A call of a procedure. What is taken stands for the `var` formals of its kind."""
         values = []
         for kind, by_place in zip(procedure.formals, procedure.by_place):
             place = self.variable(lambda own: own == kind, is_written=True) if by_place else None
+            place = taken if taken and by_place and kind == taken_kind else place
             values.append(place if place and not self.often(self.wrong) else self.value(kind))
         values = values[1:] if self.often(self.wrong / 2) else values
         return f"{name} ( {' , '.join(values)} )" if values else name
 
     def loop(self, inner):
-        kind = self.draw.choice([kind for kind in (self.any_kind(), INTEGER) if is_ordinal(kind)])
-        name, declared = self.of_sort("variable")
-        for _ in range(8):
-            if declared.kind == kind and self.is_writable(declared):
-                break
-            name, declared = self.of_sort("variable")
-        to = self.draw.choice(["to", "downto"])
-        return f"for {name} := {self.value(kind, 1)} {to} {self.value(kind, 1)} do {inner()}"
+        is_written = self.often(min(0.6, self.wrong * 6))
+        name, declared = self.controlling(is_written)
+        kind = declared.kind if is_ordinal(declared.kind) else INTEGER
+        bounds = f"{self.value(kind, 1)} {self.one('to', 'downto')} {self.value(kind, 1)}"
+        self.loops.append(declared)
+        turn = self.written(name, kind) if is_written else inner()
+        self.loops.pop()
+        return f"for {name} := {bounds} do {turn}"
+
+    def controlling(self, is_written):
+        """A variable, or the own function, that may control a `for`, with its name."""
+        found = [
+            item for item in self.named.items()
+            if item[1].sort in ("variable", "function") and is_ordinal(item[1].kind) and self.is_writable(item[1])
+        ]
+        found = [item for item in found if is_written and self.takers(item[1].kind)] or found
+        return self.draw.choice(found) if found and not self.often(self.wrong) else self.of_sort("variable")
+
+    def takers(self, kind):
+        """The procedures with a `var` formal of a kind, with their names."""
+        return [
+            (name, declared) for name, declared in self.named.items()
+            if declared.sort == "procedure" and (True, kind) in zip(declared.by_place, declared.formals)
+        ]
+
+    def written(self, name, kind):
+        """A statement that writes what controls a loop, which none may do."""
+        takers = self.takers(kind)
+        if takers and self.often(0.7):
+            return self.call_of(*self.draw.choice(takers), taken=name, taken_kind=kind)
+        if self.often():
+            return f"{name} := {self.value(kind, 0)}"
+        return f"for {name} := {self.value(kind, 0)} to {self.value(kind, 0)} do"
 
     def case(self, inner):
         kind = self.any_kind()
         kind = kind if is_ordinal(kind) else INTEGER
-        constants = [self.literal(kind) or "1" for _ in range(self.draw.choice([1, 2, 3]))]
-        if not self.often(self.wrong):
-            constants = sorted(set(constants))
-        arms = " ; ".join(f"{self.one('', '', '- ') if each.isdigit() else ''}{each} : {inner()}" for each in constants)
-        return f"case {self.value(kind)} of {arms} end"
+        constants = self.case_constants(kind)
+        arms = [constants[:1]]
+        for each in constants[1:]:
+            if self.often(0.4):
+                arms[-1].append(each)
+            else:
+                arms.append([each])
+        arms = " ; ".join(f"{' , '.join(arm)} : {inner()}" for arm in arms)
+        return f"case {self.value(kind)} of {arms} {self.last()} end"
+
+    def case_constants(self, kind):
+        """Constants of a kind, mostly of different values."""
+        texts, found = [], set()
+        for _ in range(self.draw.choice([1, 2, 3, 5])):
+            own = self.draw.choice(HOSTS) if self.often(self.wrong) else kind
+            text, sign = self.literal(own) or "1", ""
+            if text[0] != "'" and (is_integer(own) or self.often(self.wrong)):
+                sign = self.one("", "", "- ", "+ ")
+            value = self.value_of(text) * (-1 if sign == "- " else 1)
+            if value not in found or self.often(self.wrong * 2):
+                texts.append(sign + text)
+            found.add(value)
+        return texts
+
+    def value_of(self, literal):
+        if literal[0] == "'":
+            return ord(literal[1])
+        return int(literal) if literal.isdigit() else self.named[literal].value.ordinal
 
     def all(self, inner):
-        over = self.one(lambda: self.of_sort("type")[0], lambda: self.of_sort("header")[0], "1 .. 3", "'a' .. 'z'")
-        name = self.one(lambda: self.draw.choice(list(self.named)), "a", "z")
-        turn = self.one(inner, f"release {name}", f"{name} := 1", inner)
+        over, own = self.one_of_all()
+        name = self.one(lambda: self.draw.choice(list(self.named)), "a", "z", "z")
+        outer, is_module = self.named.get(name), own.sort == "modvar"
+        self.named[name] = own
+        self.of_all += [name] * is_module
+        forms = [inner, f"{name} := {self.value(own.kind, 0)}" if self.often(self.wrong * 2) else inner]
+        if is_module:
+            forms += [self.links, self.links, self.links, self.release, self.assign] + [self.init] * 2
+        turn = self.one(*forms)
+        if is_module:
+            self.of_all.pop()
+        if outer:
+            self.named[name] = outer
+        else:
+            del self.named[name]
         return f"all {name} : {over} do {turn}"
+
+    def one_of_all(self):
+        """What an `all` may go over, with what its name is then."""
+        lot = self.draw.random()
+        if lot < 0.3:
+            text, kind = self.draw.choice([("1 .. 3", INTEGER), ("'a' .. 'z'", CHAR), ("false .. true", BOOLEAN)])
+            return text, Declared("variable", self.region, kind=kind, is_fixed=True)
+        name, declared = self.of_sort("type" if lot < 0.5 else "header")
+        if declared.sort == "header":
+            return name, Declared("modvar", self.region, header=declared, dims=[], is_of_all=True)
+        return name, Declared("variable", self.region, kind=declared.kind, is_fixed=True)
 
     def output(self):
         return f"output {self.sending(is_sent=True)}" + (f" , {self.sending(True)}" if self.often(0.2) else "")
@@ -282,6 +374,8 @@ class Phrases:
     def module(self):
         """(access, header) of a module variable."""
         name, module = self.of_sort("modvar")
+        if self.of_all and self.often(0.6):
+            name, module = self.of_all[-1], self.named[self.of_all[-1]]
         if module.sort != "modvar" or not module.header:
             return name, None
         return self.at(name, module.dims), module.header

@@ -12,9 +12,14 @@ TEXTS = {
 }
 
 
+def checked_tokens(tokens):
+    """The checker that has read a list of tokens."""
+    return Modules(Reader(tokens).specification())
+
+
 def checked(text):
     """The checker that has read a text."""
-    return Modules(Reader(tokens_of(text)).specification())
+    return checked_tokens(tokens_of(text))
 
 
 def judged(text):
