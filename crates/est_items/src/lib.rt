@@ -2,9 +2,9 @@
 //! what they hold.
 #![tactic(auto)]
 
-pub mod boxed;
-pub mod items;
-pub mod shared;
+mod boxed;
+mod items;
+mod shared;
 
 pub use boxed::Boxed;
 pub use items::Items;

@@ -9,7 +9,7 @@ use Rattle.est_language.specs.Grammar.{nothing, leaf, placed, both, left, right,
 use Rattle.est_language.specs.Marks.{MeetsOne, Apart, Marks, can_be_empty}
 use Rattle.est_language.specs.Marks.{can_begin, can_go_on, Fits}
 use Rattle.est_language.specs.Findings.{Found, Refused}
-use Rattle.est_language.proofs.Members.{In-left, In-right, and_left, and_right}
+use Rattle.est_language.proofs.Members.{In-left, In-right}
 use Rattle.est_language.proofs.Members
 use Rattle.est_language.proofs.Parts
 use Rattle.est_language.proofs.Repeats

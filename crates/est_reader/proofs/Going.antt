@@ -1,13 +1,13 @@
 -- From what the parts of a reader do to what the whole does.
 use Rattle.std.proofs.Common.{◌≡◌, ℕ, zero, suc, ◌-◌, ◌≤◌, Bool, true, false, List, [], ◌∷◌, length}
-use Rattle.std.proofs.Common.{refl, sym, ◌∙◌, inl, inr, ap, subst, arith, slice_get, not, ◌&&◌, map}
+use Rattle.std.proofs.Common.{refl, sym, ◌∙◌, inl, inr, subst, arith, slice_get, not, ◌&&◌, map}
 use Rattle.est_lexer.specs.declared.kind.Token.{Token}
 use Rattle.est_lexer.specs.declared.tokens.Tokens.{Tokens}
 use Rattle.est_lexer.specs.Offsets.{text_of, tokens_of}
 use Rattle.est_language.specs.Grammar.{done, none, word, token, here, skip, seq, alt, opt}
 use Rattle.est_language.specs.Grammar.{rep, nearest, ended, deeper, rule, nothing, placed}
 use Rattle.est_language.specs.Grammar.{both, left, right, some, Language, Tree, t_seq}
-use Rattle.est_language.specs.Marks.{MeetsOne, can_begin, can_go_on, can_be_empty}
+use Rattle.est_language.specs.Marks.{MeetsOne, Fits, can_begin, can_go_on, can_be_empty}
 use Rattle.est_language.specs.Marks.{disjoint, covered, implies_one}
 use Rattle.est_language.specs.Findings.{Found}
 use Rattle.est_language.specs.Shown.{Shows, empty, at, pair, first, second, given, node, nodes}
@@ -20,7 +20,7 @@ use Rattle.est_reader.specs.declared.outcome.Outcome.TheVariants.{Well, Wrong, T
 use Rattle.est_reader.specs.Tests.{Test, Kept, holds, stands, apart, implies, language}
 use Rattle.est_reader.specs.Moving.{bit, Does, Sees, NoneSeen, Same, Taken}
 use Rattle.est_reader.specs.Moving.{NotThere, Takes, OpensAt, Opens, Closes, Still}
-use Rattle.est_reader.specs.Going.{Rule, Shape, View, Syntax, IsFit, Finds, Fails, Goes}
+use Rattle.est_reader.specs.Going.{Rule, Shape, View, Syntax, Finds, Fails, Goes}
 use Rattle.est_reader.proofs.Apart.{far, near, implies-holds}
 use Rattle.est_reader.proofs.Steps.{onto, after, stay, was_well, sees_well, sees_it}
 use Rattle.est_reader.proofs.Steps.{sees_not, none_meets, same_here, same_on, bit_small}
@@ -116,10 +116,10 @@ module _ {P N : Type 0} {X : Syntax P N} where
           → (i : I) × (rest : List I) × (is ≡ i ∷ rest)
       of_tree f = of_shape f.1.tree f.2
 
--- A syntax, and that the table of its productions says enough of each.
+-- A syntax, and that the table of its productions says enough of each, whatever the text.
 pub record Known (P N : Type 0) : Type 0 where
   pub syntax : Syntax P N
-  pub fits : IsFit syntax
+  pub fits : (text : List ℕ) → Fits (language syntax.production text) syntax.marks
 
 -- What rests on what is known of each production.
 module _ {P N : Type 0} (K : Known P N) where

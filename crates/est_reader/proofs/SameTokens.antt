@@ -1,5 +1,5 @@
 -- The same tokens are seen alike by all languages.
-use Rattle.std.proofs.Common.{◌≡◌, ℕ, zero, suc, ◌<◌, ◌≤◌, Bool, ◌&&◌, List, [], ◌∷◌, length, take}
+use Rattle.std.proofs.Common.{◌≡◌, ℕ, zero, suc, ◌<◌, Bool, ◌&&◌, List, [], ◌∷◌, length, take}
 use Rattle.std.proofs.Common.{Option, Some, None, slice_get, ap, sym, refl, ◌∙◌, bytes_eq, arith}
 use Rattle.std.specs.Prelude.{nat_le}
 use Rattle.std.specs.Str.{str_to_ascii_lowercase}
@@ -12,7 +12,7 @@ use Rattle.est_lexer.specs.Spans.{spelling}
 use Rattle.est_language.specs.Grammar.{Grammar, meets, KeptOf}
 use Rattle.est_language.specs.SeenAlike.{AreSeenAlike}
 use Rattle.est_reader.specs.Tests.{Test, kind, spelled, named, number, is_spelled, value_of}
-use Rattle.est_reader.specs.Tests.{holds, Kept, name, value, kept_as, kept_of, language}
+use Rattle.est_reader.specs.Tests.{holds, Kept, name, value, kept_as, language}
 use Rattle.est_reader.specs.SameTokens.{IsSameToken, AreSameTokens}
 
 abbrev name_in : Kept → List ℕ

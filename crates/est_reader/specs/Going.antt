@@ -5,7 +5,7 @@ use Rattle.est_lexer.specs.declared.tokens.Tokens.{Tokens}
 use Rattle.est_lexer.specs.Offsets.{text_of, tokens_of}
 use Rattle.est_language.specs.Grammar as grammar
 use Rattle.est_language.specs.Grammar.{Grammar, here, token}
-use Rattle.est_language.specs.Marks.{Marks, Fits}
+use Rattle.est_language.specs.Marks.{Marks}
 use Rattle.est_language.specs.Findings.{Found, Refused}
 use Rattle.est_language.specs.Shown as shown
 use Rattle.est_language.specs.Shown.{Shows, at, kept}
@@ -34,10 +34,6 @@ pub record Syntax (P N : Type 0) : Type 0 where
   pub production : P → Rule P
   pub marks : Marks Test P
   pub layer : N → View N
-
--- the table of a syntax says enough of each production, whatever the text
-abbrev pub IsFit : {P N : Type 0} → Syntax P N → Type 0
-IsFit X = (text : List ℕ) → Fits (language X.production text) X.marks
 
 -- ident, with its place
 abbrev pub identifier : {P : Type 0} → Rule P

@@ -1,6 +1,6 @@
 -- The same tokens have the same tree, and the same refusal.
-use Rattle.std.proofs.Common.{◌≡◌, ℕ, zero, suc, ◌<◌, List, [], ◌∷◌, length, take, Option, Some}
-use Rattle.std.proofs.Common.{Result, Ok, Err, slice_get, ap, sym, subst, refl, ◌∙◌, arith}
+use Rattle.std.proofs.Common.{◌≡◌, ℕ, zero, suc, ◌<◌, List, [], ◌∷◌, length, take, Some}
+use Rattle.std.proofs.Common.{Ok, Err, slice_get, ap, sym, subst, refl, ◌∙◌, arith}
 use Rattle.est_lexer.specs.declared.kind.Token.{Token}
 use Rattle.est_syntax.specs.declared.specification.Spec.{Spec}
 use Rattle.est_language.specs.Grammar.{rule}
@@ -8,17 +8,15 @@ use Rattle.est_language.specs.Refusals.{Cause, wrong_at, too_deep_at}
 use Rattle.est_language.specs.SeenAlike.{AreSeenAlike}
 use Rattle.est_language.proofs.SameTokens.{same_trees, same_causes, refusals_stay}
 use Rattle.est_reader.specs.Going.{Shape}
-use Rattle.est_reader.specs.SameTokens.{IsSameToken, AreSameTokens}
+use Rattle.est_reader.specs.SameTokens.{AreSameTokens}
 use Rattle.est_reader.proofs.SameTokens.{seen_alike, same_length}
 use Rattle.est_productions.specs.Productions.{specification, production}
 use Rattle.est_grammar.specs.Answer.{levels, estelle_in, HasTree, HasOneTree}
 use Rattle.est_grammar.specs.Answer.{Says, left_out_kind, is_left_out}
-use Rattle.est_check.specs.declared.checked.Specification.{Specification}
 use Rattle.est_check.specs.declared.checked.Specification.TheVariants as found
 use Rattle.est_specification.specs.declared.error.SpecificationError.{SpecificationError}
 use Rattle.est_specification.specs.declared.error.SpecificationError.TheVariants as errors
-use Rattle.est_specification.specs.SpecificationText.{IsSpecification, HasNumbers, IsGoodText}
-use Rattle.est_specification.specs.SpecificationText.{IsNoSpecification, ReadsSpecification}
+use Rattle.est_specification.specs.SpecificationText.{IsNoSpecification}
 use Rattle.est_specification.specs.Layout.{LayoutMeansNothing, RefusalsStay}
 
 back : (text other : List ℕ) (ts us : List Token) → AreSameTokens text other ts us

@@ -5,7 +5,7 @@ use Rattle.std.specs.Option.{option_map_or}
 use Rattle.est_syntax.specs.Names.{spelled}
 use Rattle.est_syntax.specs.Faults.{broken}
 use Rattle.est_syntax.specs.declared.channel.Role.{Role}
-use Rattle.est_syntax.specs.declared.channel.Role.TheVariants.{First, Second}
+use Rattle.est_syntax.specs.contracts.channel.RolePartialEq.TheImpl.{ghosts}
 use Rattle.est_syntax.specs.declared.expression.Access.{Access}
 use Rattle.est_syntax.specs.declared.expression.EndPoint.{EndPoint}
 use Rattle.est_syntax.specs.declared.name.Used.{Used}
@@ -134,11 +134,9 @@ abbrev pub connected_side : Outline → Access → Option Access → Option Side
 connected_side o first None = point_side o first.name
 connected_side o first (Some point) = side_at o (child_point o first point)
 
--- whether two roles are one
+-- whether two roles are one: the comparison that the type derives
 abbrev pub same_role : Role → Role → Bool
-same_role First First = true
-same_role Second Second = true
-same_role _ _ = false
+same_role r s = ghosts.eq r s
 
 -- whether two ends have one channel and its two roles
 abbrev pub do_connect : Side → Side → Bool

@@ -14,7 +14,7 @@ ghost use Rattle.est_statements.specs.LinkFaults.{is_internal_point, internal_fa
 ghost use Rattle.est_statements.specs.LinkFaults.{is_external_entry};
 ghost use Rattle.est_statements.specs.LinkFaults.{external_faults};
 ghost use Rattle.est_statements.specs.LinkFaults.{connected_faults, connected_side};
-ghost use Rattle.est_statements.specs.LinkFaults.{same_role, do_connect, do_attach, opposed_faults};
+ghost use Rattle.est_statements.specs.LinkFaults.{do_connect, do_attach, opposed_faults};
 ghost use Rattle.est_statements.specs.LinkFaults.{joined_faults, connect_faults, attach_faults};
 ghost use Rattle.est_statements.specs.LinkFaults.{untied_faults};
 
@@ -26,7 +26,6 @@ use est_expressions::receivers::Receiver;
 use est_scope::declaration::{Meant, Section, Side, Sort, Standing};
 use est_scope::least::Least;
 use est_scope::outline::Outline;
-use est_syntax::channel::Role;
 use est_syntax::expression::{Access, EndPoint};
 use est_syntax::name::Used;
 use est_syntax::rule::Rule;
@@ -270,29 +269,18 @@ fn connected_side(outline: &Outline, first: &Access, second: &Option<Access>) ->
     }
 }
 
-// Whether two roles of a channel are one.
-fn same_role(one: Role, other: Role) -> bool
-    ensures { result ≡ same_role one other }
-{
-    match (one, other) {
-        (Role::First, Role::First) => true,
-        (Role::Second, Role::Second) => true,
-        _ => false,
-    }
-}
-
 // Whether two ends have one channel and its two roles.
 fn do_connect(one: Side, other: Side) -> bool
     ensures { result ≡ do_connect one other }
 {
-    one.channel == other.channel && !same_role(one.role, other.role)
+    one.channel == other.channel && one.role != other.role
 }
 
 // Whether two ends have one channel and one role.
 fn do_attach(one: Side, other: Side) -> bool
     ensures { result ≡ do_attach one other }
 {
-    one.channel == other.channel && same_role(one.role, other.role)
+    one.channel == other.channel && one.role == other.role
 }
 
 // Notes two ends that are not connected.

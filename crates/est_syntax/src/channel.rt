@@ -5,7 +5,7 @@ use crate::type_text::VarDefs;
 use est_items::Items;
 
 /// A role of a channel.
-#[derive(Clone, Copy)]
+#[derive(Clone, Copy, PartialEq, Eq)]
 pub enum Role {
     First,
     Second,
