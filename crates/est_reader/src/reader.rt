@@ -44,8 +44,7 @@ impl<'t> Reader<'t> {
 }
 
 impl Reader<'_> {
-    ghost use Rattle.est_reader.specs.Tests.{kind, spelled, stands as does_stand};
-    ghost use Rattle.est_reader.specs.Tests.{lowered as is_lowered};
+    ghost use Rattle.est_reader.specs.Tests.{kind, spelled, stands, lowered};
     ghost use Rattle.est_reader.specs.Moving.{IsTest, Sees, Steps, Takes, TakesName, TakesNumber};
     ghost use Rattle.est_reader.specs.Moving.{TakesValue, TakesCharacter, IsNamedAt, FindsNumber};
     ghost use Rattle.est_reader.specs.Moving.{Opens, Enters, Closes, Still, Kept, KeptSome};
@@ -70,7 +69,7 @@ impl Reader<'_> {
 
     // Whether a token of this kind stands at the place.
     fn stands(&self, token: TokenKind) -> bool
-        ensures test { does_stand self.now.tokens.now self.now.at (kind token) ≡ result }
+        ensures test { stands self.now.tokens.now self.now.at (kind token) ≡ result }
         ensures inside { result ≡ true → self.now.at < length (tokens_of self.now.tokens.now) }
     {
         match self.tokens.token_at(self.at) {
@@ -83,7 +82,7 @@ impl Reader<'_> {
     // case.
     fn stands_word(&self, word: &[u8]) -> bool
         requires { str_to_ascii_lowercase word.now ≡ word.now }
-        ensures test { does_stand self.now.tokens.now self.now.at (spelled word.now) ≡ result }
+        ensures test { stands self.now.tokens.now self.now.at (spelled word.now) ≡ result }
         ensures inside { result ≡ true → self.now.at < length (tokens_of self.now.tokens.now) }
     {
         match self.tokens.token_at(self.at) {
@@ -217,7 +216,7 @@ impl Reader<'_> {
         ensures still { Still self.old self.new }
         ensures lowered { self.new.outcome ≡ Well
             → IfSome (slice_get (tokens_of self.old.tokens.now) place)
-            (λ token. result ≡ is_lowered (text_of self.old.tokens.now) token) }
+            (λ token. result ≡ lowered (text_of self.old.tokens.now) token) }
     {
         if self.is_well() {
             match self.tokens.spelled(place).to_ascii_lowercase(self.alloc) {

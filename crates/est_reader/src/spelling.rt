@@ -1,13 +1,13 @@
 //! Which kinds of tokens have a spelling.
 
 ghost use Rattle.std.specs.Prelude.{◌≡◌};
-ghost use Rattle.est_reader.specs.Tests.{is_spelled as has_spelling};
+ghost use Rattle.est_reader.specs.Tests.{is_spelled};
 
 use est_lexer::kind::TokenKind;
 
 /// Whether a token of this kind is a word or a symbol.
 pub fn is_spelled(kind: TokenKind) -> bool
-    ensures { result ≡ has_spelling kind }
+    ensures { result ≡ is_spelled kind }
 {
     match kind {
         TokenKind::Identifier => true,
