@@ -138,7 +138,7 @@ class Modules(Blocks):
             self.condition(condition)
 
     def clause_any(self, word, parts):
-        seen, names, count = set(), {}, 1
+        seen, names, count, is_known = set(), {}, 1, True
         self.region = Region(self.region)
         for group, text in parts:
             for name in group:
@@ -149,7 +149,8 @@ class Modules(Blocks):
                     names[name.text] = Declared("variable", kind=kind, is_fixed=True)
                     self.region.in_force[name.text] = names[name.text].within(self.region)
                     count *= kind.width if kind else 1
-        if count > TUPLES:
+            is_known = is_known and kind is not None
+        if is_known and count > TUPLES:
             self.broken(word, 7)
         return names
 

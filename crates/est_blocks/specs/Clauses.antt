@@ -66,9 +66,9 @@ abbrev pub most_tuples : ℕ
 most_tuples = 1024
 
 -- how many choices a variable of this kind has, if the kind is ordinal
-abbrev pub choices_by : Option Measured → ℕ
-choices_by None = 1
-choices_by (Some m) = if is_ordinal m.kind then count m.kind else 1
+abbrev pub choices_by : Option Measured → Option ℕ
+choices_by None = None
+choices_by (Some m) = if is_ordinal m.kind then Some (count m.kind) else None
 
 -- the choices so far, with those of a name more, where it is declared there
 abbrev pub name_choices : Outline → ℕ → ℕ → Used → ℕ
@@ -79,11 +79,21 @@ abbrev pub names_choices : Outline → ℕ → ℕ → List Used → ℕ
 names_choices o choices n [] = n
 names_choices o choices n (u ∷ us) = names_choices o choices (name_choices o choices n u) us
 
--- How many choices the variables of an `any` have, of those whose type is ordinal, each name once,
--- after so many choices.
-abbrev pub tuples : Outline → ℕ → List VarDef → ℕ
+-- the choices so far, with those of names whose type has so many, if both are known
+abbrev pub choices_with : Outline → Option ℕ → List Used → Option ℕ → Option ℕ
+choices_with o (Some n) us (Some choices) = Some (names_choices o choices n us)
+choices_with o _ us _ = None
+
+-- How many choices the variables of an `any` have, each name once, after so many choices. Nothing is
+-- said of them where one of the types is not ordinal.
+abbrev pub tuples : Outline → Option ℕ → List VarDef → Option ℕ
 tuples o n [] = n
-tuples o n (v ∷ vs) = tuples o (names_choices o (choices_by (text_type o v.text)) n v.names) vs
+tuples o n (v ∷ vs) = tuples o (choices_with o n v.names (choices_by (text_type o v.text))) vs
+
+-- what an `any` at a place breaks that has so many choices
+abbrev pub tuples_faults : Option ℕ → ℕ → List Fault
+tuples_faults None place = []
+tuples_faults (Some n) place = broken_if (nat_lt most_tuples n) place TooLarge
 
 -- what variables of an `any` break that have one type
 abbrev pub domain_faults : Outline → VarDef → List Fault
@@ -96,8 +106,7 @@ domains_faults o (v ∷ vs) = domain_faults o v ++ domains_faults o vs
 
 -- what an `any` breaks
 abbrev pub any_faults : Outline → List VarDef → ℕ → List Fault
-any_faults o vs place =
-    domains_faults o vs ++ broken_if (nat_lt most_tuples (tuples o 1 vs)) place TooLarge
+any_faults o vs place = domains_faults o vs ++ tuples_faults (tuples o (Some 1) vs) place
 
 -- a priority is an integer that is not negative
 abbrev pub is_priority : Valued → Bool

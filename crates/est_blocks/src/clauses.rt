@@ -1,14 +1,14 @@
 //! The clauses of transitions.
 #![tactic(auto, using(est_scope::proofs::LeastLaws::least_append))]
 
-ghost use Rattle.std.specs.Prelude.{◌≡◌, ◌++◌, IfOk, OnOk};
+ghost use Rattle.std.specs.Prelude.{◌≡◌, ◌++◌, IfOk, OnOk, Some};
 ghost use Rattle.est_scope.specs.LeastSoFar.{least_with};
 ghost use Rattle.est_scope.specs.Outline.{entry_at};
 ghost use Rattle.est_kinds.specs.Constants.{constant_value, constant_faults, constant_place};
 ghost use Rattle.est_kinds.specs.TypeTexts.{text_type};
 ghost use Rattle.est_blocks.specs.Clauses.{is_state_sort, state_faults, states_faults, next_faults};
-ghost use Rattle.est_blocks.specs.Clauses.{choices_by, name_choices, names_choices, tuples};
-ghost use Rattle.est_blocks.specs.Clauses.{domain_faults};
+ghost use Rattle.est_blocks.specs.Clauses.{choices_by, name_choices, names_choices, choices_with};
+ghost use Rattle.est_blocks.specs.Clauses.{tuples, tuples_faults, domain_faults};
 ghost use Rattle.est_blocks.specs.Clauses.{domains_faults, any_faults, is_priority};
 ghost use Rattle.est_blocks.specs.Clauses.{priority_faults, most_faults, clause_faults};
 ghost use Rattle.est_blocks.specs.Clauses.{clauses_faults};
@@ -82,16 +82,16 @@ pub fn check_next(outline: &Outline, state: &Option<Used>, least: &mut Least)
     }
 }
 
-// How many choices a variable of a kind has.
-fn choices_by(kind: &Option<Measured>) -> u64
+// How many choices a variable of a kind has, if the kind is ordinal.
+fn choices_by(kind: &Option<Measured>) -> Option<u64>
     ensures { result ≡ choices_by kind.now }
 {
     match kind {
-        None => 1,
+        None => None,
         Some(measured) => if is_ordinal(&measured.kind) {
-            count(&measured.kind)
+            Some(count(&measured.kind))
         } else {
-            1
+            None
         },
     }
 }
@@ -117,23 +117,37 @@ fn names_choices(outline: &Outline, choices: u64, number: u64, names: &[Used]) -
     product
 }
 
+// The choices so far, with those of names whose type has so many, if both are known.
+fn choices_with(
+    outline: &Outline,
+    number: Option<u64>,
+    names: &[Used],
+    choices: Option<u64>,
+) -> Option<u64>
+    ensures { result ≡ choices_with outline.now number names.now choices }
+{
+    match (number, choices) {
+        (Some(number), Some(choices)) => Some(names_choices(outline, choices, number, names)),
+        _ => None,
+    }
+}
+
 // Variables of an `any` with one type, after so many choices.
 fn check_domain(
     alloc: Global,
     outline: &Outline,
-    number: u64,
+    number: Option<u64>,
     def: &VarDef,
     least: &mut Least,
-) -> Result<u64, AllocError>
-    ensures choices { IfOk result (λ n. n ≡
-        names_choices outline.now (choices_by (text_type outline.now def.now.text)) number
-        def.now.names) }
+) -> Result<Option<u64>, AllocError>
+    ensures choices { IfOk result (λ n. n ≡ choices_with outline.now number def.now.names
+        (choices_by (text_type outline.now def.now.text))) }
     ensures faults { OnOk result
         (least.new.at ≡ least_with least.old.at (domain_faults outline.now def.now)) }
 {
     let kind = check_text(alloc, outline, &def.text, least)?;
     check_ordinal(&kind, text_place(&def.text), least);
-    let product = names_choices(outline, choices_by(&kind), number, def.names.as_slice());
+    let product = choices_with(outline, number, def.names.as_slice(), choices_by(&kind));
     drop(kind);
     Ok(product)
 }
@@ -144,16 +158,26 @@ fn check_domains(
     outline: &Outline,
     defs: &[VarDef],
     least: &mut Least,
-) -> Result<u64, AllocError>
-    ensures choices { IfOk result (λ n. n ≡ tuples outline.now 1 defs.now) }
+) -> Result<Option<u64>, AllocError>
+    ensures choices { IfOk result (λ n. n ≡ tuples outline.now (Some 1) defs.now) }
     ensures faults { OnOk result
         (least.new.at ≡ least_with least.old.at (domains_faults outline.now defs.now)) }
 {
-    let mut number = 1;
+    let mut number = Some(1);
     for def in defs {
         number = check_domain(alloc, outline, number, def, least)?;
     }
     Ok(number)
+}
+
+// Notes an `any` at a place that has too many choices.
+fn note_tuples(number: Option<u64>, place: u32, least: &mut Least)
+    ensures { least.new.at ≡ least_with least.old.at (tuples_faults number place) }
+{
+    match number {
+        None => (),
+        Some(number) => least.note_if(number > MOST_TUPLES, place, Rule::TooLarge),
+    }
 }
 
 // An `any` at a place.
@@ -168,7 +192,7 @@ fn check_any(
         (least.new.at ≡ least_with least.old.at (any_faults outline.now defs.now place)) }
 {
     let number = check_domains(alloc, outline, defs, least)?;
-    least.note_if(number > MOST_TUPLES, place, Rule::TooLarge);
+    note_tuples(number, place, least);
     Ok(())
 }
 

@@ -3,14 +3,14 @@ use Rattle.est_syntax.specs.declared.type_text.VarDef.{VarDef}
 use Rattle.est_scope.proofs.LeastLaws.{least_loop}
 use Rattle.est_kinds.specs.TypeTexts.{text_type}
 use Rattle.est_kinds.proofs.Turns.{after_loop}
-use Rattle.est_blocks.specs.Clauses.{tuples, names_choices, choices_by}
+use Rattle.est_blocks.specs.Clauses.{tuples, choices_with, choices_by}
 use Rattle.est_blocks.specs.Clauses.{domains_faults, domain_faults}
 use Rattle.est_blocks.proofs.clauses.check_domains.Goals as goal
 
 pub loop-def-preserved : goal.loop-def-preserved
 loop-def-preserved c = (
-  after_loop (λ vs n. tuples c.args.outline.now n vs) (λ n (v : VarDef). names_choices
-      c.args.outline.now (choices_by (text_type c.args.outline.now v.text)) n v.names)
+  after_loop (λ vs n. tuples c.args.outline.now n vs) (λ n (v : VarDef). choices_with
+      c.args.outline.now n v.names (choices_by (text_type c.args.outline.now v.text)))
       _ _ _ _ _ _ (λ y ys s. refl) c.loop-def-test.true c.def-item.is c.in_ok-number.ensures.choices
       c.loop-def.invariant.0,
   least_loop (domains_faults c.args.outline.now) (domain_faults c.args.outline.now) _ _ _ _ _ _
