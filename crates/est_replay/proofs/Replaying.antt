@@ -6,14 +6,15 @@ use Rattle.std.proofs.lemmas.List.{take_more, take-append-drop, drop_more, drop_
 use Rattle.std.proofs.lemmas.List.{length-append, length-take, length-take-le, reverse-append}
 use Rattle.est_syntax.specs.declared.specification.Spec.{Spec}
 use Rattle.est_meaning.specs.declared.event.Event.{Event}
-use Rattle.est_meaning.specs.declared.run.Firing.{Firing}
-use Rattle.est_meaning.specs.declared.run.Move.{Move}
-use Rattle.est_meaning.specs.declared.run.Move.TheVariants.{Take, Fire}
+use Rattle.est_meaning.specs.declared.firing.Firing.{Firing}
+use Rattle.est_runs.specs.Task.{IsSetup, Suits}
+use Rattle.est_runs.specs.declared.run.Move.{Move}
+use Rattle.est_runs.specs.declared.run.Move.TheVariants.{Take, Fire}
 use Rattle.est_meaning.specs.Situation.{Situation}
-use Rattle.est_meaning.specs.Stack.{Stack, Keeps}
-use Rattle.est_meaning.specs.Run.{AgreeFirst, Setup, Place, first_place}
-use Rattle.est_meaning.specs.Run.{IsBoundedRun, Follows, Yields}
-use Rattle.est_meaning.proofs.RunLaws.{one_place}
+use Rattle.est_runs.specs.Stack.{Stack, Keeps}
+use Rattle.est_runs.specs.Run.{AgreeFirst, Setup, Place, first_place}
+use Rattle.est_runs.specs.Run.{IsBoundedRun, Follows, Yields}
+use Rattle.est_runs.proofs.RunLaws.{one_place}
 use Rattle.est_replay.specs.declared.verdict.Why.{Why}
 use Rattle.est_replay.specs.declared.verdict.Why.TheVariants as why
 use Rattle.est_replay.specs.declared.verdict.Replayed.{Replayed}
@@ -23,7 +24,7 @@ use Rattle.est_replay.specs.declared.replay.Moved.{Moved}
 use Rattle.est_replay.specs.declared.replay.Moved.TheVariants.{Passed, Failed}
 use Rattle.est_replay.specs.Replay.{AgreesSoFar, FiringFails, MoveFails, IsPassed}
 use Rattle.est_replay.specs.Replay.{IsRejected, IsAnswer, ClaimsBeyondAskAll}
-use Rattle.est_replay.specs.inside.Standing.{Suits, IsSetup, IsReady, AgreesUpTo, HasMoved}
+use Rattle.est_replay.specs.inside.Standing.{IsReady, AgreesUpTo, HasMoved}
 use Rattle.est_replay.specs.inside.Standing.{IsStanding, IsMet, IsEnding, asked_of, place_of}
 use Rattle.est_replay.proofs.Checks.{Passes, follows_agrees, one_on}
 
