@@ -80,15 +80,15 @@ fault_of() {
     local sum
     fault=
     if ! read_record "$1"; then
-        fault='hawkopal.sums is missing or has another form'
+        fault='hawkopal.sums is damaged: it is missing or has another form'
     elif [ ! -f "$1/hawkopal" ]; then
-        fault='hawkopal is missing'
+        fault='hawkopal is damaged: it is missing'
     elif sum=$(sum_of "$1/hawkopal") && [ -z "$sum" ]; then
-        fault='the sum of hawkopal cannot be told (by sha256sum)'
+        fault='hawkopal is damaged: its sum cannot be told (by sha256sum)'
     elif [ "$sum" != "${record[program]}" ]; then
-        fault='hawkopal has another sum than hawkopal.sums says'
+        fault='hawkopal is damaged: its sum is not the one in hawkopal.sums'
     elif [ ! -x "$1/hawkopal" ]; then
-        fault='hawkopal has no leave to run (chmod +x gives it)'
+        fault='hawkopal is damaged: it has no leave to run (chmod +x gives it)'
     fi
 }
 
