@@ -1,0 +1,122 @@
+# shellcheck shell=bash
+# What the launcher, launcher/prove, dist/update and the tests of dist/ share: which crates the program is made of, the
+# sums of their sources, and the record of a program, a file hawkopal.sums beside it. It is sourced, and top is the
+# folder of the checkout. Sums alone tell what belongs to what; no date does.
+
+# shellcheck disable=SC2034,SC2154
+built=$top/crates/hawkopal/out
+dist=$top/dist
+sum_form='^[0-9a-f]{64}$'
+
+say() {
+    echo "hawkopal: $*" >&2
+}
+
+# lines_below CRATE: what crates.txt says of a crate and of all that it stands on, those that others stand on first.
+lines_below() {
+    awk -F: -v wanted="$1" '
+        /^#/ || NF < 2 { next }
+        { split($1, words, " "); line[words[1]] = $0; below[words[1]] = $2 }
+        function visit(name, parts, count, i) {
+            if (name in seen || !(name in line)) return
+            seen[name] = 1
+            count = split(below[name], parts, " ")
+            for (i = 1; i <= count; i++) visit(parts[i])
+            print line[name]
+        }
+        END { visit(wanted) }
+    ' crates.txt
+}
+
+# names_below CRATE: their names alone, in that order.
+names_below() {
+    lines_below "$1" | sed 's/[ :].*//'
+}
+
+# sum_of FILE: the SHA-256 of its bytes, or nothing.
+sum_of() {
+    sha256sum <"$1" 2>/dev/null | cut -d ' ' -f 1
+}
+
+# sources_below FOLDER CRATE: the sum of all that a proof or a build of a crate reads in a checkout: its line of
+# crates.txt and its sources, and those of the crates that it stands on.
+sources_below() (
+    export LC_ALL=C
+    cd "$1" 2>/dev/null || exit
+    folders=()
+    for crate in $(names_below "$2"); do
+        folders+=("crates/$crate/src" "crates/$crate/specs" "crates/$crate/proofs")
+    done
+    {
+        lines_below "$2"
+        find "${folders[@]}" -type f -exec sha256sum {} + 2>/dev/null | sort
+    } | sha256sum | cut -d ' ' -f 1
+)
+
+# read_record FOLDER: takes the record of the program in the folder, and fails where it is missing or has another form.
+read_record() {
+    local name text
+    declare -gA record=([program]='' [sources]='' [kit]='' [commit]='' [target]='')
+    [ -f "$1/hawkopal.sums" ] && [ -r "$1/hawkopal.sums" ] || return 1
+    while IFS=' ' read -r name text; do
+        case $name in
+            program: | sources: | kit: | commit: | target:) record[${name%:}]=$text ;;
+            *) return 1 ;;
+        esac
+    done <"$1/hawkopal.sums"
+    [[ ${record[program]} =~ $sum_form && ${record[sources]} =~ $sum_form && ${record[kit]} == ?* ]] &&
+        [[ ${record[commit]} =~ ^[0-9a-f]{40}$|^none$ && ${record[target]} == x86_64-linux ]]
+}
+
+# write_record FOLDER SOURCES KIT COMMIT: writes the record of the program in the folder, all of it or nothing.
+write_record() {
+    local new=$1/hawkopal.sums.new
+    printf '%s\n' "program: $(sum_of "$1/hawkopal")" "sources: $2" "kit: $3" "commit: $4" 'target: x86_64-linux' >"$new" &&
+        mv -f "$new" "$1/hawkopal.sums"
+}
+
+# fault_of FOLDER: takes the record, and sets fault to what is wrong with it or the program, or to nothing.
+fault_of() {
+    local sum
+    fault=
+    if ! read_record "$1"; then
+        fault='hawkopal.sums is damaged: it is missing or has another form'
+    elif [ ! -f "$1/hawkopal" ]; then
+        fault='hawkopal is damaged: it is missing'
+    elif sum=$(sum_of "$1/hawkopal") && [ -z "$sum" ]; then
+        fault='hawkopal is damaged: its sum cannot be told (by sha256sum)'
+    elif [ "$sum" != "${record[program]}" ]; then
+        fault='hawkopal is damaged: its sum is not the one in hawkopal.sums'
+    elif [ ! -x "$1/hawkopal" ]; then
+        fault='hawkopal is damaged: it has no leave to run (chmod +x gives it)'
+    fi
+}
+
+# is_built: whether the program that was built here is whole and of these sources, whose sum is in sources.
+is_built() {
+    fault_of "$built"
+    [ -z "$fault" ] && [ "${record[sources]}" = "$sources" ]
+}
+
+# has_dist: whether there is anything of a program in dist/.
+has_dist() {
+    [ -e "$dist/hawkopal" ] || [ -e "$dist/hawkopal.sums" ]
+}
+
+# runs_here: whether a program of dist/ can run on this machine.
+runs_here() {
+    machine="$(uname -m) $(uname -s)"
+    [ "$machine" = 'x86_64 Linux' ]
+}
+
+# link FROM TO: the same files under a second name, where the file system can do that, or else copies.
+link() {
+    cp -al "$1" "$2" 2>/dev/null && return
+    rm -rf "$2"
+    cp -a "$1" "$2"
+}
+
+# kit_line: the one line by which the Rattle kit on the PATH names itself.
+kit_line() {
+    rt version </dev/null 2>/dev/null | head -n 1
+}
