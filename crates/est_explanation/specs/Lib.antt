@@ -1,0 +1,3 @@
+pub mod ExplanationGrammar
+pub mod ExplanationNodes
+pub mod ExplanationText
