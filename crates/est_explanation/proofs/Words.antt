@@ -56,7 +56,7 @@ AreWhole (w ∷ ws) = IsWhole w (w.gap ++ text_of ws) × AreWhole ws
 
 -- PLACES OF A TEXT
 
-onward : (text : List ℕ) (place : ℕ) (xs ys : List ℕ) → drop place text ≡ xs ++ ys
+pub onward : (text : List ℕ) (place : ℕ) (xs ys : List ℕ) → drop place text ≡ xs ++ ys
     → drop (place + length xs) text ≡ ys
 onward text place xs ys e =
     sym (drop-drop (length xs) place text) ∙ ap (drop (length xs)) e ∙ drop_at xs ys (length xs)
@@ -67,11 +67,11 @@ inside : (text : List ℕ) (place : ℕ) (xs ys : List ℕ) → place ≤ length
 inside text place xs ys l e =
     omega (arith, length-drop place text, ap length e, length-append xs ys)
 
-byte_at : (text : List ℕ) (place i : ℕ) (xs : List ℕ) → drop place text ≡ xs
+pub byte_at : (text : List ℕ) (place i : ℕ) (xs : List ℕ) → drop place text ≡ xs
     → get_or text (place + i) 0 ≡ get_or xs i 0
 byte_at text place i xs e = sym (get_or-drop place text i 0) ∙ ap (λ r. get_or r i 0) e
 
-first_at : (text : List ℕ) (place : ℕ) (xs : List ℕ) → drop place text ≡ xs
+pub first_at : (text : List ℕ) (place : ℕ) (xs : List ℕ) → drop place text ≡ xs
     → get_or text place 0 ≡ get_or xs 0 0
 first_at text place xs e =
     ap (λ k. get_or text k 0) (omega arith) ∙ byte_at text place 0 xs e
