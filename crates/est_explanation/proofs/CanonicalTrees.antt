@@ -8,10 +8,10 @@ use Rattle.std.proofs.lemmas.List.Elements.{All-head, All-tail}
 use Rattle.est_lexer.specs.declared.kind.Token.{Token}
 use Rattle.est_lexer.specs.Spellings.{name_kind, word_kind}
 use Rattle.est_lexer.specs.Words.{words}
-use Rattle.est_language.specs.Grammar.{done, word, token, seq, rep, Tree, At, Keeps, KeptOf}
+use Rattle.est_language.specs.Grammar.{done, word, token, seq, rep, Tree, At, KeptOf}
 use Rattle.est_language.specs.Grammar.{meets, t_done, t_word, t_token, t_seq, t_left, t_right}
 use Rattle.est_language.specs.Grammar.{t_rep_out, t_rep_in}
-use Rattle.est_language.specs.Shown.{Shows, empty, kept, pair, node, nodes, s_empty, s_kept}
+use Rattle.est_language.specs.Shown.{Shows, empty, pair, node, nodes, s_empty, s_kept}
 use Rattle.est_language.specs.Shown.{s_pair, s_first, s_second, s_node, s_none, s_more}
 use Rattle.est_meaning.specs.declared.run.Firing.{Firing}
 use Rattle.est_meaning.specs.declared.run.Move.{Move}

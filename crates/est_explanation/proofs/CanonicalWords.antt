@@ -1,5 +1,5 @@
 -- The words of the canonical text of an explanation.
-use Rattle.std.proofs.Common.{◌≡◌, ℕ, ◌+◌, ◌<◌, ◌≤◌, ◌^◌, true, List, [], ◌∷◌, ◌++◌, refl, sym}
+use Rattle.std.proofs.Common.{◌≡◌, ℕ, ◌<◌, ◌^◌, true, List, [], ◌∷◌, ◌++◌, refl}
 use Rattle.std.proofs.Common.{ap, ◌∙◌, arith, append_assoc, flat_map}
 use Rattle.std.specs.Prelude.{All, codes}
 use Rattle.std.specs.Fmt.{decimal}
@@ -64,7 +64,7 @@ claim_text claim = simp append_assoc
 pub words_text : (x : Explanation) → canonical x ≡ text_of (words_of x)
 words_text x =
     let tail : text_of (flat_map move_words x.moves ++ claim_words x.claim)
-        ≡ flat_map move_line x.moves ++ claim_line x.claim =
+    ≡ flat_map move_line x.moves ++ claim_line x.claim =
     text_append (flat_map move_words x.moves) (claim_words x.claim)
     ∙ ap (λ r. r ++ text_of (claim_words x.claim)) (moves_text x.moves)
     ∙ ap (λ r. flat_map move_line x.moves ++ r) (claim_text x.claim) in
@@ -102,8 +102,7 @@ pub words_apart : (x : Explanation) → IsWritable x → AreApart (words_of x)
 words_apart x w =
     let moves = moves_apart x.moves w.moves in
     let claim = claim_apart x.claim (omega (arith, w.claim)) in
-    let rest = apart_append (flat_map move_words x.moves) (claim_words x.claim) moves claim in
-    (
+    let rest = apart_append (flat_map move_words x.moves) (claim_words x.claim) moves claim in (
       name_apart (codes "explanation") 32 refl refl,
       (numeral_apart 1 10 (omega arith) refl, rest),
     )

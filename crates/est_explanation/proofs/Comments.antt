@@ -1,16 +1,14 @@
 -- Lines of comments are blanks and comments.
-use Rattle.std.proofs.Common.{◌≡◌, ℕ, ◌+◌, ◌-◌, ◌<◌, ◌≤◌, true, List, [], ◌∷◌, ◌++◌, length, drop}
-use Rattle.std.proofs.Common.{get_or, refl, sym, ap, subst, ◌∙◌, arith, length-append, append_assoc}
-use Rattle.std.proofs.Common.{eqb, not, ◌||◌, flat_map}
+use Rattle.std.proofs.Common.{◌≡◌, ℕ, ◌+◌, ◌-◌, ◌<◌, true, List, [], ◌∷◌, ◌++◌, length, drop}
+use Rattle.std.proofs.Common.{get_or, refl, subst, ◌∙◌, arith, length-append, append_assoc}
+use Rattle.std.proofs.Common.{eqb, not, ◌||◌}
 use Rattle.std.specs.Prelude.{All}
-use Rattle.std.specs.List.{list_all, AllPass}
-use Rattle.std.proofs.lemmas.Bool.{and_parts}
 use Rattle.std.proofs.lemmas.Bool.Decides.{nat_tests}
 use Rattle.std.proofs.lemmas.List.{get_or_append_left, get_or_at}
 use Rattle.std.proofs.lemmas.List.Elements.{All-head, All-tail}
 use Rattle.std.proofs.lemmas.List.Folds.{list_all-append}
 use Rattle.std.proofs.lemmas.List.Sums.{AllPass-from_list_all}
-use Rattle.est_lexer.specs.Between.{is_blank, opening, closing, IsFirstEnd, IsComment, IsBetween}
+use Rattle.est_lexer.specs.Between.{opening, closing, IsFirstEnd, IsComment, IsBetween}
 use Rattle.est_lexer.specs.Between.{nothing, blank, comment}
 use Rattle.est_lexer.proofs.Marks.{between_append}
 use Rattle.est_explanation.specs.CommentLines.{ends_no_comment, comment_line, comment_lines}

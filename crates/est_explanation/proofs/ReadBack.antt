@@ -1,14 +1,13 @@
 -- What is written is read as what it was written of.
-use Rattle.std.proofs.Common.{◌≡◌, ℕ, ◌+◌, ◌≤◌, true, List, [], ◌∷◌, ◌++◌, length, drop, refl, sym}
-use Rattle.std.proofs.Common.{subst, ◌∙◌, arith, length-append, length-drop, ap}
-use Rattle.std.specs.Prelude.{All, flat_map, Result, Ok, Err}
+use Rattle.std.proofs.Common.{◌≡◌, ℕ, ◌≤◌, List, [], ◌∷◌, ◌++◌, length, drop, refl}
+use Rattle.std.proofs.Common.{subst, ◌∙◌, arith, length-append, length-drop}
+use Rattle.std.specs.Prelude.{Result, Ok, Err}
 use Rattle.std.proofs.lemmas.List.{drop_at}
 use Rattle.est_lexer.specs.declared.kind.Token.{Token}
 use Rattle.est_lexer.specs.Between.{IsBetween, nothing}
 use Rattle.est_lexer.specs.TokenList.{IsTokenList}
 use Rattle.est_lexer.proofs.Unique.{tokens_unique}
 use Rattle.est_language.specs.Grammar.{Tree}
-use Rattle.est_language.specs.Lookahead.{OneTokenDecides}
 use Rattle.est_language.specs.Sentences.{HasTree}
 use Rattle.est_language.specs.Shown.{Shows, node}
 use Rattle.est_language.proofs.OneTree.{at_most_one_tree, decides}
@@ -19,7 +18,7 @@ use Rattle.est_reader.proofs.Apart.{apart-holds}
 use Rattle.est_explanation.specs.declared.error.ExplanationError.{ExplanationError}
 use Rattle.est_explanation.specs.declared.error.ExplanationError.TheVariants.{BadToken, Memory}
 use Rattle.est_explanation.specs.declared.explanation.Explanation.{Explanation}
-use Rattle.est_explanation.specs.ExplanationGrammar.{NoName, production, marks, explanation}
+use Rattle.est_explanation.specs.ExplanationGrammar.{marks, explanation}
 use Rattle.est_explanation.specs.ExplanationNodes.{an_explanation, layer}
 use Rattle.est_explanation.specs.ExplanationText.{explanations, IsExplanationText}
 use Rattle.est_explanation.specs.ExplanationText.{IsOnlyExplanationText, ReadsExplanation}
@@ -27,7 +26,7 @@ use Rattle.est_explanation.specs.ExplanationLaws.{IsReadBack}
 use Rattle.est_explanation.specs.CanonicalExplanation.{canonical, IsWritable}
 use Rattle.est_explanation.proofs.Explaining.{fits}
 use Rattle.est_explanation.proofs.OneExplanation.{one_explanation}
-use Rattle.est_explanation.proofs.Words.{Written, tokens_at, text_of, are_tokens, are_written}
+use Rattle.est_explanation.proofs.Words.{tokens_at, text_of, are_tokens, are_written}
 use Rattle.est_explanation.proofs.Words.{AreWritten, apart_whole}
 use Rattle.est_explanation.proofs.CanonicalWords.{words_of, words_text, words_apart}
 use Rattle.est_explanation.proofs.CanonicalTrees.{Reads, whole}
@@ -42,8 +41,7 @@ all_read : (text : List ℕ) (s : List Token) (x : Explanation)
 all_read text s x r =
     let left = none_left text (drop r.last s) r.rest in
     let within = tree_inside (explanations text) s (length s) r.tree (omega arith) in
-    let end : r.last ≡ length s = omega (arith, length-drop r.last s) in
-    (
+    let end : r.last ≡ length s = omega (arith, length-drop r.last s) in (
       r.shape,
       subst (λ n. Tree (explanations text) s (length s) explanation 0 0 n r.shape) end r.tree,
       r.shows,
@@ -61,13 +59,12 @@ one_shape text s t u x y =
 -- an explanation that has a text is the only one that has it
 pub only : (text : List ℕ) (s : List Token) (x : Explanation) → IsExplanationText text s x
     → IsOnlyExplanationText text s x
-only text s x h =
-    (
-      h,
-      λ y q. one_explanation y x
-          (subst (λ t. Shows layer (node (an_explanation y)) t) (one_shape text s q.0 h.0 q.1 h.1)
-          q.2) h.2,
-    )
+only text s x h = (
+  h,
+  λ y q. one_explanation y x
+      (subst (λ t. Shows layer (node (an_explanation y)) t) (one_shape text s q.0 h.0 q.1 h.1)
+      q.2) h.2,
+)
 
 -- the canonical text, after blanks and comments
 pub read_back : (front : List ℕ) (x : Explanation) (tokens : List Token) → IsWritable x

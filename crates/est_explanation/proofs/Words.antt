@@ -1,7 +1,7 @@
 -- Texts that are made of words, with blanks after them, and the tokens of such texts.
 --
 -- It speaks of what the lexer defines, and of no grammar, so that any text can be written so.
-use Rattle.std.proofs.Common.{◌≡◌, ℕ, suc, zero, ◌+◌, ◌-◌, ◌<◌, ◌≤◌, Bool, true, false, List, []}
+use Rattle.std.proofs.Common.{◌≡◌, ℕ, suc, ◌+◌, ◌<◌, ◌≤◌, Bool, true, false, List, []}
 use Rattle.std.proofs.Common.{◌∷◌, ◌++◌, length, take, drop, get_or, refl, sym, ap, subst, ◌∙◌}
 use Rattle.std.proofs.Common.{append_assoc, arith, ltb-true, length-append, length-drop}
 use Rattle.std.specs.List.{list_all, prefix_len}
@@ -13,10 +13,9 @@ use Rattle.est_lexer.specs.declared.kind.Token.{Token}
 use Rattle.est_lexer.specs.declared.kind.TokenKind.{TokenKind}
 use Rattle.est_lexer.specs.declared.kind.TokenKind.TheVariants.{Number}
 use Rattle.est_lexer.specs.Between.{is_blank, opening, IsBetween, nothing, blank}
-use Rattle.est_lexer.specs.Spans.{end_of, spelling}
+use Rattle.est_lexer.specs.Spans.{spelling}
 use Rattle.est_lexer.specs.Spellings.{is_identifier, is_identifier_part, is_number, name_kind}
 use Rattle.est_lexer.specs.TokenList.{MayBegin, IsLongest, AreTokensFrom, none_left, next}
-use Rattle.est_lexer.specs.TokenList.{digits_at}
 use Rattle.est_lexer.proofs.KindOf.{letter_no_digit}
 use Rattle.est_lexer.proofs.Longest.{Longest, name_longest, number_longest, token_there}
 use Rattle.est_lexer.proofs.Longest.{may_begin_there}
@@ -150,8 +149,7 @@ pub are_written : (text : List ℕ) (place : ℕ) (ws : List Written) → drop p
 are_written text place [] e = tt
 are_written text place (w ∷ ws) e =
     let rest = w.gap ++ text_of ws in
-    let n = place + length w.bytes in
-    (
+    let n = place + length w.bytes in (
       record { kind = refl; spelled = spelled_at text place w rest e },
       are_written text (n + length w.gap) ws (onward text n w.gap (text_of ws)
           (onward text place w.bytes rest e)),
