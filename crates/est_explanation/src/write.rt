@@ -5,7 +5,8 @@ ghost use Rattle.std.specs.Fmt.{decimal};
 ghost use Rattle.est_explanation.specs.CanonicalExplanation.{canonical, move_line, claim_line};
 
 use crate::explanation::Explanation;
-use est_meaning::run::{Firing, Move};
+use est_meaning::firing::Firing;
+use est_runs::run::Move;
 use itoa::Buffer;
 use std::alloc::{AllocError, Global};
 

@@ -19,8 +19,8 @@ use est_check::Checked;
 use est_edge::Shelf;
 use est_explanation::explanation::Explanation;
 use est_meaning::event::Trace;
-use est_meaning::run::Limits;
 use est_replay::checked::replay;
+use est_runs::run::Limits;
 use est_specification::Specification;
 use std::alloc::Global;
 
