@@ -14,6 +14,7 @@ pub enum Column {
     Sink,
     Gives,
     Then,
+    Replayed,
     Expectation,
 }
 
@@ -32,6 +33,7 @@ impl Column {
             "sink" => Some(Column::Sink),
             "gives" => Some(Column::Gives),
             "then" => Some(Column::Then),
+            "replayed" => Some(Column::Replayed),
             "expectation" => Some(Column::Expectation),
             _ => None,
         }
@@ -53,6 +55,7 @@ pub struct Cells<'t> {
     pub sink: Option<&'t str>,
     pub gives: Option<&'t str>,
     pub then: Option<&'t str>,
+    pub replayed: Option<&'t str>,
     pub expectation: Option<&'t str>,
 }
 
@@ -72,6 +75,7 @@ impl<'t> Cells<'t> {
             sink: None,
             gives: None,
             then: None,
+            replayed: None,
             expectation: None,
         }
     }
@@ -91,6 +95,7 @@ impl<'t> Cells<'t> {
             Column::Sink => self.sink = cell,
             Column::Gives => self.gives = cell,
             Column::Then => self.then = cell,
+            Column::Replayed => self.replayed = cell,
             Column::Expectation => self.expectation = cell,
         }
     }

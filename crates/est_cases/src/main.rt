@@ -24,7 +24,7 @@ use std::process::ExitCode;
 use std::str;
 
 // The files of cases, in the order in which they are run. The first has the texts that all share.
-const FILES: [&str; 16] = [
+const FILES: [&str; 17] = [
     "texts.cases",
     "words.cases",
     "tokens.cases",
@@ -40,6 +40,7 @@ const FILES: [&str; 16] = [
     "traces.cases",
     "explanations.cases",
     "replays.cases",
+    "searches.cases",
     "faults.cases",
 ];
 

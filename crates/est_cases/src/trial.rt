@@ -66,10 +66,44 @@ impl Trial<'_, '_> {
             return Err(Mistake::BadPlan);
         }
         let mut shelf = MemShelf::new(self.alloc, plan.pieces, &[plan.fails])?;
-        match self.fill(&mut shelf) {
-            Ok(()) => self.both_calls(words, &mut shelf, told),
-            Err(mistake) => Err(mistake),
+        self.fill(&mut shelf)?;
+        let holds = self.both_calls(words, &mut shelf, told)?;
+        match self.cells.replayed {
+            Some(expected) => {
+                let is_replayed = self.replays(words, &mut shelf, expected, told)?;
+                Ok(holds && is_replayed)
+            }
+            None => Ok(holds),
         }
+    }
+
+    // Whether a replay of the report that is expected ends as expected.
+    fn replays(
+        &self,
+        words: &[String],
+        shelf: &mut MemShelf,
+        expected: &str,
+        told: &mut Vec<u8>,
+    ) -> Result<bool, Mistake> {
+        let given = self.expected()?;
+        let (_, report) = given.split_once(' ').unwrap_or((given, "\\c"));
+        let report = self.report(report)?;
+        shelf.add("c", report.as_slice())?;
+        let words = self.replay_words(words)?;
+        self.call(words.as_slice(), shelf, expected, told)
+    }
+
+    // The words of a replay with the limits of a search, where it has some.
+    fn replay_words(&self, words: &[String]) -> Result<Vec<String>, Mistake> {
+        let mut replay = Vec::new(self.alloc);
+        for word in ["replay", "a.est", "b", "c"] {
+            replay.push(String::from_str(self.alloc, word)?)?;
+        }
+        if let [_, _, _, silent, _, statements] = words {
+            replay.push(silent.clone()?)?;
+            replay.push(statements.clone()?)?;
+        }
+        Ok(replay)
     }
 
     // One call, and where another one is expected the same call once more.
