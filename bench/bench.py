@@ -31,6 +31,8 @@ GOOD = 0
 BROKEN = 2
 # The answer to an explanation that is no sentence.
 UNREADABLE = 4
+# The answer where the budget of a search does not suffice.
+OVER = 5
 
 # A process that has lost its parent comes to this one (PR_SET_CHILD_SUBREAPER).
 ctypes.CDLL(None).prctl(36, 1, 0, 0, 0)
@@ -140,6 +142,28 @@ def fires_the_last(folder):
     return made
 
 
+def explains(folder, kind, width):
+    """Searches along a trace of so many events, by a specification of this kind with so many transitions a state."""
+
+    def made(events):
+        specification, _ = written(folder, "station.est", kind, width)
+        trace, _ = written(folder, "long.trace", f"{kind}_trace", events, width)
+        return [PROGRAM, "explain", specification, trace, "8", "4000000", "10000"], events
+
+    return made
+
+
+def searches_in_vain(folder):
+    """Searches that end at their budget of firings, in a tree that has far more."""
+
+    def made(budget):
+        specification, _ = written(folder, "endless.est", "endless")
+        trace, _ = written(folder, "short.trace", "echo_trace", 2)
+        return [PROGRAM, "explain", specification, trace, "1000", budget, "10000"], budget
+
+    return made
+
+
 def shares(folder):
     """Rows of whole texts and of Pascal programs of the same content, and the share of their times."""
     ours = rows("check of whole texts", SIZES, "bytes", checks(folder, "whole"), GOOD, folder)
@@ -189,6 +213,12 @@ def main():
         silent = replays(folder, "silent_trace", "silent_moves", ["20", "2"])
         rows("silent firings", [1_050_000, 2_100_000, 4_200_000], "moves", silent, 0, folder)
         rows("2,000 firings of the last", [5_000, 10_000, 20_000], "transitions", fires_the_last(folder), 0, folder)
+        for width in [2, 20]:
+            found = explains(folder, "station", width)
+            rows(f"explained, {width} transitions a state", many, "events", found, 0, folder)
+        guessed = explains(folder, "guessing", 20)
+        rows("explained, each answer the 20th tried", many, "events", guessed, 0, folder)
+        rows("searched in vain", [1_000_000, 2_000_000, 4_000_000], "firings", searches_in_vain(folder), OVER, folder)
         print()
         table(folder, "declarations", declarations.DECLARATIONS, "declarations", GOOD)
         print()

@@ -146,6 +146,62 @@ def silent_moves(moves):
     return "explanation 1\n" + ("take\n" + "fire 1 2 1\n" * 20) * takes + f"yields {takes + 1}\n"
 
 
+STATES = 4
+
+
+def station(width):
+    """A skeleton of the alternating bit kind: four states in a ring, and so many transitions from each, one for each
+    thing that may arrive."""
+    lines = ["specification Station;", "channel Service(User, Provider);"]
+    lines.append("  by User: " + " ".join(f"Send{number};" for number in range(width)))
+    lines += ["  by Provider: Done;", "channel Network(Station, Medium);", "  by Station: Put0; Put1;"]
+    lines.append("  by Medium: " + " ".join(f"Ack{number};" for number in range(width)))
+    lines += ["module M systemactivity; ip U: Service(Provider); N: Network(Station); end;", "body B for M;"]
+    lines += ["  state Idle0, Waiting0, Idle1, Waiting1;", "  initialize to Idle0 begin end;"]
+    names = ["Idle0", "Waiting0", "Idle1", "Waiting1"]
+    for state, name in enumerate(names):
+        move = f"  trans from {name} to {names[(state + 1) % STATES]} when "
+        for number in range(width):
+            if state % 2 == 0:
+                lines.append(f"{move}U.Send{number} begin output N.Put{state // 2} end;")
+            else:
+                lines.append(f"{move}N.Ack{number} begin output U.Done end;")
+    lines += ["end;", "modvar X: M;", "initialize begin init X with B end;", "end.", ""]
+    return "\n".join(lines)
+
+
+def station_trace(events, width):
+    """So many events of it, each second one an answer."""
+    lines = ["trace 1"]
+    for step in range(events // 2):
+        number = (7 * step + 3) % width
+        if step % 2 == 0:
+            lines += [f"in u.send{number}", f"out n.put{step // 2 % 2}"]
+        else:
+            lines += [f"in n.ack{number}", "out u.done"]
+    return "\n".join(lines) + "\nend\n"
+
+
+def guessing(width):
+    """A skeleton in which each Go may be answered in so many ways."""
+    lines = ["specification Guessing;", "channel C(A, B);", "  by A: Go;"]
+    lines.append("  by B: " + " ".join(f"Left{number};" for number in range(width)))
+    lines += ["module M systemactivity; ip P: C(B); end;", "body MB for M;"]
+    lines += [f"  trans when P.Go begin output P.Left{number} end;" for number in range(width)]
+    lines += ["end;", "modvar X: M;", "initialize begin init X with MB end;", "end.", ""]
+    return "\n".join(lines)
+
+
+def guessing_trace(events, width):
+    """So many events of it, each answered in the last way."""
+    return "trace 1\n" + f"in p.go\nout p.left{width - 1}\n" * (events // 2) + "end\n"
+
+
+def endless():
+    """A skeleton that has two silent firings at any time, and answers nothing."""
+    return ECHO_HEAD + SILENT * 2 + ECHO_TAIL
+
+
 def pascal(size, seed):
     """A Pascal program of about `size` bytes, for a compiler to compare with."""
     draw = random.Random(seed)
