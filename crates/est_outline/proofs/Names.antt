@@ -1,6 +1,6 @@
 -- Lists whose items have different names.
 use Rattle.std.proofs.Common.{◌≡◌, ℕ, zero, suc, List, [], ◌∷◌, ◌++◌}
-use Rattle.std.proofs.Common.{refl, sym, ap, ◌∙◌, Some, slice_get}
+use Rattle.std.proofs.Common.{refl, sym, ap, ◌∙◌, Some, slice_get, arith}
 use Rattle.std.proofs.lemmas.Option.{same_Some}
 use Rattle.est_outline.specs.Differing.{HaveDifferentNames}
 
@@ -44,3 +44,17 @@ module _ {A N : Type 0} (name : A → N) where
   once_differ (z ∷ zs) h (suc i) zero x y e f q =
       absurd (new_at (name z) zs i x h.0 e (ap name (same_Some z y f) ∙ sym q))
   once_differ (z ∷ zs) h (suc i) (suc j) x y e f q = ap suc (once_differ zs h.1 i j x y e f q)
+
+  new_by : (n : N) (xs : List A) → ((i : ℕ) (x : A) → slice_get xs i ≡ Some x → n ≡ name x → ⊥)
+      → IsNew n xs
+  new_by n [] h = tt
+  new_by n (x ∷ xs) h = (h 0 x refl, new_by n xs (λ i. h (suc i)))
+
+  -- and the other way round
+  pub differ_once : (xs : List A) → HaveDifferentNames name xs → AreOnce xs
+  differ_once [] h = tt
+  differ_once (x ∷ xs) h = (
+    new_by (name x) xs (λ j y e q. (let same = h 0 (suc j) x y refl e q in omega (arith, same))),
+    differ_once xs (λ i j y z e f q. (let same = h (suc i) (suc j) y z e f q in
+        omega (arith, same))),
+  )
