@@ -15,7 +15,7 @@ use Rattle.est_scope.specs.declared.declaration.Member.TheVariants as member
 use Rattle.est_scope.specs.declared.declaration.Side.{Side}
 use Rattle.est_scope.specs.declared.declaration.Sort.TheVariants as sort
 use Rattle.est_scope.specs.declared.declaration.Standing.{Standing}
-use Rattle.est_scope.specs.Outline.{Outline, Region, names_of, entry_at, member_at}
+use Rattle.est_scope.specs.Outline.{Outline, names_of, entry_at, member_at}
 use Rattle.est_scope.specs.Uses.{same_sort}
 use Rattle.est_outline.specs.Bodies.{outline_of}
 use Rattle.est_outline.specs.Differing.{HaveDifferentNames}
@@ -23,8 +23,8 @@ use Rattle.est_outline.proofs.Names.{AreOnce, once_differ}
 use Rattle.est_outline.proofs.Regions.{region_name, region_once}
 use Rattle.est_blocks.specs.Counts.{started_header}
 use Rattle.est_ports.specs.OrdinalValues.{tuples_of}
-use Rattle.est_ports.specs.PortList.{signal_by, signals_in, signals_of, element, elements_with}
-use Rattle.est_ports.specs.PortList.{elements_by, ports_in, header_ports, ports_of}
+use Rattle.est_ports.specs.PortList.{signal_by, signals_of, element, elements_with}
+use Rattle.est_ports.specs.PortList.{elements_by, header_ports, ports_of}
 use Rattle.est_ports.proofs.Once.{AreOf, of_map, once_map, once_flat}
 use Rattle.est_ports.proofs.Tuples.{tuples_once}
 

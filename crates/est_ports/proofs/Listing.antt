@@ -1,17 +1,15 @@
 -- The ports of interaction points in a list.
-use Rattle.std.proofs.Common.{◌≡◌, ℕ, zero, suc, ◌+◌, ◌-◌, ◌<◌, ◌≤◌, ◌^◌, min, ℤ, List, [], ◌∷◌}
-use Rattle.std.proofs.Common.{◌++◌, map, take, length, refl, sym, ap, ◌∙◌, subst, Option, Some}
+use Rattle.std.proofs.Common.{◌≡◌, ℕ, zero, suc, ◌+◌, ◌-◌, ◌<◌, ◌≤◌, ◌^◌, ℤ, List, [], ◌∷◌}
+use Rattle.std.proofs.Common.{◌++◌, map, take, length, refl, sym, ap, ◌∙◌, subst, Some}
 use Rattle.std.proofs.Common.{None, slice_get, arith, inl, inr, length-append}
 use Rattle.std.specs.Prelude.{flat_map, ◌⊎◌}
-use Rattle.std.specs.Option.{option_map}
 use Rattle.std.proofs.lemmas.Bool.{cases_lt}
 use Rattle.std.proofs.lemmas.List.{length-map}
 use Rattle.std.proofs.lemmas.Option.{same_Some}
-use Rattle.est_syntax.specs.declared.ports.Port.{Port}
 use Rattle.est_ports.specs.declared.table.Elements.{Elements}
 use Rattle.est_ports.specs.OrdinalValues.{tuples_of}
 use Rattle.est_ports.specs.PortList.{element}
-use Rattle.est_ports.specs.PortTable.{Points, ports_at, listed, capped, AreTotals, IsTable}
+use Rattle.est_ports.specs.PortTable.{Points, ports_at, listed, AreTotals, IsTable}
 use Rattle.est_ports.specs.PortTable.{IsSplit}
 
 abbrev Point : Type 0

@@ -2,7 +2,6 @@
 use Rattle.std.proofs.Common.{◌≡◌, ◌+◌, ℕ, suc, arith, List, ◌++◌, drop}
 use Rattle.std.proofs.Common.{slice_get, Some, ap, sym, ◌∙◌, append_assoc}
 use Rattle.std.specs.Prelude.{flat_map}
-use Rattle.est_syntax.specs.declared.channel.Role.{Role}
 use Rattle.est_blocks.proofs.NameSteps.{from_here}
 
 after : (i : ℕ) → suc i ≡ i + 1

@@ -1,7 +1,8 @@
 -- What is told of the port of a number is what its interaction point tells.
-use Rattle.std.proofs.Common.{◌≡◌, ℕ, ◌+◌, ◌<◌, ◌≤◌, ◌^◌, min, ℤ, List, take, length, sym, ap, ◌∙◌}
+use Rattle.std.proofs.Common.{◌≡◌, ℕ, ◌+◌, ◌-◌, ◌<◌, ◌^◌, min, ℤ, List, take, length, sym, ap, ◌∙◌}
 use Rattle.std.proofs.Common.{subst, Option, Some, None, slice_get, refl, arith}
 use Rattle.std.specs.Option.{option_map}
+use Rattle.std.proofs.lemmas.List.{length-map}
 use Rattle.std.proofs.lemmas.Option.{same_Some}
 use Rattle.est_syntax.specs.declared.ports.Port.{Port}
 use Rattle.est_ports.specs.declared.table.Elements.{Elements}
@@ -13,7 +14,9 @@ use Rattle.est_ports.specs.inside.Making.{IsRank}
 use Rattle.est_ports.proofs.Capped.{most}
 use Rattle.est_ports.proofs.Listing.{IsPlaced, placed, within, mapped, flat_get, flat_place, ahead}
 use Rattle.est_ports.proofs.Ranks.{unmapped}
-use Rattle.std.proofs.lemmas.List.{length-map}
+use Rattle.est_syntax.specs.declared.kind.Kind.{Kind}
+use Rattle.est_outline.proofs.Names.{once_differ}
+use Rattle.est_ports.proofs.Tuples.{itself, tuples_once}
 
 abbrev Point : Type 0
 Point = List ℕ × Elements
@@ -106,3 +109,40 @@ no_tuple ps table name t g e q none = λ n p l h a b.
     let s = same_point ps table name f.0 g f.1.0 e f.1.1.1 q in
     none f.1.1.0 (subst (λ (v : Elements). slice_get (tuples_of v.kinds) f.1.1.0 ≡ Some t) s.1
     f.1.1.2)
+
+-- the elements that are found at a number
+abbrev elements_in : Point → Elements
+elements_in p = p.1
+
+pub no_elements : (ps : Points) (g : ℕ) (name : List ℕ) (e : Elements)
+    → slice_get ps g ≡ Some (name, e) → None ≡ option_map elements_in (slice_get ps g) → ⊥
+no_elements ps g name e h n =
+    let q : None ≡ Some e = n ∙ ap (option_map elements_in) h in cc
+
+pub elements_are : (ps : Points) (g : ℕ) (name : List ℕ) (e found : Elements)
+    → slice_get ps g ≡ Some (name, e) → Some found ≡ option_map elements_in (slice_get ps g)
+    → slice_get ps g ≡ Some (name, found)
+elements_are ps g name e found h n =
+    let q : Some found ≡ Some e = n ∙ ap (option_map elements_in) h in
+    h ∙ ap (λ x. Some (name, x)) (sym (same_Some found e q))
+
+pub rank_along : (ks others : List Kind) (t : List ℤ) (r : Option ℕ) → others ≡ ks
+    → IsRank others t r → IsRank ks t r
+rank_along ks others t r e h = subst (λ l. IsRank l t r) e h
+
+-- a port that 32 bits cannot tell
+pub too_far : (ps : Points) → IsTable ps → (g : ℕ) (name : List ℕ) (e : Elements) (t : List ℤ)
+    (r before n : ℕ) → slice_get ps g ≡ Some (name, e) → IsRank e.kinds t (Some r)
+    → before ≡ capped (length (listed (take g ps))) → n ≡ min (before + r) most → 2 ^ 32 - 1 < n
+    → IsPortNumber name t (listed ps) None
+too_far ps table g name e t r before n h rank b m l = λ j p k q c d.
+    let f = element_of ps name t j p q c d in
+    let s = same_point ps table name f.0 g f.1.0 e f.1.1.1 h in
+    let x : slice_get (tuples_of e.kinds) f.1.1.0 ≡ Some t = subst (λ (v : Elements).
+    slice_get (tuples_of v.kinds) f.1.1.0 ≡ Some t) s.1 f.1.1.2 in
+    let same : f.1.1.0 ≡ rank.0 = once_differ itself (tuples_of e.kinds) (tuples_once e.kinds)
+    f.1.1.0 rank.0 t t x rank.1 refl in
+    let ahead_is : ahead ports_at f.0 ps ≡ ahead ports_at g ps = ap (λ i. ahead ports_at i ps) s.0 in
+    let rank_is = rank.2 in
+    let number = f.1.1.3 in
+    omega (arith, same, ahead_is, rank_is, number, b, m, l, k)

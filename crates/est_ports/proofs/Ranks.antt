@@ -1,7 +1,7 @@
 -- The numbers of values and tuples.
-use Rattle.std.proofs.Common.{◌≡◌, ℕ, zero, suc, ◌+◌, ◌-◌, ◌*◌, ◌<◌, ◌≤◌, ◌^◌, min, ℤ, pos}
-use Rattle.std.proofs.Common.{List, [], ◌∷◌, ◌++◌, map, take, drop, length, refl, sym, ap, ◌∙◌}
-use Rattle.std.proofs.Common.{subst, Option, Some, None, slice_get, get_or, arith}
+use Rattle.std.proofs.Common.{◌≡◌, ℕ, zero, suc, ◌+◌, ◌-◌, ◌*◌, ◌<◌, ◌≤◌, min, ℤ, pos}
+use Rattle.std.proofs.Common.{List, [], ◌∷◌, map, take, drop, length, refl, sym, ap, ◌∙◌}
+use Rattle.std.proofs.Common.{subst, Some, None, slice_get, get_or, arith}
 use Rattle.std.specs.Prelude.{flat_map, ◌+ℤ◌, ◌<ℤ◌}
 use Rattle.std.specs.List.{range_with_len}
 use Rattle.std.proofs.lemmas.Int.{ints}
@@ -14,7 +14,7 @@ use Rattle.est_ports.specs.OrdinalValues.{first_value, values_of, tuples_of}
 use Rattle.est_ports.specs.PortTable.{capped}
 use Rattle.est_ports.specs.inside.Making.{IsOffset, IsRank}
 use Rattle.est_ports.proofs.Capped.{most, capped_product, capped_sum}
-use Rattle.est_ports.proofs.Listing.{there, within, mapped, flat_get, flat_place, ahead}
+use Rattle.est_ports.proofs.Listing.{within, mapped, flat_get, flat_place, ahead}
 use Rattle.est_ports.proofs.Tuples.{number_of, values_number, flat_number, tuples_number}
 
 range_get : (a c n : ℕ) → n < c → slice_get (range_with_len a c) n ≡ Some (a + n)

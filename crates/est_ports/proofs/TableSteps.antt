@@ -1,9 +1,9 @@
 -- How the table of interaction points grows.
-use Rattle.std.proofs.Common.{◌≡◌, ℕ, zero, suc, ◌+◌, ◌-◌, ◌<◌, ◌≤◌, ◌^◌, min, Bool, true, false}
+use Rattle.std.proofs.Common.{◌≡◌, ℕ, zero, suc, ◌+◌, ◌<◌, ◌≤◌, min, Bool, true, false}
 use Rattle.std.proofs.Common.{List, [], ◌∷◌, ◌++◌, map, take, drop, length, refl, sym, ap, ◌∙◌}
 use Rattle.std.proofs.Common.{subst, Option, Some, None, slice_get, arith, inl, inr, length-append}
 use Rattle.std.proofs.Common.{append_assoc, append-nil, if◌then◌else◌}
-use Rattle.std.specs.Prelude.{flat_map, ◌⊎◌, nat_eq, unwrap_or, not}
+use Rattle.std.specs.Prelude.{◌⊎◌, nat_eq, unwrap_or, not}
 use Rattle.std.specs.Map.{lookup}
 use Rattle.std.proofs.lemmas.Bool.{cases_lt}
 use Rattle.std.proofs.lemmas.List.{length-map}
@@ -27,7 +27,7 @@ use Rattle.est_blocks.specs.Counts.{started_header}
 use Rattle.est_scope.specs.declared.declaration.Standing.{Standing}
 use Rattle.est_scope.specs.Outline.{Outline, Region, names_of, entry_at}
 use Rattle.est_outline.specs.Differing.{HaveDifferentNames}
-use Rattle.est_outline.proofs.Names.{IsNew, AreOnce, once_push, once_differ, differ_once}
+use Rattle.est_outline.proofs.Names.{IsNew, once_push, once_differ, differ_once}
 use Rattle.est_blocks.proofs.NameSteps.{from_here}
 use Rattle.est_ports.specs.declared.known.Sides.{Sides}
 use Rattle.est_ports.specs.declared.table.Elements.{Elements}
@@ -39,7 +39,7 @@ use Rattle.est_ports.specs.inside.Making.{AreNew, IsWith, AreMade, AreMadeTo}
 use Rattle.est_ports.proofs.Capped.{most, capped_sum}
 use Rattle.est_ports.proofs.Counted.{elements_number}
 use Rattle.est_ports.proofs.Tuples.{tuples_number}
-use Rattle.est_ports.proofs.Listing.{within, in_first, in_second, past}
+use Rattle.est_ports.proofs.Listing.{within, in_first, in_second}
 
 abbrev Point : Type 0
 Point = List ℕ × Elements

@@ -1,6 +1,6 @@
 -- How many tuples there are, and that no two are one.
-use Rattle.std.proofs.Common.{◌≡◌, ℕ, zero, suc, ◌+◌, ◌*◌, ◌<◌, ℤ, pos, List, [], ◌∷◌, ◌++◌, map}
-use Rattle.std.proofs.Common.{length, refl, sym, ap, ◌∙◌, arith, length-append}
+use Rattle.std.proofs.Common.{◌≡◌, ℕ, zero, suc, ◌+◌, ◌*◌, ◌<◌, ℤ, pos, List, [], ◌∷◌, map}
+use Rattle.std.proofs.Common.{length, refl, ap, ◌∙◌, arith, length-append}
 use Rattle.std.specs.Prelude.{◌+ℤ◌, flat_map}
 use Rattle.std.proofs.lemmas.List.{length-map}
 use Rattle.std.specs.List.{range_with_len}
@@ -40,7 +40,7 @@ tuples_number (k ∷ ks) =
     ∙ ap (λ n. n * number_of ks) (values_number k)
 
 -- no two values are one
-abbrev itself : {A : Type 0} → A → A
+abbrev pub itself : {A : Type 0} → A → A
 itself x = x
 
 number_new : (i a n : ℕ) → i < a → IsNew {A = ℕ} itself i (range_with_len a n)

@@ -1,5 +1,5 @@
 -- How the table of interaction points grows.
-use Rattle.std.specs.Prelude.{◌≡◌, ℕ, ℤ, ◌<◌, ◌^◌, List, [], ◌∷◌, ◌++◌, drop, Option, Some, None}
+use Rattle.std.specs.Prelude.{◌≡◌, ℕ, ℤ, List, [], ◌∷◌, ◌++◌, drop, Option, Some, None}
 use Rattle.std.specs.Prelude.{slice_get, pos, ◌+ℤ◌, ◌<ℤ◌}
 use Rattle.std.specs.Map.{lookup}
 use Rattle.est_syntax.specs.Names.{is_name}

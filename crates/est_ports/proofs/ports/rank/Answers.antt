@@ -1,4 +1,4 @@
-use Rattle.std.proofs.Common.{◌-◌, rules, get_or, pos, arith, w32, FitsSigned}
+use Rattle.std.proofs.Common.{◌-◌, rules, get_or, pos, w32, FitsSigned}
 use Rattle.std.proofs.lemmas.Int.{to_z-of_z}
 use Rattle.est_ports.proofs.Ranks.{ranked_none, ranked_step, ranked_end, no_step, other_length}
 use Rattle.est_ports.proofs.ports.rank.Goals as goal

@@ -1,5 +1,5 @@
 use Rattle.std.specs.Map.{lookup}
-use Rattle.std.proofs.Common.{◌≡◌, ap, ◌∙◌, sym, ◌++◌, ◌∷◌, [], List, ℕ}
+use Rattle.std.proofs.Common.{ap, ◌∙◌, sym, ◌++◌, ◌∷◌, []}
 use Rattle.std.specs.Prelude.{map}
 use Rattle.est_syntax.specs.Names.{is_name}
 use Rattle.est_scope.proofs.Keys.{lookup-map, map-push}
