@@ -8,6 +8,7 @@ pub mod declares;
 pub mod dims;
 pub mod entries;
 pub mod lasts;
+pub mod laws;
 pub mod modules;
 pub mod statements;
 pub mod texts;

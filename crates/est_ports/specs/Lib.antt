@@ -1,0 +1,5 @@
+pub mod OrdinalValues
+pub mod PortList
+pub mod PortListLaws
+pub mod PortTable
+pub mod inside
