@@ -1,6 +1,7 @@
 pub mod BlockLaws
 pub mod ChoiceLaws
 pub mod FewLaws
+pub mod FromStateLaws
 pub mod ListLaws
 pub mod RootLaws
 pub mod SituationLaws

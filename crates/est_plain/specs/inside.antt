@@ -3,3 +3,4 @@ pub mod PlainSituation
 pub mod Undo
 pub mod UndoProps
 pub mod Trail
+pub mod FromStates

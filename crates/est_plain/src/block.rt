@@ -40,8 +40,12 @@ fn matches(item: Option<&Waiting>, at: &Name, signal: &Name) -> bool
     }
 }
 
-// Whether the interaction that a transition awaits has arrived.
-fn has_arrived(points: &[PointQueue], waiting: &VecDeque<Waiting>, transition: &Transition) -> bool
+/// Whether the interaction that a transition awaits has arrived.
+pub fn has_arrived(
+    points: &[PointQueue],
+    waiting: &VecDeque<Waiting>,
+    transition: &Transition,
+) -> bool
     ensures { result ≡ arrived_in points.now waiting.now.items (when_of transition.now) }
 {
     match awaited(transition) {
@@ -295,8 +299,8 @@ pub fn list_enabled(
     Ok(())
 }
 
-// The transition at an index.
-fn transition_at<'c>(transitions: &[&'c Transition], index: usize) -> Option<&'c Transition>
+/// The transition at an index.
+pub fn transition_at<'c>(transitions: &[&'c Transition], index: usize) -> Option<&'c Transition>
     ensures { option_copied result ≡ slice_get (referred transitions.now) index }
 {
     transitions.get(index).copied()

@@ -3,6 +3,7 @@
 
 mod block;
 mod clauses;
+mod from_states;
 mod history;
 mod outline;
 mod queue;

@@ -36,12 +36,13 @@ fn shares(points: &[PointQueue], name: &Name) -> bool
 fn same_queue(points: &[PointQueue], a: &Name, b: &Name) -> bool
     ensures { result ≡ is_queue (queue_named points.now a.now) (queue_named points.now b.now) }
 {
+    if same_name(a, b) {
+        return true;
+    }
     if shares(points, a) {
         shares(points, b)
-    } else if shares(points, b) {
-        false
     } else {
-        same_name(a, b)
+        false
     }
 }
 

@@ -8,8 +8,10 @@ ghost use Rattle.est_skeleton.specs.Small.{IsSmall};
 ghost use Rattle.est_meaning.specs.Text.{root_of, transitions_of};
 ghost use Rattle.est_runs.specs.Stack.{StartedAs};
 ghost use Rattle.est_plain.specs.inside.PlainSituation.{queues_for, referred, HasFew};
+ghost use Rattle.est_plain.specs.inside.FromStates.{AreRight};
 
-use crate::block::{arrival, choice, list_enabled, run_block, run_first};
+use crate::block::{arrival, choice, run_block, run_first};
+use crate::from_states::{FromStates, list_options};
 use crate::history::History;
 use crate::outline::{queues_of, transitions_of};
 use crate::situation::PointQueue;
@@ -36,12 +38,14 @@ pub struct PlainWorld<'c> {
     limit: u32,
     fired: u64,
     history: History,
+    from_states: FromStates,
     ghost root_is: { root_of spec.now ≡ Some root.now },
     ghost ports_are: { ports.now ≡ ports_of spec.now },
     ghost points_are: { points.items ≡ queues_for spec.now root.now },
     ghost transitions_are: { referred transitions.items ≡ transitions_of root.now },
     ghost few: { HasFew ports.now },
     ghost few_transitions: { length transitions.items < 2 ^ 32 },
+    ghost from_states_are: { AreRight (referred transitions.items) from_states },
 }
 
 impl<'c> World for PlainWorld<'c> {
@@ -60,10 +64,12 @@ impl<'c> World for PlainWorld<'c> {
 
     fn options(&mut self, alloc: Global, into: &mut Vec<Firing>) -> Result<Offers, AllocError> {
         into.clear();
-        list_enabled(
+        list_options(
+            alloc,
             self.points.as_slice(),
             self.transitions.as_slice(),
             &self.history.current,
+            &mut self.from_states,
             into,
         )?;
         Ok(Offers::Settled)
@@ -186,6 +192,7 @@ impl<'c> PlainWorld<'c> {
                     limit: left + 1,
                     fired: 0,
                     history: History::new(alloc, state),
+                    from_states: FromStates::new(alloc),
                 },
                 outs: Events { items: outs },
             }),

@@ -1,0 +1,12 @@
+use Rattle.std.specs.Map.{lookup}
+use Rattle.std.proofs.Common.{ap, ◌∙◌, sym}
+use Rattle.est_syntax.specs.Names.{is_name}
+use Rattle.est_scope.proofs.Keys.{lookup-map}
+use Rattle.est_plain.proofs.from_states.FromStates.find.Goals as goal
+
+pub returns : goal.returns
+returns c =
+    c.get.ensures.value
+    ∙ ap (λ n. lookup (λ k. is_name n k.items) c.self.inside.under.entries) c.as_slice.ensures
+    ∙ sym (lookup-map (λ k. k.items) (is_name c.args.name.now.bytes) c.self.inside.under.entries)
+    ∙ ap (λ l. lookup (is_name c.args.name.now.bytes) l) c.self.view_is
