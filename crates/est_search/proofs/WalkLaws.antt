@@ -1,0 +1,289 @@
+-- The steps of a search.
+use Rattle.std.proofs.Common.{◌≡◌, ℕ, ◌+◌, ◌<◌, ◌≤◌, ◌⊎◌, List, [], ◌∷◌, ◌++◌, Option, Some, None}
+use Rattle.std.proofs.Common.{length, take, drop, get_or, refl, sym, ap, subst, ◌∙◌, inl, inr}
+use Rattle.std.proofs.Common.{zero-le, arith}
+use Rattle.std.specs.Option.{option_or}
+use Rattle.std.proofs.lemmas.List.{append_cancel_left}
+use Rattle.est_meaning.specs.declared.event.Event.{Event}
+use Rattle.est_meaning.specs.declared.firing.Firing.{Firing}
+use Rattle.est_meaning.specs.declared.firing.BlockFault.{BlockFault}
+use Rattle.est_meaning.specs.Situation.{Situation}
+use Rattle.est_meaning.specs.Choices.{IsSettled, IsPossible}
+use Rattle.est_meaning.specs.Blocks.{Outcome, Done, Fault, Limit}
+use Rattle.est_meaning.specs.Step.{outcome, after_event}
+use Rattle.est_meaning.proofs.StepLaws.{possible_settled}
+use Rattle.est_runs.specs.declared.run.Move.{Move}
+use Rattle.est_runs.specs.declared.run.Move.TheVariants.{Take, Fire}
+use Rattle.est_runs.specs.Order.{Mark, Taking, Guarding, Trying, mark_of, marks_of, StartsWith}
+use Rattle.est_runs.specs.Stack.{Stack, pushed, AreOptions}
+use Rattle.est_runs.specs.Run.{Setup, Place, Takes, IsFromOutside, after_taking, after_firing}
+use Rattle.est_runs.specs.Run.{silent_after, IsBoundedRun, Follows, Explains, YieldsFirst}
+use Rattle.est_runs.specs.Trials.{IsInner, IsTrial, ComesTo, IsUnsettled, PassesLimit, guards}
+use Rattle.est_runs.specs.Trials.{block, Faults}
+use Rattle.est_runs.proofs.OrderLaws.{marks_same, starts_self, starts_one}
+use Rattle.est_runs.proofs.RunLaws.{one_place, explains_follows}
+use Rattle.est_runs.proofs.TreeLaws.{IsInTree, IsOnTree, passes_in_tree, faults_in_tree}
+use Rattle.est_search.specs.declared.path.Stage.{Stage}
+use Rattle.est_search.specs.declared.path.Stage.TheVariants.{Fresh, Taken, Listed}
+use Rattle.est_search.specs.declared.path.Level.{Level}
+use Rattle.est_search.specs.declared.path.Best.{Best}
+use Rattle.est_search.specs.declared.verdict.Faulted.{Faulted}
+use Rattle.est_search.specs.declared.walk.Passed.{Passed}
+use Rattle.est_search.specs.declared.walk.Notes.{Notes}
+use Rattle.est_search.specs.inside.Ahead.{IsAhead}
+use Rattle.est_search.specs.inside.Known.{KnowsTrials, Knows, IsNoted}
+use Rattle.est_search.specs.inside.Agreement.{AgreeFor}
+use Rattle.est_search.specs.inside.Path.{View, place_at, entered, with_firings, with_taken}
+use Rattle.est_search.specs.inside.Path.{IsNext, IsUndone, stage_after, IsNode, AreLeft, StageIs}
+use Rattle.est_search.specs.inside.Path.{AreLeftBelow, AreLower, IsAt, IsKept, HasReached, HasKept}
+use Rattle.est_search.specs.inside.Walk.{passed_at, faulted_at, FaultIs, KnowsAll, IsOnWay}
+use Rattle.est_search.specs.inside.Walk.{Accepts, IsOver}
+use Rattle.est_search.proofs.AheadLaws.{Turn, Skip, turn_on, turn_off, skip_mark, skip_back}
+use Rattle.est_search.proofs.AheadLaws.{skip_all}
+use Rattle.est_search.proofs.KnownLaws.{knows_skip, noted_on, noted_now, explaining_on, trials_on}
+use Rattle.est_search.proofs.KnownLaws.{best_on, accepts_untried, trials_more, accepts_tried}
+use Rattle.est_search.proofs.KnownLaws.{over_now}
+use Rattle.est_search.proofs.EventLaws.{next_event, agree_one, yields_so, yields_no_more, departs}
+use Rattle.est_search.proofs.EventLaws.{events_are, is_unfinished, explains_so}
+use Rattle.est_search.proofs.PathLaws.{inner_at, taking_first, guarding_next, guarding_ends}
+use Rattle.est_search.proofs.PathLaws.{firing_next, firing_ends, none_left, left_next, IsNextOf}
+use Rattle.est_search.proofs.PathLaws.{next_mine, none_mine, IsListed, listed_stage, spent_stage}
+use Rattle.est_search.proofs.PathLaws.{BestAfter, best_reached, kept_undone}
+
+all_skip : (c : Setup) (P P' : List Mark → Type 0) (moves : List Move) (tried : ℕ) (best : Best)
+    (notes : Notes) → Skip c P P' → KnowsAll c P moves tried best notes
+    → KnowsAll c P' moves tried best notes
+all_skip c P P' moves tried best notes skip a = record {
+  run = a.run;
+  kept = a.kept;
+  knows = knows_skip c P P' skip tried best.yields a.run (passed_at notes.passed)
+      (faulted_at notes.faulted) a.knows;
+  fault = a.fault;
+}
+
+all_at : (c : Setup) (h : List Mark) (d e : Option Mark) (moves : List Move) (tried : ℕ)
+    (best : Best) (notes : Notes) → d ≡ e → KnowsAll c (IsAhead h d) moves tried best notes
+    → KnowsAll c (IsAhead h e) moves tried best notes
+all_at c h d e moves tried best notes same a =
+    subst (λ w. KnowsAll c (IsAhead h w) moves tried best notes) same a
+
+-- WHAT PASSES OR FAULTS
+
+taking_quiet : (c : Setup) (h : List Mark) → PassesLimit c (Taking ∷ h) → ⊥
+taking_quiet c h (guards run at u) = cc
+taking_quiet c h (block earlier f at t) = cc
+
+taking_sound : (c : Setup) (h : List Mark) → Faults c (Taking ∷ h) → ⊥
+taking_sound c h t = (let e = t.at in cc)
+
+guarding_sound : (c : Setup) (h : List Mark) → Faults c (Guarding ∷ h) → ⊥
+guarding_sound c h t = (let e = t.at in cc)
+
+-- guards pass their limit only where the situation is not settled
+guarding_passes : (c : Setup) (h : List Move) (p : Place) → IsBoundedRun c h p
+    → IsSettled c.limit c.spec p.situation → PassesLimit c (Guarding ∷ marks_of h) → ⊥
+guarding_passes c h p is settled (guards run at u) =
+    let e : marks_of h ≡ marks_of run = cc in
+    let r : run ≡ h = sym (marks_same h run e) in
+    let q : u.place ≡ p = one_place c h u.place p
+    (subst (λ w. IsBoundedRun c w u.place) r u.inner.is_run) is in
+    u.unsettled (subst (λ (w : Place). IsSettled c.limit c.spec w.situation) (sym q) settled)
+guarding_passes c h p is settled (block earlier f at t) = cc
+
+-- a trial has one outcome
+outcome_there : (c : Setup) (h earlier : List Move) (p : Place) (f g : Firing) (o : Outcome)
+    → IsBoundedRun c h p → Trying f ∷ marks_of h ≡ Trying g ∷ marks_of earlier
+    → ComesTo c earlier g o → outcome c.limit c.spec p.situation f ≡ o
+outcome_there c h earlier p f g o is at t =
+    let e : marks_of h ≡ marks_of earlier = cc in
+    let same : f ≡ g = cc in
+    let r : earlier ≡ h = sym (marks_same h earlier e) in
+    let q : t.place ≡ p = one_place c h t.place p
+    (subst (λ w. IsBoundedRun c w t.place) r t.inner.is_run) is in
+    ap (λ w. outcome c.limit c.spec p.situation w) same
+    ∙ ap (λ (w : Place). outcome c.limit c.spec w.situation g) (sym q) ∙ t.outcome_is
+
+trying_passes : (c : Setup) (h : List Move) (p : Place) (f : Firing) → IsBoundedRun c h p
+    → (outcome c.limit c.spec p.situation f ≡ Limit → ⊥) → PassesLimit c (Trying f ∷ marks_of h)
+    → ⊥
+trying_passes c h p f is never (guards run at u) = cc
+trying_passes c h p f is never (block earlier g at t) =
+    never (outcome_there c h earlier p f g Limit is at t)
+
+trying_faults : (c : Setup) (h : List Move) (p : Place) (f : Firing) → IsBoundedRun c h p
+    → ((fault : BlockFault) → outcome c.limit c.spec p.situation f ≡ Fault fault → ⊥)
+    → Faults c (Trying f ∷ marks_of h) → ⊥
+trying_faults c h p f is never t =
+    never t.fault (outcome_there c h t.earlier p f t.firing (Fault t.fault) is t.at t.comes)
+
+-- A STEP THAT DEALS WITH A RUN
+
+module _ (c : Setup) (P P' : List Mark → Type 0) (h : List Move) (last : Move)
+    (turn : Turn c P P' (marks_of (last ∷ h))) (tried : ℕ) (best : Best) (notes : Notes)
+    (a : KnowsAll c P h tried best notes) where
+  -- what is known then, where the run does not explain the trace and is quiet
+  pub all_after : (more : List Move) (tried' : ℕ) (best' : Best) (notes' : Notes)
+      → (Explains c (last ∷ h) → ⊥)
+      → (known : BestAfter c P' more best')
+      → (IsNoted (PassesLimit c) P (passed_at notes.passed)
+      → IsNoted (PassesLimit c) P' (passed_at notes'.passed))
+      → (IsNoted (Faults c) P (faulted_at notes.faulted)
+      → IsNoted (Faults c) P' (faulted_at notes'.faulted))
+      → FaultIs c notes'.faulted
+      → (KnowsTrials c P tried → KnowsTrials c P' tried')
+      → KnowsAll c P' more tried' best' notes'
+  all_after more tried' best' notes' never known passes faults fault trials = record {
+    run = known.run;
+    kept = known.kept;
+    knows = record {
+      trials = trials a.knows.trials;
+      explaining = explaining_on c P P' (marks_of (last ∷ h)) turn
+          (λ r e x. never (subst (Explains c) (marks_same r (last ∷ h) e) x)) a.knows.explaining;
+      best = known.knows;
+      passes = passes a.knows.passes;
+      faults = faults a.knows.faults;
+    };
+    fault = fault;
+  }
+
+-- EVENTS
+
+module _ (c : Setup) (stack : Stack) (v : View) (tried : ℕ) (best : Best) (notes : Notes)
+    (way : IsOnWay c stack v tried best notes) where
+  here : Place
+  here = place_at c stack.now v.top
+
+  pub here_run : IsBoundedRun c v.moves (place_at c stack.now v.top)
+  here_run = way.at.node.is_run
+
+  module _ (fresh : v.stage ≡ Fresh) where
+    at_fresh : (way.dealt ≡ None) × (way.at.mine ≡ [])
+    at_fresh = subst (λ w. StageIs c stack.now w way.dealt way.at.mine) fresh way.at.stage
+
+    all_fresh : KnowsAll c (IsAhead (marks_of v.moves) None) v.moves tried best notes
+    all_fresh = all_at c (marks_of v.moves) way.dealt None v.moves tried best notes at_fresh.0
+        way.all
+
+    -- no event can be taken
+    pub skipped : ((q : Place) → Takes c (place_at c stack.now v.top) q → ⊥)
+        → IsOnWay c stack (with_taken v) tried best notes
+    skipped never =
+        let h = marks_of v.moves in
+        record {
+          dealt = Some Taking;
+          at = record {
+            mine = way.at.mine;
+            rest = way.at.rest;
+            firings_are = way.at.firings_are;
+            count = way.at.count;
+            node = way.at.node;
+            stage = (refl, at_fresh.1);
+            lower = way.at.lower;
+          };
+          all = all_skip c (IsAhead h None) (IsAhead h (Some Taking)) v.moves tried best notes
+              (skip_mark c h None Taking (taking_first c h) (λ x tree s.
+              (let can = (tree Taking v.moves s).0 in
+              never can.defined.0 (subst (λ w. Takes c w can.defined.0)
+              (one_place c v.moves can.place (place_at c stack.now v.top) can.is_run here_run)
+              can.defined.1)))) all_fresh;
+        }
+
+    module _ (e : Event) (is : get_or c.trace v.top.matched e ≡ e)
+        (outside : IsFromOutside e) where
+      there : Place
+      there = after_taking c (place_at c stack.now v.top) e
+
+      pub takes : Takes c (place_at c stack.now v.top)
+          (after_taking c (place_at c stack.now v.top) e)
+      takes = record {
+        event = e;
+        rest = drop (v.top.matched + 1) c.trace;
+        outside = outside;
+        next = next_event c.trace v.top.matched e way.at.node.unfinished is;
+        leads = refl;
+      }
+
+      taken_run : IsBoundedRun c (Take ∷ v.moves) there
+      unfolding there
+      taken_run = (place_at c stack.now v.top, here_run, takes, zero-le)
+
+      taken_events : there.events ≡ take v.top.matched c.trace ++ e ∷ []
+      unfolding there
+      taken_events = refl
+
+      one : AgreeFor c.trace v.top.matched (e ∷ []) 1
+      one = agree_one c.trace v.top.matched e way.at.node.unfinished is
+
+      taken_turn : Turn c (IsAhead (marks_of v.moves) None)
+          (IsAhead (marks_of (Take ∷ v.moves)) None) (marks_of (Take ∷ v.moves))
+      taken_turn = turn_on c (marks_of v.moves) None Taking (taking_first c (marks_of v.moves))
+
+      untried : IsTrial c (Take ∷ v.moves) → ⊥
+      untried t = t
+
+      pub taken_found : v.top.matched + 1 ≡ length c.trace → Accepts c (Take ∷ v.moves) tried
+      taken_found end = accepts_untried c (IsAhead (marks_of v.moves) None)
+          (IsAhead (marks_of (Take ∷ v.moves)) None) (Take ∷ v.moves) taken_turn tried untried
+          (explains_so c (Take ∷ v.moves) there taken_run (e ∷ []) v.top.matched taken_events one
+          end) all_fresh.knows.explaining all_fresh.knows.trials
+
+      taken_yields : YieldsFirst c (Take ∷ v.moves) (v.top.matched + 1)
+      taken_yields = yields_so c (Take ∷ v.moves) there taken_run (e ∷ []) v.top.matched 1
+          taken_events one (place_at c stack.now v.top, here_run,
+          (inner_at c v.moves stack.now v.top way.at.node).follows)
+
+      taken_few : (r : List Move) (j : ℕ) → marks_of r ≡ marks_of (Take ∷ v.moves)
+          → YieldsFirst c r j → j ≤ v.top.matched + 1
+      taken_few r j same y = yields_no_more c (Take ∷ v.moves) there taken_run (e ∷ [])
+          v.top.matched 1 taken_events one j (subst (λ w. YieldsFirst c w j)
+          (marks_same r (Take ∷ v.moves) same) y)
+
+      taken_next : IsBoundedRun c (Take ∷ v.moves) (record {
+        situation = after_event c.spec stack.now e;
+        events = take (v.top.matched + 1) c.trace;
+        silent_in_row = 0;
+      })
+      unfolding there
+      taken_next = subst (λ es. IsBoundedRun c (Take ∷ v.moves) (record {
+        situation = after_event c.spec stack.now e;
+        events = es;
+        silent_in_row = 0;
+      })) (events_are c (Take ∷ v.moves) there taken_run (e ∷ []) v.top.matched taken_events one)
+          taken_run
+
+      pub taken_on : (best' : Best) (made : ℕ) → made ≡ length v.moves
+          → HasReached best best' made Take (v.top.matched + 1)
+          → v.top.matched + 1 < length c.trace
+          → IsOnWay c (pushed (after_event c.spec stack.now e) stack)
+          (entered v Take (v.top.matched + 1) 0) tried best' notes
+      taken_on best' made made_is reached lt =
+          let P = IsAhead (marks_of v.moves) None in
+          let P' = IsAhead (marks_of (Take ∷ v.moves)) None in
+          let z = marks_of (Take ∷ v.moves) in
+          record {
+            dealt = None;
+            at = record {
+              mine = [];
+              rest = v.firings;
+              firings_are = refl;
+              count = refl;
+              node = record { is_run = taken_next; unfinished = lt };
+              stage = (refl, refl);
+              lower = (way.at.mine, way.at.rest, way.at.firings_are, way.at.count, way.at.node,
+              at_fresh.1, way.at.lower);
+            };
+            all = all_after c P P' v.moves Take taken_turn tried best notes all_fresh
+                (Take ∷ v.moves) tried best' notes
+                (is_unfinished c (Take ∷ v.moves) there taken_run (e ∷ []) v.top.matched
+                taken_events one lt)
+                (best_reached c P P' v.moves Take taken_turn best best' all_fresh.run made
+                (v.top.matched + 1) (Take ∷ v.moves) (starts_one Take v.moves) made_is reached
+                taken_yields taken_few all_fresh.kept all_fresh.knows.best)
+                (noted_on c P P' z taken_turn (PassesLimit c) (passes_in_tree c)
+                (taking_quiet c (marks_of v.moves)) (passed_at notes.passed))
+                (noted_on c P P' z taken_turn (Faults c) (faults_in_tree c)
+                (taking_sound c (marks_of v.moves)) (faulted_at notes.faulted))
+                all_fresh.fault
+                (trials_on c P P' z taken_turn tried (λ x same t.
+                subst (IsTrial c) (marks_same x (Take ∷ v.moves) same) t));
+          }
