@@ -235,7 +235,7 @@ kept_more moves more best run s k = record {
   run_is = k.run_is;
 }
 
-at_most : (m n : ℕ) → (m ≤ n) ⊎ (n < m)
+pub at_most : (m n : ℕ) → (m ≤ n) ⊎ (n < m)
 at_most m n = elim (cases_lt n m) [ inl a ↦ inr a | inr a ↦ inl a ]
 
 module _ (c : Setup) (P P' : List Mark → Type 0) (h : List Move) (last : Move)
