@@ -116,19 +116,19 @@ fn answer(
     }
 }
 
-// Searches from the start on, whose events are so many of the trace and not all of it.
+// Searches from the start on, which has these events.
 fn search<W: World>(
     alloc: Global,
     world: &mut W,
+    start_outs: &[Event],
     task: &Task<'_>,
-    matched: u32,
 ) -> Result<Verdict, AllocError>
     ghost setup: { Spec → Setup }
     requires room { W.fired world.old ≤ 2 ^ 63 }
     requires few { length task.now.trace.now ≤ most_events }
     requires start { (spec : Spec) → W.speaks world.old spec
         → IsStarting (setup spec) spec (W.limit world.old) task.now.silent task.now.trace.now
-        (W.stack world.old spec) matched }
+        (W.stack world.old spec) start_outs.now }
     ensures keeps { Keeps W.speaks W.limit world.old world.new }
     ensures stack { SameStack W.speaks W.stack world.old world.new }
     ensures grows { W.fired world.old ≤ W.fired world.new }
@@ -140,7 +140,20 @@ fn search<W: World>(
     ensures tried { IfOk result (λ verdict. (spec : Spec) → W.speaks world.old spec
         → IsWithinTried (setup spec) verdict (W.fired world.new - W.fired world.old)) }
 {
-    let mut walk = Walk::new(alloc, matched);
+    let matched = agreed(task.trace, 0, start_outs);
+    if matched < start_outs.len() {
+        return Ok(Verdict::Refused {
+            at: matched as u32 + 1,
+            run: Items::new(alloc),
+            faulted: None,
+        });
+    }
+    if matched == task.trace.len() {
+        return Ok(Verdict::Accepted {
+            run: Items::new(alloc),
+        });
+    }
+    let mut walk = Walk::new(alloc, matched as u32);
     let step = walk_all(alloc, world, task, &mut walk);
     rewind(world);
     match step {
@@ -184,24 +197,10 @@ pub fn explain<W: World>(
         (W.stack world.old spec) start_outs.now spec) verdict
         (W.fired world.new - W.fired world.old)) }
 {
-    let events = trace.as_slice();
-    let matched = agreed(events, 0, start_outs);
-    if matched < start_outs.len() {
-        return Ok(Verdict::Refused {
-            at: matched as u32 + 1,
-            run: Items::new(alloc),
-            faulted: None,
-        });
-    }
-    if matched == events.len() {
-        return Ok(Verdict::Accepted {
-            run: Items::new(alloc),
-        });
-    }
     let task = Task {
-        trace: events,
+        trace: trace.as_slice(),
         silent: limits.silent,
         budget: limits.budget,
     };
-    search(alloc, world, &task, matched as u32)
+    search(alloc, world, start_outs, &task)
 }

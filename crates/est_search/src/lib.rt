@@ -3,6 +3,7 @@
 
 mod agreement;
 pub mod explain;
+pub mod laws;
 mod path;
 mod turn;
 pub mod verdict;

@@ -10,7 +10,7 @@ use Rattle.est_runs.specs.declared.run.Move.{Move}
 use Rattle.est_runs.specs.declared.run.Move.TheVariants.{Take, Fire}
 use Rattle.est_runs.specs.Order.{Mark, Trying, marks_of, IsFirst}
 use Rattle.est_runs.specs.Stack.{Stack}
-use Rattle.est_runs.specs.Task.{Suits}
+use Rattle.est_runs.specs.Task.{Suits, IsSetup}
 use Rattle.est_runs.specs.Run.{Setup, Explains, silent_after}
 use Rattle.est_runs.specs.Trials.{IsTrial, IsTrialUpTo, HasMany, HasExactly}
 use Rattle.est_runs.specs.Trials.{ComesTo, mark_passed}
@@ -196,12 +196,8 @@ Answers w budget Done verdict = Concludes w verdict
 
 -- THE START
 
--- nothing was done yet, and the events of the start are a part of the trace
+-- no move was made yet, and none can be undone
 pub record IsStarting (c : Setup) (spec : Spec) (limit silent : ℕ) (trace : List Event)
-    (stack : Stack) (matched : ℕ) : Type 0 where
-  pub suits : Suits c spec limit silent trace
-  pub start_is : c.start ≡ stack.now
+    (stack : Stack) (outs : List Event) : Type 0 where
+  pub setup : IsSetup c spec limit silent trace stack outs
   pub bottom : stack.below ≡ []
-  pub agree : AgreeFor c.trace 0 c.start_outs (length c.start_outs)
-  pub matched_is : matched ≡ length c.start_outs
-  pub unfinished : matched < length c.trace
