@@ -154,11 +154,12 @@ fn search<W: World>(
             run: Items::new(alloc),
         });
     }
+    let budget = task.budget;
     let mut walk = Walk::new(alloc, matched as u32);
     let step = walk_all(alloc, world, task, &mut walk);
     rewind(world);
     match step {
-        Ok(step) => answer(alloc, walk, task.budget, step),
+        Ok(step) => answer(alloc, walk, budget, step),
         Err(error) => {
             drop(walk);
             Err(error)
