@@ -1,10 +1,10 @@
 -- The steps of a search, as the code asks for them.
-use Rattle.std.proofs.Common.{◌≡◌, ℕ, ◌+◌, ◌*◌, ◌-◌, ◌^◌, ◌<◌, ◌≤◌, ◌⊎◌, Bool, true, false, nat_eq}
+use Rattle.std.proofs.Common.{◌≡◌, ℕ, suc, ◌+◌, ◌*◌, ◌-◌, ◌^◌, ◌<◌, ◌≤◌, ◌⊎◌, Bool, true, false, nat_eq}
 use Rattle.std.proofs.Common.{List, [], ◌∷◌, ◌++◌, Option, Some, None, length, reverse, take, drop}
-use Rattle.std.proofs.Common.{get_or, refl, sym, ap, subst, ◌∙◌, inl, inr, zero-le, arith}
+use Rattle.std.proofs.Common.{Result, Ok, Err, OnErr, get_or, refl, sym, ap, subst, ◌∙◌, inl, inr, zero-le, arith}
 use Rattle.std.specs.Option.{option_or}
 use Rattle.std.proofs.lemmas.Bool.Decides.{nat_tests}
-use Rattle.std.proofs.lemmas.List.{length-reverse, append_cancel_left}
+use Rattle.std.proofs.lemmas.List.{length-reverse, reverse-reverse, append_cancel_left}
 use Rattle.est_syntax.specs.declared.specification.Spec.{Spec}
 use Rattle.est_meaning.specs.declared.event.Event.{Event}
 use Rattle.est_meaning.specs.declared.firing.Firing.{Firing}
@@ -34,13 +34,14 @@ use Rattle.est_search.specs.declared.walk.Walk.{Walk}
 use Rattle.est_search.specs.declared.walk.Landed.TheVariants.{Found, On, Off}
 use Rattle.est_search.specs.inside.Agreement.{AgreeFor}
 use Rattle.est_search.specs.inside.Path.{View, view_of, place_at, entered, with_firings, with_taken}
-use Rattle.est_search.specs.inside.Path.{IsNext, IsUndone, HasReached, HasKept}
+use Rattle.est_search.specs.inside.Path.{IsNext, IsUndone, stage_after, HasReached, HasKept}
 use Rattle.est_search.specs.inside.Walk.{IsOnWay, IsWalk, IsReady, IsTrying, IsFound, Accepts}
-use Rattle.est_search.specs.inside.Walk.{HasLedOn, HasDeparted, HasLanded, load, work}
+use Rattle.est_search.specs.inside.Walk.{HasLedOn, HasDeparted, HasLanded, KnowsAll, IsOver, weight_of, load}
 use Rattle.est_search.proofs.EventLaws.{next_event}
 use Rattle.est_search.proofs.WalkLaws.{skipped, taken_found, taken_on}
 use Rattle.est_search.proofs.WalkLaws.{settled_on, unsettled_on, fire_possible, over, fault_on}
 use Rattle.est_search.proofs.WalkLaws.{limit_on, silent_on, departed_on, led_found, led_on}
+use Rattle.est_search.proofs.WalkLaws.{back_depth, back_on, all_done}
 
 pub made_many : (p : Path) → length p.moves.items ≡ length (view_of p).moves
 made_many p = sym (length-reverse p.moves.items)
@@ -195,9 +196,9 @@ module _ (c : Setup) (spec : Spec) (limit silent : ℕ) (trace : List Event) (st
 
 -- FIRING
 
--- one more is counted
-abbrev pub counted : Walk → Walk
-counted w = record w { tried = w.tried + 1 }
+pub on_err : {T E P : Type 0} (r : Result T E) → P → OnErr r P
+on_err (Ok v) p = tt
+on_err (Err e) p = p
 
 module _ (c : Setup) (spec : Spec) (limit silent : ℕ) (trace : List Event) (stack : Stack)
     (w : Walk) (f : Firing) (t : IsTrying c spec limit silent trace stack w f) where
@@ -368,3 +369,97 @@ module _ (c : Setup) (spec : Spec) (limit silent : ℕ) (trace : List Event) (st
           ap (λ (v : View). v.moves) (entered_there l) ∙ ap (λ u. Fire f ∷ u) moves_same in
           let n' : new.tried ≡ w.tried + 1 = tried' ∙ tried in
           rw (h, n') x
+
+-- BACK
+
+load_after : (n : ℕ) (made : Move) (w : View) → w.stage ≡ stage_after made
+    → load n w ≤ 2 + 2 * length w.lower
+load_after n Take w e =
+    (let k : weight_of n w.top.matched w.stage ≡ 2 = ap (weight_of n w.top.matched) e in omega arith)
+load_after n (Fire f) w e =
+    (let k : weight_of n w.top.matched w.stage ≡ 1 = ap (weight_of n w.top.matched) e in omega arith)
+
+pub load_back : (n : ℕ) (made : Move) (v w : View) → v.stage ≡ Listed → IsUndone v made w
+    → load n w < load n v
+load_back n made v w e u =
+    let k : weight_of n v.top.matched v.stage ≡ 1 = ap (weight_of n v.top.matched) e in
+    let l : length v.lower ≡ length w.lower + 1 = ap length u.lower ∙ (omega arith) in
+    let m = load_after n made w u.stage in
+    omega arith
+
+-- one firing more was tried
+pub work_tried : (n budget t t' a b : ℕ) → t < budget → t' ≡ t + 1 → a < b + (3 * n + 5)
+    → (budget - t') * (3 * n + 5) + a < (budget - t) * (3 * n + 5) + b
+work_tried n budget t t' a b lt e less =
+    let f : budget - t ≡ suc (budget - t') = omega arith in
+    let g : (budget - t) * (3 * n + 5) ≡ (budget - t') * (3 * n + 5) + (3 * n + 5) =
+    rw f (omega arith) in
+    omega arith
+
+module _ (c : Setup) (stack : Stack) (w : Walk) (way : IsWalk c stack w)
+    (stage : w.path.stage ≡ Listed)
+    (spent : (w.path.top.left ≡ 0) ⊎ (w.path.firings.items ≡ [])) where
+  spent_view : ((view_of w.path).top.left ≡ 0) ⊎ ((view_of w.path).firings ≡ [])
+  spent_view = elim spent [ inl e ↦ inl e | inr e ↦ inr (ap reverse e) ]
+
+  pub depth_call : (made : Move) (p : Path) → IsUndone (view_of w.path) made (view_of p)
+      → 0 < length stack.below
+  depth_call made p undone = back_depth c stack (view_of w.path) w.tried w.best w.notes way stage
+      spent_view made (view_of p) undone
+
+  pub back_call : (new : Walk) (stack' : Stack) (made : Move)
+      → IsUndone (view_of w.path) made (view_of new.path) → stack ≡ pushed stack.now stack'
+      → HasKept w.best new.best (length new.path.moves.items) made → new.tried ≡ w.tried
+      → new.notes ≡ w.notes → IsWalk c stack' new
+  back_call new stack' made undone back kept tried notes =
+      let on = back_on c stack (view_of w.path) w.tried w.best w.notes way stage spent_view made
+      (view_of new.path) stack' new.best (length new.path.moves.items) undone back
+      (made_many new.path) kept in
+      rw (tried, notes) on
+
+  pub done_call : (w.path.lower.items ≡ []) ⊎ (w.path.moves.items ≡ [])
+      → KnowsAll c (λ x. ⊥) [] w.tried w.best w.notes
+  done_call end = all_done c stack (view_of w.path) w.tried w.best w.notes way stage spent_view
+      (elim end [ inl e ↦ inl (ap reverse e) | inr e ↦ inr (ap reverse e) ])
+
+-- THE NEXT FIRING
+
+nil_reversed : {X : Type 0} (xs : List X) → reverse xs ≡ [] → xs ≡ []
+nil_reversed xs e = sym (reverse-reverse xs) ∙ ap reverse e
+
+pub stage_kept : (p q : Path) → view_of q ≡ view_of p → p.stage ≡ Listed → q.stage ≡ Listed
+stage_kept p q same e = ap (λ (v : View). v.stage) same ∙ e
+
+pub spent_kept : (p q : Path) → view_of q ≡ view_of p
+    → (p.top.left ≡ 0) ⊎ (p.firings.items ≡ []) → (q.top.left ≡ 0) ⊎ (q.firings.items ≡ [])
+spent_kept p q same spent = elim spent [
+  | inl e ↦ inl (ap (λ (v : View). v.top.left) same ∙ e)
+  | inr e ↦ inr (nil_reversed q.firings.items (ap (λ (v : View). v.firings) same ∙ ap reverse e))
+]
+
+pub way_kept : (c : Setup) (stack : Stack) (w : Walk) (q : Path) → view_of q ≡ view_of w.path
+    → IsWalk c stack w → IsWalk c stack (record w { path = q })
+way_kept c stack w q same way = subst (λ v. IsOnWay c stack v w.tried w.best w.notes) (sym same) way
+
+pub load_kept : (n : ℕ) (p q r : Path) → view_of q ≡ view_of p
+    → load n (view_of r) < load n (view_of q) → load n (view_of r) < load n (view_of p)
+load_kept n p q r same lt = subst (λ v. load n (view_of r) < load n v) same lt
+
+pub load_next : (n : ℕ) (v w : View) (f : Firing) → IsNext v f w → load n w ≡ load n v
+load_next n v w f next = ap (load n) next.next_is
+
+pub trying : (c : Setup) (spec : Spec) (limit silent : ℕ) (trace : List Event) (stack : Stack)
+    (w : Walk) (f : Firing) (p : Path) → IsReady c spec limit silent trace stack w
+    → IsNext (view_of w.path) f (view_of p)
+    → IsTrying c spec limit silent trace stack (record w { path = p }) f
+trying c spec limit silent trace stack w f p r next = record {
+  suits = r.suits;
+  before = view_of w.path;
+  next = next;
+  on_way = r.on_way;
+}
+
+pub over_call : (c : Setup) (stack : Stack) (w : Walk) (f : Firing) (p : Path)
+    → IsWalk c stack w → IsNext (view_of w.path) f (view_of p) → IsOver c w.tried
+over_call c stack w f p way next =
+    over c stack (view_of w.path) w.tried w.best w.notes way f (view_of p) next

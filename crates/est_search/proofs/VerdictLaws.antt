@@ -1,6 +1,7 @@
 -- What the end of a search says.
 use Rattle.std.proofs.Common.{◌≡◌, ℕ, ◌+◌, ◌<◌, ◌≤◌, ◌⊎◌, List, [], ◌∷◌, ◌++◌, Option, Some, None}
 use Rattle.std.proofs.Common.{length, reverse, refl, sym, ap, subst, ◌∙◌, inl, inr, arith}
+use Rattle.std.proofs.Common.{Result, Ok, Err, IfOk}
 use Rattle.std.proofs.lemmas.List.{append-nil, reverse-reverse}
 use Rattle.est_meaning.specs.declared.firing.Firing.{Firing}
 use Rattle.est_runs.specs.declared.run.Move.{Move}
@@ -170,3 +171,14 @@ step_many c stack Accepting w s =
 step_many c stack Over w s =
     fewer (IsTrial c) w.tried s.size.runs s.size.count s.size.distinct s.size.each
 step_many c stack Done w s = trials_many c _ w.tried s.knows.trials
+
+-- the best run yields no more events than the trace has
+pub done_yields : (c : Setup) (stack : Stack) (w : Walk) (step : Step) → step ≡ Done
+    → StepIs c stack step w → w.best.yields ≤ length c.trace
+done_yields c stack w step e s =
+    (let d : IsDone c w = subst (λ x. StepIs c stack x w) e s in d.knows.best.has.within)
+
+pub if_ok : {T E : Type 0} {P Q : T → Type 0} (r : Result T E) → ((v : T) → P v → Q v) → IfOk r P
+    → IfOk r Q
+if_ok (Ok v) f p = f v p
+if_ok (Err e) f p = p

@@ -15,7 +15,7 @@ ghost use Rattle.est_search.specs.inside.Walk.{Concludes, Answers, IsStarting};
 use crate::agreement::agreed;
 use crate::turn::turn;
 use crate::verdict::Verdict;
-use crate::walk::{Step, Task, Walk, reversed};
+use crate::walk::{Notes, Step, Task, Walk, reversed};
 use est_items::Items;
 use est_meaning::event::{Event, Trace};
 use est_runs::run::Limits;
@@ -77,7 +77,8 @@ fn conclude(alloc: Global, walk: Walk) -> Result<Verdict, AllocError>
     let Walk {
         mut best, notes, ..
     } = walk;
-    match notes.passed {
+    let Notes { passed, faulted } = notes;
+    match passed {
         Some(passed) => Ok(Verdict::OverAction {
             run: passed.run,
             firing: passed.firing,
@@ -85,7 +86,7 @@ fn conclude(alloc: Global, walk: Walk) -> Result<Verdict, AllocError>
         None => Ok(Verdict::Refused {
             at: best.yields + 1,
             run: reversed(alloc, &mut best.tail)?,
-            faulted: notes.faulted,
+            faulted,
         }),
     }
 }
@@ -153,11 +154,12 @@ fn search<W: World>(
             run: Items::new(alloc),
         });
     }
+    let budget = task.budget;
     let mut walk = Walk::new(alloc, matched as u32);
     let step = walk_all(alloc, world, task, &mut walk);
     rewind(world);
     match step {
-        Ok(step) => answer(alloc, walk, task.budget, step),
+        Ok(step) => answer(alloc, walk, budget, step),
         Err(error) => {
             drop(walk);
             Err(error)

@@ -108,10 +108,14 @@ fn list_options<W: World>(
         → IsFound (setup spec) (W.stack world.new spec) false walk.new) }
 {
     match world.options(alloc, &mut walk.offers)? {
-        Offers::Settled => walk.path.list(&mut walk.offers),
+        Offers::Settled => {
+            walk.path.list(&mut walk.offers)?;
+            Ok(())
+        }
         Offers::Unsettled => {
             walk.notes.pass(alloc, &walk.path.moves, None)?;
-            walk.path.list(&mut walk.offers)
+            walk.path.list(&mut walk.offers)?;
+            Ok(())
         }
     }
 }
@@ -205,7 +209,7 @@ fn go_back<W: World>(world: &mut W, walk: &mut Walk) -> Result<Step, AllocError>
     ensures tried { walk.new.tried ≡ walk.old.tried }
     ensures bottom { SameBottom W.speaks W.stack world.old world.new }
     ensures load { IfOk result
-        (λ step. step ≡ Step.Going → (n : ℕ) → load n walk.new.path < load n (view_of walk.old.path)) }
+        (λ step. step ≡ Step.Going → (n : ℕ) → load n (view_of walk.new.path) < load n (view_of walk.old.path)) }
     ensures over { IfOk result (λ step. step ≡ Step.Over → ⊥) }
     ensures ok { IfOk result (λ step. (spec : Spec) → W.speaks world.old spec
         → StepIs (setup spec) (W.stack world.new spec) step walk.new) }

@@ -13,12 +13,12 @@ invariant-walk g l =
     record {
       keeps : Keeps w.speaks w.limit l.fn.world l.world;
       fired : w.fired l.world + l.fn.walk.tried ≡ w.fired l.fn.world + l.walk.tried;
-      within : l.walk.tried ≤ l.task.now.budget;
+      within : l.walk.tried ≤ l.task.budget;
       bottom : SameBottom w.speaks w.stack l.fn.world l.world;
       ready : (spec : Spec) → w.speaks l.world spec
-          → IsReady (g.setup spec) spec (w.limit l.world) l.task.now.silent l.task.now.trace.now
+          → IsReady (g.setup spec) spec (w.limit l.world) l.task.silent l.task.trace.now
           (w.stack l.world spec) l.walk;
     }
 
 abbrev pub decreases-walk : goal.decreases-walk
-decreases-walk g l = work (length l.task.now.trace.now) l.task.now.budget l.walk
+decreases-walk g l = work (length l.task.trace.now) l.task.budget l.walk
