@@ -1,8 +1,12 @@
 -- Lines of comments are blanks and comments.
 use Rattle.std.proofs.Common.{◌≡◌, ℕ, ◌+◌, ◌-◌, ◌<◌, true, List, [], ◌∷◌, ◌++◌, length, drop}
 use Rattle.std.proofs.Common.{get_or, refl, subst, ◌∙◌, arith, length-append, append_assoc}
-use Rattle.std.proofs.Common.{eqb, not, ◌||◌}
+use Rattle.std.proofs.Common.{eqb, not, ◌||◌, ◌^◌}
 use Rattle.std.specs.Prelude.{All}
+use Rattle.std.specs.Char.{is_ascii_digit}
+use Rattle.std.specs.Fmt.{decimal}
+use Rattle.std.specs.List.{list_all}
+use Rattle.std.proofs.lemmas.Bool.{and_parts}
 use Rattle.std.proofs.lemmas.Bool.Decides.{nat_tests}
 use Rattle.std.proofs.lemmas.List.{get_or_append_left, get_or_at}
 use Rattle.std.proofs.lemmas.List.Elements.{All-head, All-tail}
@@ -12,6 +16,7 @@ use Rattle.est_lexer.specs.Between.{opening, closing, IsFirstEnd, IsComment, IsB
 use Rattle.est_lexer.specs.Between.{nothing, blank, comment}
 use Rattle.est_lexer.proofs.Marks.{between_append}
 use Rattle.est_explanation.specs.CommentLines.{ends_no_comment, comment_line, comment_lines}
+use Rattle.est_explanation.proofs.Numerals.{decimal_digits}
 use Rattle.est_explanation.proofs.Words.{onward, byte_at, first_at}
 
 opens : (text : List ℕ) (place : ℕ) → get_or text place 0 ≡ 123 → opening text place ≡ 1
@@ -114,3 +119,22 @@ pub comment_lines_are_comments : (lines : List (List ℕ)) (text : List ℕ)
 comment_lines_are_comments lines text h =
     subst (λ n. IsBetween (comment_lines lines ++ text) 0 n) (omega arith)
     (lines_between (comment_lines lines ++ text) 0 lines text refl h)
+
+-- what a comment says may be put together
+pub clear_append : (said more : List ℕ) → ends_no_comment said ≡ true
+    → ends_no_comment more ≡ true → ends_no_comment (said ++ more) ≡ true
+clear_append said more h k =
+    rw (list_all-append (λ b. not (eqb b 125 || eqb b 42)) said more, h, k) refl
+
+digit_clear : (b : ℕ) → is_ascii_digit b ≡ true → not (eqb b 125 || eqb b 42) ≡ true
+digit_clear b h = grind (arith, nat_tests)
+
+digits_clear : (ds : List ℕ) → list_all is_ascii_digit ds ≡ true → ends_no_comment ds ≡ true
+digits_clear [] h = refl
+digits_clear (d ∷ ds) h =
+    let p = and_parts (is_ascii_digit d) (list_all is_ascii_digit ds) h in
+    rw (digit_clear d p.0) (digits_clear ds p.1)
+
+-- of numbers too
+pub clear_decimal : (n : ℕ) → n < 2 ^ 64 → ends_no_comment (decimal n) ≡ true
+clear_decimal n h = digits_clear (decimal n) (decimal_digits n h)

@@ -30,6 +30,10 @@ decimal_is_number n h =
 pub decimal_value : (n : ℕ) → n < 10 ^ 18 → value_of (decimal n) ≡ n
 decimal_value n h = digits_value-decimal own n (omega arith)
 
+-- it has digits alone
+pub decimal_digits : (n : ℕ) → n < 2 ^ 64 → list_all is_ascii_digit (decimal n) ≡ true
+decimal_digits n h = digits_decimal own n h
+
 -- a number of 32 bits has at most ten digits
 pub few_digits : (m n : ℕ) → m ≡ n → n < 2 ^ 32 → length (decimal m) ≤ 10
 few_digits m n e h = length-decimal-le 10 m (omega arith) (omega arith) (omega arith)

@@ -3,7 +3,7 @@ use Rattle.std.specs.Prelude.{ℕ, Bool, ◌==◌, ◌||◌, not, List, ◌++◌
 use Rattle.std.specs.List.{list_all}
 use Rattle.std.specs.Str.{byte}
 
--- no byte of a mark that ends a comment, `}` or `*)`, stands first in one
+-- none of the bytes is `}` or `*`, with which the marks begin that end a comment
 abbrev pub ends_no_comment : List ℕ → Bool
 ends_no_comment said = list_all (λ b. not ((b == byte "}") || (b == byte "*"))) said
 
