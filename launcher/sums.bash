@@ -6,6 +6,7 @@
 # shellcheck disable=SC2034,SC2154
 built=$top/crates/hawkopal/out
 dist=$top/dist
+dist_machine='x86_64 Linux with glibc 2.34 or later'
 sum_form='^[0-9a-f]{64}$'
 
 say() {
@@ -103,10 +104,16 @@ has_dist() {
     [ -e "$dist/hawkopal" ] || [ -e "$dist/hawkopal.sums" ]
 }
 
-# runs_here: whether a program of dist/ can run on this machine.
+# runs_here: whether a program of dist/ can run on this machine, which machine then names. It takes a C library that has
+# the words of glibc 2.34; where getconf does not tell which one there is, it is tried.
 runs_here() {
+    local library
     machine="$(uname -m) $(uname -s)"
-    [ "$machine" = 'x86_64 Linux' ]
+    [ "$machine" = 'x86_64 Linux' ] || return 1
+    command -v getconf >/dev/null || return 0
+    library=$(getconf GNU_LIBC_VERSION 2>/dev/null)
+    machine+=" with ${library:-another C library}"
+    [[ $library =~ ^glibc\ 2\.([0-9]+) ]] && [ "${BASH_REMATCH[1]}" -ge 34 ]
 }
 
 # link FROM TO: the same files under a second name, where the file system can do that, or else copies.
