@@ -188,7 +188,7 @@ module _ (c : Setup) (spec : Spec) (limit silent : ℕ) (trace : List Event) (st
       (settled_there o.0) (options_there o.1))
 
   pub unsettled_call : new.notes ≡ record w.notes { passed = option_or w.notes.passed
-      (Some (record { run = w.path.moves.items; firing = None })) }
+      (Some (record { run = w.path.moves.items; events = w.path.top.matched; firing = None })) }
       → OffersAre limit spec stack.now Unsettled offers → IsWalk c stack' new
   unsettled_call notes o = listed_call _ notes
       (unsettled_on c stack (view_of w.path) w.tried w.best w.notes r.on_way taken offers
@@ -247,12 +247,12 @@ module _ (c : Setup) (spec : Spec) (limit silent : ℕ) (trace : List Event) (st
       → FiredAs (outcome limit spec stack.now f) fired.Limit events stack stack'
       → new.path ≡ w.path → new.tried ≡ w.tried + 1 → new.best ≡ w.best
       → new.notes ≡ record w.notes { passed = option_or w.notes.passed
-      (Some (record { run = w.path.moves.items; firing = Some f })) }
+      (Some (record { run = w.path.moves.items; events = w.path.top.matched; firing = Some f })) }
       → IsWalk c stack' new
   limit_call stack' new events is path tried best notes =
       let a = fired_limit (outcome limit spec stack.now f) events stack stack' is in
       let way = limit_on c stack t.before w.tried w.best w.notes t.on_way f (view_of w.path) t.next
-      w.path.moves.items moves_same (outcome_there Limit a.0) in
+      w.path.moves.items w.path.top.matched moves_same top_matched (outcome_there Limit a.0) in
       rw (a.1, path, tried, best, notes) way
 
   -- it is done

@@ -21,7 +21,7 @@ use Rattle.est_search.specs.declared.verdict.Faulted.{Faulted}
 use Rattle.est_search.specs.declared.verdict.Verdict.{Verdict}
 use Rattle.est_search.specs.declared.verdict.Verdict.TheVariants.{Accepted, Refused}
 use Rattle.est_search.specs.declared.verdict.Verdict.TheVariants.{OverFirings, OverAction}
-use Rattle.est_search.specs.Verdict.{IsLeastUnyielded, IsFirstFaulted, IsVerdict}
+use Rattle.est_search.specs.Verdict.{HasEvents, IsLeastUnyielded, IsFirstFaulted, IsVerdict}
 use Rattle.est_search.specs.Verdict.{VerdictIsUnique}
 
 -- COUNTING
@@ -159,6 +159,14 @@ passed_same None (Some g) e = cc
 passed_same (Some f) None e = cc
 passed_same (Some f) (Some g) e = (let s : f ≡ g = cc in ap Some s)
 
+-- a run has one number of events
+one_count : (c : Setup) (x y : List Move) (m n : ℕ) → x ≡ y → HasEvents c x m → HasEvents c y n
+    → m ≡ n
+one_count c x y m n e s t =
+    let p : s.place ≡ t.place = one_place c y s.place t.place
+    (subst (λ w. IsBoundedRun c w s.place) e s.is_run) t.is_run in
+    sym s.count ∙ ap (λ (w : Place). length w.events) p ∙ t.count
+
 -- VERDICTS
 
 pub verdict_unique : VerdictIsUnique
@@ -169,7 +177,7 @@ verdict_unique c budget (Accepted x) (Refused at y f) a b =
     absurd (b.unexplained.none (reverse x) a.first.has)
 verdict_unique c budget (Accepted x) (OverFirings tried) a b =
     absurd (too_many _ budget (b.1.late (reverse x) a.first.has) a.tried)
-verdict_unique c budget (Accepted x) (OverAction y f) a b =
+verdict_unique c budget (Accepted x) (OverAction y n f) a b =
     absurd (b.unexplained.none (reverse x) a.first.has)
 verdict_unique c budget (Refused at x f) (Accepted y) a b =
     absurd (a.unexplained.none (reverse y) b.first.has)
@@ -181,7 +189,7 @@ verdict_unique c budget (Refused m x f) (Refused n y g) a b =
     ∙ ap (λ w. let v : Verdict = Refused n y w in v) (one_faulted c f g a.faulted_is b.faulted_is)
 verdict_unique c budget (Refused at x f) (OverFirings tried) a b =
     absurd (too_many _ budget b.1.size a.unexplained.size)
-verdict_unique c budget (Refused at x f) (OverAction y g) a b =
+verdict_unique c budget (Refused at x f) (OverAction y n g) a b =
     absurd (a.within _ b.first.has)
 verdict_unique c budget (OverFirings tried) (Accepted y) a b =
     absurd (too_many _ budget (a.1.late (reverse y) b.first.has) b.tried)
@@ -189,19 +197,21 @@ verdict_unique c budget (OverFirings tried) (Refused at y f) a b =
     absurd (too_many _ budget a.1.size b.unexplained.size)
 verdict_unique c budget (OverFirings m) (OverFirings n) a b =
     ap (λ w. let v : Verdict = OverFirings w in v) (a.0 ∙ sym b.0)
-verdict_unique c budget (OverFirings tried) (OverAction y f) a b =
+verdict_unique c budget (OverFirings tried) (OverAction y n f) a b =
     absurd (too_many _ budget a.1.size b.unexplained.size)
-verdict_unique c budget (OverAction x f) (Accepted y) a b =
+verdict_unique c budget (OverAction x m f) (Accepted y) a b =
     absurd (a.unexplained.none (reverse y) b.first.has)
-verdict_unique c budget (OverAction x f) (Refused at y g) a b =
+verdict_unique c budget (OverAction x m f) (Refused at y g) a b =
     absurd (b.within _ a.first.has)
-verdict_unique c budget (OverAction x f) (OverFirings tried) a b =
+verdict_unique c budget (OverAction x m f) (OverFirings tried) a b =
     absurd (too_many _ budget b.1.size a.unexplained.size)
-verdict_unique c budget (OverAction x f) (OverAction y g) a b =
+verdict_unique c budget (OverAction x m f) (OverAction y n g) a b =
     let e : mark_passed f ∷ marks_of (reverse x) ≡ mark_passed g ∷ marks_of (reverse y) =
     one_earliest _ _ _ a.first b.first in
     let h : mark_passed f ≡ mark_passed g = cc in
-    let m : marks_of (reverse x) ≡ marks_of (reverse y) = cc in
-    ap (λ w. let v : Verdict = OverAction w f in v)
-    (reversed_same x y (marks_same (reverse x) (reverse y) m))
-    ∙ ap (λ w. let v : Verdict = OverAction y w in v) (passed_same f g h)
+    let k : marks_of (reverse x) ≡ marks_of (reverse y) = cc in
+    let r = marks_same (reverse x) (reverse y) k in
+    ap (λ w. let v : Verdict = OverAction w m f in v) (reversed_same x y r)
+    ∙ ap (λ w. let v : Verdict = OverAction y w f in v)
+    (one_count c (reverse x) (reverse y) m n r a.reached b.reached)
+    ∙ ap (λ w. let v : Verdict = OverAction y n w in v) (passed_same f g h)

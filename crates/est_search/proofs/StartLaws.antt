@@ -233,7 +233,7 @@ module _ (c : Setup) (a : AgreeFor c.trace 0 c.start_outs (length c.start_outs))
             | inr p ↦ p
           ];
         };
-        fault = tt;
+        noted = (tt, tt);
       };
     }
 

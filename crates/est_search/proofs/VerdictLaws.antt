@@ -24,7 +24,8 @@ use Rattle.est_search.specs.Verdict.{IsFirstFaulted, IsRefused, IsVerdict, IsWit
 use Rattle.est_syntax.specs.Least.{IsIn}
 use Rattle.est_search.specs.inside.Known.{KnowsTrials, IsNoted}
 use Rattle.est_search.specs.inside.Path.{IsKept}
-use Rattle.est_search.specs.inside.Walk.{passed_at, faulted_at, FaultIs, KnowsAll, Accepts}
+use Rattle.est_search.specs.inside.Walk.{passed_at, faulted_at, FaultIs, EventsAre, KnowsAll}
+use Rattle.est_search.specs.inside.Walk.{Accepts}
 use Rattle.est_search.specs.inside.Walk.{IsOver, IsDone, StepIs, Concludes, Answers}
 
 nil_start : (later start : List Move) → [] ≡ later ++ start → start ≡ []
@@ -80,7 +81,7 @@ module _ (c : Setup) (w : Walk) (d : IsDone c w) (budget : ℕ) (le : w.tried �
                 | inr a ↦ absurd (k.explaining r a.1)
               ];
             }));
-        faulted_is = faulted_first c w.notes.faulted k.faults d.fault;
+        faulted_is = faulted_first c w.notes.faulted k.faults d.noted.0;
       }
 
   pub concluded : (verdict : Verdict) → Concludes w verdict → IsVerdict c budget verdict
@@ -93,9 +94,10 @@ module _ (c : Setup) (w : Walk) (d : IsDone c w) (budget : ℕ) (le : w.tried �
       (subst (λ n. IsRefused c budget n (reverse run) w.notes.faulted) (sym a.1)
       (subst (λ r. IsRefused c budget (w.best.yields + 1) r w.notes.faulted) (sym same)
       (refused a.0)))
-  concluded (OverAction run firing) a = record {
+  concluded (OverAction run events firing) a = record {
     unexplained = unexplained;
     first = subst (λ o. IsNoted (PassesLimit c) (λ x. ⊥) (passed_at o)) a d.knows.passes;
+    reached = subst (EventsAre c) a d.noted.1;
   }
 
 -- what the search answers
@@ -121,7 +123,7 @@ conclude_tried : (c : Setup) (w : Walk) (verdict : Verdict) (many : ℕ) → Con
 conclude_tried c w (Accepted run) many a = absurd a
 conclude_tried c w (Refused at run faulted) many a = tt
 conclude_tried c w (OverFirings tried) many a = tt
-conclude_tried c w (OverAction run firing) many a = tt
+conclude_tried c w (OverAction run events firing) many a = tt
 
 -- how many trials stand up to the run that is accepted
 pub answered_tried : (c : Setup) (stack : Stack) (w : Walk) (budget : ℕ) (step : Step)

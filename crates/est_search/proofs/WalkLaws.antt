@@ -3,7 +3,7 @@ use Rattle.std.proofs.Common.{◌≡◌, ℕ, ◌+◌, ◌<◌, ◌≤◌, ◌�
 use Rattle.std.proofs.Common.{length, take, drop, get_or, refl, sym, ap, subst, ◌∙◌, inl, inr}
 use Rattle.std.proofs.Common.{reverse, zero-le, arith}
 use Rattle.std.specs.Option.{option_or}
-use Rattle.std.proofs.lemmas.List.{append_cancel_left}
+use Rattle.std.proofs.lemmas.List.{append_cancel_left, length-take-le}
 use Rattle.est_meaning.specs.declared.event.Event.{Event}
 use Rattle.est_meaning.specs.declared.firing.Firing.{Firing}
 use Rattle.est_meaning.specs.declared.firing.BlockFault.{BlockFault}
@@ -36,7 +36,8 @@ use Rattle.est_search.specs.inside.Agreement.{AgreeFor}
 use Rattle.est_search.specs.inside.Path.{View, place_at, entered, with_firings, with_taken}
 use Rattle.est_search.specs.inside.Path.{IsNext, IsUndone, stage_after, IsNode, AreLeft, StageIs}
 use Rattle.est_search.specs.inside.Path.{AreLeftBelow, AreLower, IsAt, IsKept, HasReached, HasKept}
-use Rattle.est_search.specs.inside.Walk.{passed_at, faulted_at, FaultIs, KnowsAll, IsOnWay}
+use Rattle.est_search.specs.inside.Walk.{passed_at, faulted_at, FaultIs, EventsAre, NotesAre}
+use Rattle.est_search.specs.inside.Walk.{KnowsAll, IsOnWay}
 use Rattle.est_search.specs.inside.Walk.{Accepts, IsOver}
 use Rattle.est_search.proofs.AheadLaws.{Turn, Skip, turn_on, turn_off, skip_mark, skip_back}
 use Rattle.est_search.proofs.AheadLaws.{skip_all, IsNextMark}
@@ -58,7 +59,7 @@ all_skip c P P' moves tried best notes skip a = record {
   kept = a.kept;
   knows = knows_skip c P P' skip tried best.yields a.run (passed_at notes.passed)
       (faulted_at notes.faulted) a.knows;
-  fault = a.fault;
+  noted = a.noted;
 }
 
 all_at : (c : Setup) (h : List Mark) (d e : Option Mark) (moves : List Move) (tried : ℕ)
@@ -116,6 +117,19 @@ trying_faults : (c : Setup) (h : List Move) (p : Place) (f : Firing) → IsBound
 trying_faults c h p f is never t =
     never t.fault (outcome_there c h t.earlier p f t.firing (Fault t.fault) is t.at t.comes)
 
+-- how many events the run has that is noted
+events_noted : (c : Setup) (h : List Move) (s : Situation) (l : Level) → IsNode c h s l
+    → (o : Option Passed) (moves : List Move) (many : ℕ) (firing : Option Firing)
+    → reverse moves ≡ h → many ≡ l.matched → EventsAre c o
+    → EventsAre c (option_or o
+    (Some (record { run = moves; events = many; firing = firing })))
+events_noted c h s l node None moves many firing same count before = record {
+  place = place_at c s l;
+  is_run = subst (λ r. IsBoundedRun c r (place_at c s l)) (sym same) node.is_run;
+  count = (let within = node.unfinished in length-take-le l.matched c.trace (omega arith)) ∙ sym count;
+}
+events_noted c h s l node (Some p) moves many firing same count before = before
+
 -- A STEP THAT DEALS WITH A RUN
 
 module _ (c : Setup) (P P' : List Mark → Type 0) (h : List Move) (last : Move)
@@ -129,10 +143,10 @@ module _ (c : Setup) (P P' : List Mark → Type 0) (h : List Move) (last : Move)
       → IsNoted (PassesLimit c) P' (passed_at notes'.passed))
       → (IsNoted (Faults c) P (faulted_at notes.faulted)
       → IsNoted (Faults c) P' (faulted_at notes'.faulted))
-      → FaultIs c notes'.faulted
+      → NotesAre c notes'
       → (KnowsTrials c P tried → KnowsTrials c P' tried')
       → KnowsAll c P' more tried' best' notes'
-  all_after more tried' best' notes' never known passes faults fault trials = record {
+  all_after more tried' best' notes' never known passes faults noted trials = record {
     run = known.run;
     kept = known.kept;
     knows = record {
@@ -143,7 +157,7 @@ module _ (c : Setup) (P P' : List Mark → Type 0) (h : List Move) (last : Move)
       passes = passes a.knows.passes;
       faults = faults a.knows.faults;
     };
-    fault = fault;
+    noted = noted;
   }
 
 -- EVENTS
@@ -283,7 +297,7 @@ module _ (c : Setup) (stack : Stack) (v : View) (tried : ℕ) (best : Best) (not
                 (taking_quiet c (marks_of v.moves)) (passed_at notes.passed))
                 (noted_on c P P' z taken_turn (Faults c) (faults_in_tree c)
                 (taking_sound c (marks_of v.moves)) (faulted_at notes.faulted))
-                all_fresh.fault
+                all_fresh.noted
                 (trials_on c P P' z taken_turn tried (λ x same t.
                 subst (IsTrial c) (marks_same x (Take ∷ v.moves) same) t));
           }
@@ -312,9 +326,9 @@ module _ (c : Setup) (stack : Stack) (v : View) (tried : ℕ) (best : Best) (not
 
   guarded_by : (notes' : Notes) → AreLeft c stack.now Guarding offers
       → IsNoted (PassesLimit c) (IsAhead (marks_of v.moves) (Some Guarding))
-      (passed_at notes'.passed) → notes'.faulted ≡ notes.faulted
+      (passed_at notes'.passed) → notes'.faulted ≡ notes.faulted → EventsAre c notes'.passed
       → IsOnWay c stack (with_firings v offers) tried best notes'
-  guarded_by notes' left passes faulted =
+  guarded_by notes' left passes faulted events =
       let P = IsAhead (marks_of v.moves) (Some Taking) in
       let P' = IsAhead (marks_of v.moves) (Some Guarding) in
       let z = Guarding ∷ marks_of v.moves in
@@ -347,7 +361,7 @@ module _ (c : Setup) (stack : Stack) (v : View) (tried : ℕ) (best : Best) (not
                 (noted_on c P P' z guarded_turn (Faults c) (faults_in_tree c)
                 (guarding_sound c (marks_of v.moves)) (faulted_at notes.faulted) k.faults);
           };
-          fault = subst (FaultIs c) (sym faulted) all_taken.fault;
+          noted = (subst (FaultIs c) (sym faulted) all_taken.noted.0, events);
         };
       }
 
@@ -364,11 +378,12 @@ module _ (c : Setup) (stack : Stack) (v : View) (tried : ℕ) (best : Best) (not
           (IsAhead (marks_of v.moves) (Some Guarding)) (Guarding ∷ marks_of v.moves) guarded_turn
           (PassesLimit c) (passes_in_tree c)
           (guarding_passes c v.moves (place_at c stack.now v.top) way.at.node.is_run settled)
-          (passed_at notes.passed) all_taken.knows.passes) refl
+          (passed_at notes.passed) all_taken.knows.passes) refl all_taken.noted.1
 
   -- the guards are noted, where nothing was
   guards_noted : (o : Option Passed) (moves : List Move) → reverse moves ≡ v.moves
-      → passed_at (option_or o (Some (record { run = moves; firing = None })))
+      → passed_at (option_or o
+      (Some (record { run = moves; events = v.top.matched; firing = None })))
       ≡ option_or (passed_at o) (Some (Guarding ∷ marks_of v.moves))
   guards_noted None moves e = ap (λ w. Some (Guarding ∷ marks_of w)) e
   guards_noted (Some p) moves e = refl
@@ -376,7 +391,8 @@ module _ (c : Setup) (stack : Stack) (v : View) (tried : ℕ) (best : Best) (not
   pub unsettled_on : (moves : List Move) → reverse moves ≡ v.moves
       → (IsSettled c.limit c.spec stack.now → ⊥) → offers ≡ []
       → IsOnWay c stack (with_firings v offers) tried best
-      (record notes { passed = option_or notes.passed (Some (record { run = moves; firing = None })) })
+      (record notes { passed = option_or notes.passed
+      (Some (record { run = moves; events = v.top.matched; firing = None })) })
   unsettled_on moves same unsettled none =
       guarded_by _ (subst (λ w. AreLeft c stack.now Guarding w) (sym none) (record {
         ascending = tt;
@@ -393,6 +409,8 @@ module _ (c : Setup) (stack : Stack) (v : View) (tried : ℕ) (best : Best) (not
             inner = inner_at c v.moves stack.now v.top way.at.node;
             unsettled = unsettled;
           })) (passed_at notes.passed) all_taken.knows.passes)) refl
+          (events_noted c v.moves stack.now v.top way.at.node notes.passed moves v.top.matched None
+          same refl all_taken.noted.1)
 
 -- FIRINGS
 
@@ -478,8 +496,8 @@ module _ (c : Setup) (stack : Stack) (v : View) (tried : ℕ) (best : Best) (not
         (faulted_at notes.faulted)
         → IsNoted (Faults c) (IsAhead (marks_of v.moves) (Some (Trying f)))
         (faulted_at notes'.faulted))
-        → FaultIs c notes'.faulted → IsOnWay c stack w (tried + 1) best' notes'
-    fired_off best' notes' known passes faults fault = record {
+        → NotesAre c notes' → IsOnWay c stack w (tried + 1) best' notes'
+    fired_off best' notes' known passes faults noted = record {
       dealt = Some (Trying f);
       at = at_next;
       all = subst (λ h. KnowsAll c (IsAhead (marks_of h) (Some (Trying f))) h (tried + 1) best'
@@ -491,7 +509,7 @@ module _ (c : Setup) (stack : Stack) (v : View) (tried : ℕ) (best : Best) (not
             place = e.place;
             is_run = e.is_run;
             follows = explains_follows c (Fire f ∷ v.moves) e;
-          })) known passes faults fault
+          })) known passes faults noted
           (trials_more c (IsAhead (marks_of v.moves) (Some listed.mark))
           (IsAhead (marks_of v.moves) (Some (Trying f))) (Fire f ∷ v.moves) (off_turn off) tried
           trial));
@@ -579,30 +597,32 @@ module _ (c : Setup) (stack : Stack) (v : View) (tried : ℕ) (best : Best) (not
         at = refl;
         comes = comes (Fault fault) is;
       }) (faulted_at notes.faulted) n))
-      (fault_is notes.faulted moves fault same (comes (Fault fault) is) all_listed.fault)
+      (fault_is notes.faulted moves fault same (comes (Fault fault) is) all_listed.noted.0,
+      all_listed.noted.1)
 
-  pass_noted : (o : Option Passed) (moves : List Move) → reverse moves ≡ v.moves
-      → passed_at (option_or o (Some (record { run = moves; firing = Some f })))
+  pass_noted : (o : Option Passed) (moves : List Move) (many : ℕ) → reverse moves ≡ v.moves
+      → passed_at (option_or o (Some (record { run = moves; events = many; firing = Some f })))
       ≡ option_or (passed_at o) (Some (marks_of (Fire f ∷ v.moves)))
-  pass_noted None moves e = ap (λ u. Some (Trying f ∷ marks_of u)) e
-  pass_noted (Some p) moves e = refl
+  pass_noted None moves many e = ap (λ u. Some (Trying f ∷ marks_of u)) e
+  pass_noted (Some p) moves many e = refl
 
-  pub limit_on : (moves : List Move) → reverse moves ≡ v.moves
+  pub limit_on : (moves : List Move) (many : ℕ) → reverse moves ≡ v.moves → many ≡ v.top.matched
       → outcome c.limit c.spec stack.now f ≡ Limit
       → IsOnWay c stack w (tried + 1) best (record notes { passed =
-      option_or notes.passed (Some (record { run = moves; firing = Some f })) })
-  limit_on moves same is =
+      option_or notes.passed (Some (record { run = moves; events = many; firing = Some f })) })
+  limit_on moves many same count is =
       let nowhere = undone_nowhere Limit is (λ s outs e. cc) in
       let off = off_nowhere nowhere in
       fired_off off best _ (best_same nowhere)
       (λ n. subst (λ u. IsNoted (PassesLimit c) (IsAhead (marks_of v.moves) (Some (Trying f))) u)
-      (sym (pass_noted notes.passed moves same))
+      (sym (pass_noted notes.passed moves many same))
       (noted_now c (IsAhead (marks_of v.moves) (Some listed.mark))
       (IsAhead (marks_of v.moves) (Some (Trying f))) (marks_of (Fire f ∷ v.moves))
       (off_turn off) (PassesLimit c) (passes_in_tree c)
       (block v.moves f refl (comes Limit is)) (passed_at notes.passed) n))
       (sound off (λ fault l. let e : Limit ≡ Fault fault = sym is ∙ l in cc))
-      all_listed.fault
+      (all_listed.noted.0, events_noted c v.moves stack.now v.top way.at.node notes.passed moves
+      many (Some f) same count all_listed.noted.1)
 
   -- IT IS DONE
 
@@ -638,7 +658,7 @@ module _ (c : Setup) (stack : Stack) (v : View) (tried : ℕ) (best : Best) (not
         let nowhere = silent_nowhere many in
         let off = off_nowhere nowhere in
         fired_off off best notes (best_same nowhere) (quiet off never_limit)
-        (sound off never_fault) all_listed.fault
+        (sound off never_fault) all_listed.noted
 
     module _ (few : silent_after v.top.silent outs ≤ c.silent) where
       fired : Place
@@ -685,7 +705,7 @@ module _ (c : Setup) (stack : Stack) (v : View) (tried : ℕ) (best : Best) (not
             (IsAhead (marks_of v.moves) (Some (Trying f))) v.moves (Fire f) (off_turn off) best
             best' all_listed.run made (v.top.matched + k) v.moves (starts_self v.moves) made_is
             reached fired_yields fired_few all_listed.kept all_listed.knows.best)
-            (quiet off never_limit) (sound off never_fault) all_listed.fault
+            (quiet off never_limit) (sound off never_fault) all_listed.noted
 
       module _ (agree : AgreeFor c.trace v.top.matched outs (length outs)) where
         pub led_found : v.top.matched + length outs ≡ length c.trace
@@ -753,7 +773,7 @@ module _ (c : Setup) (stack : Stack) (v : View) (tried : ℕ) (best : Best) (not
                   (noted_on c P P' z on_turn (Faults c) (faults_in_tree c)
                   (trying_faults c v.moves (place_at c stack.now v.top) f way.at.node.is_run
                   never_fault) (faulted_at notes.faulted))
-                  all_listed.fault
+                  all_listed.noted
                   (trials_more c P P' (Fire f ∷ v.moves) on_turn tried trial);
             })
 
@@ -847,7 +867,7 @@ module _ (c : Setup) (stack : Stack) (v : View) (tried : ℕ) (best : Best) (not
               (IsAhead (marks_of w.moves) (Some (mark_of made)))
               (skip_back c (marks_of w.moves) way.dealt (mark_of made) none) tried best.yields
               all.run (passed_at notes.passed) (faulted_at notes.faulted) all.knows);
-          fault = all.fault;
+          noted = all.noted;
         };
       }
 

@@ -1,9 +1,9 @@
 -- The verdict on a specification, a trace and limits.
-use Rattle.std.specs.Prelude.{◌≡◌, ℕ, ◌+◌, ◌<◌, List, Option, Some, None, reverse}
+use Rattle.std.specs.Prelude.{◌≡◌, ℕ, ◌+◌, ◌<◌, List, Option, Some, None, length, reverse}
 use Rattle.est_meaning.specs.declared.firing.Firing.{Firing}
 use Rattle.est_runs.specs.declared.run.Move.{Move}
 use Rattle.est_runs.specs.Order.{Mark, IsFirst}
-use Rattle.est_runs.specs.Run.{Setup, Explains, Yields}
+use Rattle.est_runs.specs.Run.{Setup, Place, IsBoundedRun, Explains, Yields}
 use Rattle.est_runs.specs.Trials.{IsTrial, IsTrialUpTo, HasMany, HasAtMost}
 use Rattle.est_runs.specs.Trials.{PassesLimit, Faults, IsFirstPass, IsFirstFault}
 use Rattle.est_search.specs.declared.verdict.Faulted.{Faulted}
@@ -26,11 +26,18 @@ pub record IsUnexplained (c : Setup) (budget : ℕ) : Type 0 where
   pub size : HasAtMost (IsTrial c) budget
   pub none : (run : List Move) → Explains c run → ⊥
 
--- something passes its limit, after the run first
-pub record IsOverAction (c : Setup) (budget : ℕ) (run : List Move)
+-- a bounded run has so many events
+pub record HasEvents (c : Setup) (run : List Move) (events : ℕ) : Type 0 where
+  pub place : Place
+  pub is_run : IsBoundedRun c run place
+  pub count : length place.events ≡ events
+
+-- something passes its limit, first after the run, which has so many events
+pub record IsOverAction (c : Setup) (budget : ℕ) (run : List Move) (events : ℕ)
     (firing : Option Firing) : Type 0 where
   pub unexplained : IsUnexplained c budget
   pub first : IsFirstPass c run firing
+  pub reached : HasEvents c run events
 
 -- the least number that no run yields
 pub record IsLeastUnyielded (c : Setup) (at : ℕ) : Type 0 where
@@ -57,14 +64,15 @@ abbrev pub IsVerdict : Setup → ℕ → Verdict → Type 0
 IsVerdict c budget (Accepted run) = IsAccepted c budget (reverse run)
 IsVerdict c budget (Refused at run faulted) = IsRefused c budget at (reverse run) faulted
 IsVerdict c budget (OverFirings tried) = (tried ≡ budget) × IsOverFirings c budget
-IsVerdict c budget (OverAction run firing) = IsOverAction c budget (reverse run) firing
+IsVerdict c budget (OverAction run events firing) =
+    IsOverAction c budget (reverse run) events firing
 
 -- where the trace is explained, so many trials stand up to the run
 abbrev pub IsWithinTried : Setup → Verdict → ℕ → Type 0
 IsWithinTried c (Accepted run) many = HasMany (IsTrialUpTo c (reverse run)) many
 IsWithinTried c (Refused at run faulted) many = Unit {0}
 IsWithinTried c (OverFirings tried) many = Unit {0}
-IsWithinTried c (OverAction run firing) many = Unit {0}
+IsWithinTried c (OverAction run events firing) many = Unit {0}
 
 -- a setup has one verdict at most within a budget
 abbrev pub VerdictIsUnique : Type 0

@@ -81,6 +81,7 @@ fn conclude(alloc: Global, walk: Walk) -> Result<Verdict, AllocError>
     match passed {
         Some(passed) => Ok(Verdict::OverAction {
             run: passed.run,
+            events: passed.events,
             firing: passed.firing,
         }),
         None => Ok(Verdict::Refused {

@@ -113,7 +113,8 @@ fn list_options<W: World>(
             Ok(())
         }
         Offers::Unsettled => {
-            walk.notes.pass(alloc, &walk.path.moves, None)?;
+            let events = walk.path.top.matched;
+            walk.notes.pass(alloc, &walk.path.moves, events, None)?;
             walk.path.list(&mut walk.offers)?;
             Ok(())
         }
@@ -183,7 +184,8 @@ fn try_firing<W: World>(
             Ok(false)
         }
         Fired::Limit => {
-            walk.notes.pass(alloc, &walk.path.moves, Some(firing))?;
+            let events = walk.path.top.matched;
+            walk.notes.pass(alloc, &walk.path.moves, events, Some(firing))?;
             Ok(false)
         }
         Fired::Done => match land(task, walk, firing)? {

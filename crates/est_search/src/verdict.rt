@@ -29,9 +29,11 @@ pub enum Verdict {
     OverFirings {
         tried: u32,
     },
-    /// After this run the block of this firing, or a guard, is the first to pass its limit.
+    /// After this run, which has so many events, the block of this firing, or a guard, is the first
+    /// to pass its limit.
     OverAction {
         run: Run,
+        events: u32,
         firing: Option<Firing>,
     },
 }

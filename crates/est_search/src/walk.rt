@@ -20,10 +20,12 @@ pub struct Task<'t> {
     pub budget: u32,
 }
 
-/// After these moves the block of this firing, or a guard, passes its limit.
+/// After these moves, which have so many events, the block of this firing, or a guard, passes its
+/// limit.
 #[derive(Drop)]
 pub struct Passed {
     pub run: Run,
+    pub events: u32,
     pub firing: Option<Firing>,
 }
 
@@ -64,22 +66,25 @@ pub enum Step {
 }
 
 impl Notes {
-    /// Notes that after these moves this firing, or a guard, passes its limit, if none did before.
+    /// Notes that after these moves, which have so many events, this firing, or a guard, passes its
+    /// limit, if none did before.
     pub fn pass(
         &mut self,
         alloc: Global,
         moves: &[Move],
+        events: u32,
         firing: Option<Firing>,
     ) -> Result<(), AllocError>
         ensures { OnOk result
             (self.new ≡ record self.old { passed = option_or self.old.passed
-            (Some (record { run = moves.now; firing = firing })) }) }
+            (Some (record { run = moves.now; events = events; firing = firing })) }) }
     {
         if self.passed.is_none() {
             self.passed = Some(Passed {
                 run: Items {
                     items: moves.to_vec(alloc)?,
                 },
+                events,
                 firing,
             });
         }

@@ -15,6 +15,7 @@ use Rattle.est_runs.specs.Run.{Setup, Explains, silent_after}
 use Rattle.est_runs.specs.Trials.{IsTrial, IsTrialUpTo, HasMany, HasExactly}
 use Rattle.est_runs.specs.Trials.{ComesTo, mark_passed}
 use Rattle.est_search.specs.declared.verdict.Faulted.{Faulted}
+use Rattle.est_search.specs.Verdict.{HasEvents}
 use Rattle.est_search.specs.declared.verdict.Verdict.{Verdict}
 use Rattle.est_search.specs.declared.verdict.Verdict.TheVariants.{Accepted, Refused}
 use Rattle.est_search.specs.declared.verdict.Verdict.TheVariants.{OverFirings, OverAction}
@@ -67,13 +68,22 @@ abbrev pub FaultIs : Setup → Option Faulted → Type 0
 FaultIs c None = Unit {0}
 FaultIs c (Some f) = ComesTo c (reverse f.run) f.firing (Fault f.fault)
 
+-- and how many events the run has after which a limit was passed
+abbrev pub EventsAre : Setup → Option Passed → Type 0
+EventsAre c None = Unit {0}
+EventsAre c (Some p) = HasEvents c (reverse p.run) p.events
+
+-- what was noted is so
+abbrev pub NotesAre : Setup → Notes → Type 0
+NotesAre c notes = FaultIs c notes.faulted × EventsAre c notes.passed
+
 -- what is known where these are ahead
 pub record KnowsAll (c : Setup) (P : List Mark → Type 0) (moves : List Move) (tried : ℕ)
     (best : Best) (notes : Notes) : Type 0 where
   pub run : List Move
   pub kept : IsKept moves best run
   pub knows : Knows c P tried best.yields run (passed_at notes.passed) (faulted_at notes.faulted)
-  pub fault : FaultIs c notes.faulted
+  pub noted : NotesAre c notes
 
 -- the search is on its way
 pub record IsOnWay (c : Setup) (stack : Stack) (v : View) (tried : ℕ) (best : Best)
@@ -184,8 +194,8 @@ Concludes w (Accepted run) = ⊥
 Concludes w (Refused at run faulted) = (w.notes.passed ≡ None) × (at ≡ w.best.yields + 1)
     × (run ≡ reverse w.best.tail.items) × (faulted ≡ w.notes.faulted)
 Concludes w (OverFirings tried) = ⊥
-Concludes w (OverAction run firing) =
-    w.notes.passed ≡ Some (record { run = run; firing = firing })
+Concludes w (OverAction run events firing) =
+    w.notes.passed ≡ Some (record { run = run; events = events; firing = firing })
 
 -- where the search ends so
 abbrev pub Answers : Walk → ℕ → Step → Verdict → Type 0
