@@ -9,9 +9,9 @@ use Rattle.est_syntax.specs.declared.body.FirstPart.{FirstPart}
 use Rattle.est_syntax.specs.declared.body.Body.{Body, out-Body}
 use Rattle.est_syntax.specs.declared.specification.Spec.{Spec}
 use Rattle.est_meaning.specs.declared.event.Event.{Event}
-use Rattle.est_meaning.specs.declared.run.Firing.{Firing}
-use Rattle.est_meaning.specs.declared.run.BlockFault.{BlockFault}
-use Rattle.est_meaning.specs.declared.run.BlockFault.TheVariants.{NoModule}
+use Rattle.est_meaning.specs.declared.firing.Firing.{Firing}
+use Rattle.est_meaning.specs.declared.firing.BlockFault.{BlockFault}
+use Rattle.est_meaning.specs.declared.firing.BlockFault.TheVariants.{NoModule}
 use Rattle.est_meaning.specs.Text.{when_of, to_of, root_of}
 use Rattle.est_meaning.specs.Situation.{Situation}
 use Rattle.est_meaning.specs.Choices.{Choice, choice_of, is_enabled_choice, IsPossible}
@@ -19,7 +19,7 @@ use Rattle.est_meaning.specs.Blocks.{Outcome, Done, Fault, Limit}
 use Rattle.est_meaning.specs.Blocks.{block_meaning, all_sent, sendings_of}
 use Rattle.est_meaning.specs.Step.{without_awaited, completed, fired_by, outcome}
 use Rattle.est_meaning.specs.Step.{initialized, made, born, begun, start_of}
-use Rattle.est_meaning.specs.RunLaws.{BlocksDoNotFault}
+use Rattle.est_meaning.specs.StepLaws.{BlocksDoNotFault}
 
 -- what is no fault
 abbrev IsNoFault : Outcome → Type 0

@@ -13,9 +13,9 @@ use Rattle.est_syntax.specs.declared.specification.Spec.{Spec}
 use Rattle.est_meaning.specs.declared.event.Interaction.{Interaction}
 use Rattle.est_meaning.specs.declared.event.Event.{Event}
 use Rattle.est_meaning.specs.declared.event.Event.TheVariants as event
-use Rattle.est_meaning.specs.declared.run.Firing.{Firing}
-use Rattle.est_meaning.specs.declared.run.BlockFault.{BlockFault}
-use Rattle.est_meaning.specs.declared.run.BlockFault.TheVariants.{NoModule}
+use Rattle.est_meaning.specs.declared.firing.Firing.{Firing}
+use Rattle.est_meaning.specs.declared.firing.BlockFault.{BlockFault}
+use Rattle.est_meaning.specs.declared.firing.BlockFault.TheVariants.{NoModule}
 use Rattle.est_syntax.specs.declared.ports.Port.{Port}
 use Rattle.est_syntax.specs.declared.ports.Signal.{Signal}
 use Rattle.est_skeleton.specs.Ports.{ports_of}
@@ -29,11 +29,10 @@ use Rattle.est_meaning.specs.Step.{without_awaited, with_state, completed, fired
 use Rattle.est_meaning.specs.Step.{outcome, initialized, made, born, begun, start_of}
 use Rattle.est_meaning.specs.Step.{arrived_as, arrived_at, after_event, later}
 use Rattle.est_meaning.specs.Allowed.{units_of}
-use Rattle.est_meaning.specs.RunLaws.{StepsAreUnique}
+use Rattle.est_meaning.specs.StepLaws.{StepsAreUnique, PossibleMeansSettled, ClockIsOfEvents}
 
 -- only in a settled situation is a firing possible
-pub possible_settled : (limit : ℕ) (spec : Spec) (s : Situation) (f : Firing)
-    → IsPossible limit spec s f → IsSettled limit spec s
+pub possible_settled : PossibleMeansSettled
 unfolding IsPossible
 possible_settled limit spec s f p = p.settled
 
@@ -176,3 +175,10 @@ pub start_clock : (limit : ℕ) (spec : Spec) (t : Situation) (outs : List Event
     → start_of limit spec ≡ Done t outs → t.clock ≡ 0
 unfolding start_of
 start_clock limit spec t outs e = begun_clock limit spec limit t outs e
+
+pub clock_of_events : ClockIsOfEvents
+clock_of_events = record {
+  start = start_clock;
+  firing = fire_keeps_clock;
+  event = event_adds_clock;
+}

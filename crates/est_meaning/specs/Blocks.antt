@@ -10,7 +10,7 @@ use Rattle.est_syntax.specs.declared.statement.Statement.TheVariants as statemen
 use Rattle.est_syntax.specs.declared.specification.Spec.{Spec}
 use Rattle.est_meaning.specs.declared.event.Event.{Event}
 use Rattle.est_meaning.specs.declared.event.Event.TheVariants as event
-use Rattle.est_meaning.specs.declared.run.BlockFault.{BlockFault}
+use Rattle.est_meaning.specs.declared.firing.BlockFault.{BlockFault}
 use Rattle.est_syntax.specs.declared.ports.Port.{Port}
 use Rattle.est_syntax.specs.declared.ports.Signal.{Signal}
 use Rattle.est_skeleton.specs.Ports.{ports_of}

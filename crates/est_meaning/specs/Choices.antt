@@ -7,7 +7,7 @@ use Rattle.est_syntax.specs.declared.name.Name.{Name}
 use Rattle.est_syntax.specs.declared.name.Used.{Used}
 use Rattle.est_syntax.specs.declared.transition.Transition.{Transition}
 use Rattle.est_syntax.specs.declared.specification.Spec.{Spec}
-use Rattle.est_meaning.specs.declared.run.Firing.{Firing}
+use Rattle.est_meaning.specs.declared.firing.Firing.{Firing}
 use Rattle.est_meaning.specs.Text.{is_name, uses_name, transitions_of, numbered}
 use Rattle.est_meaning.specs.Text.{from_of, when_of, Awaited, has_delay, priority_of}
 use Rattle.est_meaning.specs.Situation.{InteractionPoint, is_point, Item}

@@ -5,7 +5,4 @@ pub mod Choices
 pub mod Blocks
 pub mod Step
 pub mod Allowed
-pub mod Order
-pub mod Stack
-pub mod Run
-pub mod RunLaws
+pub mod StepLaws

@@ -1,8 +1,7 @@
-//! The meaning of specifications (ISO 9074): situations, steps and runs.
+//! The meaning of specifications (ISO 9074): situations and steps.
 #![tactic(auto)]
 
 pub mod event;
+pub mod firing;
 pub mod laws;
-pub mod run;
 pub mod same;
-pub mod world;

@@ -11,9 +11,9 @@ use Rattle.std.specs.Option.{option_map}
 use Rattle.est_syntax.specs.declared.transition.Transition.{Transition}
 use Rattle.est_syntax.specs.Least.{IsIn}
 use Rattle.est_meaning.specs.declared.event.Interaction.{Interaction}
-use Rattle.est_meaning.specs.declared.run.Firing.{Firing}
+use Rattle.est_meaning.specs.declared.firing.Firing.{Firing}
 use Rattle.est_meaning.specs.Text.{numbered}
-use Rattle.est_meaning.specs.Order.{FiringBefore, IsBeforeAll, IsAscending}
+use Rattle.est_runs.specs.Order.{FiringBefore, IsBeforeAll, IsAscending}
 use Rattle.est_syntax.specs.declared.ports.Port.{Port}
 use Rattle.est_syntax.specs.declared.ports.Signal.{Signal}
 use Rattle.est_plain.specs.declared.situation.Waiting.{Waiting}

@@ -9,7 +9,7 @@ use Rattle.est_syntax.specs.declared.header.Queue.TheVariants.{Individual, Commo
 use Rattle.est_syntax.specs.declared.transition.Transition.{Transition}
 use Rattle.est_syntax.specs.declared.body.Body.{Body}
 use Rattle.est_syntax.specs.declared.specification.Spec.{Spec}
-use Rattle.est_meaning.specs.declared.run.Firing.{Firing}
+use Rattle.est_meaning.specs.declared.firing.Firing.{Firing}
 use Rattle.est_meaning.specs.Text.{Declared, Awaited, is_name, is_declared, discipline}
 use Rattle.est_meaning.specs.Text.{points_in, header_of, numbered, transitions_of}
 use Rattle.est_meaning.specs.Text.{from_of, when_of, priority_of, has_delay}

@@ -15,10 +15,10 @@ use Rattle.est_syntax.specs.declared.specification.Spec.{Spec}
 use Rattle.est_meaning.specs.declared.event.Event.{Event}
 use Rattle.est_meaning.specs.declared.event.Event.TheVariants as event
 use Rattle.est_meaning.specs.declared.event.Interaction.{Interaction}
-use Rattle.est_meaning.specs.declared.run.Firing.{Firing}
-use Rattle.est_meaning.specs.declared.run.Fired.TheVariants as fired
-use Rattle.est_meaning.specs.declared.run.BlockFault.TheVariants.{NoModule}
-use Rattle.est_meaning.specs.declared.run.Offers.TheVariants.{Settled}
+use Rattle.est_meaning.specs.declared.firing.Firing.{Firing}
+use Rattle.est_runs.specs.declared.run.Fired.TheVariants as fired
+use Rattle.est_meaning.specs.declared.firing.BlockFault.TheVariants.{NoModule}
+use Rattle.est_runs.specs.declared.run.Offers.TheVariants.{Settled}
 use Rattle.est_meaning.specs.Text.{root_of, transitions_of, numbered, when_of, to_of}
 use Rattle.est_meaning.specs.Situation.{QueueName, Item}
 use Rattle.est_meaning.specs.Choices.{IsSettled, restamped}
@@ -26,7 +26,7 @@ use Rattle.est_meaning.specs.Blocks.{Outcome, Done, Fault, Limit, block_meaning}
 use Rattle.est_meaning.specs.Step.{with_state, completed, fired_by, outcome}
 use Rattle.est_meaning.specs.Step.{initialized, made, begun, start_of, after_event}
 use Rattle.est_syntax.specs.Least.{IsIn}
-use Rattle.est_meaning.specs.Stack.{Stack, pushed, OffersAre, FiredAs}
+use Rattle.est_runs.specs.Stack.{Stack, pushed, OffersAre, FiredAs}
 use Rattle.est_plain.specs.declared.situation.PointQueue.{PointQueue}
 use Rattle.est_syntax.specs.declared.ports.Port.{Port}
 use Rattle.est_skeleton.specs.Ports.{ports_of}

@@ -19,7 +19,7 @@ use crate::situation::{PlainSituation, PointQueue, Waiting, copy_state};
 use crate::text::same_name;
 use crate::undo::Taken;
 use est_meaning::event::{Event, Interaction};
-use est_meaning::run::Firing;
+use est_meaning::firing::Firing;
 use est_syntax::body::FirstPart;
 use est_syntax::copy::copy_values;
 use est_syntax::kind::Values;

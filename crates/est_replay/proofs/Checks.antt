@@ -5,16 +5,16 @@ use Rattle.std.proofs.lemmas.List.{append-nil, take-append-drop, reverse-append}
 use Rattle.std.proofs.lemmas.List.{reverse-reverse, length-reverse}
 use Rattle.est_syntax.specs.declared.specification.Spec.{Spec}
 use Rattle.est_meaning.specs.declared.event.Event.{Event}
-use Rattle.est_meaning.specs.declared.run.Firing.{Firing}
-use Rattle.est_meaning.specs.declared.run.Move.{Move}
-use Rattle.est_meaning.specs.declared.run.Move.TheVariants.{Take, Fire}
+use Rattle.est_meaning.specs.declared.firing.Firing.{Firing}
+use Rattle.est_runs.specs.declared.run.Move.{Move}
+use Rattle.est_runs.specs.declared.run.Move.TheVariants.{Take, Fire}
 use Rattle.est_meaning.specs.Choices.{IsSettled, IsPossible}
 use Rattle.est_meaning.specs.Blocks.{Outcome, Done, Fault, Limit}
 use Rattle.est_meaning.specs.Step.{outcome, start_of}
-use Rattle.est_meaning.specs.Run.{AgreeFirst, Setup, Place, first_place, after_firing, Fires}
-use Rattle.est_meaning.specs.Run.{Moves, IsBoundedRun, Follows, FollowsBefore, Yields}
+use Rattle.est_runs.specs.Run.{AgreeFirst, Setup, Place, first_place, after_firing, Fires}
+use Rattle.est_runs.specs.Run.{Moves, IsBoundedRun, Follows, FollowsBefore, Yields}
 use Rattle.est_meaning.proofs.StepLaws.{possible_settled, limit_done, fault_done}
-use Rattle.est_meaning.proofs.RunLaws.{Grows, follows_grows, moves_one, one_place, explains_follows}
+use Rattle.est_runs.proofs.RunLaws.{Grows, follows_grows, moves_one, one_place, explains_follows}
 use Rattle.est_replay.specs.declared.verdict.Why.{Why}
 use Rattle.est_replay.specs.declared.verdict.Why.TheVariants as why
 use Rattle.est_replay.specs.declared.verdict.Replayed.{Replayed}

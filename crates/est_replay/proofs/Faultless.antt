@@ -4,12 +4,12 @@ use Rattle.est_syntax.specs.declared.specification.Spec.{Spec}
 use Rattle.est_blocks.specs.LeastFault.{IsGood}
 use Rattle.est_skeleton.specs.Skeleton.{IsSkeleton}
 use Rattle.est_meaning.specs.declared.event.Event.{Event}
-use Rattle.est_meaning.specs.declared.run.BlockFault.{BlockFault}
-use Rattle.est_meaning.specs.declared.run.Move.{Move}
-use Rattle.est_meaning.specs.declared.run.Move.TheVariants.{Take, Fire}
+use Rattle.est_meaning.specs.declared.firing.BlockFault.{BlockFault}
+use Rattle.est_runs.specs.declared.run.Move.{Move}
+use Rattle.est_runs.specs.declared.run.Move.TheVariants.{Take, Fire}
 use Rattle.est_meaning.specs.Blocks.{Outcome, Done, Fault, Limit}
 use Rattle.est_meaning.specs.Step.{start_of}
-use Rattle.est_meaning.specs.Run.{Setup, Place}
+use Rattle.est_runs.specs.Run.{Setup, Place}
 use Rattle.est_meaning.proofs.FaultLaws.{no_faults}
 use Rattle.est_replay.specs.declared.verdict.Why.{Why}
 use Rattle.est_replay.specs.declared.verdict.Why.TheVariants as why

@@ -2,11 +2,11 @@
 use Rattle.std.proofs.Common.{◌≡◌, ℕ, List, Result, Ok, Err, IfOk, sym, ap, subst, ◌∙◌}
 use Rattle.est_syntax.specs.declared.specification.Spec.{Spec}
 use Rattle.est_meaning.specs.declared.event.Event.{Event}
-use Rattle.est_meaning.specs.declared.run.Move.{Move}
+use Rattle.est_runs.specs.declared.run.Move.{Move}
 use Rattle.est_meaning.specs.Situation.{Situation}
 use Rattle.est_meaning.specs.Blocks.{Done}
 use Rattle.est_meaning.specs.Step.{start_of}
-use Rattle.est_meaning.specs.Run.{Setup}
+use Rattle.est_runs.specs.Run.{Setup}
 use Rattle.est_replay.specs.declared.verdict.Replayed.{Replayed}
 use Rattle.est_replay.specs.Replay.{IsAnswer, AnswersFrom, IsReplay}
 

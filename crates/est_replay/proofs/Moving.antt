@@ -8,24 +8,24 @@ use Rattle.est_syntax.specs.declared.specification.Spec.{Spec}
 use Rattle.est_meaning.specs.declared.event.Interaction.{Interaction}
 use Rattle.est_meaning.specs.declared.event.Event.{Event}
 use Rattle.est_meaning.specs.declared.event.Event.TheVariants.{Arrives, Passes}
-use Rattle.est_meaning.specs.declared.run.BlockFault.{BlockFault}
-use Rattle.est_meaning.specs.declared.run.Firing.{Firing}
-use Rattle.est_meaning.specs.declared.run.Fired.TheVariants as fired
-use Rattle.est_meaning.specs.declared.run.Move.TheVariants.{Take, Fire}
-use Rattle.est_meaning.specs.declared.run.Offers.{Offers}
-use Rattle.est_meaning.specs.declared.run.Offers.TheVariants.{Settled, Unsettled}
+use Rattle.est_meaning.specs.declared.firing.BlockFault.{BlockFault}
+use Rattle.est_meaning.specs.declared.firing.Firing.{Firing}
+use Rattle.est_runs.specs.declared.run.Fired.TheVariants as fired
+use Rattle.est_runs.specs.declared.run.Move.TheVariants.{Take, Fire}
+use Rattle.est_runs.specs.declared.run.Offers.{Offers}
+use Rattle.est_runs.specs.declared.run.Offers.TheVariants.{Settled, Unsettled}
 use Rattle.est_meaning.specs.Situation.{Situation}
 use Rattle.est_meaning.specs.Choices.{IsPossible}
 use Rattle.est_meaning.specs.Blocks.{Outcome, Done, Fault, Limit}
 use Rattle.est_meaning.specs.Step.{outcome, after_event}
-use Rattle.est_meaning.specs.Stack.{Stack, pushed, OffersAre, FiredAs}
+use Rattle.est_runs.specs.Stack.{Stack, pushed, OffersAre, FiredAs}
 use Rattle.est_meaning.specs.Allowed.{IsAllowed, IsArrival, units_of}
 use Rattle.est_syntax.specs.Least.{IsIn}
-use Rattle.est_meaning.specs.Run.{AgreeFirst, Setup, IsFromOutside}
-use Rattle.est_meaning.specs.Run.{after_taking, after_firing, Takes, Follows}
-use Rattle.est_meaning.proofs.StackLaws.{fired_done, fired_fault, fired_limit}
-use Rattle.est_meaning.proofs.RunLaws.{bounded_is_run}
-use Rattle.est_meaning.proofs.ClockLaws.{clock_bounded}
+use Rattle.est_runs.specs.Run.{AgreeFirst, Setup, IsFromOutside}
+use Rattle.est_runs.specs.Run.{after_taking, after_firing, Takes, Follows}
+use Rattle.est_runs.proofs.StackLaws.{fired_done, fired_fault, fired_limit}
+use Rattle.est_runs.proofs.RunLaws.{bounded_is_run}
+use Rattle.est_runs.proofs.ClockLaws.{clock_bounded}
 use Rattle.est_replay.specs.declared.verdict.Why.TheVariants as why
 use Rattle.est_replay.specs.declared.replay.Standing.{Standing}
 use Rattle.est_replay.specs.declared.replay.Moved.{Moved}

@@ -6,14 +6,14 @@ use Rattle.std.proofs.lemmas.List.{take_more, take-append-drop, drop_more, drop_
 use Rattle.std.proofs.lemmas.List.{length-append, length-take, length-take-le, reverse-append}
 use Rattle.est_syntax.specs.declared.specification.Spec.{Spec}
 use Rattle.est_meaning.specs.declared.event.Event.{Event}
-use Rattle.est_meaning.specs.declared.run.Firing.{Firing}
-use Rattle.est_meaning.specs.declared.run.Move.{Move}
-use Rattle.est_meaning.specs.declared.run.Move.TheVariants.{Take, Fire}
+use Rattle.est_meaning.specs.declared.firing.Firing.{Firing}
+use Rattle.est_runs.specs.declared.run.Move.{Move}
+use Rattle.est_runs.specs.declared.run.Move.TheVariants.{Take, Fire}
 use Rattle.est_meaning.specs.Situation.{Situation}
-use Rattle.est_meaning.specs.Stack.{Stack, Keeps}
-use Rattle.est_meaning.specs.Run.{AgreeFirst, Setup, Place, first_place}
-use Rattle.est_meaning.specs.Run.{IsBoundedRun, Follows, Yields}
-use Rattle.est_meaning.proofs.RunLaws.{one_place}
+use Rattle.est_runs.specs.Stack.{Stack, Keeps}
+use Rattle.est_runs.specs.Run.{AgreeFirst, Setup, Place, first_place}
+use Rattle.est_runs.specs.Run.{IsBoundedRun, Follows, Yields}
+use Rattle.est_runs.proofs.RunLaws.{one_place}
 use Rattle.est_replay.specs.declared.verdict.Why.{Why}
 use Rattle.est_replay.specs.declared.verdict.Why.TheVariants as why
 use Rattle.est_replay.specs.declared.verdict.Replayed.{Replayed}

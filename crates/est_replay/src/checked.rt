@@ -8,8 +8,8 @@ use crate::replay::{Replaying, replay_in};
 use crate::verdict::{Replayed, Why};
 use est_check::Checked;
 use est_meaning::event::Trace;
-use est_meaning::run::{Limits, Started};
 use est_plain::world::PlainWorld;
+use est_runs::run::{Limits, Started};
 use std::alloc::{AllocError, Global};
 
 /// Replays an explanation of a trace from the start of a specification. The answer is the only one

@@ -15,8 +15,9 @@ ghost use Rattle.est_replay.specs.ExplanationText.{ReadsExplanation};
 use crate::error::ExplanationError;
 use est_lexer::tokens::Tokens;
 use est_meaning::event::MOST_EVENTS;
-use est_meaning::run::{Firing, Move, Run};
+use est_meaning::firing::Firing;
 use est_reader::{Outcome, Reader};
+use est_runs::run::{Move, Run};
 use std::alloc::{AllocError, Global};
 
 // The greatest number of an instance, a transition or a choice that can be written.

@@ -5,8 +5,8 @@ ghost use Rattle.est_syntax.specs.declared.specification.Spec.{Spec};
 ghost use Rattle.est_syntax.specs.Least.{IsIn};
 ghost use Rattle.est_meaning.specs.Allowed.{IsAllowedTrace, most_events};
 ghost use Rattle.est_meaning.specs.Blocks.{Done};
-ghost use Rattle.est_meaning.specs.Run.{AgreeFirst, Setup};
-ghost use Rattle.est_meaning.specs.Stack.{Keeps};
+ghost use Rattle.est_runs.specs.Run.{AgreeFirst, Setup};
+ghost use Rattle.est_runs.specs.Stack.{Keeps};
 ghost use Rattle.est_meaning.specs.Step.{start_of};
 ghost use Rattle.est_replay.specs.Replay.{IsAnswer, most_moves, setup_of};
 ghost use Rattle.est_replay.specs.inside.Standing.{IsSetup, IsReady, HasMoved, HasLanded};
@@ -14,8 +14,9 @@ ghost use Rattle.est_replay.specs.inside.Standing.{IsMet, IsEnding, asked_of, pl
 
 use crate::verdict::{Replayed, Why};
 use est_meaning::event::Event;
-use est_meaning::run::{Fired, Firing, Move, Offers};
-use est_meaning::world::World;
+use est_meaning::firing::Firing;
+use est_runs::run::{Fired, Move, Offers};
+use est_runs::world::World;
 use std::alloc::{AllocError, Global};
 
 /// What is replayed: moves along a trace and their claim, where so many silent firings may stand in

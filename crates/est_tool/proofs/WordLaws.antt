@@ -5,7 +5,7 @@ use Rattle.std.proofs.Common.{string_bytes, string_len, sym, refl, ap, subst, ar
 use Rattle.std.proofs.lemmas.Bool.Decides.{nat_tests}
 use Rattle.std.proofs.lemmas.List.{nil_from_length, take_all}
 use Rattle.std.specs.Global.{Global}
-use Rattle.est_meaning.specs.declared.run.Limits.{Limits}
+use Rattle.est_runs.specs.declared.run.Limits.{Limits}
 use Rattle.est_tool.specs.declared.words.Command.{Command}
 use Rattle.est_tool.specs.declared.words.Command.TheVariants.{Check, Replay}
 use Rattle.est_tool.specs.Requests.{Request, Asks, AreLimits, AsksNothing}

@@ -2,10 +2,10 @@
 use Rattle.std.specs.Prelude.{ℕ, List, [], ◌∷◌, ◌++◌, codes, if◌then◌else◌, nat_le}
 use Rattle.std.specs.Fmt.{decimal}
 use Rattle.est_blocks.specs.declared.counts.Counts.{Counts}
-use Rattle.est_meaning.specs.declared.run.BlockFault.{BlockFault}
-use Rattle.est_meaning.specs.declared.run.BlockFault.TheVariants.{Range, Divide, Undefined}
-use Rattle.est_meaning.specs.declared.run.BlockFault.TheVariants.{NoCase, NoModule, LinkTaken}
-use Rattle.est_meaning.specs.declared.run.BlockFault.TheVariants.{SelfLink, TooMany}
+use Rattle.est_meaning.specs.declared.firing.BlockFault.{BlockFault}
+use Rattle.est_meaning.specs.declared.firing.BlockFault.TheVariants.{Range, Divide, Undefined}
+use Rattle.est_meaning.specs.declared.firing.BlockFault.TheVariants.{NoCase, NoModule, LinkTaken}
+use Rattle.est_meaning.specs.declared.firing.BlockFault.TheVariants.{SelfLink, TooMany}
 use Rattle.est_replay.specs.declared.verdict.Replayed.{Replayed}
 use Rattle.est_replay.specs.declared.verdict.Replayed.TheVariants.{Confirmed, Rejected}
 use Rattle.est_replay.specs.declared.verdict.Why.{Why}

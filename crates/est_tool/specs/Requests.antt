@@ -3,7 +3,7 @@ use Rattle.std.specs.Prelude.{◌≡◌, ◌≢◌, ℕ, ◌≤◌, List, [], �
 use Rattle.std.specs.Prelude.{codes, map, String, string_bytes}
 use Rattle.std.specs.Global.{Global}
 use Rattle.std.specs.Str.Parse.{IsNumeral, digits_value}
-use Rattle.est_meaning.specs.declared.run.Limits.{Limits}
+use Rattle.est_runs.specs.declared.run.Limits.{Limits}
 use Rattle.est_tool.specs.declared.words.Command.{Command}
 use Rattle.est_tool.specs.declared.words.Command.TheVariants.{Check, Replay}
 

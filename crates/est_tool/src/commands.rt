@@ -18,9 +18,9 @@ use crate::trace::trace_in;
 use est_check::Checked;
 use est_edge::Shelf;
 use est_meaning::event::Trace;
-use est_meaning::run::Limits;
 use est_replay::checked::replay;
 use est_replay::explanation::Explanation;
+use est_runs::run::Limits;
 use est_specification::Specification;
 use std::alloc::Global;
 

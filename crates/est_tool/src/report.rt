@@ -8,7 +8,7 @@ ghost use Rattle.est_tool.specs.Statuses.{replay_status};
 use crate::file::File;
 use crate::status::Status;
 use est_check::Counts;
-use est_meaning::run::BlockFault;
+use est_meaning::firing::BlockFault;
 use est_replay::verdict::{Replayed, Why};
 use est_syntax::rule::Rule;
 use std::alloc::{AllocError, Global};

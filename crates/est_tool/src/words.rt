@@ -3,7 +3,7 @@ ghost use Rattle.std.specs.Prelude.{◌≡◌, ℕ, IfOk, IfSome, MatchOption, O
 ghost use Rattle.est_tool.specs.Requests.{AreLimits, AsksNothing, IsCommand};
 ghost use Rattle.est_tool.specs.Requests.{IsNumber, bytes_of, usual_budget};
 
-use est_meaning::run::Limits;
+use est_runs::run::Limits;
 
 // The most firings that are tried, where no word says how many.
 const BUDGET: u32 = 1_000_000;

@@ -18,12 +18,12 @@ use Rattle.est_syntax.specs.declared.specification.Spec.{Spec}
 use Rattle.est_syntax.specs.Least.{IsIn}
 use Rattle.est_meaning.specs.declared.event.Event.{Event}
 use Rattle.est_meaning.specs.declared.event.Event.TheVariants as event
-use Rattle.est_meaning.specs.declared.run.Firing.{Firing}
+use Rattle.est_meaning.specs.declared.firing.Firing.{Firing}
 use Rattle.est_meaning.specs.Text.{Declared, Awaited, is_name, discipline, points_in}
 use Rattle.est_meaning.specs.Text.{header_of, numbered, from_of, to_of, when_of}
 use Rattle.est_meaning.specs.Situation.{nothing, InteractionPoint, QueueName}
 use Rattle.est_meaning.specs.Situation.{Own, Shared, is_queue, Item, Situation}
-use Rattle.est_meaning.specs.Order.{IsAscending}
+use Rattle.est_runs.specs.Order.{IsAscending}
 use Rattle.est_meaning.specs.declared.event.Interaction.{Interaction}
 use Rattle.est_syntax.specs.declared.body.FirstPart.{FirstPart}
 use Rattle.est_meaning.specs.Choices.{fits_state}

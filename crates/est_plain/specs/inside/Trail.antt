@@ -1,7 +1,7 @@
 -- The situations that a history can go back to.
 use Rattle.std.specs.Prelude.{List, [], ◌∷◌, map, reverse}
 use Rattle.est_syntax.specs.declared.body.Body.{Body}
-use Rattle.est_meaning.specs.Stack.{Stack}
+use Rattle.est_runs.specs.Stack.{Stack}
 use Rattle.est_plain.specs.declared.situation.PointQueue.{PointQueue}
 use Rattle.est_plain.specs.declared.history.History.{History}
 use Rattle.est_plain.specs.inside.PlainSituation.{Held, held, situation_of}

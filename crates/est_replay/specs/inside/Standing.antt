@@ -3,12 +3,12 @@ use Rattle.std.specs.Prelude.{◌≡◌, ℕ, ◌+◌, ◌<◌, ◌≤◌, ◌�
 use Rattle.std.specs.Prelude.{◌∷◌, ◌++◌, length, take, drop, reverse}
 use Rattle.est_syntax.specs.declared.specification.Spec.{Spec}
 use Rattle.est_meaning.specs.declared.event.Event.{Event}
-use Rattle.est_meaning.specs.declared.run.Move.{Move}
+use Rattle.est_runs.specs.declared.run.Move.{Move}
 use Rattle.est_meaning.specs.Situation.{Situation}
-use Rattle.est_meaning.specs.Stack.{Stack}
+use Rattle.est_runs.specs.Stack.{Stack}
 use Rattle.est_meaning.specs.Allowed.{IsAllowedTrace}
-use Rattle.est_meaning.specs.Run.{AgreeFirst, Setup, Place}
-use Rattle.est_meaning.specs.Run.{IsBegun, Moves, IsBoundedRun, silent_after}
+use Rattle.est_runs.specs.Run.{AgreeFirst, Setup, Place}
+use Rattle.est_runs.specs.Run.{IsBegun, Moves, IsBoundedRun, silent_after}
 use Rattle.est_replay.specs.declared.verdict.Why.TheVariants as why
 use Rattle.est_replay.specs.declared.verdict.Replayed.{Replayed}
 use Rattle.est_replay.specs.declared.verdict.Replayed.TheVariants.{Confirmed, Rejected}

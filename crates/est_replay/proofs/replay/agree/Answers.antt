@@ -1,7 +1,7 @@
 use Rattle.std.proofs.Common.{◌≡◌, ◌∙◌, ◌-◌, sym, ap, subst, length, take, drop, min}
 use Rattle.std.proofs.Math.Nat.{min_comm}
 use Rattle.std.proofs.lemmas.List.{take_rest, take_min}
-use Rattle.est_meaning.specs.Run.{AgreeFirst}
+use Rattle.est_runs.specs.Run.{AgreeFirst}
 use Rattle.est_replay.proofs.Events.{agrees_on, agrees_back}
 use Rattle.est_replay.proofs.replay.agree.Goals as goal
 

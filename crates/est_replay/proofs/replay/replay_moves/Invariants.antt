@@ -1,6 +1,6 @@
 use Rattle.std.proofs.Common.{◌≤◌, ◌+◌}
 use Rattle.est_syntax.specs.declared.specification.Spec.{Spec}
-use Rattle.est_meaning.specs.Stack.{Keeps}
+use Rattle.est_runs.specs.Stack.{Keeps}
 use Rattle.est_replay.specs.inside.Standing.{Suits, IsStanding}
 use Rattle.est_replay.proofs.replay.replay_moves.Given as goal
 

@@ -1,5 +1,5 @@
 use Rattle.std.proofs.Common.{◌≡◌, ◌≤◌, ◌+◌, ◌^◌, sym, ap, subst, ◌∙◌}
-use Rattle.est_meaning.specs.Run.{IsFromOutside}
+use Rattle.est_runs.specs.Run.{IsFromOutside}
 use Rattle.est_meaning.specs.Step.{after_event, later}
 use Rattle.est_meaning.proofs.StepLaws.{after_passing}
 use Rattle.est_replay.proofs.Moving.{pushed_now, time_fits, next_taken}

@@ -1,5 +1,0 @@
-use Rattle.est_meaning.proofs.RowLaws.{rows_in_order}
-use Rattle.est_meaning.proofs.laws.rows_are_in_order.Goals as goal
-
-pub returns : goal.returns
-returns c = rows_in_order
