@@ -1,4 +1,5 @@
 -- What only the private functions say.
 pub mod Reads
+pub mod Words
 pub mod Work
 pub mod Written
