@@ -7,6 +7,7 @@ use Rattle.std.proofs.lemmas.List.{length-append, length-take, length-take-le, r
 use Rattle.est_syntax.specs.declared.specification.Spec.{Spec}
 use Rattle.est_meaning.specs.declared.event.Event.{Event}
 use Rattle.est_meaning.specs.declared.firing.Firing.{Firing}
+use Rattle.est_runs.specs.Task.{IsSetup, Suits}
 use Rattle.est_runs.specs.declared.run.Move.{Move}
 use Rattle.est_runs.specs.declared.run.Move.TheVariants.{Take, Fire}
 use Rattle.est_meaning.specs.Situation.{Situation}
@@ -23,7 +24,7 @@ use Rattle.est_replay.specs.declared.replay.Moved.{Moved}
 use Rattle.est_replay.specs.declared.replay.Moved.TheVariants.{Passed, Failed}
 use Rattle.est_replay.specs.Replay.{AgreesSoFar, FiringFails, MoveFails, IsPassed}
 use Rattle.est_replay.specs.Replay.{IsRejected, IsAnswer, ClaimsBeyondAskAll}
-use Rattle.est_replay.specs.inside.Standing.{Suits, IsSetup, IsReady, AgreesUpTo, HasMoved}
+use Rattle.est_replay.specs.inside.Standing.{IsReady, AgreesUpTo, HasMoved}
 use Rattle.est_replay.specs.inside.Standing.{IsStanding, IsMet, IsEnding, asked_of, place_of}
 use Rattle.est_replay.proofs.Checks.{Passes, follows_agrees, one_on}
 

@@ -15,7 +15,6 @@ use Rattle.est_runs.specs.declared.run.Move.TheVariants.{Take, Fire}
 use Rattle.est_meaning.specs.Choices.{IsSettled, IsPossible}
 use Rattle.est_meaning.specs.Blocks.{Outcome, Done, Fault, Limit}
 use Rattle.est_meaning.specs.Step.{outcome, start_of}
-use Rattle.est_runs.specs.Stack.{Stack}
 use Rattle.est_runs.specs.Run.{AgreeFirst, Setup, Place, first_place, Takes, Fires}
 use Rattle.est_runs.specs.Run.{IsBoundedRun, Follows, FollowsBefore, Yields}
 use Rattle.est_replay.specs.declared.verdict.Why.{Why}
@@ -107,17 +106,6 @@ IsRejected c moves claim at w = FailsAtStart c moves claim at w
 abbrev pub IsAnswer : Setup → List Move → ℕ → Replayed → Type 0
 IsAnswer c moves claim (Confirmed events) = (events ≡ claim) × Yields c (reverse moves) claim
 IsAnswer c moves claim (Rejected at w) = IsRejected c moves claim at w
-
--- what a replay on a world is a replay of
-abbrev pub setup_of : ℕ → ℕ → List Event → Stack → List Event → Spec → Setup
-setup_of limit silent trace stack outs spec = record {
-  spec = spec;
-  limit = limit;
-  silent = silent;
-  trace = trace;
-  start = stack.now;
-  start_outs = outs;
-}
 
 -- the answer from what comes of the start
 abbrev pub AnswersFrom : ℕ → ℕ → Spec → List Event → List Move → ℕ → Replayed → Outcome → Type 0

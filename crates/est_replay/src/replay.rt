@@ -5,11 +5,12 @@ ghost use Rattle.est_syntax.specs.declared.specification.Spec.{Spec};
 ghost use Rattle.est_syntax.specs.Least.{IsIn};
 ghost use Rattle.est_meaning.specs.Allowed.{IsAllowedTrace, most_events};
 ghost use Rattle.est_meaning.specs.Blocks.{Done};
+ghost use Rattle.est_runs.specs.Task.{IsSetup, setup_of};
 ghost use Rattle.est_runs.specs.Run.{AgreeFirst, Setup};
 ghost use Rattle.est_runs.specs.Stack.{Keeps};
 ghost use Rattle.est_meaning.specs.Step.{start_of};
-ghost use Rattle.est_replay.specs.Replay.{IsAnswer, most_moves, setup_of};
-ghost use Rattle.est_replay.specs.inside.Standing.{IsSetup, IsReady, HasMoved, HasLanded};
+ghost use Rattle.est_replay.specs.Replay.{IsAnswer, most_moves};
+ghost use Rattle.est_replay.specs.inside.Standing.{IsReady, HasMoved, HasLanded};
 ghost use Rattle.est_replay.specs.inside.Standing.{IsMet, IsEnding, asked_of, place_of};
 
 use crate::verdict::{Replayed, Why};

@@ -1,5 +1,6 @@
 pub mod OrderLaws
 pub mod RunLaws
+pub mod TreeLaws
 pub mod SilenceLaws
 pub mod ClockLaws
 pub mod RunRows

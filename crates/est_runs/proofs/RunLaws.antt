@@ -7,11 +7,10 @@ use Rattle.est_meaning.specs.declared.event.Event.{Event}
 use Rattle.est_meaning.specs.declared.firing.Firing.{Firing}
 use Rattle.est_runs.specs.declared.run.Move.{Move}
 use Rattle.est_runs.specs.declared.run.Move.TheVariants.{Take, Fire}
-use Rattle.est_meaning.specs.Choices.{IsPossible}
 use Rattle.est_runs.specs.Order.{StartsWith}
 use Rattle.est_runs.specs.Run.{Setup, Place, first_place, after_taking, after_firing}
 use Rattle.est_runs.specs.Run.{Takes, Fires, Moves, IsRun, IsBoundedRun, Follows}
-use Rattle.est_runs.specs.Run.{FollowsBefore, Explains, YieldsFirst, Yields, IsTrial}
+use Rattle.est_runs.specs.Run.{FollowsBefore, Explains, YieldsFirst, Yields}
 use Rattle.est_runs.specs.RunLaws.{RunsAreUnique, BoundedRunsBeginBounded, YieldsAllBelow}
 use Rattle.est_meaning.proofs.StepLaws.{steps_unique}
 
@@ -200,82 +199,3 @@ start_yields c = inl (record {
 
 pub yields_below_all : YieldsAllBelow
 yields_below_all = record { smaller = yields_below; start = start_yields }
-
--- THE TREE
-
--- the move is defined after the run
-abbrev pub IsDefined : Setup → Place → Move → Type 0
-IsDefined c p Take = (q : Place) × Takes c p q
-IsDefined c p (Fire f) = IsPossible c.limit c.spec p.situation f
-
-pub record CanGoOn (c : Setup) (h : List Move) (m : Move) : Type 0 where
-  pub place : Place
-  pub is_run : IsBoundedRun c h place
-  pub defined : IsDefined c place m
-
-pub record IsOnTree (c : Setup) (h : List Move) : Type 0 where
-  pub place : Place
-  pub is_run : IsBoundedRun c h place
-  pub follows : Follows c place
-
--- each beginning of x but x itself is a bounded run that follows the trace, and goes on by a move
--- that is defined
-abbrev pub IsInTree : Setup → List Move → Type 0
-IsInTree c x = (m : Move) (h : List Move) → StartsWith x (m ∷ h)
-    → CanGoOn c h m × ((x ≡ m ∷ h) ⊎ IsOnTree c (m ∷ h))
-
-defined_by_move : (c : Setup) (p : Place) (m : Move) (q : Place) → Moves c p m q → IsDefined c p m
-defined_by_move c p Take q t = (q, t)
-defined_by_move c p (Fire f) q t = t.step.possible
-
-pub can_go_on : (c : Setup) (h : List Move) (m : Move) (p : Place) → IsBoundedRun c (m ∷ h) p
-    → CanGoOn c h m
-can_go_on c h m p r = record { place = r.0; is_run = r.1; defined = defined_by_move c r.0 m p r.2 }
-
--- what a run that follows the trace starts with is on the tree
-pub starts_on_tree : (c : Setup) (r h : List Move) (p : Place) → IsBoundedRun c r p → Follows c p
-    → StartsWith r h → IsOnTree c h
-starts_on_tree c r h p is follows s =
-    let a = run_starts c r h p is s in
-    record {
-      place = a.place;
-      is_run = a.is_run;
-      follows = follows_grows c a.place p a.grows follows;
-    }
-
--- a run that follows the trace is in the tree
-pub follows_in_tree : (c : Setup) (r : List Move) (p : Place) → IsBoundedRun c r p → Follows c p
-    → IsInTree c r
-follows_in_tree c r p is follows m h s =
-    let a = run_starts c r (m ∷ h) p is s in
-    (can_go_on c h m a.place a.is_run, inr (starts_on_tree c r (m ∷ h) p is follows s))
-
-pub explains_in_tree : (c : Setup) (r : List Move) → Explains c r → IsInTree c r
-explains_in_tree c r e = follows_in_tree c r e.place e.is_run (explains_follows c r e)
-
-pub nothing_starts : (m : Move) (h : List Move) → StartsWith [] (m ∷ h) → ⊥
-nothing_starts m h ([], e) = cc
-nothing_starts m h (x ∷ later, e) = cc
-
--- one more move, whatever comes of it
-pub more_in_tree : (c : Setup) (m : Move) (e : List Move) (p : Place) → IsBoundedRun c e p
-    → Follows c p → CanGoOn c e m → IsInTree c (m ∷ e)
-more_in_tree c m e p is follows can n h ([], eq) =
-    let a : m ≡ n = cc in
-    let b : e ≡ h = cc in
-    (subst (λ w. CanGoOn c w n) b (subst (λ w. CanGoOn c e w) a can), inl eq)
-more_in_tree c m e p is follows can n h (x ∷ later, eq) =
-    let b : e ≡ later ++ n ∷ h = cc in
-    let t = follows_in_tree c e p is follows n h (later, b) in
-    (t.0, inr (starts_on_tree c e (n ∷ h) p is follows (later, b)))
-
-pub trial_in_tree : (c : Setup) (x : List Move) → IsTrial c x → IsInTree c x
-trial_in_tree c [] t = absurd t
-trial_in_tree c (Take ∷ e) t = absurd t
-trial_in_tree c (Fire f ∷ e) t = more_in_tree c (Fire f) e t.0 t.1.is_run t.1.follows
-    (record { place = t.0; is_run = t.1.is_run; defined = t.2 })
-
-pub yields_in_tree : (c : Setup) (r : List Move) (k : ℕ) → YieldsFirst c r k → IsInTree c r
-yields_in_tree c [] k y = λ m h s. absurd (nothing_starts m h s)
-yields_in_tree c (m ∷ e) k y = more_in_tree c m e y.before.0 y.before.1 y.before.2
-    (can_go_on c e m y.place y.is_run)

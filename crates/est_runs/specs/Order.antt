@@ -75,3 +75,15 @@ RunBefore x y = Before (marks_of x) (marks_of y)
 -- a run is another or comes before it
 abbrev pub NotAfter : List Move → List Move → Type 0
 NotAfter x y = (x ≡ y) ⊎ RunBefore x y
+
+-- FIRST
+
+-- the run has this and no run before it has
+pub record IsFirst (P : List Move → Type 0) (run : List Move) : Type 0 where
+  pub has : P run
+  pub least : (other : List Move) → P other → NotAfter run other
+
+-- the list of marks has this and no list before it has
+pub record IsEarliest (P : List Mark → Type 0) (x : List Mark) : Type 0 where
+  pub has : P x
+  pub least : (y : List Mark) → P y → (x ≡ y) ⊎ Before x y

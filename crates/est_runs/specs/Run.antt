@@ -10,7 +10,6 @@ use Rattle.est_meaning.specs.declared.firing.Firing.{Firing}
 use Rattle.est_runs.specs.declared.run.Move.{Move}
 use Rattle.est_runs.specs.declared.run.Move.TheVariants.{Take, Fire}
 use Rattle.est_meaning.specs.Situation.{Situation}
-use Rattle.est_meaning.specs.Choices.{IsPossible}
 use Rattle.est_meaning.specs.Blocks.{Done}
 use Rattle.est_meaning.specs.Step.{IsStep, after_event, start_of}
 
@@ -149,18 +148,3 @@ pub record YieldsFirst (c : Setup) (run : List Move) (k : ℕ) : Type 0 where
 -- the trace
 abbrev pub Yields : Setup → List Move → ℕ → Type 0
 Yields c run k = YieldsFirst c run k ⊎ ((k ≡ length c.trace + 1) × Explains c run)
-
--- TRIALS
-
--- a bounded run that follows the trace and does not explain it
-pub record IsInner (c : Setup) (run : List Move) (p : Place) : Type 0 where
-  pub is_run : IsBoundedRun c run p
-  pub follows : Follows c p
-  pub unfinished : AgreeAll c.trace p.events → ⊥
-
--- a possible firing after an inner run, whatever comes of its block
-abbrev pub IsTrial : Setup → List Move → Type 0
-IsTrial c [] = ⊥
-IsTrial c (Take ∷ earlier) = ⊥
-IsTrial c (Fire f ∷ earlier) =
-    (p : Place) × IsInner c earlier p × IsPossible c.limit c.spec p.situation f

@@ -3,12 +3,12 @@ use Rattle.std.specs.Prelude.{◌≡◌, ℕ, ◌+◌, ◌<◌, ◌≤◌, ◌�
 use Rattle.std.specs.Prelude.{◌∷◌, ◌++◌, length, take, drop, reverse}
 use Rattle.est_syntax.specs.declared.specification.Spec.{Spec}
 use Rattle.est_meaning.specs.declared.event.Event.{Event}
+use Rattle.est_runs.specs.Task.{Suits}
 use Rattle.est_runs.specs.declared.run.Move.{Move}
 use Rattle.est_meaning.specs.Situation.{Situation}
 use Rattle.est_runs.specs.Stack.{Stack}
-use Rattle.est_meaning.specs.Allowed.{IsAllowedTrace}
 use Rattle.est_runs.specs.Run.{AgreeFirst, Setup, Place}
-use Rattle.est_runs.specs.Run.{IsBegun, Moves, IsBoundedRun, silent_after}
+use Rattle.est_runs.specs.Run.{Moves, IsBoundedRun, silent_after}
 use Rattle.est_replay.specs.declared.verdict.Why.TheVariants as why
 use Rattle.est_replay.specs.declared.verdict.Replayed.{Replayed}
 use Rattle.est_replay.specs.declared.verdict.Replayed.TheVariants.{Confirmed, Rejected}
@@ -16,22 +16,6 @@ use Rattle.est_replay.specs.declared.replay.Standing.{Standing}
 use Rattle.est_replay.specs.declared.replay.Moved.{Moved}
 use Rattle.est_replay.specs.declared.replay.Moved.TheVariants.{Passed, Failed}
 use Rattle.est_replay.specs.Replay.{MoveFails, IsPassed}
-
--- the setup is of these, its start is ready and its trace within its limits
-pub record Suits (c : Setup) (spec : Spec) (limit silent : ℕ) (trace : List Event) : Type 0 where
-  pub spec_is : c.spec ≡ spec
-  pub limit_is : c.limit ≡ limit
-  pub silent_is : c.silent ≡ silent
-  pub trace_is : c.trace ≡ trace
-  pub begun : IsBegun c
-  pub allowed : IsAllowedTrace c.spec c.trace
-
--- the setup of a replay that has not begun
-pub record IsSetup (c : Setup) (spec : Spec) (limit silent : ℕ) (trace : List Event) (stack : Stack)
-    (outs : List Event) : Type 0 where
-  pub suits : Suits c spec limit silent trace
-  pub start_is : c.start ≡ stack.now
-  pub outs_are : c.start_outs ≡ outs
 
 -- the place where the events so far are the first of the trace
 abbrev pub place_of : Stack → List Event → Standing → Place

@@ -1,4 +1,4 @@
-use Rattle.est_replay.specs.Replay.{setup_of}
+use Rattle.est_runs.specs.Task.{setup_of}
 use Rattle.est_replay.proofs.replay.replay_in.Given as goal
 
 abbrev pub ghost-replay_moves : goal.ghost-replay_moves

@@ -1,0 +1,34 @@
+-- What a call on a world is about.
+use Rattle.std.specs.Prelude.{◌≡◌, ℕ, List}
+use Rattle.est_syntax.specs.declared.specification.Spec.{Spec}
+use Rattle.est_meaning.specs.declared.event.Event.{Event}
+use Rattle.est_meaning.specs.Allowed.{IsAllowedTrace}
+use Rattle.est_runs.specs.Stack.{Stack}
+use Rattle.est_runs.specs.Run.{Setup, IsBegun}
+
+-- the runs from the situation in which a world stands, after these events of its start
+abbrev pub setup_of : ℕ → ℕ → List Event → Stack → List Event → Spec → Setup
+setup_of limit silent trace stack outs spec = record {
+  spec = spec;
+  limit = limit;
+  silent = silent;
+  trace = trace;
+  start = stack.now;
+  start_outs = outs;
+}
+
+-- the setup is of these, its start is ready and its trace within its limits
+pub record Suits (c : Setup) (spec : Spec) (limit silent : ℕ) (trace : List Event) : Type 0 where
+  pub spec_is : c.spec ≡ spec
+  pub limit_is : c.limit ≡ limit
+  pub silent_is : c.silent ≡ silent
+  pub trace_is : c.trace ≡ trace
+  pub begun : IsBegun c
+  pub allowed : IsAllowedTrace c.spec c.trace
+
+-- no move was made yet
+pub record IsSetup (c : Setup) (spec : Spec) (limit silent : ℕ) (trace : List Event) (stack : Stack)
+    (outs : List Event) : Type 0 where
+  pub suits : Suits c spec limit silent trace
+  pub start_is : c.start ≡ stack.now
+  pub outs_are : c.start_outs ≡ outs
