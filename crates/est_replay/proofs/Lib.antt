@@ -1,6 +1,3 @@
-pub mod Explaining
-pub mod OneExplanation
-pub mod Answering
 pub mod Checks
 pub mod Events
 pub mod Moving

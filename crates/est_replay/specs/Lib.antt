@@ -1,5 +1,2 @@
-pub mod ExplanationGrammar
-pub mod ExplanationNodes
-pub mod ExplanationText
 pub mod Replay
 pub mod inside

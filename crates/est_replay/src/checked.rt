@@ -3,10 +3,10 @@ ghost use Rattle.std.specs.Prelude.{◌≤◌, length, IfOk};
 ghost use Rattle.est_meaning.specs.Allowed.{IsAllowedTrace};
 ghost use Rattle.est_replay.specs.Replay.{IsReplay, most_moves};
 
-use crate::explanation::Explanation;
 use crate::replay::{Replaying, replay_in};
 use crate::verdict::{Replayed, Why};
 use est_check::Checked;
+use est_explanation::explanation::Explanation;
 use est_meaning::event::Trace;
 use est_plain::world::PlainWorld;
 use est_runs::run::{Limits, Started};

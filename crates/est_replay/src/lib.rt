@@ -1,9 +1,7 @@
-//! Explanations: how a trace is said to come about.
+//! Replays: whether the moves of an explanation bring a trace about.
 #![tactic(auto)]
 
 pub mod checked;
-pub mod error;
-pub mod explanation;
 pub mod laws;
 pub mod replay;
 pub mod verdict;

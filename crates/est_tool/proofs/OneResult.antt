@@ -37,10 +37,10 @@ use Rattle.est_specification.proofs.Unique.{same_specification}
 use Rattle.est_trace.specs.TraceText.{IsOnlyTraceText, IsTraceRefusal, IsFull}
 use Rattle.est_trace.specs.declared.error.TraceError.{TraceError}
 use Rattle.est_trace.specs.declared.error.TraceError.TheVariants as trace
-use Rattle.est_replay.specs.ExplanationText.{IsOnlyExplanationText, IsExplanationRefusal}
-use Rattle.est_replay.specs.declared.error.ExplanationError.{ExplanationError}
-use Rattle.est_replay.specs.declared.error.ExplanationError.TheVariants as explanation
-use Rattle.est_replay.specs.declared.explanation.Explanation.{Explanation}
+use Rattle.est_explanation.specs.ExplanationText.{IsOnlyExplanationText, IsExplanationRefusal}
+use Rattle.est_explanation.specs.declared.error.ExplanationError.{ExplanationError}
+use Rattle.est_explanation.specs.declared.error.ExplanationError.TheVariants as explanation
+use Rattle.est_explanation.specs.declared.explanation.Explanation.{Explanation}
 use Rattle.est_replay.proofs.Checks.{answer_one}
 use Rattle.est_tool.specs.declared.file.File.{File}
 use Rattle.est_tool.specs.declared.file.File.TheVariants.{Specification, Trace}

@@ -13,8 +13,8 @@ use Rattle.est_specification.specs.declared.error.SpecificationError.{Specificat
 use Rattle.est_specification.specs.declared.error.SpecificationError.TheVariants as specification
 use Rattle.est_trace.specs.declared.error.TraceError.{TraceError}
 use Rattle.est_trace.specs.declared.error.TraceError.TheVariants as trace
-use Rattle.est_replay.specs.declared.error.ExplanationError.{ExplanationError}
-use Rattle.est_replay.specs.declared.error.ExplanationError.TheVariants as explanation
+use Rattle.est_explanation.specs.declared.error.ExplanationError.{ExplanationError}
+use Rattle.est_explanation.specs.declared.error.ExplanationError.TheVariants as explanation
 use Rattle.est_tool.specs.declared.stop.Stop.{Stop}
 use Rattle.est_tool.specs.declared.stop.Stop.TheVariants as stop
 use Rattle.est_tool.specs.declared.file.File.{File}

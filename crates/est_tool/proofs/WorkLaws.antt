@@ -9,7 +9,7 @@ use Rattle.est_edge.proofs.CountLaws.{AllStay-then, rose_then}
 use Rattle.est_edge.proofs.PieceLaws.{SameTold-then}
 use Rattle.est_syntax.specs.declared.specification.Spec.{Spec}
 use Rattle.est_meaning.specs.declared.event.Event.{Event}
-use Rattle.est_replay.specs.declared.explanation.Explanation.{Explanation}
+use Rattle.est_explanation.specs.declared.explanation.Explanation.{Explanation}
 use Rattle.est_blocks.specs.declared.counts.Counts.{Counts}
 use Rattle.est_check.specs.declared.checked.Specification.{Specification}
 use Rattle.est_check.specs.declared.checked.Specification.TheVariants as found

@@ -8,7 +8,7 @@ use Rattle.est_check.specs.declared.checked.Specification.{Specification}
 use Rattle.est_check.specs.declared.checked.Specification.TheVariants as found
 use Rattle.est_meaning.specs.declared.event.Event.{Event}
 use Rattle.est_replay.specs.Replay.{IsReplay}
-use Rattle.est_replay.specs.declared.explanation.Explanation.{Explanation}
+use Rattle.est_explanation.specs.declared.explanation.Explanation.{Explanation}
 use Rattle.est_replay.specs.declared.verdict.Replayed.{Replayed}
 use Rattle.est_tool.specs.declared.file.File.{File}
 use Rattle.est_tool.specs.declared.file.File.TheVariants as file

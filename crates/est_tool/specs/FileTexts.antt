@@ -8,16 +8,16 @@ use Rattle.est_syntax.specs.declared.specification.Spec.{Spec}
 use Rattle.est_skeleton.specs.Ports.{ports_of}
 use Rattle.est_check.specs.declared.checked.Specification.{Specification}
 use Rattle.est_meaning.specs.declared.event.Event.{Event}
-use Rattle.est_replay.specs.declared.explanation.Explanation.{Explanation}
+use Rattle.est_explanation.specs.declared.explanation.Explanation.{Explanation}
 use Rattle.est_specification.specs.SpecificationText.{IsGoodText, IsNoSpecification}
 use Rattle.est_specification.specs.declared.error.SpecificationError.{SpecificationError}
 use Rattle.est_specification.specs.declared.error.SpecificationError.TheVariants as specification
 use Rattle.est_trace.specs.TraceText.{IsOnlyTraceText, IsTraceRefusal}
 use Rattle.est_trace.specs.declared.error.TraceError.{TraceError}
 use Rattle.est_trace.specs.declared.error.TraceError.TheVariants as trace
-use Rattle.est_replay.specs.ExplanationText.{IsOnlyExplanationText, IsExplanationRefusal}
-use Rattle.est_replay.specs.declared.error.ExplanationError.{ExplanationError}
-use Rattle.est_replay.specs.declared.error.ExplanationError.TheVariants as explanation
+use Rattle.est_explanation.specs.ExplanationText.{IsOnlyExplanationText, IsExplanationRefusal}
+use Rattle.est_explanation.specs.declared.error.ExplanationError.{ExplanationError}
+use Rattle.est_explanation.specs.declared.error.ExplanationError.TheVariants as explanation
 use Rattle.est_tool.specs.declared.file.File.{File}
 use Rattle.est_tool.specs.declared.status.Status.{Status}
 use Rattle.est_tool.specs.declared.status.Status.TheVariants.{BadSpec, BadTrace, BadExplanation}

@@ -12,9 +12,9 @@ use crate::refusal::{Refusal, refuse};
 use crate::status::Status;
 use crate::stop::Stop;
 use est_edge::Shelf;
+use est_explanation::error::ExplanationError;
+use est_explanation::explanation::{Explanation, read_explanation};
 use est_lexer::lex::lex;
-use est_replay::error::ExplanationError;
-use est_replay::explanation::{Explanation, read_explanation};
 use std::alloc::Global;
 
 /// The explanation in the file of this name.

@@ -13,7 +13,7 @@ use Rattle.est_check.specs.declared.checked.Specification.{Specification}
 use Rattle.est_check.specs.declared.checked.Specification.TheVariants as found
 use Rattle.est_meaning.specs.declared.event.Event.{Event}
 use Rattle.est_replay.specs.Replay.{IsReplay}
-use Rattle.est_replay.specs.declared.explanation.Explanation.{Explanation}
+use Rattle.est_explanation.specs.declared.explanation.Explanation.{Explanation}
 use Rattle.est_replay.specs.declared.verdict.Replayed.{Replayed}
 use Rattle.est_tool.specs.FileTexts.{OfSpecification}
 use Rattle.est_tool.specs.Reports.{ok_line, not_built_line, replay_line}

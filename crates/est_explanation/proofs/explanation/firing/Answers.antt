@@ -1,8 +1,8 @@
 use Rattle.std.proofs.Common.{refl}
 use Rattle.est_reader.proofs.Going.{then}
 use Rattle.est_reader.proofs.Single.{number_goes}
-use Rattle.est_replay.proofs.Explaining.{known}
-use Rattle.est_replay.proofs.explanation.firing.Goals as goal
+use Rattle.est_explanation.proofs.Explaining.{known}
+use Rattle.est_explanation.proofs.explanation.firing.Goals as goal
 
 pub returns : goal.returns
 returns c =

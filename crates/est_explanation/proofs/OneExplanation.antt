@@ -10,11 +10,11 @@ use Rattle.est_meaning.specs.declared.firing.Firing.{Firing}
 use Rattle.est_runs.specs.declared.run.Move.{Move}
 use Rattle.est_runs.specs.declared.run.Move.TheVariants.{Take, Fire}
 use Rattle.est_reader.specs.Going.{Shape}
-use Rattle.est_replay.specs.declared.explanation.Explanation.{Explanation}
-use Rattle.est_replay.specs.ExplanationGrammar.{move, explanation}
-use Rattle.est_replay.specs.ExplanationNodes.{layer, a_move, an_explanation}
-use Rattle.est_replay.specs.ExplanationNodes.{number_view, firing_view}
-use Rattle.est_replay.specs.ExplanationText.{explanations, IsExplanationText}
+use Rattle.est_explanation.specs.declared.explanation.Explanation.{Explanation}
+use Rattle.est_explanation.specs.ExplanationGrammar.{move, explanation}
+use Rattle.est_explanation.specs.ExplanationNodes.{layer, a_move, an_explanation}
+use Rattle.est_explanation.specs.ExplanationNodes.{number_view, firing_view}
+use Rattle.est_explanation.specs.ExplanationText.{explanations, IsExplanationText}
 
 one_number : (m n : ℕ) {t : Shape} → Shows layer (number_view m) t → Shows layer (number_view n) t
     → m ≡ n

@@ -7,10 +7,10 @@ ghost use Rattle.est_language.specs.Shown.{node, nodes, pair, kept};
 ghost use Rattle.est_reader.specs.Tests.{said};
 ghost use Rattle.est_reader.specs.Moving.{Sees, SeesOne};
 ghost use Rattle.est_reader.specs.Going.{Goes};
-ghost use Rattle.est_replay.specs.ExplanationGrammar as grammar;
-ghost use Rattle.est_replay.specs.ExplanationNodes.{a_move, an_explanation};
-ghost use Rattle.est_replay.specs.ExplanationNodes.{firing_view, explaining};
-ghost use Rattle.est_replay.specs.ExplanationText.{ReadsExplanation};
+ghost use Rattle.est_explanation.specs.ExplanationGrammar as grammar;
+ghost use Rattle.est_explanation.specs.ExplanationNodes.{a_move, an_explanation};
+ghost use Rattle.est_explanation.specs.ExplanationNodes.{firing_view, explaining};
+ghost use Rattle.est_explanation.specs.ExplanationText.{ReadsExplanation};
 
 use crate::error::ExplanationError;
 use est_lexer::tokens::Tokens;

@@ -8,13 +8,13 @@ use Rattle.est_reader.specs.declared.outcome.Outcome.TheVariants.{Well, Wrong, T
 use Rattle.est_reader.specs.Going.{Goes}
 use Rattle.est_reader.proofs.Whole.{Starts, whole_read, more_after}
 use Rattle.est_reader.proofs.Whole.{whole_wrong, fails_deep, flat_not_deep}
-use Rattle.est_replay.specs.declared.explanation.Explanation.{Explanation}
-use Rattle.est_replay.specs.declared.error.ExplanationError.TheVariants.{BadToken}
-use Rattle.est_replay.specs.ExplanationGrammar.{explanation}
-use Rattle.est_replay.specs.ExplanationNodes.{layer, an_explanation, explaining}
-use Rattle.est_replay.specs.ExplanationText.{ReadsExplanation}
-use Rattle.est_replay.proofs.Explaining.{known}
-use Rattle.est_replay.proofs.OneExplanation.{one_explanation}
+use Rattle.est_explanation.specs.declared.explanation.Explanation.{Explanation}
+use Rattle.est_explanation.specs.declared.error.ExplanationError.TheVariants.{BadToken}
+use Rattle.est_explanation.specs.ExplanationGrammar.{explanation}
+use Rattle.est_explanation.specs.ExplanationNodes.{layer, an_explanation, explaining}
+use Rattle.est_explanation.specs.ExplanationText.{ReadsExplanation}
+use Rattle.est_explanation.proofs.Explaining.{known}
+use Rattle.est_explanation.proofs.OneExplanation.{one_explanation}
 
 module _ {tokens : Tokens} {A B : Reader} {x : Explanation} (g : Goes explaining explanation A
     (node (an_explanation x)) B) (s : Starts tokens 0 A) where

@@ -1,8 +1,8 @@
 use Rattle.std.proofs.Common.{refl, [], ◌∷◌}
 use Rattle.est_reader.specs.Tests.{said}
 use Rattle.est_reader.proofs.Going.{part, take, last, first_else, chosen}
-use Rattle.est_replay.proofs.Explaining.{known}
-use Rattle.est_replay.proofs.explanation.next_move.Goals as goal
+use Rattle.est_explanation.proofs.Explaining.{known}
+use Rattle.est_explanation.proofs.explanation.next_move.Goals as goal
 
 pub returns-then-sees_word : goal.returns-then-sees_word
 returns-then-sees_word c =

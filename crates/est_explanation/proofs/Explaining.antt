@@ -3,8 +3,8 @@ use Rattle.std.proofs.Common.{ℕ, List}
 use Rattle.est_language.specs.Marks.{Fits}
 use Rattle.est_reader.specs.Tests.{language}
 use Rattle.est_reader.proofs.Going.{Known}
-use Rattle.est_replay.specs.ExplanationGrammar.{NoName, production, marks}
-use Rattle.est_replay.specs.ExplanationNodes.{Node, explaining}
+use Rattle.est_explanation.specs.ExplanationGrammar.{NoName, production, marks}
+use Rattle.est_explanation.specs.ExplanationNodes.{Node, explaining}
 
 -- the table has nothing to say
 pub fits : (text : List ℕ) → Fits (language production text) marks

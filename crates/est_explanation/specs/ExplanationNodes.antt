@@ -7,8 +7,8 @@ use Rattle.est_runs.specs.declared.run.Move.TheVariants.{Take, Fire}
 use Rattle.est_reader.specs.Tests.{value}
 use Rattle.est_reader.specs.Going as going
 use Rattle.est_reader.specs.Going.{Syntax}
-use Rattle.est_replay.specs.declared.explanation.Explanation.{Explanation}
-use Rattle.est_replay.specs.ExplanationGrammar.{NoName, production, marks}
+use Rattle.est_explanation.specs.declared.explanation.Explanation.{Explanation}
+use Rattle.est_explanation.specs.ExplanationGrammar.{NoName, production, marks}
 
 -- The parts of explanations.
 pub data Node : Type 0 where

@@ -6,11 +6,11 @@ use Rattle.est_language.specs.Sentences.{HasTree, IsFirstBadPlace}
 use Rattle.est_language.specs.Shown.{Shows, node}
 use Rattle.est_reader.specs.Tests.{Test, Kept, language}
 use Rattle.est_reader.specs.Going.{Shape}
-use Rattle.est_replay.specs.declared.error.ExplanationError.{ExplanationError}
-use Rattle.est_replay.specs.declared.error.ExplanationError.TheVariants.{BadToken, Memory}
-use Rattle.est_replay.specs.declared.explanation.Explanation.{Explanation}
-use Rattle.est_replay.specs.ExplanationGrammar.{NoName, production, explanation}
-use Rattle.est_replay.specs.ExplanationNodes.{an_explanation, layer}
+use Rattle.est_explanation.specs.declared.error.ExplanationError.{ExplanationError}
+use Rattle.est_explanation.specs.declared.error.ExplanationError.TheVariants.{BadToken, Memory}
+use Rattle.est_explanation.specs.declared.explanation.Explanation.{Explanation}
+use Rattle.est_explanation.specs.ExplanationGrammar.{NoName, production, explanation}
+use Rattle.est_explanation.specs.ExplanationNodes.{an_explanation, layer}
 
 -- explanations over the tokens of a text
 abbrev pub explanations : List ℕ → Language Token Kept Test NoName

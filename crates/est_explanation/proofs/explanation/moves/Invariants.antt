@@ -2,10 +2,10 @@ use Rattle.std.proofs.Common.{map}
 use Rattle.est_language.specs.Grammar.{rep}
 use Rattle.est_reader.proofs.Steps.{left_of}
 use Rattle.est_reader.proofs.Turns.{Turning, Each}
-use Rattle.est_replay.specs.ExplanationGrammar.{move}
-use Rattle.est_replay.specs.ExplanationNodes.{a_move}
-use Rattle.est_replay.proofs.Explaining.{known}
-use Rattle.est_replay.proofs.explanation.moves.Given as goal
+use Rattle.est_explanation.specs.ExplanationGrammar.{move}
+use Rattle.est_explanation.specs.ExplanationNodes.{a_move}
+use Rattle.est_explanation.proofs.Explaining.{known}
+use Rattle.est_explanation.proofs.explanation.moves.Given as goal
 
 abbrev pub invariant-loop-reader : goal.invariant-loop-reader
 invariant-loop-reader l = Turning known (rep move) (rep move) l.fn.reader

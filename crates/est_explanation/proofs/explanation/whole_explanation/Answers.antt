@@ -1,8 +1,8 @@
 use Rattle.std.proofs.Common.{refl}
 use Rattle.est_reader.proofs.Going.{part, take, then}
 use Rattle.est_reader.proofs.Single.{number_goes, number_takes}
-use Rattle.est_replay.proofs.Explaining.{known}
-use Rattle.est_replay.proofs.explanation.whole_explanation.Goals as goal
+use Rattle.est_explanation.proofs.Explaining.{known}
+use Rattle.est_explanation.proofs.explanation.whole_explanation.Goals as goal
 
 pub returns : goal.returns
 returns c =

@@ -2,10 +2,10 @@ use Rattle.std.proofs.Common.{refl, map}
 use Rattle.std.proofs.lemmas.List.{map-append}
 use Rattle.est_reader.proofs.Steps.{seen_among}
 use Rattle.est_reader.proofs.Turns.{no_part, more_parts, all_parts, lessens}
-use Rattle.est_replay.specs.ExplanationGrammar.{move_starts}
-use Rattle.est_replay.specs.ExplanationNodes.{a_move}
-use Rattle.est_replay.proofs.Explaining.{known}
-use Rattle.est_replay.proofs.explanation.moves.Goals as goal
+use Rattle.est_explanation.specs.ExplanationGrammar.{move_starts}
+use Rattle.est_explanation.specs.ExplanationNodes.{a_move}
+use Rattle.est_explanation.proofs.Explaining.{known}
+use Rattle.est_explanation.proofs.explanation.moves.Goals as goal
 
 pub loop-reader-init : goal.loop-reader-init
 loop-reader-init c = rw c.new-moves.ensures (no_part known)

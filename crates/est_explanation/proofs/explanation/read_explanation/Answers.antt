@@ -1,8 +1,8 @@
 use Rattle.std.proofs.Common.{sym, ◌∙◌}
 use Rattle.est_lexer.specs.Offsets.{text_of, tokens_of}
-use Rattle.est_replay.proofs.OneExplanation.{few}
-use Rattle.est_replay.proofs.Answering.{read, behind, wrong, not_deep}
-use Rattle.est_replay.proofs.explanation.read_explanation.Goals as goal
+use Rattle.est_explanation.proofs.OneExplanation.{few}
+use Rattle.est_explanation.proofs.Answering.{read, behind, wrong, not_deep}
+use Rattle.est_explanation.proofs.explanation.read_explanation.Goals as goal
 
 pub returns-then-place-count-clause-reads : goal.returns-then-place-count-clause-reads
 returns-then-place-count-clause-reads c =

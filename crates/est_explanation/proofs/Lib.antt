@@ -1,0 +1,4 @@
+pub mod Words
+pub mod Explaining
+pub mod OneExplanation
+pub mod Answering

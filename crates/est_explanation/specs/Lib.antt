@@ -1,0 +1,4 @@
+pub mod CanonicalExplanation
+pub mod ExplanationGrammar
+pub mod ExplanationNodes
+pub mod ExplanationText
