@@ -22,7 +22,7 @@ use Rattle.est_skeleton.specs.Ports.{ports_of}
 use Rattle.est_meaning.specs.Text.{Awaited, root_of, when_of, to_of}
 use Rattle.est_meaning.specs.Situation.{InteractionPoint, Situation}
 use Rattle.est_meaning.specs.Links.{Route, Within, Outside, Lost, routed, port_point}
-use Rattle.est_meaning.specs.Choices.{Choice, choice_of, IsSettled, IsPossible}
+use Rattle.est_meaning.specs.Choices.{Choice, choice_of, IsPossible}
 use Rattle.est_meaning.specs.Blocks.{Outcome, Done, Fault, Limit, block_meaning}
 use Rattle.est_meaning.specs.Blocks.{delivered, sent, all_sent, sending_at, sendings_of}
 use Rattle.est_meaning.specs.Step.{without_awaited, with_state, completed, fired_by}

@@ -1,5 +1,5 @@
 -- The rows of the situations of a run.
-use Rattle.std.proofs.Common.{sym, subst, List, [], ◌∷◌}
+use Rattle.std.proofs.Common.{sym, subst, [], ◌∷◌}
 use Rattle.est_runs.specs.declared.run.Move.TheVariants.{Take, Fire}
 use Rattle.est_meaning.specs.StepLaws.{HasRowsInOrder}
 use Rattle.est_meaning.proofs.RowLaws.{rows_stay}

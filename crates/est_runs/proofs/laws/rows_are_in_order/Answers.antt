@@ -1,4 +1,4 @@
-use Rattle.est_meaning.proofs.RowLaws.{rows_in_order}
+use Rattle.est_runs.proofs.RunRows.{rows_in_order}
 use Rattle.est_runs.proofs.laws.rows_are_in_order.Goals as goal
 
 pub returns : goal.returns

@@ -1,0 +1,4 @@
+//! The search for a run that explains a trace.
+#![tactic(auto)]
+
+pub mod verdict;
