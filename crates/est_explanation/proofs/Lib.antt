@@ -1,4 +1,9 @@
 pub mod Words
+pub mod Numerals
+pub mod Comments
+pub mod CanonicalWords
+pub mod CanonicalTrees
+pub mod ReadBack
 pub mod Explaining
 pub mod OneExplanation
 pub mod Answering

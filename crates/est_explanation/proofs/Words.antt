@@ -1,7 +1,7 @@
 -- Texts that are made of words, with blanks after them, and the tokens of such texts.
 --
 -- It speaks of what the lexer defines, and of no grammar, so that any text can be written so.
-use Rattle.std.proofs.Common.{◌≡◌, ℕ, suc, zero, ◌+◌, ◌-◌, ◌<◌, ◌≤◌, Bool, true, false, List, []}
+use Rattle.std.proofs.Common.{◌≡◌, ℕ, suc, ◌+◌, ◌<◌, ◌≤◌, Bool, true, false, List, []}
 use Rattle.std.proofs.Common.{◌∷◌, ◌++◌, length, take, drop, get_or, refl, sym, ap, subst, ◌∙◌}
 use Rattle.std.proofs.Common.{append_assoc, arith, ltb-true, length-append, length-drop}
 use Rattle.std.specs.List.{list_all, prefix_len}
@@ -13,10 +13,9 @@ use Rattle.est_lexer.specs.declared.kind.Token.{Token}
 use Rattle.est_lexer.specs.declared.kind.TokenKind.{TokenKind}
 use Rattle.est_lexer.specs.declared.kind.TokenKind.TheVariants.{Number}
 use Rattle.est_lexer.specs.Between.{is_blank, opening, IsBetween, nothing, blank}
-use Rattle.est_lexer.specs.Spans.{end_of, spelling}
+use Rattle.est_lexer.specs.Spans.{spelling}
 use Rattle.est_lexer.specs.Spellings.{is_identifier, is_identifier_part, is_number, name_kind}
 use Rattle.est_lexer.specs.TokenList.{MayBegin, IsLongest, AreTokensFrom, none_left, next}
-use Rattle.est_lexer.specs.TokenList.{digits_at}
 use Rattle.est_lexer.proofs.KindOf.{letter_no_digit}
 use Rattle.est_lexer.proofs.Longest.{Longest, name_longest, number_longest, token_there}
 use Rattle.est_lexer.proofs.Longest.{may_begin_there}
@@ -56,7 +55,7 @@ AreWhole (w ∷ ws) = IsWhole w (w.gap ++ text_of ws) × AreWhole ws
 
 -- PLACES OF A TEXT
 
-onward : (text : List ℕ) (place : ℕ) (xs ys : List ℕ) → drop place text ≡ xs ++ ys
+pub onward : (text : List ℕ) (place : ℕ) (xs ys : List ℕ) → drop place text ≡ xs ++ ys
     → drop (place + length xs) text ≡ ys
 onward text place xs ys e =
     sym (drop-drop (length xs) place text) ∙ ap (drop (length xs)) e ∙ drop_at xs ys (length xs)
@@ -67,11 +66,11 @@ inside : (text : List ℕ) (place : ℕ) (xs ys : List ℕ) → place ≤ length
 inside text place xs ys l e =
     omega (arith, length-drop place text, ap length e, length-append xs ys)
 
-byte_at : (text : List ℕ) (place i : ℕ) (xs : List ℕ) → drop place text ≡ xs
+pub byte_at : (text : List ℕ) (place i : ℕ) (xs : List ℕ) → drop place text ≡ xs
     → get_or text (place + i) 0 ≡ get_or xs i 0
 byte_at text place i xs e = sym (get_or-drop place text i 0) ∙ ap (λ r. get_or r i 0) e
 
-first_at : (text : List ℕ) (place : ℕ) (xs : List ℕ) → drop place text ≡ xs
+pub first_at : (text : List ℕ) (place : ℕ) (xs : List ℕ) → drop place text ≡ xs
     → get_or text place 0 ≡ get_or xs 0 0
 first_at text place xs e =
     ap (λ k. get_or text k 0) (omega arith) ∙ byte_at text place 0 xs e
@@ -150,8 +149,7 @@ pub are_written : (text : List ℕ) (place : ℕ) (ws : List Written) → drop p
 are_written text place [] e = tt
 are_written text place (w ∷ ws) e =
     let rest = w.gap ++ text_of ws in
-    let n = place + length w.bytes in
-    (
+    let n = place + length w.bytes in (
       record { kind = refl; spelled = spelled_at text place w rest e },
       are_written text (n + length w.gap) ws (onward text n w.gap (text_of ws)
           (onward text place w.bytes rest e)),

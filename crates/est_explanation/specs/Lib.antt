@@ -1,4 +1,6 @@
 pub mod CanonicalExplanation
+pub mod CommentLines
 pub mod ExplanationGrammar
+pub mod ExplanationLaws
 pub mod ExplanationNodes
 pub mod ExplanationText

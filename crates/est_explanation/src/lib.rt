@@ -3,4 +3,5 @@
 
 pub mod error;
 pub mod explanation;
+pub mod laws;
 pub mod write;
