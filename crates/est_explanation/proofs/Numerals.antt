@@ -29,3 +29,7 @@ decimal_is_number n h =
 -- it is read as what it is
 pub decimal_value : (n : ℕ) → n < 10 ^ 18 → value_of (decimal n) ≡ n
 decimal_value n h = digits_value-decimal own n (omega arith)
+
+-- a number of 32 bits has at most ten digits
+pub few_digits : (m n : ℕ) → m ≡ n → n < 2 ^ 32 → length (decimal m) ≤ 10
+few_digits m n e h = length-decimal-le 10 m (omega arith) (omega arith) (omega arith)

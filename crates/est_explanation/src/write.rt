@@ -1,14 +1,18 @@
 //! Explanations, written.
 
-ghost use Rattle.std.specs.Prelude.{◌≡◌, ◌++◌, IfOk, OnOk};
+ghost use Rattle.std.specs.Prelude.{◌≡◌, ◌≤◌, ◌+◌, ◌++◌, IfOk, OnOk, codes, drop, length};
 ghost use Rattle.std.specs.Fmt.{decimal};
 ghost use Rattle.est_explanation.specs.CanonicalExplanation.{canonical, move_line, claim_line};
+ghost use Rattle.est_explanation.specs.declared.write.TheConstants.{WIDEST};
 
 use crate::explanation::Explanation;
 use est_meaning::firing::Firing;
 use est_runs::run::Move;
-use itoa::Buffer;
+use itoa::write_digits;
 use std::alloc::{AllocError, Global};
+
+// The most bytes of a blank and a number.
+const WIDEST: usize = 11;
 
 /// The canonical text of an explanation.
 pub fn write_explanation(alloc: Global, explanation: &Explanation) -> Result<Vec<u8>, AllocError>
@@ -36,28 +40,32 @@ fn write_move(text: &mut Vec<u8>, next: &Move) -> Result<(), AllocError>
 fn write_firing(text: &mut Vec<u8>, firing: Firing) -> Result<(), AllocError>
     ensures { OnOk result (text.new.items ≡ text.old.items ++ move_line (Move.Fire firing)) }
 {
-    text.extend_from_slice(b"fire ")?;
-    write_number(text, firing.instance)?;
-    text.extend_from_slice(b" ")?;
-    write_number(text, firing.transition)?;
-    text.extend_from_slice(b" ")?;
-    write_number(text, firing.choice)?;
-    text.extend_from_slice(b"\n")
+    let mut line = [b'\n'; 3 * WIDEST + 1];
+    let start = put_number(&mut line, 3 * WIDEST, firing.choice);
+    let start = put_number(&mut line, start, firing.transition);
+    let start = put_number(&mut line, start, firing.instance);
+    text.extend_from_slice(b"fire")?;
+    text.extend_from_slice(&line[start..])
 }
 
 // The line of the claim, after a text.
 fn write_claim(text: &mut Vec<u8>, claim: u32) -> Result<(), AllocError>
     ensures { OnOk result (text.new.items ≡ text.old.items ++ claim_line claim) }
 {
-    text.extend_from_slice(b"yields ")?;
-    write_number(text, claim)?;
-    text.extend_from_slice(b"\n")
+    let mut line = [b'\n'; WIDEST + 1];
+    let start = put_number(&mut line, WIDEST, claim);
+    text.extend_from_slice(b"yields")?;
+    text.extend_from_slice(&line[start..])
 }
 
-// A number in decimal digits, after a text.
-fn write_number(text: &mut Vec<u8>, number: u32) -> Result<(), AllocError>
-    ensures { OnOk result (text.new.items ≡ text.old.items ++ decimal number) }
+// Puts a blank and a number before what stands from `end` on, and answers where the blank stands.
+fn put_number(line: &mut [u8], end: usize, number: u32) -> usize
+    requires room { WIDEST ≤ end }
+    requires inside { end ≤ length line.old }
+    ensures put { drop result line.new ≡ codes " " ++ decimal number ++ drop end line.old }
+    ensures near { end ≤ result + WIDEST }
 {
-    let mut digits = Buffer::new();
-    text.extend_from_slice(digits.format(number).as_bytes())
+    let start = write_digits(u64::from(number), line, end) - 1;
+    line[start] = b' ';
+    start
 }
