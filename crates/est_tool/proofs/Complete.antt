@@ -12,6 +12,7 @@ use Rattle.est_runs.specs.Trials.{IsTrial}
 use Rattle.est_search.specs.declared.verdict.Verdict.{Verdict}
 use Rattle.est_search.specs.declared.verdict.Verdict.TheVariants as verdict
 use Rattle.est_search.specs.Verdict.{IsVerdict}
+use Rattle.est_tool.proofs.Given.{not_over}
 use Rattle.est_tool.specs.declared.file.File.TheVariants.{Specification, Trace}
 use Rattle.est_tool.specs.declared.search.Searched.{Searched}
 use Rattle.est_tool.specs.declared.search.Searched.TheVariants as came

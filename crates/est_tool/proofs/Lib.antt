@@ -1,4 +1,5 @@
 pub mod Complete
+pub mod Given
 pub mod OneRequest
 pub mod OneResult
 pub mod ReadLaws

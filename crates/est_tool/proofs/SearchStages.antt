@@ -11,6 +11,7 @@ use Rattle.est_runs.specs.declared.run.Limits.{Limits}
 use Rattle.est_runs.specs.Run.{Setup}
 use Rattle.est_search.specs.declared.verdict.Verdict.{Verdict}
 use Rattle.est_search.specs.Verdict.{IsVerdict}
+use Rattle.est_tool.proofs.Given.{one_verdict}
 use Rattle.est_tool.specs.declared.file.File.TheVariants.{Specification, Trace}
 use Rattle.est_tool.specs.declared.search.Searched.{Searched}
 use Rattle.est_tool.specs.declared.search.Searched.TheVariants as came
