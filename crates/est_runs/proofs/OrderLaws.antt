@@ -124,12 +124,12 @@ firing_total f g =
       | inr a ↦ elim a [ inl l ↦ inr (inl (inl l)) | inr l ↦ inr (inr (inl l)) ]
     ]
 
-mark_irreflexive : (m : Mark) → MarkBefore m m → ⊥
+pub mark_irreflexive : (m : Mark) → MarkBefore m m → ⊥
 mark_irreflexive Taking a = a
 mark_irreflexive Guarding a = a
 mark_irreflexive (Trying f) a = firing_irreflexive f a
 
-mark_transitive : (l m n : Mark) → MarkBefore l m → MarkBefore m n → MarkBefore l n
+pub mark_transitive : (l m n : Mark) → MarkBefore l m → MarkBefore m n → MarkBefore l n
 mark_transitive Taking Taking n a b = absurd a
 mark_transitive Taking Guarding Taking a b = absurd b
 mark_transitive Taking Guarding Guarding a b = absurd b
