@@ -12,7 +12,7 @@ use Rattle.est_runs.specs.Trials.{IsTrial}
 use Rattle.est_search.specs.declared.verdict.Verdict.{Verdict}
 use Rattle.est_search.specs.declared.verdict.Verdict.TheVariants as verdict
 use Rattle.est_search.specs.Verdict.{IsVerdict}
-use Rattle.est_tool.proofs.Given.{not_over}
+use Rattle.est_search.proofs.OneVerdict.{too_many}
 use Rattle.est_tool.specs.declared.file.File.TheVariants.{Specification, Trace}
 use Rattle.est_tool.specs.declared.search.Searched.{Searched}
 use Rattle.est_tool.specs.declared.search.Searched.TheVariants as came
@@ -172,7 +172,7 @@ decides c budget status (verdict.Refused at run faulted) is same within = record
   refused = (λ e. is.unexplained.none, λ none. same);
 }
 decides c budget status (verdict.OverFirings tried) is same within =
-    absurd (not_over (IsTrial c) budget is.1.size within.size)
+    absurd (too_many (IsTrial c) budget is.1.size within.size)
 decides c budget status (verdict.OverAction run events firing) is same within =
     absurd (within.passes _ is.first.has)
 

@@ -1,5 +1,4 @@
 pub mod Complete
-pub mod Given
 pub mod OneRequest
 pub mod OneResult
 pub mod ReadLaws

@@ -11,7 +11,7 @@ use Rattle.est_runs.specs.declared.run.Limits.{Limits}
 use Rattle.est_runs.specs.Run.{Setup}
 use Rattle.est_search.specs.declared.verdict.Verdict.{Verdict}
 use Rattle.est_search.specs.Verdict.{IsVerdict}
-use Rattle.est_tool.proofs.Given.{one_verdict}
+use Rattle.est_search.proofs.OneVerdict.{verdict_unique}
 use Rattle.est_tool.specs.declared.file.File.TheVariants.{Specification, Trace}
 use Rattle.est_tool.specs.declared.search.Searched.{Searched}
 use Rattle.est_tool.specs.declared.search.Searched.TheVariants as came
@@ -86,11 +86,25 @@ verdict_at limits spec events s t outs outs' verdict x y is =
     (subst (λ z. IsVerdict (task_of limits.silent limits.statements spec events z outs)
     limits.budget verdict) same.0 is)
 
+-- a verdict from the start
+pub found_searched : (limits : Limits) (spec : Spec) (events : List Event) (s : Situation)
+    (outs outs' : List Event) (verdict : Verdict) → outs' ≡ outs
+    → start_of limits.statements spec ≡ Done s outs
+    → IsVerdict (task_of limits.silent limits.statements spec events s outs') limits.budget verdict
+    → IsSearched limits spec events (came.Found verdict)
+found_searched limits spec events s outs outs' verdict same begun is = (
+  s,
+  outs,
+  begun,
+  subst (λ es. IsVerdict (task_of limits.silent limits.statements spec events s es) limits.budget
+      verdict) same is,
+)
+
 -- one thing comes of a search
 one_found : (limits : Limits) (spec : Spec) (events : List Event) (a b : Searched)
     → IsSearched limits spec events a → IsSearched limits spec events b → a ≡ b
 one_found limits spec events (came.Found v) (came.Found w) x y =
-    ap (λ z. came.Found z) (one_verdict (task_of limits.silent limits.statements spec events y.0 y.1)
+    ap (λ z. came.Found z) (verdict_unique (task_of limits.silent limits.statements spec events y.0 y.1)
     limits.budget v w
     (verdict_at limits spec events x.0 y.0 x.1 y.1 v x.2 y.2 x.3) y.3)
 one_found limits spec events (came.Found v) (came.Fault fault) x y =

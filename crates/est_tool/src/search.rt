@@ -8,7 +8,7 @@ use est_meaning::event::Trace;
 use est_meaning::firing::BlockFault;
 use est_plain::world::PlainWorld;
 use est_runs::run::{Limits, Started};
-use est_search::search::explain;
+use est_search::explain::explain;
 use est_search::verdict::Verdict;
 use std::alloc::{AllocError, Global};
 
@@ -30,7 +30,8 @@ pub(crate) fn search(
     requires { IsAllowedTrace checked.now trace.now }
     ensures { IfOk result (IsSearched limits.now checked.now trace.now) }
 {
-    match PlainWorld::start(alloc, checked, limits.statements)? {
+    let started = PlainWorld::start(alloc, checked, limits.statements)?;
+    match started {
         Started::Fault(fault) => Ok(Searched::Fault(fault)),
         Started::Limit => Ok(Searched::Limit),
         Started::Ready { world, outs } => {
