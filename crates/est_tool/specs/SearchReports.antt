@@ -39,16 +39,18 @@ abbrev pub refused_line : ℕ → ℕ → List ℕ
 refused_line at events =
     if nat_le at events then refused_at_line at events else refused_end_line events
 
--- a block that faults
-abbrev pub fault_line : Firing → BlockFault → List ℕ
-fault_line firing fault =
-    codes "{ fault " ++ fault_text fault ++ codes " in firing " ++ firing_text firing ++ codes " }"
-    ++ line_feed
+-- which firing a line speaks of
+abbrev pub fault_end : Firing → List ℕ
+fault_end firing = codes " in firing " ++ firing_text firing ++ codes " }" ++ line_feed
+
+-- a block that goes wrong in this way
+abbrev pub fault_line : List ℕ → Firing → List ℕ
+fault_line why firing = codes "{ fault " ++ why ++ fault_end firing
 
 -- the first block that faults, where one does
 abbrev pub faulted_line : Option Faulted → List ℕ
 faulted_line None = []
-faulted_line (Some faulted) = fault_line faulted.firing faulted.fault
+faulted_line (Some faulted) = fault_line (fault_text faulted.fault) faulted.firing
 
 -- more firings than the budget
 abbrev pub over_firings_line : ℕ → List ℕ

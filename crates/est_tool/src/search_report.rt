@@ -1,8 +1,8 @@
 //! The reports of searches.
-ghost use Rattle.std.specs.Prelude.{◌≡◌, ◌≤◌, ◌++◌, IfOk, string_bytes};
+ghost use Rattle.std.specs.Prelude.{◌≡◌, ◌≤◌, ◌++◌, IfOk, codes, string_bytes};
 ghost use Rattle.est_meaning.specs.Allowed.{most_events};
-ghost use Rattle.est_tool.specs.SearchReports.{accepted_line, explanation_text, fault_line, firing_text};
-ghost use Rattle.est_tool.specs.SearchReports.{faulted_line, no_start_line, over_action_line};
+ghost use Rattle.est_tool.specs.SearchReports.{accepted_line, explanation_text, fault_end};
+ghost use Rattle.est_tool.specs.SearchReports.{fault_line, faulted_line, no_start_line, over_action_line};
 ghost use Rattle.est_tool.specs.SearchReports.{over_firings_line, over_start_line};
 ghost use Rattle.est_tool.specs.SearchReports.{refused_at_line, refused_end_line, refused_line};
 ghost use Rattle.est_tool.specs.SearchReports.{verdict_report};
@@ -89,11 +89,12 @@ fn refused_report(
     ensures { IfOk result
         (λ lines. string_bytes lines ≡ refused_line at events ++ faulted_line faulted.now) }
 {
-    let line = refused_at(alloc, at, events)?;
-    match faulted {
-        None => Ok(line),
-        Some(faulted) => with_fault(alloc, line.as_str(), faulted.firing, faulted.fault),
+    let mut line = refused_at(alloc, at, events)?;
+    if let Some(faulted) = faulted {
+        let fault = fault_report(alloc, fault_text(faulted.fault), faulted.firing)?;
+        line.push_str(fault.as_str())?;
     }
+    Ok(line)
 }
 
 // The line that says where a trace is refused.
@@ -121,30 +122,33 @@ fn refused_end(alloc: Global, events: u32) -> Result<String, AllocError>
     format!(in alloc; "{{ refused at the end after {events} events }}\n")
 }
 
-// A line, and after it that of a block that faults.
-fn with_fault(
-    alloc: Global,
-    line: &str,
-    firing: Firing,
-    fault: BlockFault,
-) -> Result<String, AllocError>
-    ensures { IfOk result (λ lines. string_bytes lines ≡ line.now ++ fault_line firing fault) }
+// The line of a block that faults.
+fn fault_report(alloc: Global, why: &str, firing: Firing) -> Result<String, AllocError>
+    ensures { IfOk result (λ line. string_bytes line ≡ fault_line why.now firing) }
 {
-    let firing = firing_text(alloc, firing)?;
-    let fault = fault_text(fault);
-    format!(in alloc; "{line}{{ fault {fault} in firing {firing} }}\n")
+    let mut line = fault_head(alloc, why)?;
+    let tail = fault_tail(alloc, firing)?;
+    line.push_str(tail.as_str())?;
+    Ok(line)
 }
 
-// The numbers of a firing.
-fn firing_text(alloc: Global, firing: Firing) -> Result<String, AllocError>
-    ensures { IfOk result (λ text. string_bytes text ≡ firing_text firing) }
+// How that line begins.
+fn fault_head(alloc: Global, why: &str) -> Result<String, AllocError>
+    ensures { IfOk result (λ head. string_bytes head ≡ codes "{ fault " ++ why.now) }
+{
+    format!(in alloc; "{{ fault {why}")
+}
+
+// How that line ends.
+fn fault_tail(alloc: Global, firing: Firing) -> Result<String, AllocError>
+    ensures { IfOk result (λ tail. string_bytes tail ≡ fault_end firing) }
 {
     let Firing {
         instance,
         transition,
         choice,
     } = firing;
-    format!(in alloc; "{instance} {transition} {choice}")
+    format!(in alloc; " in firing {instance} {transition} {choice} }}\n")
 }
 
 // The line of a search that tries more firings than it may.
@@ -179,8 +183,13 @@ fn over_guard(alloc: Global, limit: u32) -> Result<String, AllocError>
 fn over_block(alloc: Global, limit: u32, firing: Firing) -> Result<String, AllocError>
     ensures { IfOk result (λ line. string_bytes line ≡ over_action_line limit (Some firing)) }
 {
-    let by = firing_text(alloc, firing)?;
-    format!(in alloc; "{{ over budget: firing {by} passed the limit {limit} after these moves }}\n")
+    let Firing {
+        instance,
+        transition,
+        choice,
+    } = firing;
+    format!(in alloc; "{{ over budget: firing {instance} {transition} {choice} passed the limit \
+        {limit} after these moves }}\n")
 }
 
 /// The line of a start that passes the limit of statements.
