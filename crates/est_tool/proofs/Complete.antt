@@ -13,6 +13,7 @@ use Rattle.est_search.specs.declared.verdict.Verdict.{Verdict}
 use Rattle.est_search.specs.declared.verdict.Verdict.TheVariants as verdict
 use Rattle.est_search.specs.Verdict.{IsVerdict}
 use Rattle.est_search.proofs.OneVerdict.{too_many}
+use Rattle.est_tool.specs.declared.file.File.{File}
 use Rattle.est_tool.specs.declared.file.File.TheVariants.{Specification, Trace}
 use Rattle.est_tool.specs.declared.search.Searched.{Searched}
 use Rattle.est_tool.specs.declared.search.Searched.TheVariants as came
@@ -23,8 +24,9 @@ use Rattle.est_tool.specs.declared.status.Status.TheVariants.{Usage, ReadFault, 
 use Rattle.est_tool.specs.declared.status.Status.TheVariants.{OutOfMemory, NoStart, NotBuilt}
 use Rattle.est_tool.specs.Completeness.{IsSearchOf, IsJudged, IsWithinLimits, Decides}
 use Rattle.est_tool.specs.Completeness.{SearchIsComplete}
-use Rattle.est_tool.specs.Ends.{End, reported, unread, EndsAt, failed, Ends, ExplainEnds}
-use Rattle.est_tool.specs.Ends.{ends_at_specification, ends_at_trace}
+use Rattle.est_tool.specs.Ends.{End, reported, unread, EndsAt, longer, refused, failed, Ends}
+use Rattle.est_tool.specs.Ends.{ExplainEnds, ends_at_specification, not_run, ends_at_trace}
+use Rattle.est_tool.specs.Ends.{not_started, start_over, searched}
 use Rattle.est_tool.specs.FileTexts.{Refusals, OfSpecification, OfTrace}
 use Rattle.est_tool.specs.FileTexts.{RefusesSpecification, RefusesTrace}
 use Rattle.est_tool.specs.Requests.{Request, Asks, explain, bytes_of}
