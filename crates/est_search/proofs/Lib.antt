@@ -1,0 +1,9 @@
+pub mod AheadLaws
+pub mod KnownLaws
+pub mod EventLaws
+pub mod PathLaws
+pub mod WalkLaws
+pub mod StartLaws
+pub mod VerdictLaws
+pub mod CallLaws
+pub mod OneVerdict

@@ -65,3 +65,8 @@ IsWithinTried c (Accepted run) many = HasMany (IsTrialUpTo c (reverse run)) many
 IsWithinTried c (Refused at run faulted) many = Unit {0}
 IsWithinTried c (OverFirings tried) many = Unit {0}
 IsWithinTried c (OverAction run firing) many = Unit {0}
+
+-- a setup has one verdict at most within a budget
+abbrev pub VerdictIsUnique : Type 0
+VerdictIsUnique = (c : Setup) (budget : ℕ) (v w : Verdict) → IsVerdict c budget v
+    → IsVerdict c budget w → v ≡ w

@@ -1,0 +1,465 @@
+-- The steps of a search, as the code asks for them.
+use Rattle.std.proofs.Common.{◌≡◌, ℕ, suc, ◌+◌, ◌*◌, ◌-◌, ◌^◌, ◌<◌, ◌≤◌, ◌⊎◌, Bool, true, false, nat_eq}
+use Rattle.std.proofs.Common.{List, [], ◌∷◌, ◌++◌, Option, Some, None, length, reverse, take, drop}
+use Rattle.std.proofs.Common.{Result, Ok, Err, OnErr, get_or, refl, sym, ap, subst, ◌∙◌, inl, inr, zero-le, arith}
+use Rattle.std.specs.Option.{option_or}
+use Rattle.std.proofs.lemmas.Bool.Decides.{nat_tests}
+use Rattle.std.proofs.lemmas.List.{length-reverse, reverse-reverse, append_cancel_left}
+use Rattle.est_syntax.specs.declared.specification.Spec.{Spec}
+use Rattle.est_meaning.specs.declared.event.Event.{Event}
+use Rattle.est_meaning.specs.declared.firing.Firing.{Firing}
+use Rattle.est_meaning.specs.declared.firing.BlockFault.{BlockFault}
+use Rattle.est_meaning.specs.Situation.{Situation}
+use Rattle.est_meaning.specs.Allowed.{IsAllowed, units_of}
+use Rattle.est_meaning.specs.Choices.{IsSettled, IsPossible}
+use Rattle.est_meaning.specs.Blocks.{Outcome, Done, Fault, Limit}
+use Rattle.est_meaning.specs.Step.{outcome, after_event}
+use Rattle.est_runs.specs.declared.run.Move.{Move}
+use Rattle.est_runs.specs.declared.run.Move.TheVariants.{Take, Fire}
+use Rattle.est_runs.specs.declared.run.Fired.TheVariants as fired
+use Rattle.est_runs.specs.declared.run.Offers.TheVariants.{Settled, Unsettled}
+use Rattle.est_runs.specs.Stack.{Stack, pushed, AreOptions, OffersAre, FiredAs}
+use Rattle.est_runs.specs.Task.{Suits}
+use Rattle.est_runs.specs.Run.{Setup, Place, Takes, IsFromOutside, after_taking, silent_after}
+use Rattle.est_runs.specs.Trials.{IsTrial, HasMany}
+use Rattle.est_runs.proofs.ClockLaws.{clock_bounded}
+use Rattle.est_runs.proofs.RunLaws.{bounded_is_run}
+use Rattle.est_runs.proofs.StackLaws.{fired_done, fired_fault, fired_limit}
+use Rattle.est_search.specs.declared.path.Stage.TheVariants.{Fresh, Taken, Listed}
+use Rattle.est_search.specs.declared.path.Level.{Level}
+use Rattle.est_search.specs.declared.path.Path.{Path}
+use Rattle.est_search.specs.declared.path.Best.{Best}
+use Rattle.est_search.specs.declared.walk.Notes.{Notes}
+use Rattle.est_search.specs.declared.walk.Walk.{Walk}
+use Rattle.est_search.specs.declared.walk.Landed.TheVariants.{Found, On, Off}
+use Rattle.est_search.specs.inside.Agreement.{AgreeFor}
+use Rattle.est_search.specs.inside.Path.{View, view_of, place_at, entered, with_firings, with_taken}
+use Rattle.est_search.specs.inside.Path.{IsNext, IsUndone, stage_after, HasReached, HasKept}
+use Rattle.est_search.specs.inside.Walk.{IsOnWay, IsWalk, IsReady, IsTrying, IsFound, Accepts}
+use Rattle.est_search.specs.inside.Walk.{HasLedOn, HasDeparted, HasLanded, KnowsAll, IsOver, weight_of, load}
+use Rattle.est_search.proofs.EventLaws.{next_event}
+use Rattle.est_search.proofs.WalkLaws.{skipped, taken_found, taken_on}
+use Rattle.est_search.proofs.WalkLaws.{settled_on, unsettled_on, fire_possible, over, fault_on}
+use Rattle.est_search.proofs.WalkLaws.{limit_on, silent_on, departed_on, led_found, led_on}
+use Rattle.est_search.proofs.WalkLaws.{back_depth, back_on, all_done}
+
+pub made_many : (p : Path) → length p.moves.items ≡ length (view_of p).moves
+made_many p = sym (length-reverse p.moves.items)
+
+pub pushed_same : (s t : Situation) (a b : Stack) → pushed s a ≡ pushed t b → a ≡ b
+pushed_same s t a b e =
+    let f : a.now ∷ a.below ≡ b.now ∷ b.below = ap (λ (w : Stack). w.below) e in
+    let n : a.now ≡ b.now = cc in
+    let m : a.below ≡ b.below = cc in
+    ap (λ x. let w : Stack = record { now = x; below = a.below } in w) n
+    ∙ ap (λ x. let w : Stack = record { now = b.now; below = x } in w) m
+
+-- TAKING
+
+module _ (c : Setup) (spec : Spec) (limit silent : ℕ) (trace : List Event) (stack : Stack)
+    (w : Walk) (r : IsReady c spec limit silent trace stack w) where
+  -- the next event is that of the trace
+  next_there : (e : Event) → get_or trace w.path.top.matched e ≡ e
+      → get_or c.trace w.path.top.matched e ≡ e
+  next_there e is = subst (λ es. get_or es w.path.top.matched e ≡ e) (sym r.suits.trace_is) is
+
+  pub matched_within : w.path.top.matched < length trace
+  matched_within = subst (λ es. w.path.top.matched < length es) r.suits.trace_is
+      r.on_way.at.node.unfinished
+
+  pub next_allowed : (e : Event) → get_or trace w.path.top.matched e ≡ e → IsAllowed spec e
+  next_allowed e is =
+      let a : IsAllowed c.spec (get_or c.trace w.path.top.matched e) =
+      r.suits.allowed.each w.path.top.matched e r.on_way.at.node.unfinished in
+      subst (λ x. IsAllowed x e) r.suits.spec_is (subst (IsAllowed c.spec) (next_there e is) a)
+
+  module _ (fresh : w.path.stage ≡ Fresh) (e : Event)
+      (is : get_or trace w.path.top.matched e ≡ e) where
+    pub time_fits : IsFromOutside e → stack.now.clock + units_of e ≤ 10 ^ 15
+    time_fits outside =
+        let way = r.on_way in
+        let h = (view_of w.path).moves in
+        let p = place_at c stack.now w.path.top in
+        let b = clock_bounded c h p r.suits.begun r.suits.allowed
+        (bounded_is_run c h p way.at.node.is_run) in
+        let t : Takes c p (after_taking c p e) = record {
+          event = e;
+          rest = drop (w.path.top.matched + 1) c.trace;
+          outside = outside;
+          next = next_event c.trace w.path.top.matched e way.at.node.unfinished (next_there e is);
+          leads = refl;
+        } in
+        b.1 (after_taking c p e) t
+
+    no_take : (IsFromOutside e → ⊥) → (q : Place)
+        → Takes c (place_at c stack.now w.path.top) q → ⊥
+    no_take inside q t =
+        let m = w.path.top.matched in
+        let both : t.event ∷ t.rest ≡ e ∷ drop (m + 1) c.trace =
+        append_cancel_left (take m c.trace) (t.event ∷ t.rest) (e ∷ drop (m + 1) c.trace)
+        (sym t.next ∙ next_event c.trace m e r.on_way.at.node.unfinished (next_there e is)) in
+        let same : t.event ≡ e = cc in
+        inside (subst IsFromOutside same t.outside)
+
+    -- the event does not come from outside
+    pub skip_call : (stack' : Stack) (new : Walk) → (IsFromOutside e → ⊥) → stack' ≡ stack
+        → view_of new.path ≡ with_taken (view_of w.path) → new.tried ≡ w.tried
+        → new.best ≡ w.best → new.notes ≡ w.notes → IsWalk c stack' new
+    skip_call stack' new inside same path tried best notes =
+        subst (λ s. IsOnWay c s (view_of new.path) new.tried new.best new.notes) (sym same)
+        (subst (λ v. IsOnWay c stack v new.tried new.best new.notes) (sym path)
+        (subst (λ n. IsOnWay c stack (with_taken (view_of w.path)) n new.best new.notes) (sym tried)
+        (subst (λ b. IsOnWay c stack (with_taken (view_of w.path)) w.tried b new.notes) (sym best)
+        (subst (λ n. IsOnWay c stack (with_taken (view_of w.path)) w.tried w.best n) (sym notes)
+        (skipped c stack (view_of w.path) w.tried w.best w.notes r.on_way fresh
+        (no_take inside))))))
+
+    -- the event is taken
+    pub take_call : (stack' : Stack) (new : Walk) (found : Bool) → IsFromOutside e
+        → stack' ≡ pushed (after_event spec stack.now e) stack
+        → HasReached w.best new.best (length w.path.moves.items) Take (w.path.top.matched + 1)
+        → view_of new.path ≡ entered (view_of w.path) Take (w.path.top.matched + 1) 0
+        → new.tried ≡ w.tried → new.notes ≡ w.notes
+        → found ≡ nat_eq (w.path.top.matched + 1) (length trace) → IsFound c stack' found new
+    take_call stack' new true outside same reached path tried notes at_end =
+        let m = matched_within in
+        let n : length c.trace ≡ length trace = ap length r.suits.trace_is in
+        let e' : w.path.top.matched + 1 ≡ length trace = grind (arith, nat_tests) in
+        subst (λ h. Accepts c h new.tried) (sym (ap (λ (v : View). v.moves) path))
+        (subst (λ n. Accepts c (Take ∷ (view_of w.path).moves) n) (sym tried)
+        (taken_found c stack (view_of w.path) w.tried w.best w.notes r.on_way fresh e
+        (next_there e is) outside (omega arith)))
+    take_call stack' new false outside same reached path tried notes at_end =
+        let m = matched_within in
+        let n : length c.trace ≡ length trace = ap length r.suits.trace_is in
+        let lt : w.path.top.matched + 1 < length trace = grind (arith, nat_tests) in
+        let to : stack' ≡ pushed (after_event c.spec stack.now e) stack =
+        same ∙ ap (λ x. pushed (after_event x stack.now e) stack) (sym r.suits.spec_is) in
+        subst (λ s. IsOnWay c s (view_of new.path) new.tried new.best new.notes) (sym to)
+        (subst (λ v. IsOnWay c (pushed (after_event c.spec stack.now e) stack) v new.tried new.best
+        new.notes) (sym path)
+        (subst (λ n. IsOnWay c (pushed (after_event c.spec stack.now e) stack)
+        (entered (view_of w.path) Take (w.path.top.matched + 1) 0) n new.best new.notes)
+        (sym tried)
+        (subst (λ n. IsOnWay c (pushed (after_event c.spec stack.now e) stack)
+        (entered (view_of w.path) Take (w.path.top.matched + 1) 0) w.tried new.best n)
+        (sym notes)
+        (taken_on c stack (view_of w.path) w.tried w.best w.notes r.on_way fresh e
+        (next_there e is) outside new.best (length w.path.moves.items) (made_many w.path) reached
+        (omega arith)))))
+
+-- LISTING
+
+module _ (c : Setup) (spec : Spec) (limit silent : ℕ) (trace : List Event) (stack stack' : Stack)
+    (w new : Walk) (r : IsReady c spec limit silent trace stack w) (taken : w.path.stage ≡ Taken)
+    (offers : List Firing) (same : stack' ≡ stack)
+    (path : view_of new.path ≡ with_firings (view_of w.path) offers) (tried : new.tried ≡ w.tried)
+    (best : new.best ≡ w.best) where
+  listed_call : (notes : Notes) → new.notes ≡ notes
+      → IsOnWay c stack (with_firings (view_of w.path) offers) w.tried w.best notes
+      → IsWalk c stack' new
+  listed_call notes notes_are way =
+      subst (λ s. IsOnWay c s (view_of new.path) new.tried new.best new.notes) (sym same)
+      (subst (λ v. IsOnWay c stack v new.tried new.best new.notes) (sym path)
+      (subst (λ n. IsOnWay c stack (with_firings (view_of w.path) offers) n new.best new.notes)
+      (sym tried)
+      (subst (λ b. IsOnWay c stack (with_firings (view_of w.path) offers) w.tried b new.notes)
+      (sym best)
+      (subst (λ n. IsOnWay c stack (with_firings (view_of w.path) offers) w.tried w.best n)
+      (sym notes_are) way))))
+
+  settled_there : IsSettled limit spec stack.now → IsSettled c.limit c.spec stack.now
+  settled_there s = subst (λ l. IsSettled l c.spec stack.now) (sym r.suits.limit_is)
+      (subst (λ x. IsSettled limit x stack.now) (sym r.suits.spec_is) s)
+
+  settled_here : IsSettled c.limit c.spec stack.now → IsSettled limit spec stack.now
+  settled_here s = subst (λ l. IsSettled l spec stack.now) r.suits.limit_is
+      (subst (λ x. IsSettled c.limit x stack.now) r.suits.spec_is s)
+
+  options_there : AreOptions limit spec stack.now offers
+      → AreOptions c.limit c.spec stack.now offers
+  options_there o = subst (λ l. AreOptions l c.spec stack.now offers) (sym r.suits.limit_is)
+      (subst (λ x. AreOptions limit x stack.now offers) (sym r.suits.spec_is) o)
+
+  pub settled_call : new.notes ≡ w.notes → OffersAre limit spec stack.now Settled offers
+      → IsWalk c stack' new
+  settled_call notes o = listed_call w.notes notes
+      (settled_on c stack (view_of w.path) w.tried w.best w.notes r.on_way taken offers
+      (settled_there o.0) (options_there o.1))
+
+  pub unsettled_call : new.notes ≡ record w.notes { passed = option_or w.notes.passed
+      (Some (record { run = w.path.moves.items; firing = None })) }
+      → OffersAre limit spec stack.now Unsettled offers → IsWalk c stack' new
+  unsettled_call notes o = listed_call _ notes
+      (unsettled_on c stack (view_of w.path) w.tried w.best w.notes r.on_way taken offers
+      w.path.moves.items refl (λ s. o.0 (settled_here s)) o.1)
+
+-- FIRING
+
+pub on_err : {T E P : Type 0} (r : Result T E) → P → OnErr r P
+on_err (Ok v) p = tt
+on_err (Err e) p = p
+
+module _ (c : Setup) (spec : Spec) (limit silent : ℕ) (trace : List Event) (stack : Stack)
+    (w : Walk) (f : Firing) (t : IsTrying c spec limit silent trace stack w f) where
+  outcome_there : (o : Outcome) → outcome limit spec stack.now f ≡ o
+      → outcome c.limit c.spec stack.now f ≡ o
+  outcome_there o e = subst (λ l. outcome l c.spec stack.now f ≡ o) (sym t.suits.limit_is)
+      (subst (λ x. outcome limit x stack.now f ≡ o) (sym t.suits.spec_is) e)
+
+  pub possible_call : IsPossible limit spec stack.now f
+  possible_call = subst (λ l. IsPossible l spec stack.now f) t.suits.limit_is
+      (subst (λ x. IsPossible c.limit x stack.now f) t.suits.spec_is
+      (fire_possible c stack t.before w.tried w.best w.notes t.on_way f (view_of w.path) t.next))
+
+  moves_same : (view_of w.path).moves ≡ t.before.moves
+  moves_same = ap (λ (v : View). v.moves) t.next.next_is
+
+  top_matched : w.path.top.matched ≡ t.before.top.matched
+  top_matched = ap (λ (v : View). v.top.matched) t.next.next_is
+
+  top_silent : w.path.top.silent ≡ t.before.top.silent
+  top_silent = ap (λ (v : View). v.top.silent) t.next.next_is
+
+  pub trying_within : w.path.top.matched < length trace
+  trying_within =
+      let u : t.before.top.matched < length c.trace = t.on_way.at.node.unfinished in
+      let n : length c.trace ≡ length trace = ap length t.suits.trace_is in
+      let e = top_matched in
+      omega arith
+
+  pub many_trying : HasMany (IsTrial c) (w.tried + 1)
+  many_trying = (over c stack t.before w.tried w.best w.notes t.on_way f (view_of w.path) t.next).size
+
+  pub fault_call : (stack' : Stack) (new : Walk) (fault : BlockFault) (events : List Event)
+      → FiredAs (outcome limit spec stack.now f) (fired.Fault fault) events stack stack'
+      → new.path ≡ w.path → new.tried ≡ w.tried + 1 → new.best ≡ w.best
+      → new.notes ≡ record w.notes { faulted = option_or w.notes.faulted
+      (Some (record { run = w.path.moves.items; firing = f; fault = fault })) }
+      → IsWalk c stack' new
+  fault_call stack' new fault events is path tried best notes =
+      let a = fired_fault (outcome limit spec stack.now f) fault events stack stack' is in
+      let way = fault_on c stack t.before w.tried w.best w.notes t.on_way f (view_of w.path) t.next
+      w.path.moves.items fault moves_same (outcome_there (Fault fault) a.0) in
+      rw (a.1, path, tried, best, notes) way
+
+  pub limit_call : (stack' : Stack) (new : Walk) (events : List Event)
+      → FiredAs (outcome limit spec stack.now f) fired.Limit events stack stack'
+      → new.path ≡ w.path → new.tried ≡ w.tried + 1 → new.best ≡ w.best
+      → new.notes ≡ record w.notes { passed = option_or w.notes.passed
+      (Some (record { run = w.path.moves.items; firing = Some f })) }
+      → IsWalk c stack' new
+  limit_call stack' new events is path tried best notes =
+      let a = fired_limit (outcome limit spec stack.now f) events stack stack' is in
+      let way = limit_on c stack t.before w.tried w.best w.notes t.on_way f (view_of w.path) t.next
+      w.path.moves.items moves_same (outcome_there Limit a.0) in
+      rw (a.1, path, tried, best, notes) way
+
+  -- it is done
+  module _ (mid : Walk) (stack' : Stack) (path : mid.path ≡ w.path) (tried : mid.tried ≡ w.tried + 1)
+      (best : mid.best ≡ w.best) (notes : mid.notes ≡ w.notes)
+      (is : FiredAs (outcome limit spec stack.now f) fired.Done mid.outs.items stack stack')
+      where
+    done : (s : Situation) × (outcome limit spec stack.now f ≡ Done s mid.outs.items)
+        × (stack' ≡ pushed s stack)
+    done = fired_done (outcome limit spec stack.now f) mid.outs.items stack stack' is
+
+    done_there : outcome c.limit c.spec stack.now f ≡ Done done.0 mid.outs.items
+    done_there = outcome_there (Done done.0 mid.outs.items) done.1
+
+    matched_is : mid.path.top.matched ≡ t.before.top.matched
+    matched_is = ap (λ (p : Path). p.top.matched) path ∙ top_matched
+
+    silent_is : mid.path.top.silent ≡ t.before.top.silent
+    silent_is = ap (λ (p : Path). p.top.silent) path ∙ top_silent
+
+    made_is : length mid.path.moves.items ≡ length t.before.moves
+    made_is = ap (λ (p : Path). length p.moves.items) path ∙ made_many w.path ∙ ap length moves_same
+
+    few_there : silent_after mid.path.top.silent mid.outs.items ≤ silent
+        → silent_after t.before.top.silent mid.outs.items ≤ c.silent
+    few_there le =
+        let e = ap (λ n. silent_after n mid.outs.items) silent_is in
+        let s = t.suits.silent_is in
+        omega arith
+
+    agree_there : (k : ℕ) → AgreeFor trace mid.path.top.matched mid.outs.items k
+        → AgreeFor c.trace t.before.top.matched mid.outs.items k
+    agree_there k a = subst (λ es. AgreeFor es t.before.top.matched mid.outs.items k)
+        (sym t.suits.trace_is) (subst (λ n. AgreeFor trace n mid.outs.items k) matched_is a)
+
+    module _ (new : Walk) (tried' : new.tried ≡ mid.tried) where
+      reached_there : (k : ℕ) → HasReached mid.best new.best (length mid.path.moves.items) (Fire f)
+          (mid.path.top.matched + k)
+          → HasReached w.best new.best (length mid.path.moves.items) (Fire f)
+          (t.before.top.matched + k)
+      reached_there k r = subst (λ n. HasReached w.best new.best (length mid.path.moves.items) (Fire f)
+          (n + k)) matched_is (subst (λ b. HasReached b new.best (length mid.path.moves.items) (Fire f)
+          (mid.path.top.matched + k)) best r)
+
+      -- it does not lead on
+      pub off_call : (back : Stack) → stack' ≡ pushed stack'.now back
+          → HasLanded trace silent mid new f Off → IsWalk c back new
+      off_call back undone landed =
+          let same : back ≡ stack =
+          sym (pushed_same done.0 stack'.now stack back (sym done.2 ∙ undone)) in
+          elim landed [
+            | inl a ↦
+                (let e = ap (λ n. silent_after n mid.outs.items) silent_is in
+                let s = t.suits.silent_is in
+                let many = a.0 in
+                let way = silent_on c stack t.before w.tried w.best w.notes t.on_way f
+                (view_of w.path) t.next done.0 mid.outs.items done_there (omega arith) in
+                let p : new.path ≡ w.path = ap (λ (u : Walk). u.path) a.1 ∙ path in
+                let n : new.tried ≡ w.tried + 1 = tried' ∙ tried in
+                let b : new.best ≡ w.best = ap (λ (u : Walk). u.best) a.1 ∙ best in
+                let m : new.notes ≡ w.notes = ap (λ (u : Walk). u.notes) a.1 ∙ notes in
+                rw (same, p, n, b, m) way)
+            | inr a ↦
+                (let way = departed_on c stack t.before w.tried w.best w.notes t.on_way f
+                (view_of w.path) t.next done.0 mid.outs.items done_there (few_there a.few) a.k
+                (agree_there a.k a.agree) new.best (length mid.path.moves.items) made_is
+                (reached_there a.k a.best) a.short in
+                let p : new.path ≡ w.path = a.path ∙ path in
+                let n : new.tried ≡ w.tried + 1 = tried' ∙ tried in
+                let m : new.notes ≡ w.notes = a.notes ∙ notes in
+                rw (same, p, n, m) way)
+          ]
+
+      entered_there : HasLedOn trace silent mid new f → view_of new.path
+          ≡ entered (view_of w.path) (Fire f) (t.before.top.matched + length mid.outs.items)
+          (silent_after t.before.top.silent mid.outs.items)
+      entered_there l = l.path
+          ∙ ap (λ (p : Path). entered (view_of p) (Fire f) (mid.path.top.matched
+          + length mid.outs.items) (silent_after mid.path.top.silent mid.outs.items)) path
+          ∙ ap (λ n. entered (view_of w.path) (Fire f) (n + length mid.outs.items)
+          (silent_after mid.path.top.silent mid.outs.items)) matched_is
+          ∙ ap (λ n. entered (view_of w.path) (Fire f) (t.before.top.matched
+          + length mid.outs.items) (silent_after n mid.outs.items)) silent_is
+
+      -- it leads on
+      pub on_call : HasLanded trace silent mid new f On → IsWalk c stack' new
+      on_call landed =
+          let l = landed.0 in
+          let lt = landed.1 in
+          let n : length c.trace ≡ length trace = ap length t.suits.trace_is in
+          let e = matched_is in
+          let way = led_on c stack t.before w.tried w.best w.notes t.on_way f (view_of w.path) t.next
+          done.0 mid.outs.items done_there (few_there l.few)
+          (agree_there (length mid.outs.items) l.agree) new.best (length mid.path.moves.items) made_is
+          (reached_there (length mid.outs.items) l.best) (omega arith) in
+          let v = entered_there l in
+          let n' : new.tried ≡ w.tried + 1 = tried' ∙ tried in
+          let m : new.notes ≡ w.notes = l.notes ∙ notes in
+          rw (done.2, v, n', m) way
+
+      -- it explains the trace
+      pub found_call : HasLanded trace silent mid new f Found
+          → Accepts c (reverse new.path.moves.items) new.tried
+      found_call landed =
+          let l = landed.0 in
+          let end = landed.1 in
+          let n : length c.trace ≡ length trace = ap length t.suits.trace_is in
+          let e = matched_is in
+          let x : Accepts c (Fire f ∷ t.before.moves) (w.tried + 1) =
+          led_found c stack t.before w.tried w.best w.notes t.on_way f (view_of w.path) t.next
+          done.0 mid.outs.items done_there (few_there l.few)
+          (agree_there (length mid.outs.items) l.agree) (omega arith) in
+          let h : (view_of new.path).moves ≡ Fire f ∷ t.before.moves =
+          ap (λ (v : View). v.moves) (entered_there l) ∙ ap (λ u. Fire f ∷ u) moves_same in
+          let n' : new.tried ≡ w.tried + 1 = tried' ∙ tried in
+          rw (h, n') x
+
+-- BACK
+
+load_after : (n : ℕ) (made : Move) (w : View) → w.stage ≡ stage_after made
+    → load n w ≤ 2 + 2 * length w.lower
+load_after n Take w e =
+    (let k : weight_of n w.top.matched w.stage ≡ 2 = ap (weight_of n w.top.matched) e in omega arith)
+load_after n (Fire f) w e =
+    (let k : weight_of n w.top.matched w.stage ≡ 1 = ap (weight_of n w.top.matched) e in omega arith)
+
+pub load_back : (n : ℕ) (made : Move) (v w : View) → v.stage ≡ Listed → IsUndone v made w
+    → load n w < load n v
+load_back n made v w e u =
+    let k : weight_of n v.top.matched v.stage ≡ 1 = ap (weight_of n v.top.matched) e in
+    let l : length v.lower ≡ length w.lower + 1 = ap length u.lower ∙ (omega arith) in
+    let m = load_after n made w u.stage in
+    omega arith
+
+-- one firing more was tried
+pub work_tried : (n budget t t' a b : ℕ) → t < budget → t' ≡ t + 1 → a < b + (3 * n + 5)
+    → (budget - t') * (3 * n + 5) + a < (budget - t) * (3 * n + 5) + b
+work_tried n budget t t' a b lt e less =
+    let f : budget - t ≡ suc (budget - t') = omega arith in
+    let g : (budget - t) * (3 * n + 5) ≡ (budget - t') * (3 * n + 5) + (3 * n + 5) =
+    rw f (omega arith) in
+    omega arith
+
+module _ (c : Setup) (stack : Stack) (w : Walk) (way : IsWalk c stack w)
+    (stage : w.path.stage ≡ Listed)
+    (spent : (w.path.top.left ≡ 0) ⊎ (w.path.firings.items ≡ [])) where
+  spent_view : ((view_of w.path).top.left ≡ 0) ⊎ ((view_of w.path).firings ≡ [])
+  spent_view = elim spent [ inl e ↦ inl e | inr e ↦ inr (ap reverse e) ]
+
+  pub depth_call : (made : Move) (p : Path) → IsUndone (view_of w.path) made (view_of p)
+      → 0 < length stack.below
+  depth_call made p undone = back_depth c stack (view_of w.path) w.tried w.best w.notes way stage
+      spent_view made (view_of p) undone
+
+  pub back_call : (new : Walk) (stack' : Stack) (made : Move)
+      → IsUndone (view_of w.path) made (view_of new.path) → stack ≡ pushed stack.now stack'
+      → HasKept w.best new.best (length new.path.moves.items) made → new.tried ≡ w.tried
+      → new.notes ≡ w.notes → IsWalk c stack' new
+  back_call new stack' made undone back kept tried notes =
+      let on = back_on c stack (view_of w.path) w.tried w.best w.notes way stage spent_view made
+      (view_of new.path) stack' new.best (length new.path.moves.items) undone back
+      (made_many new.path) kept in
+      rw (tried, notes) on
+
+  pub done_call : (w.path.lower.items ≡ []) ⊎ (w.path.moves.items ≡ [])
+      → KnowsAll c (λ x. ⊥) [] w.tried w.best w.notes
+  done_call end = all_done c stack (view_of w.path) w.tried w.best w.notes way stage spent_view
+      (elim end [ inl e ↦ inl (ap reverse e) | inr e ↦ inr (ap reverse e) ])
+
+-- THE NEXT FIRING
+
+nil_reversed : {X : Type 0} (xs : List X) → reverse xs ≡ [] → xs ≡ []
+nil_reversed xs e = sym (reverse-reverse xs) ∙ ap reverse e
+
+pub stage_kept : (p q : Path) → view_of q ≡ view_of p → p.stage ≡ Listed → q.stage ≡ Listed
+stage_kept p q same e = ap (λ (v : View). v.stage) same ∙ e
+
+pub spent_kept : (p q : Path) → view_of q ≡ view_of p
+    → (p.top.left ≡ 0) ⊎ (p.firings.items ≡ []) → (q.top.left ≡ 0) ⊎ (q.firings.items ≡ [])
+spent_kept p q same spent = elim spent [
+  | inl e ↦ inl (ap (λ (v : View). v.top.left) same ∙ e)
+  | inr e ↦ inr (nil_reversed q.firings.items (ap (λ (v : View). v.firings) same ∙ ap reverse e))
+]
+
+pub way_kept : (c : Setup) (stack : Stack) (w : Walk) (q : Path) → view_of q ≡ view_of w.path
+    → IsWalk c stack w → IsWalk c stack (record w { path = q })
+way_kept c stack w q same way = subst (λ v. IsOnWay c stack v w.tried w.best w.notes) (sym same) way
+
+pub load_kept : (n : ℕ) (p q r : Path) → view_of q ≡ view_of p
+    → load n (view_of r) < load n (view_of q) → load n (view_of r) < load n (view_of p)
+load_kept n p q r same lt = subst (λ v. load n (view_of r) < load n v) same lt
+
+pub load_next : (n : ℕ) (v w : View) (f : Firing) → IsNext v f w → load n w ≡ load n v
+load_next n v w f next = ap (load n) next.next_is
+
+pub trying : (c : Setup) (spec : Spec) (limit silent : ℕ) (trace : List Event) (stack : Stack)
+    (w : Walk) (f : Firing) (p : Path) → IsReady c spec limit silent trace stack w
+    → IsNext (view_of w.path) f (view_of p)
+    → IsTrying c spec limit silent trace stack (record w { path = p }) f
+trying c spec limit silent trace stack w f p r next = record {
+  suits = r.suits;
+  before = view_of w.path;
+  next = next;
+  on_way = r.on_way;
+}
+
+pub over_call : (c : Setup) (stack : Stack) (w : Walk) (f : Firing) (p : Path)
+    → IsWalk c stack w → IsNext (view_of w.path) f (view_of p) → IsOver c w.tried
+over_call c stack w f p way next =
+    over c stack (view_of w.path) w.tried w.best w.notes way f (view_of p) next

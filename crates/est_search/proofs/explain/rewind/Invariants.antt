@@ -1,0 +1,16 @@
+use Rattle.std.proofs.Common.{◌≡◌, ◌+◌, length}
+use Rattle.est_syntax.specs.declared.specification.Spec.{Spec}
+use Rattle.est_runs.specs.Stack.{Keeps}
+use Rattle.est_search.specs.inside.Walk.{SameBottom}
+use Rattle.est_search.proofs.explain.rewind.Given as goal
+
+abbrev pub invariant-loop-step : goal.invariant-loop-step
+invariant-loop-step g l =
+    let w = g.W.World in
+    record {
+      keeps : Keeps w.speaks w.limit l.fn.world l.world;
+      fired : w.fired l.world ≡ w.fired l.fn.world;
+      bottom : SameBottom w.speaks w.stack l.fn.world l.world;
+      below : (spec : Spec) → w.speaks l.world spec
+          → length (w.stack l.world spec).below + l.step ≡ l.depth;
+    }
