@@ -3,7 +3,6 @@ use Rattle.std.proofs.Common.{◌≡◌, ℕ, ◌+◌, ◌<◌, ◌≤◌, ◌�
 use Rattle.std.proofs.Common.{length, take, drop, get_or, refl, sym, ap, subst, ◌∙◌, inl, inr}
 use Rattle.std.proofs.Common.{reverse, zero-le, arith}
 use Rattle.std.specs.Option.{option_or}
-use Rattle.std.proofs.lemmas.List.{append_cancel_left}
 use Rattle.est_meaning.specs.declared.event.Event.{Event}
 use Rattle.est_meaning.specs.declared.firing.Firing.{Firing}
 use Rattle.est_meaning.specs.declared.firing.BlockFault.{BlockFault}
@@ -17,13 +16,12 @@ use Rattle.est_runs.specs.declared.run.Move.TheVariants.{Take, Fire}
 use Rattle.est_runs.specs.Order.{Mark, Taking, Guarding, Trying, mark_of, marks_of, StartsWith}
 use Rattle.est_runs.specs.Stack.{Stack, pushed, AreOptions}
 use Rattle.est_runs.specs.Run.{Setup, Place, Takes, IsFromOutside, after_taking, after_firing}
-use Rattle.est_runs.specs.Run.{silent_after, IsBoundedRun, Follows, Explains, YieldsFirst}
-use Rattle.est_runs.specs.Trials.{IsInner, IsTrial, ComesTo, IsUnsettled, PassesLimit, guards}
+use Rattle.est_runs.specs.Run.{silent_after, IsBoundedRun, Explains, YieldsFirst}
+use Rattle.est_runs.specs.Trials.{IsTrial, ComesTo, PassesLimit, guards}
 use Rattle.est_runs.specs.Trials.{block, Faults}
 use Rattle.est_runs.proofs.OrderLaws.{marks_same, starts_self, starts_one}
 use Rattle.est_runs.proofs.RunLaws.{one_place, explains_follows}
 use Rattle.est_runs.proofs.TreeLaws.{IsInTree, IsOnTree, passes_in_tree, faults_in_tree}
-use Rattle.est_search.specs.declared.path.Stage.{Stage}
 use Rattle.est_search.specs.declared.path.Stage.TheVariants.{Fresh, Taken, Listed}
 use Rattle.est_search.specs.declared.path.Level.{Level}
 use Rattle.est_search.specs.declared.path.Best.{Best}
@@ -34,8 +32,8 @@ use Rattle.est_search.specs.inside.Ahead.{IsAfter, IsAhead}
 use Rattle.est_search.specs.inside.Known.{KnowsTrials, Knows, IsNoted}
 use Rattle.est_search.specs.inside.Agreement.{AgreeFor}
 use Rattle.est_search.specs.inside.Path.{View, place_at, entered, with_firings, with_taken}
-use Rattle.est_search.specs.inside.Path.{IsNext, IsUndone, stage_after, IsNode, AreLeft, StageIs}
-use Rattle.est_search.specs.inside.Path.{AreLeftBelow, AreLower, IsAt, IsKept, HasReached, HasKept}
+use Rattle.est_search.specs.inside.Path.{IsNext, IsUndone, stage_after, AreLeft, StageIs}
+use Rattle.est_search.specs.inside.Path.{AreLeftBelow, AreLower, IsAt, HasReached, HasKept}
 use Rattle.est_search.specs.inside.Walk.{passed_at, faulted_at, FaultIs, KnowsAll, IsOnWay}
 use Rattle.est_search.specs.inside.Walk.{Accepts, IsOver}
 use Rattle.est_search.proofs.AheadLaws.{Turn, Skip, turn_on, turn_off, skip_mark, skip_back}
@@ -229,8 +227,11 @@ module _ (c : Setup) (stack : Stack) (v : View) (tried : ℕ) (best : Best) (not
 
       taken_yields : YieldsFirst c (Take ∷ v.moves) (v.top.matched + 1)
       taken_yields = yields_so c (Take ∷ v.moves) there taken_run (e ∷ []) v.top.matched 1
-          taken_events one (place_at c stack.now v.top, here_run,
-          (inner_at c v.moves stack.now v.top way.at.node).follows)
+          taken_events one (
+            place_at c stack.now v.top,
+            here_run,
+            (inner_at c v.moves stack.now v.top way.at.node).follows,
+          )
 
       taken_few : (r : List Move) (j : ℕ) → marks_of r ≡ marks_of (Take ∷ v.moves)
           → YieldsFirst c r j → j ≤ v.top.matched + 1
@@ -269,8 +270,15 @@ module _ (c : Setup) (stack : Stack) (v : View) (tried : ℕ) (best : Best) (not
               count = refl;
               node = record { is_run = taken_next; unfinished = lt };
               stage = (refl, refl);
-              lower = (way.at.mine, way.at.rest, way.at.firings_are, way.at.count, way.at.node,
-              at_fresh.1, way.at.lower);
+              lower = (
+                way.at.mine,
+                way.at.rest,
+                way.at.firings_are,
+                way.at.count,
+                way.at.node,
+                at_fresh.1,
+                way.at.lower,
+              );
             };
             all = all_after c P P' v.moves Take taken_turn tried best notes all_fresh
                 (Take ∷ v.moves) tried best' notes
@@ -361,10 +369,10 @@ module _ (c : Setup) (stack : Stack) (v : View) (tried : ℕ) (best : Best) (not
         later = λ f a. tt;
         all = λ f p lt. options.complete f p;
       }) (noted_on c (IsAhead (marks_of v.moves) (Some Taking))
-          (IsAhead (marks_of v.moves) (Some Guarding)) (Guarding ∷ marks_of v.moves) guarded_turn
-          (PassesLimit c) (passes_in_tree c)
-          (guarding_passes c v.moves (place_at c stack.now v.top) way.at.node.is_run settled)
-          (passed_at notes.passed) all_taken.knows.passes) refl
+      (IsAhead (marks_of v.moves) (Some Guarding)) (Guarding ∷ marks_of v.moves) guarded_turn
+      (PassesLimit c) (passes_in_tree c)
+      (guarding_passes c v.moves (place_at c stack.now v.top) way.at.node.is_run settled)
+      (passed_at notes.passed) all_taken.knows.passes) refl
 
   -- the guards are noted, where nothing was
   guards_noted : (o : Option Passed) (moves : List Move) → reverse moves ≡ v.moves
@@ -384,15 +392,15 @@ module _ (c : Setup) (stack : Stack) (v : View) (tried : ℕ) (best : Best) (not
         later = λ f a. absurd a;
         all = λ f p lt. unsettled (possible_settled c.limit c.spec stack.now f p);
       })) (subst (λ w. IsNoted (PassesLimit c) (IsAhead (marks_of v.moves) (Some Guarding)) w)
-          (sym (guards_noted notes.passed moves same))
-          (noted_now c (IsAhead (marks_of v.moves) (Some Taking))
-          (IsAhead (marks_of v.moves) (Some Guarding)) (Guarding ∷ marks_of v.moves) guarded_turn
-          (PassesLimit c) (passes_in_tree c)
-          (guards v.moves refl (record {
-            place = place_at c stack.now v.top;
-            inner = inner_at c v.moves stack.now v.top way.at.node;
-            unsettled = unsettled;
-          })) (passed_at notes.passed) all_taken.knows.passes)) refl
+      (sym (guards_noted notes.passed moves same))
+      (noted_now c (IsAhead (marks_of v.moves) (Some Taking))
+      (IsAhead (marks_of v.moves) (Some Guarding)) (Guarding ∷ marks_of v.moves) guarded_turn
+      (PassesLimit c) (passes_in_tree c)
+      (guards v.moves refl (record {
+        place = place_at c stack.now v.top;
+        inner = inner_at c v.moves stack.now v.top way.at.node;
+        unsettled = unsettled;
+      })) (passed_at notes.passed) all_taken.knows.passes)) refl
 
 -- FIRINGS
 
@@ -560,8 +568,10 @@ module _ (c : Setup) (stack : Stack) (v : View) (tried : ℕ) (best : Best) (not
 
   pub fault_on : (moves : List Move) (fault : BlockFault) → reverse moves ≡ v.moves
       → outcome c.limit c.spec stack.now f ≡ Fault fault
-      → IsOnWay c stack w (tried + 1) best (record notes { faulted =
-      option_or notes.faulted (Some (record { run = moves; firing = f; fault = fault })) })
+      → IsOnWay c stack w (tried + 1) best (record notes {
+        faulted =
+            option_or notes.faulted (Some (record { run = moves; firing = f; fault = fault }));
+      })
   fault_on moves fault same is =
       let nowhere = undone_nowhere (Fault fault) is (λ s outs e. cc) in
       let off = off_nowhere nowhere in
@@ -589,8 +599,10 @@ module _ (c : Setup) (stack : Stack) (v : View) (tried : ℕ) (best : Best) (not
 
   pub limit_on : (moves : List Move) → reverse moves ≡ v.moves
       → outcome c.limit c.spec stack.now f ≡ Limit
-      → IsOnWay c stack w (tried + 1) best (record notes { passed =
-      option_or notes.passed (Some (record { run = moves; firing = Some f })) })
+      → IsOnWay c stack w (tried + 1) best (record notes {
+        passed =
+            option_or notes.passed (Some (record { run = moves; firing = Some f }));
+      })
   limit_on moves same is =
       let nowhere = undone_nowhere Limit is (λ s outs e. cc) in
       let off = off_nowhere nowhere in
@@ -665,8 +677,11 @@ module _ (c : Setup) (stack : Stack) (v : View) (tried : ℕ) (best : Best) (not
       module _ (k : ℕ) (agree : AgreeFor c.trace v.top.matched outs k) where
         fired_yields : YieldsFirst c (Fire f ∷ v.moves) (v.top.matched + k)
         fired_yields = yields_so c (Fire f ∷ v.moves) fired fired_run outs v.top.matched k
-            fired_events agree (place_at c stack.now v.top, way.at.node.is_run,
-            (inner_at c v.moves stack.now v.top way.at.node).follows)
+            fired_events agree (
+              place_at c stack.now v.top,
+              way.at.node.is_run,
+              (inner_at c v.moves stack.now v.top way.at.node).follows,
+            )
 
         fired_few : (r : List Move) (j : ℕ) → marks_of r ≡ marks_of (Fire f ∷ v.moves)
             → YieldsFirst c r j → j ≤ v.top.matched + k

@@ -72,8 +72,10 @@ impl Notes {
         firing: Option<Firing>,
     ) -> Result<(), AllocError>
         ensures { OnOk result
-            (self.new ≡ record self.old { passed = option_or self.old.passed
-            (Some (record { run = moves.now; firing = firing })) }) }
+            (self.new ≡ record self.old {
+              passed = option_or self.old.passed
+                  (Some (record { run = moves.now; firing = firing }));
+            }) }
     {
         if self.passed.is_none() {
             self.passed = Some(Passed {
@@ -95,8 +97,10 @@ impl Notes {
         fault: BlockFault,
     ) -> Result<(), AllocError>
         ensures { OnOk result
-            (self.new ≡ record self.old { faulted = option_or self.old.faulted
-            (Some (record { run = moves.now; firing = firing; fault = fault })) }) }
+            (self.new ≡ record self.old {
+              faulted = option_or self.old.faulted
+                  (Some (record { run = moves.now; firing = firing; fault = fault }));
+            }) }
     {
         if self.faulted.is_none() {
             self.faulted = Some(Faulted {
