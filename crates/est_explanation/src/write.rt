@@ -18,12 +18,21 @@ const WIDEST: usize = 11;
 pub fn write_explanation(alloc: Global, explanation: &Explanation) -> Result<Vec<u8>, AllocError>
     ensures { IfOk result (λ text. text.items ≡ canonical explanation.now) }
 {
-    let mut text = Vec::from_slice(alloc, b"explanation 1\n")?;
-    for next in explanation.moves.as_slice() {
-        write_move(&mut text, next)?;
-    }
-    write_claim(&mut text, explanation.claim)?;
+    let mut text = Vec::new(alloc);
+    append_explanation(&mut text, explanation.moves.as_slice(), explanation.claim)?;
     Ok(text)
+}
+
+/// Adds the canonical text of the explanation with these moves and this claim to a text.
+pub fn append_explanation(text: &mut Vec<u8>, moves: &[Move], claim: u32) -> Result<(), AllocError>
+    ensures { OnOk result (text.new.items
+        ≡ text.old.items ++ canonical (record { moves = moves.now; claim = claim })) }
+{
+    text.extend_from_slice(b"explanation 1\n")?;
+    for next in moves {
+        write_move(text, next)?;
+    }
+    write_claim(text, claim)
 }
 
 // The line of a move, after a text.

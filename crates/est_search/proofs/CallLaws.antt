@@ -1,7 +1,7 @@
 -- The steps of a search, as the code asks for them.
 use Rattle.std.proofs.Common.{◌≡◌, ℕ, suc, ◌+◌, ◌*◌, ◌-◌, ◌^◌, ◌<◌, ◌≤◌, ◌⊎◌, Bool, true, false, nat_eq}
-use Rattle.std.proofs.Common.{List, [], ◌∷◌, ◌++◌, Option, Some, None, length, reverse, take, drop}
-use Rattle.std.proofs.Common.{Result, Ok, Err, OnErr, get_or, refl, sym, ap, subst, ◌∙◌, inl, inr, zero-le, arith}
+use Rattle.std.proofs.Common.{List, [], ◌∷◌, Some, None, length, reverse, take, drop}
+use Rattle.std.proofs.Common.{Result, Ok, Err, OnErr, get_or, refl, sym, ap, subst, ◌∙◌, inl, inr, arith}
 use Rattle.std.specs.Option.{option_or}
 use Rattle.std.proofs.lemmas.Bool.Decides.{nat_tests}
 use Rattle.std.proofs.lemmas.List.{length-reverse, reverse-reverse, append_cancel_left}
@@ -19,16 +19,13 @@ use Rattle.est_runs.specs.declared.run.Move.TheVariants.{Take, Fire}
 use Rattle.est_runs.specs.declared.run.Fired.TheVariants as fired
 use Rattle.est_runs.specs.declared.run.Offers.TheVariants.{Settled, Unsettled}
 use Rattle.est_runs.specs.Stack.{Stack, pushed, AreOptions, OffersAre, FiredAs}
-use Rattle.est_runs.specs.Task.{Suits}
 use Rattle.est_runs.specs.Run.{Setup, Place, Takes, IsFromOutside, after_taking, silent_after}
 use Rattle.est_runs.specs.Trials.{IsTrial, HasMany}
 use Rattle.est_runs.proofs.ClockLaws.{clock_bounded}
 use Rattle.est_runs.proofs.RunLaws.{bounded_is_run}
 use Rattle.est_runs.proofs.StackLaws.{fired_done, fired_fault, fired_limit}
 use Rattle.est_search.specs.declared.path.Stage.TheVariants.{Fresh, Taken, Listed}
-use Rattle.est_search.specs.declared.path.Level.{Level}
 use Rattle.est_search.specs.declared.path.Path.{Path}
-use Rattle.est_search.specs.declared.path.Best.{Best}
 use Rattle.est_search.specs.declared.walk.Notes.{Notes}
 use Rattle.est_search.specs.declared.walk.Walk.{Walk}
 use Rattle.est_search.specs.declared.walk.Landed.TheVariants.{Found, On, Off}
@@ -36,7 +33,7 @@ use Rattle.est_search.specs.inside.Agreement.{AgreeFor}
 use Rattle.est_search.specs.inside.Path.{View, view_of, place_at, entered, with_firings, with_taken}
 use Rattle.est_search.specs.inside.Path.{IsNext, IsUndone, stage_after, HasReached, HasKept}
 use Rattle.est_search.specs.inside.Walk.{IsOnWay, IsWalk, IsReady, IsTrying, IsFound, Accepts}
-use Rattle.est_search.specs.inside.Walk.{HasLedOn, HasDeparted, HasLanded, KnowsAll, IsOver, weight_of, load}
+use Rattle.est_search.specs.inside.Walk.{HasLedOn, HasLanded, KnowsAll, IsOver, weight_of, load}
 use Rattle.est_search.proofs.EventLaws.{next_event}
 use Rattle.est_search.proofs.WalkLaws.{skipped, taken_found, taken_on}
 use Rattle.est_search.proofs.WalkLaws.{settled_on, unsettled_on, fire_possible, over, fault_on}
@@ -234,8 +231,10 @@ module _ (c : Setup) (spec : Spec) (limit silent : ℕ) (trace : List Event) (st
   pub fault_call : (stack' : Stack) (new : Walk) (fault : BlockFault) (events : List Event)
       → FiredAs (outcome limit spec stack.now f) (fired.Fault fault) events stack stack'
       → new.path ≡ w.path → new.tried ≡ w.tried + 1 → new.best ≡ w.best
-      → new.notes ≡ record w.notes { faulted = option_or w.notes.faulted
-      (Some (record { run = w.path.moves.items; firing = f; fault = fault })) }
+      → new.notes ≡ record w.notes {
+        faulted = option_or w.notes.faulted
+            (Some (record { run = w.path.moves.items; firing = f; fault = fault }));
+      }
       → IsWalk c stack' new
   fault_call stack' new fault events is path tried best notes =
       let a = fired_fault (outcome limit spec stack.now f) fault events stack stack' is in
@@ -259,116 +258,116 @@ module _ (c : Setup) (spec : Spec) (limit silent : ℕ) (trace : List Event) (st
   module _ (mid : Walk) (stack' : Stack) (path : mid.path ≡ w.path) (tried : mid.tried ≡ w.tried + 1)
       (best : mid.best ≡ w.best) (notes : mid.notes ≡ w.notes)
       (is : FiredAs (outcome limit spec stack.now f) fired.Done mid.outs.items stack stack')
-      where
-    done : (s : Situation) × (outcome limit spec stack.now f ≡ Done s mid.outs.items)
-        × (stack' ≡ pushed s stack)
-    done = fired_done (outcome limit spec stack.now f) mid.outs.items stack stack' is
+    where
+      done : (s : Situation) × (outcome limit spec stack.now f ≡ Done s mid.outs.items)
+          × (stack' ≡ pushed s stack)
+      done = fired_done (outcome limit spec stack.now f) mid.outs.items stack stack' is
 
-    done_there : outcome c.limit c.spec stack.now f ≡ Done done.0 mid.outs.items
-    done_there = outcome_there (Done done.0 mid.outs.items) done.1
+      done_there : outcome c.limit c.spec stack.now f ≡ Done done.0 mid.outs.items
+      done_there = outcome_there (Done done.0 mid.outs.items) done.1
 
-    matched_is : mid.path.top.matched ≡ t.before.top.matched
-    matched_is = ap (λ (p : Path). p.top.matched) path ∙ top_matched
+      matched_is : mid.path.top.matched ≡ t.before.top.matched
+      matched_is = ap (λ (p : Path). p.top.matched) path ∙ top_matched
 
-    silent_is : mid.path.top.silent ≡ t.before.top.silent
-    silent_is = ap (λ (p : Path). p.top.silent) path ∙ top_silent
+      silent_is : mid.path.top.silent ≡ t.before.top.silent
+      silent_is = ap (λ (p : Path). p.top.silent) path ∙ top_silent
 
-    made_is : length mid.path.moves.items ≡ length t.before.moves
-    made_is = ap (λ (p : Path). length p.moves.items) path ∙ made_many w.path ∙ ap length moves_same
+      made_is : length mid.path.moves.items ≡ length t.before.moves
+      made_is = ap (λ (p : Path). length p.moves.items) path ∙ made_many w.path ∙ ap length moves_same
 
-    few_there : silent_after mid.path.top.silent mid.outs.items ≤ silent
-        → silent_after t.before.top.silent mid.outs.items ≤ c.silent
-    few_there le =
-        let e = ap (λ n. silent_after n mid.outs.items) silent_is in
-        let s = t.suits.silent_is in
-        omega arith
+      few_there : silent_after mid.path.top.silent mid.outs.items ≤ silent
+          → silent_after t.before.top.silent mid.outs.items ≤ c.silent
+      few_there le =
+          let e = ap (λ n. silent_after n mid.outs.items) silent_is in
+          let s = t.suits.silent_is in
+          omega arith
 
-    agree_there : (k : ℕ) → AgreeFor trace mid.path.top.matched mid.outs.items k
-        → AgreeFor c.trace t.before.top.matched mid.outs.items k
-    agree_there k a = subst (λ es. AgreeFor es t.before.top.matched mid.outs.items k)
-        (sym t.suits.trace_is) (subst (λ n. AgreeFor trace n mid.outs.items k) matched_is a)
+      agree_there : (k : ℕ) → AgreeFor trace mid.path.top.matched mid.outs.items k
+          → AgreeFor c.trace t.before.top.matched mid.outs.items k
+      agree_there k a = subst (λ es. AgreeFor es t.before.top.matched mid.outs.items k)
+          (sym t.suits.trace_is) (subst (λ n. AgreeFor trace n mid.outs.items k) matched_is a)
 
-    module _ (new : Walk) (tried' : new.tried ≡ mid.tried) where
-      reached_there : (k : ℕ) → HasReached mid.best new.best (length mid.path.moves.items) (Fire f)
-          (mid.path.top.matched + k)
-          → HasReached w.best new.best (length mid.path.moves.items) (Fire f)
-          (t.before.top.matched + k)
-      reached_there k r = subst (λ n. HasReached w.best new.best (length mid.path.moves.items) (Fire f)
-          (n + k)) matched_is (subst (λ b. HasReached b new.best (length mid.path.moves.items) (Fire f)
-          (mid.path.top.matched + k)) best r)
+      module _ (new : Walk) (tried' : new.tried ≡ mid.tried) where
+        reached_there : (k : ℕ) → HasReached mid.best new.best (length mid.path.moves.items) (Fire f)
+            (mid.path.top.matched + k)
+            → HasReached w.best new.best (length mid.path.moves.items) (Fire f)
+            (t.before.top.matched + k)
+        reached_there k r = subst (λ n. HasReached w.best new.best (length mid.path.moves.items) (Fire f)
+            (n + k)) matched_is (subst (λ b. HasReached b new.best (length mid.path.moves.items) (Fire f)
+            (mid.path.top.matched + k)) best r)
 
-      -- it does not lead on
-      pub off_call : (back : Stack) → stack' ≡ pushed stack'.now back
-          → HasLanded trace silent mid new f Off → IsWalk c back new
-      off_call back undone landed =
-          let same : back ≡ stack =
-          sym (pushed_same done.0 stack'.now stack back (sym done.2 ∙ undone)) in
-          elim landed [
-            | inl a ↦
-                (let e = ap (λ n. silent_after n mid.outs.items) silent_is in
-                let s = t.suits.silent_is in
-                let many = a.0 in
-                let way = silent_on c stack t.before w.tried w.best w.notes t.on_way f
-                (view_of w.path) t.next done.0 mid.outs.items done_there (omega arith) in
-                let p : new.path ≡ w.path = ap (λ (u : Walk). u.path) a.1 ∙ path in
-                let n : new.tried ≡ w.tried + 1 = tried' ∙ tried in
-                let b : new.best ≡ w.best = ap (λ (u : Walk). u.best) a.1 ∙ best in
-                let m : new.notes ≡ w.notes = ap (λ (u : Walk). u.notes) a.1 ∙ notes in
-                rw (same, p, n, b, m) way)
-            | inr a ↦
-                (let way = departed_on c stack t.before w.tried w.best w.notes t.on_way f
-                (view_of w.path) t.next done.0 mid.outs.items done_there (few_there a.few) a.k
-                (agree_there a.k a.agree) new.best (length mid.path.moves.items) made_is
-                (reached_there a.k a.best) a.short in
-                let p : new.path ≡ w.path = a.path ∙ path in
-                let n : new.tried ≡ w.tried + 1 = tried' ∙ tried in
-                let m : new.notes ≡ w.notes = a.notes ∙ notes in
-                rw (same, p, n, m) way)
-          ]
+        -- it does not lead on
+        pub off_call : (back : Stack) → stack' ≡ pushed stack'.now back
+            → HasLanded trace silent mid new f Off → IsWalk c back new
+        off_call back undone landed =
+            let same : back ≡ stack =
+            sym (pushed_same done.0 stack'.now stack back (sym done.2 ∙ undone)) in
+            elim landed [
+              | inl a ↦
+                  (let e = ap (λ n. silent_after n mid.outs.items) silent_is in
+                  let s = t.suits.silent_is in
+                  let many = a.0 in
+                  let way = silent_on c stack t.before w.tried w.best w.notes t.on_way f
+                  (view_of w.path) t.next done.0 mid.outs.items done_there (omega arith) in
+                  let p : new.path ≡ w.path = ap (λ (u : Walk). u.path) a.1 ∙ path in
+                  let n : new.tried ≡ w.tried + 1 = tried' ∙ tried in
+                  let b : new.best ≡ w.best = ap (λ (u : Walk). u.best) a.1 ∙ best in
+                  let m : new.notes ≡ w.notes = ap (λ (u : Walk). u.notes) a.1 ∙ notes in
+                  rw (same, p, n, b, m) way)
+              | inr a ↦
+                  (let way = departed_on c stack t.before w.tried w.best w.notes t.on_way f
+                  (view_of w.path) t.next done.0 mid.outs.items done_there (few_there a.few) a.k
+                  (agree_there a.k a.agree) new.best (length mid.path.moves.items) made_is
+                  (reached_there a.k a.best) a.short in
+                  let p : new.path ≡ w.path = a.path ∙ path in
+                  let n : new.tried ≡ w.tried + 1 = tried' ∙ tried in
+                  let m : new.notes ≡ w.notes = a.notes ∙ notes in
+                  rw (same, p, n, m) way)
+            ]
 
-      entered_there : HasLedOn trace silent mid new f → view_of new.path
-          ≡ entered (view_of w.path) (Fire f) (t.before.top.matched + length mid.outs.items)
-          (silent_after t.before.top.silent mid.outs.items)
-      entered_there l = l.path
-          ∙ ap (λ (p : Path). entered (view_of p) (Fire f) (mid.path.top.matched
-          + length mid.outs.items) (silent_after mid.path.top.silent mid.outs.items)) path
-          ∙ ap (λ n. entered (view_of w.path) (Fire f) (n + length mid.outs.items)
-          (silent_after mid.path.top.silent mid.outs.items)) matched_is
-          ∙ ap (λ n. entered (view_of w.path) (Fire f) (t.before.top.matched
-          + length mid.outs.items) (silent_after n mid.outs.items)) silent_is
+        entered_there : HasLedOn trace silent mid new f → view_of new.path
+            ≡ entered (view_of w.path) (Fire f) (t.before.top.matched + length mid.outs.items)
+            (silent_after t.before.top.silent mid.outs.items)
+        entered_there l = l.path
+            ∙ ap (λ (p : Path). entered (view_of p) (Fire f) (mid.path.top.matched
+            + length mid.outs.items) (silent_after mid.path.top.silent mid.outs.items)) path
+            ∙ ap (λ n. entered (view_of w.path) (Fire f) (n + length mid.outs.items)
+            (silent_after mid.path.top.silent mid.outs.items)) matched_is
+            ∙ ap (λ n. entered (view_of w.path) (Fire f) (t.before.top.matched
+            + length mid.outs.items) (silent_after n mid.outs.items)) silent_is
 
-      -- it leads on
-      pub on_call : HasLanded trace silent mid new f On → IsWalk c stack' new
-      on_call landed =
-          let l = landed.0 in
-          let lt = landed.1 in
-          let n : length c.trace ≡ length trace = ap length t.suits.trace_is in
-          let e = matched_is in
-          let way = led_on c stack t.before w.tried w.best w.notes t.on_way f (view_of w.path) t.next
-          done.0 mid.outs.items done_there (few_there l.few)
-          (agree_there (length mid.outs.items) l.agree) new.best (length mid.path.moves.items) made_is
-          (reached_there (length mid.outs.items) l.best) (omega arith) in
-          let v = entered_there l in
-          let n' : new.tried ≡ w.tried + 1 = tried' ∙ tried in
-          let m : new.notes ≡ w.notes = l.notes ∙ notes in
-          rw (done.2, v, n', m) way
+        -- it leads on
+        pub on_call : HasLanded trace silent mid new f On → IsWalk c stack' new
+        on_call landed =
+            let l = landed.0 in
+            let lt = landed.1 in
+            let n : length c.trace ≡ length trace = ap length t.suits.trace_is in
+            let e = matched_is in
+            let way = led_on c stack t.before w.tried w.best w.notes t.on_way f (view_of w.path) t.next
+            done.0 mid.outs.items done_there (few_there l.few)
+            (agree_there (length mid.outs.items) l.agree) new.best (length mid.path.moves.items) made_is
+            (reached_there (length mid.outs.items) l.best) (omega arith) in
+            let v = entered_there l in
+            let n' : new.tried ≡ w.tried + 1 = tried' ∙ tried in
+            let m : new.notes ≡ w.notes = l.notes ∙ notes in
+            rw (done.2, v, n', m) way
 
-      -- it explains the trace
-      pub found_call : HasLanded trace silent mid new f Found
-          → Accepts c (reverse new.path.moves.items) new.tried
-      found_call landed =
-          let l = landed.0 in
-          let end = landed.1 in
-          let n : length c.trace ≡ length trace = ap length t.suits.trace_is in
-          let e = matched_is in
-          let x : Accepts c (Fire f ∷ t.before.moves) (w.tried + 1) =
-          led_found c stack t.before w.tried w.best w.notes t.on_way f (view_of w.path) t.next
-          done.0 mid.outs.items done_there (few_there l.few)
-          (agree_there (length mid.outs.items) l.agree) (omega arith) in
-          let h : (view_of new.path).moves ≡ Fire f ∷ t.before.moves =
-          ap (λ (v : View). v.moves) (entered_there l) ∙ ap (λ u. Fire f ∷ u) moves_same in
-          let n' : new.tried ≡ w.tried + 1 = tried' ∙ tried in
-          rw (h, n') x
+        -- it explains the trace
+        pub found_call : HasLanded trace silent mid new f Found
+            → Accepts c (reverse new.path.moves.items) new.tried
+        found_call landed =
+            let l = landed.0 in
+            let end = landed.1 in
+            let n : length c.trace ≡ length trace = ap length t.suits.trace_is in
+            let e = matched_is in
+            let x : Accepts c (Fire f ∷ t.before.moves) (w.tried + 1) =
+            led_found c stack t.before w.tried w.best w.notes t.on_way f (view_of w.path) t.next
+            done.0 mid.outs.items done_there (few_there l.few)
+            (agree_there (length mid.outs.items) l.agree) (omega arith) in
+            let h : (view_of new.path).moves ≡ Fire f ∷ t.before.moves =
+            ap (λ (v : View). v.moves) (entered_there l) ∙ ap (λ u. Fire f ∷ u) moves_same in
+            let n' : new.tried ≡ w.tried + 1 = tried' ∙ tried in
+            rw (h, n') x
 
 -- BACK
 

@@ -1,6 +1,6 @@
 -- What the agreement of the last events says of a run.
 use Rattle.std.proofs.Common.{◌≡◌, ℕ, ◌+◌, ◌-◌, ◌<◌, ◌≤◌, List, [], ◌∷◌, ◌++◌, length, take, drop}
-use Rattle.std.proofs.Common.{Some, suc, add-one, get_or, get_or-take, refl, sym, ap, subst, ◌∙◌}
+use Rattle.std.proofs.Common.{Some, suc, add-one, get_or, get_or-take, sym, ap, subst, ◌∙◌}
 use Rattle.std.proofs.Common.{arith}
 use Rattle.std.proofs.lemmas.List.{take-append-drop, take_more, length-append, length-take-le}
 use Rattle.std.proofs.lemmas.List.{get_or-append_right, take-append-le}

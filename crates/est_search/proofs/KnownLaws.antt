@@ -1,12 +1,12 @@
 -- What a step does to what is known.
-use Rattle.std.proofs.Common.{◌≡◌, ℕ, ◌+◌, ◌<◌, ◌≤◌, ◌⊎◌, List, [], ◌∷◌, Option, Some, None}
-use Rattle.std.proofs.Common.{refl, sym, ap, subst, ◌∙◌, inl, inr, length, arith}
+use Rattle.std.proofs.Common.{◌≡◌, ℕ, ◌+◌, ◌<◌, ◌≤◌, ◌⊎◌, List, ◌∷◌, Option, Some, None}
+use Rattle.std.proofs.Common.{refl, sym, subst, inl, inr, arith}
 use Rattle.std.specs.Option.{option_or}
 use Rattle.est_syntax.specs.Least.{IsIn}
 use Rattle.est_runs.specs.declared.run.Move.{Move}
-use Rattle.est_runs.specs.Order.{Mark, marks_of, Before, NotAfter, IsFirst, IsEarliest}
+use Rattle.est_runs.specs.Order.{Mark, marks_of, Before, NotAfter, IsFirst}
 use Rattle.est_runs.specs.Run.{Setup, Explains, YieldsFirst}
-use Rattle.est_runs.specs.Trials.{IsTrial, IsTrialUpTo, AreDistinct, HasMany, HasExactly}
+use Rattle.est_runs.specs.Trials.{IsTrial, IsTrialUpTo, HasMany}
 use Rattle.est_runs.specs.Trials.{PassesLimit, Faults}
 use Rattle.est_runs.proofs.OrderLaws.{marks_same, before_irreflexive, not_after_before}
 use Rattle.est_runs.proofs.TreeLaws.{IsInTree, explains_in_tree, trial_in_tree, yields_in_tree}
@@ -122,11 +122,11 @@ module _ (c : Setup) (P P' : List Mark → Type 0) (z : List Move)
     ];
     more = λ r j q more. elim (turn.on (marks_of r) (yields_in_tree c r j q)
         (k.more r j q (omega arith))) [
-      | inl p ↦ p
-      | inr e ↦
-          (let le = few j (subst (λ w. YieldsFirst c w j) (marks_same r z e) q) in
-          absurd (omega arith))
-    ];
+          | inl p ↦ p
+          | inr e ↦
+              (let le = few j (subst (λ w. YieldsFirst c w j) (marks_same r z e) q) in
+              absurd (omega arith))
+        ];
   }
 
   -- the run is not among the trials so far
@@ -250,7 +250,7 @@ module _ (c : Setup) (P P' : List Mark → Type 0) (z : List Move)
       };
       late = λ run e. many_up_to run (elim (turn.on (marks_of run) (explains_in_tree c run e)
           (all run e)) [
-        | inl p ↦ inr (turn.after (marks_of run) p)
-        | inr w ↦ inl (sym (marks_same run z w))
-      ]) (all run e);
+            | inl p ↦ inr (turn.after (marks_of run) p)
+            | inr w ↦ inl (sym (marks_same run z w))
+          ]) (all run e);
     }

@@ -1,5 +1,5 @@
 -- No two verdicts hold.
-use Rattle.std.proofs.Common.{◌≡◌, ℕ, zero, suc, ◌+◌, ◌<◌, ◌≤◌, ◌⊎◌, List, [], ◌∷◌}
+use Rattle.std.proofs.Common.{◌≡◌, ℕ, zero, suc, ◌+◌, ◌≤◌, ◌⊎◌, List, [], ◌∷◌}
 use Rattle.std.proofs.Common.{Option, Some, None, length, reverse, refl, sym, ap, subst, ◌∙◌}
 use Rattle.std.proofs.Common.{inl, inr, zero-le, arith}
 use Rattle.std.proofs.lemmas.Bool.{cases_lt}
@@ -10,10 +10,10 @@ use Rattle.est_meaning.specs.declared.firing.BlockFault.{BlockFault}
 use Rattle.est_meaning.specs.Blocks.{Fault}
 use Rattle.est_meaning.specs.Step.{outcome}
 use Rattle.est_runs.specs.declared.run.Move.{Move}
-use Rattle.est_runs.specs.Order.{Mark, Guarding, Trying, marks_of, Before, NotAfter, IsFirst}
+use Rattle.est_runs.specs.Order.{Mark, Trying, marks_of, NotAfter, IsFirst}
 use Rattle.est_runs.specs.Order.{IsEarliest}
 use Rattle.est_runs.specs.Run.{Setup, Place, IsBoundedRun, Yields}
-use Rattle.est_runs.specs.Trials.{AreDistinct, HasMany, HasAtMost, ComesTo, Faults, IsFirstFault}
+use Rattle.est_runs.specs.Trials.{AreDistinct, HasMany, HasAtMost, ComesTo, Faults}
 use Rattle.est_runs.specs.Trials.{mark_passed}
 use Rattle.est_runs.proofs.OrderLaws.{marks_same, before_asymmetric}
 use Rattle.est_runs.proofs.RunLaws.{one_place, yields_below_all}

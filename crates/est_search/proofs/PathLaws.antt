@@ -1,5 +1,5 @@
 -- What is left to be tried, and the best run on a path.
-use Rattle.std.proofs.Common.{◌≡◌, ℕ, zero, suc, ◌+◌, ◌<◌, ◌≤◌, ◌⊎◌, List, [], ◌∷◌, ◌++◌}
+use Rattle.std.proofs.Common.{◌≡◌, ℕ, suc, ◌+◌, ◌<◌, ◌≤◌, ◌⊎◌, List, [], ◌∷◌, ◌++◌}
 use Rattle.std.proofs.Common.{Option, Some, None, length, take, drop, refl, sym, ap, subst, ◌∙◌}
 use Rattle.std.proofs.Common.{inl, inr, append_assoc, arith}
 use Rattle.std.proofs.lemmas.Bool.{cases_lt}
@@ -9,12 +9,12 @@ use Rattle.est_meaning.specs.declared.firing.Firing.{Firing}
 use Rattle.est_meaning.specs.Situation.{Situation}
 use Rattle.est_meaning.specs.Choices.{IsPossible}
 use Rattle.est_runs.specs.declared.run.Move.{Move}
-use Rattle.est_runs.specs.declared.run.Move.TheVariants.{Take, Fire}
-use Rattle.est_runs.specs.Order.{FiringBefore, IsBeforeAll, IsAscending, Mark, Taking, Guarding}
+use Rattle.est_runs.specs.declared.run.Move.TheVariants.{Fire}
+use Rattle.est_runs.specs.Order.{FiringBefore, IsBeforeAll, Mark, Taking, Guarding}
 use Rattle.est_runs.specs.Order.{Trying, MarkBefore, marks_of, StartsWith}
-use Rattle.est_runs.specs.Run.{Setup, Place, Takes, IsBoundedRun, YieldsFirst}
+use Rattle.est_runs.specs.Run.{Setup, Place, IsBoundedRun, YieldsFirst}
 use Rattle.est_runs.specs.Trials.{IsInner}
-use Rattle.est_runs.proofs.OrderLaws.{firing_irreflexive, mark_transitive, starts_self, starts_one}
+use Rattle.est_runs.proofs.OrderLaws.{firing_irreflexive, mark_transitive, starts_self}
 use Rattle.est_runs.proofs.OrderLaws.{starts_trans}
 use Rattle.est_runs.proofs.RunLaws.{one_place}
 use Rattle.est_runs.proofs.TreeLaws.{IsInTree, IsOnTree, CanGoOn}
@@ -146,9 +146,9 @@ left_next c s m f fs left = record {
   later = λ g a. before_each f g fs left.ascending.0 a;
   all = λ g p lt. elim (left.all g p (mark_transitive m (Trying f) (Trying g)
       (left.later f (inl refl)) lt)) [
-    | inl e ↦ absurd (firing_irreflexive f (subst (λ w. FiringBefore f w) (sym e) lt))
-    | inr t ↦ t
-  ];
+        | inl e ↦ absurd (firing_irreflexive f (subst (λ w. FiringBefore f w) (sym e) lt))
+        | inr t ↦ t
+      ];
 }
 
 -- the next one of all that are left is the next one of the top
@@ -240,38 +240,38 @@ at_most m n = elim (cases_lt n m) [ inl a ↦ inr a | inr a ↦ inl a ]
 
 module _ (c : Setup) (P P' : List Mark → Type 0) (h : List Move) (last : Move)
     (turn : Turn c P P' (marks_of (last ∷ h))) (old new : Best) (run : List Move) (made k : ℕ)
-    where
-  -- after a run that yields k
-  pub best_reached : (more : List Move) → StartsWith more h → made ≡ length h
-      → HasReached old new made last k → YieldsFirst c (last ∷ h) k
-      → ((r : List Move) (j : ℕ) → marks_of r ≡ marks_of (last ∷ h) → YieldsFirst c r j → j ≤ k)
-      → IsKept h old run → KnowsBest c P old.yields run → BestAfter c P' more new
-  best_reached more s made_is reached y few kept knows =
-      elim (at_most k old.yields) [
-        | inl le ↦
-            (let same = reached.less le in
-            let after : BestAfter c P' more old = record {
-              run = run;
-              kept = kept_more h more old run s kept;
-              knows = best_on c P P' (marks_of (last ∷ h)) turn old.yields run
-                  (λ r j e q. (let w = few r j e q in omega arith)) knows;
-            } in
-            subst (λ b. BestAfter c P' more b) (sym same) after)
-        | inr lt ↦
-            (let raised = reached.more lt in
-            record {
-              run = last ∷ h;
-              kept = record {
-                start = h;
-                starts = s;
-                common = sym made_is ∙ sym raised.1;
-                run_is = ap (λ w. w ++ h) (sym raised.2);
-              };
-              knows = subst (λ n. KnowsBest c P' n (last ∷ h)) (sym raised.0)
-                  (best_more c P P' (last ∷ h) turn old.yields k run y (λ j q. few (last ∷ h) j refl q)
-                  lt knows);
-            })
-      ]
+  where
+    -- after a run that yields k
+    pub best_reached : (more : List Move) → StartsWith more h → made ≡ length h
+        → HasReached old new made last k → YieldsFirst c (last ∷ h) k
+        → ((r : List Move) (j : ℕ) → marks_of r ≡ marks_of (last ∷ h) → YieldsFirst c r j → j ≤ k)
+        → IsKept h old run → KnowsBest c P old.yields run → BestAfter c P' more new
+    best_reached more s made_is reached y few kept knows =
+        elim (at_most k old.yields) [
+          | inl le ↦
+              (let same = reached.less le in
+              let after : BestAfter c P' more old = record {
+                run = run;
+                kept = kept_more h more old run s kept;
+                knows = best_on c P P' (marks_of (last ∷ h)) turn old.yields run
+                    (λ r j e q. (let w = few r j e q in omega arith)) knows;
+              } in
+              subst (λ b. BestAfter c P' more b) (sym same) after)
+          | inr lt ↦
+              (let raised = reached.more lt in
+              record {
+                run = last ∷ h;
+                kept = record {
+                  start = h;
+                  starts = s;
+                  common = sym made_is ∙ sym raised.1;
+                  run_is = ap (λ w. w ++ h) (sym raised.2);
+                };
+                knows = subst (λ n. KnowsBest c P' n (last ∷ h)) (sym raised.0)
+                    (best_more c P P' (last ∷ h) turn old.yields k run y (λ j q. few (last ∷ h) j refl q)
+                    lt knows);
+              })
+        ]
 
 pub starts_length : (moves start : List Move) → StartsWith moves start
     → length start ≤ length moves

@@ -1,31 +1,28 @@
 -- The start of a search, and the verdicts that it may give at once.
-use Rattle.std.proofs.Common.{◌≡◌, ℕ, ◌+◌, ◌<◌, ◌≤◌, ◌⊎◌, List, [], ◌∷◌, ◌++◌, Option, Some, None}
+use Rattle.std.proofs.Common.{◌≡◌, ℕ, ◌+◌, ◌<◌, ◌≤◌, ◌⊎◌, List, [], ◌∷◌, ◌++◌, None}
 use Rattle.std.proofs.Common.{length, take, reverse, refl, sym, ap, subst, ◌∙◌, inl, inr}
 use Rattle.std.proofs.Common.{zero-le, arith}
 use Rattle.std.proofs.lemmas.List.{append-nil}
 use Rattle.est_syntax.specs.declared.specification.Spec.{Spec}
 use Rattle.est_meaning.specs.declared.event.Event.{Event}
-use Rattle.est_meaning.specs.Situation.{Situation}
 use Rattle.est_runs.specs.declared.run.Move.{Move}
 use Rattle.est_runs.specs.declared.run.Move.TheVariants.{Take, Fire}
-use Rattle.est_runs.specs.Order.{Mark, Guarding, Trying, marks_of, Before, longer, differs}
-use Rattle.est_runs.specs.Order.{NotAfter, IsFirst}
+use Rattle.est_runs.specs.Order.{Mark, marks_of, Before, longer, differs}
+use Rattle.est_runs.specs.Order.{NotAfter}
 use Rattle.est_runs.specs.Stack.{Stack}
-use Rattle.est_runs.specs.Task.{IsSetup}
 use Rattle.est_runs.specs.Run.{Setup, Place, first_place, IsBoundedRun, Explains, YieldsFirst}
-use Rattle.est_runs.specs.Run.{Yields}
-use Rattle.est_runs.specs.Trials.{IsTrial, IsTrialUpTo, PassesLimit, guards, block, Faults}
+use Rattle.est_runs.specs.Trials.{IsTrial, PassesLimit, guards, block, Faults}
 use Rattle.est_runs.proofs.OrderLaws.{starts_cases, marks_same}
 use Rattle.est_runs.proofs.RunLaws.{explains_follows, yields_below_all}
 use Rattle.est_runs.proofs.TreeLaws.{IsOnTree, starts_on_tree, nothing_starts}
 use Rattle.est_search.specs.declared.path.Best.{Best}
 use Rattle.est_search.specs.declared.walk.Walk.{Walk}
-use Rattle.est_search.specs.Verdict.{IsAccepted, IsRefused, IsVerdict, IsWithinTried}
+use Rattle.est_search.specs.Verdict.{IsRefused, IsVerdict, IsWithinTried}
 use Rattle.est_search.specs.declared.verdict.Verdict.TheVariants.{Accepted, Refused}
 use Rattle.est_search.specs.inside.Ahead.{IsAhead}
 use Rattle.est_search.specs.inside.Agreement.{AgreeFor}
-use Rattle.est_search.specs.inside.Path.{View, first_view, view_of, place_at, AreLower}
-use Rattle.est_search.specs.inside.Walk.{Accepts, IsStarting, IsReady, IsWalk, IsOnWay}
+use Rattle.est_search.specs.inside.Path.{first_view, view_of, AreLower}
+use Rattle.est_search.specs.inside.Walk.{Accepts, IsStarting, IsReady, IsOnWay}
 use Rattle.est_search.proofs.EventLaws.{yields_so, yields_no_more, departs, events_are}
 use Rattle.est_search.proofs.EventLaws.{is_unfinished, explains_so}
 
@@ -81,7 +78,7 @@ module _ (c : Setup) (k : ℕ) (a : AgreeFor c.trace 0 c.start_outs k) where
     off = departs c [] (first_place c) at_start c.start_outs 0 k refl a short
 
     off_run : (r : List Move) (p : Place) → IsBoundedRun c r p
-      → (f : (rest : List Event) × (c.trace ≡ p.events ++ rest)) → ⊥
+        → (f : (rest : List Event) × (c.trace ≡ p.events ++ rest)) → ⊥
     off_run r p is f = off (starts_on_tree c r [] p is f (r, sym (append-nil r)))
 
     no_trial : (x : List Move) → IsTrial c x → ⊥
@@ -106,10 +103,14 @@ module _ (c : Setup) (k : ℕ) (a : AgreeFor c.trace 0 c.start_outs k) where
     pub start_refused : (budget : ℕ) → IsRefused c budget (k + 1) [] None
     start_refused budget = record {
       unexplained = record {
-        size = (0, zero-le, record {
-          found = record { runs = []; count = refl; distinct = tt; each = λ x i. absurd i };
-          all = λ x t. absurd (no_trial x t);
-        });
+        size = (
+          0,
+          zero-le,
+          record {
+            found = record { runs = []; count = refl; distinct = tt; each = λ x i. absurd i };
+            all = λ x t. absurd (no_trial x t);
+          },
+        );
         none = no_run;
       };
       within = no_pass;

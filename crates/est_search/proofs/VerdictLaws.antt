@@ -1,25 +1,22 @@
 -- What the end of a search says.
-use Rattle.std.proofs.Common.{◌≡◌, ℕ, ◌+◌, ◌<◌, ◌≤◌, ◌⊎◌, List, [], ◌∷◌, ◌++◌, Option, Some, None}
+use Rattle.std.proofs.Common.{◌≡◌, ℕ, ◌+◌, ◌≤◌, List, [], ◌∷◌, ◌++◌, Option, Some, None}
 use Rattle.std.proofs.Common.{length, reverse, refl, sym, ap, subst, ◌∙◌, inl, inr, arith}
 use Rattle.std.proofs.Common.{Result, Ok, Err, IfOk}
 use Rattle.std.proofs.lemmas.List.{append-nil, reverse-reverse}
-use Rattle.est_meaning.specs.declared.firing.Firing.{Firing}
 use Rattle.est_runs.specs.declared.run.Move.{Move}
-use Rattle.est_runs.specs.Order.{Mark, IsFirst, StartsWith}
+use Rattle.est_runs.specs.Order.{Mark, IsFirst}
 use Rattle.est_runs.specs.Stack.{Stack}
-use Rattle.est_runs.specs.Run.{Setup, Explains, Yields, YieldsFirst}
+use Rattle.est_runs.specs.Run.{Setup, Yields}
 use Rattle.est_runs.specs.Trials.{IsTrial, IsTrialUpTo, AreDistinct, HasMany, PassesLimit, Faults}
 use Rattle.est_runs.proofs.RunLaws.{yields_below_all}
 use Rattle.est_search.specs.declared.verdict.Faulted.{Faulted}
 use Rattle.est_search.specs.declared.verdict.Verdict.{Verdict}
 use Rattle.est_search.specs.declared.verdict.Verdict.TheVariants.{Accepted, Refused}
 use Rattle.est_search.specs.declared.verdict.Verdict.TheVariants.{OverFirings, OverAction}
-use Rattle.est_search.specs.declared.walk.Passed.{Passed}
-use Rattle.est_search.specs.declared.walk.Notes.{Notes}
 use Rattle.est_search.specs.declared.walk.Walk.{Walk}
 use Rattle.est_search.specs.declared.walk.Step.{Step}
 use Rattle.est_search.specs.declared.walk.Step.TheVariants.{Going, Accepting, Over, Done}
-use Rattle.est_search.specs.Verdict.{IsAccepted, IsOverFirings, IsUnexplained, IsOverAction}
+use Rattle.est_search.specs.Verdict.{IsUnexplained}
 use Rattle.est_search.specs.Verdict.{IsFirstFaulted, IsRefused, IsVerdict, IsWithinTried}
 use Rattle.est_syntax.specs.Least.{IsIn}
 use Rattle.est_search.specs.inside.Known.{KnowsTrials, IsNoted}
@@ -45,15 +42,19 @@ module _ (c : Setup) (w : Walk) (d : IsDone c w) (budget : ℕ) (le : w.tried �
 
   unexplained : IsUnexplained c budget
   unexplained = record {
-    size = (w.tried, le, record {
-      found = record {
-        runs = d.knows.trials.trials;
-        count = d.knows.trials.count;
-        distinct = d.knows.trials.distinct;
-        each = d.knows.trials.each;
-      };
-      all = λ x t. elim (d.knows.trials.all x t) [ inl a ↦ a | inr p ↦ absurd p ];
-    });
+    size = (
+      w.tried,
+      le,
+      record {
+        found = record {
+          runs = d.knows.trials.trials;
+          count = d.knows.trials.count;
+          distinct = d.knows.trials.distinct;
+          each = d.knows.trials.each;
+        };
+        all = λ x t. elim (d.knows.trials.all x t) [ inl a ↦ a | inr p ↦ absurd p ];
+      },
+    );
     none = λ r e. d.knows.explaining r e;
   }
 
@@ -69,8 +70,11 @@ module _ (c : Setup) (w : Walk) (d : IsDone c w) (budget : ℕ) (le : w.tried �
             | inl a ↦ k.best.more r (w.best.yields + 1) a (omega arith)
             | inr a ↦ k.explaining r a.1
           ];
-          below = λ j lt. (d.run, yields_below_all.smaller c d.run w.best.yields j (omega arith)
-              best);
+          below = λ j lt. (
+            d.run,
+            yields_below_all.smaller c d.run w.best.yields j (omega arith)
+                best,
+          );
         };
         first = λ j e.
             (let same : w.best.yields ≡ j = omega arith in
@@ -112,10 +116,13 @@ answered c stack w budget Accepting verdict s le over a =
       tried = (w.tried, le, s.tried_is);
     })
 answered c stack w budget Over verdict s le over a =
-    subst (IsVerdict c budget) (sym a) (refl, record {
-      size = subst (λ n. HasMany (IsTrial c) (n + 1)) (over refl) s.size;
-      late = λ r e. subst (λ n. HasMany (IsTrialUpTo c r) (n + 1)) (over refl) (s.late r e);
-    })
+    subst (IsVerdict c budget) (sym a) (
+      refl,
+      record {
+        size = subst (λ n. HasMany (IsTrial c) (n + 1)) (over refl) s.size;
+        late = λ r e. subst (λ n. HasMany (IsTrialUpTo c r) (n + 1)) (over refl) (s.late r e);
+      },
+    )
 answered c stack w budget Done verdict s le over a = concluded c w s budget le verdict a
 
 conclude_tried : (c : Setup) (w : Walk) (verdict : Verdict) (many : ℕ) → Concludes w verdict

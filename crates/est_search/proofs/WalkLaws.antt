@@ -17,13 +17,12 @@ use Rattle.est_runs.specs.declared.run.Move.TheVariants.{Take, Fire}
 use Rattle.est_runs.specs.Order.{Mark, Taking, Guarding, Trying, mark_of, marks_of, StartsWith}
 use Rattle.est_runs.specs.Stack.{Stack, pushed, AreOptions}
 use Rattle.est_runs.specs.Run.{Setup, Place, Takes, IsFromOutside, after_taking, after_firing}
-use Rattle.est_runs.specs.Run.{silent_after, IsBoundedRun, Follows, Explains, YieldsFirst}
-use Rattle.est_runs.specs.Trials.{IsInner, IsTrial, ComesTo, IsUnsettled, PassesLimit, guards}
+use Rattle.est_runs.specs.Run.{silent_after, IsBoundedRun, Explains, YieldsFirst}
+use Rattle.est_runs.specs.Trials.{IsTrial, ComesTo, PassesLimit, guards}
 use Rattle.est_runs.specs.Trials.{block, Faults}
 use Rattle.est_runs.proofs.OrderLaws.{marks_same, starts_self, starts_one}
 use Rattle.est_runs.proofs.RunLaws.{one_place, explains_follows}
 use Rattle.est_runs.proofs.TreeLaws.{IsInTree, IsOnTree, passes_in_tree, faults_in_tree}
-use Rattle.est_search.specs.declared.path.Stage.{Stage}
 use Rattle.est_search.specs.declared.path.Stage.TheVariants.{Fresh, Taken, Listed}
 use Rattle.est_search.specs.declared.path.Level.{Level}
 use Rattle.est_search.specs.declared.path.Best.{Best}
@@ -243,8 +242,11 @@ module _ (c : Setup) (stack : Stack) (v : View) (tried : ℕ) (best : Best) (not
 
       taken_yields : YieldsFirst c (Take ∷ v.moves) (v.top.matched + 1)
       taken_yields = yields_so c (Take ∷ v.moves) there taken_run (e ∷ []) v.top.matched 1
-          taken_events one (place_at c stack.now v.top, here_run,
-          (inner_at c v.moves stack.now v.top way.at.node).follows)
+          taken_events one (
+            place_at c stack.now v.top,
+            here_run,
+            (inner_at c v.moves stack.now v.top way.at.node).follows,
+          )
 
       taken_few : (r : List Move) (j : ℕ) → marks_of r ≡ marks_of (Take ∷ v.moves)
           → YieldsFirst c r j → j ≤ v.top.matched + 1
@@ -283,8 +285,15 @@ module _ (c : Setup) (stack : Stack) (v : View) (tried : ℕ) (best : Best) (not
               count = refl;
               node = record { is_run = taken_next; unfinished = lt };
               stage = (refl, refl);
-              lower = (way.at.mine, way.at.rest, way.at.firings_are, way.at.count, way.at.node,
-              at_fresh.1, way.at.lower);
+              lower = (
+                way.at.mine,
+                way.at.rest,
+                way.at.firings_are,
+                way.at.count,
+                way.at.node,
+                at_fresh.1,
+                way.at.lower,
+              );
             };
             all = all_after c P P' v.moves Take taken_turn tried best notes all_fresh
                 (Take ∷ v.moves) tried best' notes
@@ -578,8 +587,10 @@ module _ (c : Setup) (stack : Stack) (v : View) (tried : ℕ) (best : Best) (not
 
   pub fault_on : (moves : List Move) (fault : BlockFault) → reverse moves ≡ v.moves
       → outcome c.limit c.spec stack.now f ≡ Fault fault
-      → IsOnWay c stack w (tried + 1) best (record notes { faulted =
-      option_or notes.faulted (Some (record { run = moves; firing = f; fault = fault })) })
+      → IsOnWay c stack w (tried + 1) best (record notes {
+        faulted =
+            option_or notes.faulted (Some (record { run = moves; firing = f; fault = fault }));
+      })
   fault_on moves fault same is =
       let nowhere = undone_nowhere (Fault fault) is (λ s outs e. cc) in
       let off = off_nowhere nowhere in
@@ -685,8 +696,11 @@ module _ (c : Setup) (stack : Stack) (v : View) (tried : ℕ) (best : Best) (not
       module _ (k : ℕ) (agree : AgreeFor c.trace v.top.matched outs k) where
         fired_yields : YieldsFirst c (Fire f ∷ v.moves) (v.top.matched + k)
         fired_yields = yields_so c (Fire f ∷ v.moves) fired fired_run outs v.top.matched k
-            fired_events agree (place_at c stack.now v.top, way.at.node.is_run,
-            (inner_at c v.moves stack.now v.top way.at.node).follows)
+            fired_events agree (
+              place_at c stack.now v.top,
+              way.at.node.is_run,
+              (inner_at c v.moves stack.now v.top way.at.node).follows,
+            )
 
         fired_few : (r : List Move) (j : ℕ) → marks_of r ≡ marks_of (Fire f ∷ v.moves)
             → YieldsFirst c r j → j ≤ v.top.matched + k

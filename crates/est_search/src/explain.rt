@@ -75,7 +75,9 @@ fn conclude(alloc: Global, walk: Walk) -> Result<Verdict, AllocError>
     ensures { IfOk result (λ verdict. Concludes walk verdict) }
 {
     let Walk {
-        mut best, notes, ..
+        mut best,
+        notes,
+        ..
     } = walk;
     let Notes { passed, faulted } = notes;
     match passed {
@@ -93,12 +95,7 @@ fn conclude(alloc: Global, walk: Walk) -> Result<Verdict, AllocError>
 }
 
 // The answer where the search ends so.
-fn answer(
-    alloc: Global,
-    walk: Walk,
-    budget: u32,
-    step: Step,
-) -> Result<Verdict, AllocError>
+fn answer(alloc: Global, walk: Walk, budget: u32, step: Step) -> Result<Verdict, AllocError>
     requires ended { step ≡ Step.Going → ⊥ }
     requires few { step ≡ Step.Done → walk.best.yields ≤ most_events }
     ensures { IfOk result (λ verdict. Answers walk budget step verdict) }

@@ -80,7 +80,8 @@ fn take_next<W: World>(
     if !happen(alloc, world, &task.trace[matched as usize])? {
         return Ok(false);
     }
-    walk.best.reach(walk.path.moves.len(), Move::Take, matched + 1)?;
+    walk.best
+        .reach(walk.path.moves.len(), Move::Take, matched + 1)?;
     walk.path.enter(Move::Take, matched + 1, 0)?;
     Ok(matched as usize + 1 == task.trace.len())
 }
@@ -138,7 +139,8 @@ fn land(task: &Task<'_>, walk: &mut Walk, firing: Firing) -> Result<Landed, Allo
     let matched = walk.path.top.matched as usize;
     let many = agreed(task.trace, matched, &walk.outs);
     let yields = (matched + many) as u32;
-    walk.best.reach(walk.path.moves.len(), Move::Fire(firing), yields)?;
+    walk.best
+        .reach(walk.path.moves.len(), Move::Fire(firing), yields)?;
     if many < walk.outs.len() {
         return Ok(Landed::Off);
     }

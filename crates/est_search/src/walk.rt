@@ -100,8 +100,10 @@ impl Notes {
         fault: BlockFault,
     ) -> Result<(), AllocError>
         ensures { OnOk result
-            (self.new ≡ record self.old { faulted = option_or self.old.faulted
-            (Some (record { run = moves.now; firing = firing; fault = fault })) }) }
+            (self.new ≡ record self.old {
+              faulted = option_or self.old.faulted
+                  (Some (record { run = moves.now; firing = firing; fault = fault }));
+            }) }
     {
         if self.faulted.is_none() {
             self.faulted = Some(Faulted {

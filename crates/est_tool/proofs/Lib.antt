@@ -1,6 +1,9 @@
+pub mod Complete
 pub mod OneRequest
 pub mod OneResult
 pub mod ReadLaws
 pub mod ResultLaws
+pub mod SearchStages
+pub mod Stages
 pub mod WordLaws
 pub mod WorkLaws

@@ -2,7 +2,6 @@
 use Rattle.std.proofs.Common.{◌≡◌, ◌≤◌, ◌⊎◌, inl, inr, ℕ, List, Option, Some}
 use Rattle.std.proofs.Common.{None, length, min, sym, subst, ap, ◌∙◌, IfSome}
 use Rattle.std.proofs.Common.{IfNone, Result, Ok, Err, true, false, arith}
-use Rattle.std.specs.Prelude.{string_bytes}
 use Rattle.std.specs.Result.{IsErr, IsErrAnd}
 use Rattle.std.specs.Global.{Vec}
 use Rattle.std.proofs.lemmas.Option.{slice_get_past}
@@ -96,7 +95,7 @@ reads_refused {file = file} {Refuses = Refuses} {text} {own} {tokens} (Some r) s
     by_stop : (stop : Stop) → StopsWith r.status (refusal_at file own tokens r.place r.why.now) stop
         → IsStop (IsRefusedText file Refuses text) stop
     by_stop (Refused report) stops =
-        is_text {Is = IsReported file Refuses report.status (string_bytes report.text)} same short
+        is_text {Is = IsReported file Refuses report.status report.text.items} same short
         list (record {
           place = r.place;
           why = r.why.now;

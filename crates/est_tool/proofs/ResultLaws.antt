@@ -1,7 +1,7 @@
 -- What a call writes, from what its steps answered.
 use Rattle.std.proofs.Common.{◌≡◌, ◌≢◌, ◌∙◌, refl, ap, ℕ, List, Option}
 use Rattle.std.proofs.Common.{Some, None, sym, subst, Result, Ok, Err}
-use Rattle.std.specs.Prelude.{String, string_bytes}
+use Rattle.std.specs.Prelude.{String}
 use Rattle.std.specs.Global.{Global}
 use Rattle.est_edge.specs.FaultCounts.{Rose, AllStay}
 use Rattle.est_tool.specs.declared.report.Report.{Report}
@@ -15,23 +15,27 @@ use Rattle.est_trace.specs.declared.error.TraceError.{TraceError}
 use Rattle.est_trace.specs.declared.error.TraceError.TheVariants as trace
 use Rattle.est_explanation.specs.declared.error.ExplanationError.{ExplanationError}
 use Rattle.est_explanation.specs.declared.error.ExplanationError.TheVariants as explanation
+use Rattle.est_search.specs.declared.verdict.Verdict.{Verdict}
+use Rattle.est_search.specs.declared.verdict.Verdict.TheVariants as verdict
 use Rattle.est_tool.specs.declared.stop.Stop.{Stop}
 use Rattle.est_tool.specs.declared.stop.Stop.TheVariants as stop
 use Rattle.est_tool.specs.declared.file.File.{File}
 use Rattle.est_tool.specs.declared.status.Status.{Status}
 use Rattle.est_tool.specs.declared.status.Status.TheVariants.{Fine, Refused, BadSpec, BadTrace}
-use Rattle.est_tool.specs.declared.status.Status.TheVariants.{BadExplanation, TooLong, Usage}
-use Rattle.est_tool.specs.declared.status.Status.TheVariants.{ReadFault, WriteFault}
-use Rattle.est_tool.specs.declared.status.Status.TheVariants.{OutOfMemory, NotBuilt}
-use Rattle.est_tool.specs.Statuses.{replay_status}
+use Rattle.est_tool.specs.declared.status.Status.TheVariants.{BadExplanation, OverBudget, TooLong}
+use Rattle.est_tool.specs.declared.status.Status.TheVariants.{Usage, ReadFault, WriteFault}
+use Rattle.est_tool.specs.declared.status.Status.TheVariants.{OutOfMemory, NoStart, NotBuilt}
+use Rattle.est_tool.specs.Statuses.{replay_status, verdict_status}
 use Rattle.est_tool.specs.FileTexts.{Holds, Refusals, RefusesSpecification, RefusesTrace}
 use Rattle.est_tool.specs.FileTexts.{RefusesExplanation, SaysOfSpecification}
 use Rattle.est_tool.specs.FileTexts.{SaysOfTrace, SaysOfExplanation, IsReported}
-use Rattle.est_tool.specs.Requests.{Request, check, replay}
+use Rattle.est_tool.specs.Requests.{Request, check, explain, replay}
 use Rattle.est_tool.specs.Seen.{Seen, Sent}
 use Rattle.est_tool.specs.Ends.{End, reported, unread, EndsAt, longer, refused}
 use Rattle.est_tool.specs.Ends.{failed, at_its_file, good, at_specification}
 use Rattle.est_tool.specs.Ends.{unbuilt, at_trace, at_explanation, replayed, Ends}
+use Rattle.est_tool.specs.Ends.{ends_at_specification, not_run, ends_at_trace, not_started}
+use Rattle.est_tool.specs.Ends.{start_over, searched}
 use Rattle.est_tool.specs.Result.{Reports, Writes, IsResult}
 use Rattle.est_tool.specs.inside.Reads.{IsQuiet}
 use Rattle.est_tool.specs.inside.Work.{IsMade, IsObeyed}
@@ -70,6 +74,12 @@ of_answer : (answer : Replayed) → HasReport (replay_status answer)
 of_answer (Confirmed events) = tt
 of_answer (Rejected at why) = tt
 
+of_verdict : (verdict : Verdict) → HasReport (verdict_status verdict)
+of_verdict (verdict.Accepted run) = tt
+of_verdict (verdict.Refused at run faulted) = tt
+of_verdict (verdict.OverFirings tried) = tt
+of_verdict (verdict.OverAction run events firing) = tt
+
 of_refused : (file : File) (Refuses : Refusals) (told : Option (List ℕ)) (status : Status)
     (report : List ℕ) → AreReportable Refuses
     → Holds file told (IsReported file Refuses status report) → HasReport status
@@ -92,6 +102,19 @@ ends_reportable shelf (check name) _ (at_its_file end is) = at_file RefusesSpeci
     (λ text tokens status place why refuses. of_specification refuses.0 status place why refuses.2)
     is
 ends_reportable shelf (check name) _ (good spec holds) = tt
+ends_reportable shelf (explain s t silent budget statements) _ (ends_at_specification end is) =
+    at_file RefusesSpecification end (λ text tokens status place why refuses. of_specification
+    refuses.0 status place why refuses.2) is
+ends_reportable shelf (explain s t silent budget statements) _ (not_run counts holds) = tt
+ends_reportable shelf (explain s t silent budget statements) _ (ends_at_trace spec end holds is) =
+    at_file (RefusesTrace spec) end (λ text tokens status place why refuses. of_trace refuses.0
+    status place why refuses.2) is
+ends_reportable shelf (explain s t silent budget statements) _
+    (not_started spec events fault holds traced is) = tt
+ends_reportable shelf (explain s t silent budget statements) _
+    (start_over spec events holds traced is) = tt
+ends_reportable shelf (explain s t silent budget statements) _
+    (searched spec events situation outs verdict holds traced begun is) = of_verdict verdict
 ends_reportable shelf (replay s t e silent statements) _ (at_specification end is) =
     at_file RefusesSpecification end (λ text tokens status place why refuses. of_specification
     refuses.0 status place why refuses.2) is
@@ -117,7 +140,9 @@ module _ (Gives : Status → List ℕ → Type 0) where
   writes_whole BadSpec report before after has given is = (report, given, is)
   writes_whole BadTrace report before after has given is = (report, given, is)
   writes_whole BadExplanation report before after has given is = (report, given, is)
+  writes_whole OverBudget report before after has given is = (report, given, is)
   writes_whole TooLong report before after has given is = (report, given, is)
+  writes_whole NoStart report before after has given is = (report, given, is)
   writes_whole NotBuilt report before after has given is = (report, given, is)
   writes_whole Usage report before after has given is = absurd has
   writes_whole ReadFault report before after has given is = absurd has
@@ -139,11 +164,11 @@ module _ (Gives : Status → List ℕ → Type 0) where
       → IsMade IsReportable made → IsMade P made → IsDelivered made answer before after
       → Writes Gives answer before after
   writes_delivered P (Ok made) answer before after gives has is sent = writes_sent made.status
-      (string_bytes made.text) answer before after has (gives made.status (string_bytes made.text)
+      made.text.items answer before after has (gives made.status made.text.items
       is) sent
   writes_delivered P (Err (stop.Refused made)) answer before after gives has is sent =
-      writes_sent made.status (string_bytes made.text) answer before after has
-      (gives made.status (string_bytes made.text) is) sent
+      writes_sent made.status made.text.items answer before after has
+      (gives made.status made.text.items is) sent
   writes_delivered P (Err stop.ReadFault) answer before after gives has is none =
       subst (λ a. Writes Gives a before after) (sym none.0) none.1
   writes_delivered P (Err stop.OutOfMemory) answer before after gives has is none =
@@ -164,10 +189,10 @@ pub delivered_unread : (P : End → Type 0) (made : Result Report Stop) (answer 
     → IsMade IsReportable made → IsMade P made → IsDelivered made answer before after
     → answer ≡ ReadFault → P unread
 delivered_unread P (Ok made) answer before after has is sent fault =
-    absurd (sent_no_read_fault made.status (string_bytes made.text) answer before after has sent
+    absurd (sent_no_read_fault made.status made.text.items answer before after has sent
     fault)
 delivered_unread P (Err (stop.Refused made)) answer before after has is sent fault =
-    absurd (sent_no_read_fault made.status (string_bytes made.text) answer before after has sent
+    absurd (sent_no_read_fault made.status made.text.items answer before after has sent
     fault)
 delivered_unread P (Err stop.ReadFault) answer before after has is none fault = is
 delivered_unread P (Err stop.OutOfMemory) answer before after has is none fault =
@@ -230,7 +255,7 @@ no_fault status has is = subst HasReport is has
 
 -- a report was written whole
 pub sends_whole : (report : Report) (output : Sent) (bytes : List ℕ)
-    → bytes ≡ string_bytes report.text → HasReport report.status
+    → bytes ≡ report.text.items → HasReport report.status
     → output.after.written ≡ appended output.before.written bytes
     → output.after.faults ≡ output.before.faults
     → Sends report output report.status
@@ -245,7 +270,7 @@ sends_whole report output bytes same has is quiet = record {
 
 -- a write failed
 pub sends_part : (report : Report) (output : Sent) (bytes part : List ℕ)
-    → bytes ≡ string_bytes report.text → IsPrefix part bytes
+    → bytes ≡ report.text.items → IsPrefix part bytes
     → output.after.written ≡ appended output.before.written part
     → Rose output.before.faults output.after.faults
     → Sends report output WriteFault

@@ -13,26 +13,33 @@ use Rattle.est_explanation.specs.declared.explanation.Explanation.{Explanation}
 use Rattle.est_blocks.specs.declared.counts.Counts.{Counts}
 use Rattle.est_check.specs.declared.checked.Specification.{Specification}
 use Rattle.est_check.specs.declared.checked.Specification.TheVariants as found
+use Rattle.est_runs.specs.declared.run.Limits.{Limits}
+use Rattle.est_tool.specs.declared.search.Searched.{Searched}
+use Rattle.est_tool.specs.declared.search.Searched.TheVariants as came
 use Rattle.est_tool.specs.declared.report.Report.{Report}
 use Rattle.est_tool.specs.declared.stop.Stop.{Stop}
 use Rattle.est_tool.specs.declared.stop.Stop.TheVariants.{Refused, ReadFault, OutOfMemory}
 use Rattle.est_tool.specs.declared.file.File.{File}
 use Rattle.est_tool.specs.declared.status.Status.{Status}
-use Rattle.est_tool.specs.declared.status.Status.TheVariants.{Fine, NotBuilt}
+use Rattle.est_tool.specs.declared.status.Status.TheVariants.{Fine, OverBudget, NoStart, NotBuilt}
 use Rattle.est_tool.specs.Files.{limit_of}
 use Rattle.est_tool.specs.Statuses.{replay_status}
 use Rattle.est_tool.specs.Seen.{Shelved, Seen, seen}
 use Rattle.est_tool.specs.FileTexts.{Holds, Refusals, IsReported, OfSpecification}
 use Rattle.est_tool.specs.FileTexts.{OfTrace, OfExplanation}
-use Rattle.est_tool.specs.Requests.{Request, check, replay}
+use Rattle.est_tool.specs.Requests.{Request, check, explain, replay}
 use Rattle.est_tool.specs.Ends.{End, reported, IsTooLong, EndsAt, longer, refused, failed}
 use Rattle.est_tool.specs.Ends.{HoldsRead, HoldsSpecification, HoldsTrace, HoldsExplanation}
 use Rattle.est_tool.specs.Ends.{CheckEnds, at_its_file, good, ReplayEnds, at_specification}
 use Rattle.est_tool.specs.Ends.{unbuilt, at_trace, at_explanation, replayed, Ends}
+use Rattle.est_tool.specs.Ends.{ExplainEnds, ends_at_specification, not_run, ends_at_trace}
+use Rattle.est_tool.specs.Ends.{not_started, start_over, searched}
+use Rattle.est_tool.specs.Started.{ExplainStarts, first_alone, both}
 use Rattle.est_tool.specs.Started.{ReplayStarts, one, two, three, Starts}
 use Rattle.est_tool.specs.inside.Reads.{IsStop, IsQuiet, ReadsFile}
 use Rattle.est_tool.specs.inside.Work.{OfSkeleton, IsMade, Gives, IsCounted}
-use Rattle.est_tool.specs.inside.Work.{IsUnbuilt, IsAnswered, IsWork}
+use Rattle.est_tool.specs.inside.Work.{IsUnbuilt, IsAnswered, Tells, IsExplained, IsWork}
+use Rattle.est_tool.specs.inside.Searching.{IsSearched}
 use Rattle.est_tool.proofs.ReadLaws.{stop_then, stops_for, quiet_any, quiet_stop}
 
 -- what is held where a shelf tells the same as before was held before
@@ -75,6 +82,22 @@ module _ (before middle after : Shelved) (same : SameTold before.told middle.tol
   ends_before (check s) _ (at_its_file end at) = at_its_file end (file_before end at)
   ends_before (check s) _ (good read holds) = good read (holds_before _ (OfSpecification read)
       (same s) holds)
+  ends_before (explain s t n b m) _ (ends_at_specification end at) = ends_at_specification end
+      (file_before end at)
+  ends_before (explain s t n b m) _ (not_run counts holds) = not_run counts
+      (holds_before _ (OfSpecification (found.Whole counts)) (same s) holds)
+  ends_before (explain s t n b m) _ (ends_at_trace spec end holds at) = ends_at_trace spec end
+      (holds_before _ (OfSkeleton spec) (same s) holds) (file_before end at)
+  ends_before (explain s t n b m) _ (not_started spec events fault holds traced is) =
+      not_started spec events fault (holds_before _ (OfSkeleton spec) (same s) holds)
+      (holds_before _ (OfTrace spec events) (same t) traced) is
+  ends_before (explain s t n b m) _ (start_over spec events holds traced is) =
+      start_over spec events (holds_before _ (OfSkeleton spec) (same s) holds)
+      (holds_before _ (OfTrace spec events) (same t) traced) is
+  ends_before (explain s t n b m) _
+      (searched spec events situation outs verdict holds traced begun is) =
+      searched spec events situation outs verdict (holds_before _ (OfSkeleton spec) (same s) holds)
+      (holds_before _ (OfTrace spec events) (same t) traced) begun is
   ends_before (replay s t e n m) _ (at_specification end at) = at_specification end
       (file_before end at)
   ends_before (replay s t e n m) _ (unbuilt counts holds) = unbuilt counts
@@ -98,9 +121,16 @@ module _ (before middle after : Shelved) (same : SameTold before.told middle.tol
       three spec events (holds_before _ (OfSkeleton spec) (same s) holds)
       (holds_before _ (OfTrace spec events) (same t) traced)
 
+  explain_starts_before : (s t : List ℕ) (names : List (List ℕ))
+      → ExplainStarts (seen middle after) s t names → ExplainStarts (seen before after) s t names
+  explain_starts_before s t _ first_alone = first_alone
+  explain_starts_before s t _ (both spec holds) = both spec (holds_before _ (OfSkeleton spec)
+      (same s) holds)
+
   starts_before : (request : Request) (names : List (List ℕ))
       → Starts (seen middle after) request names → Starts (seen before after) request names
   starts_before (check s) names starts = starts
+  starts_before (explain s t n b m) names starts = explain_starts_before s t names starts
   starts_before (replay s t e n m) names starts = replay_starts_before s t e names starts
 
   quiet_before : {A : Type 0} (r : Result A Stop) → IsQuiet (seen middle after) r
@@ -179,6 +209,44 @@ pub check_reports : (shelf : Seen) (name : List ℕ) (read : Specification)
 check_reports shelf name read holds status report is =
     subst (λ s. CheckEnds shelf name (reported s report)) (sym is.0)
     (subst (λ r. CheckEnds shelf name (reported Fine r)) (sym is.1) (good read holds))
+
+pub not_run_reports : (shelf : Seen) (s t : List ℕ) (silent budget statements : ℕ)
+    (read : Specification) (counts : Counts) → read ≡ found.Whole counts → HoldsRead shelf s read
+    → (status : Status) (report : List ℕ) → IsUnbuilt status report
+    → ExplainEnds shelf s t silent budget statements (reported status report)
+not_run_reports shelf s t silent budget statements read counts whole holds status report is =
+    subst (λ z. ExplainEnds shelf s t silent budget statements (reported z report)) (sym is.0)
+    (subst (λ r. ExplainEnds shelf s t silent budget statements (reported NotBuilt r)) (sym is.1)
+    (not_run counts (subst (λ z. HoldsRead shelf s z) whole holds)))
+
+-- an end with this status and this report
+ends_so : (shelf : Seen) (s t : List ℕ) (silent budget statements : ℕ) (a b : Status)
+    (r q : List ℕ) → (a ≡ b) × (r ≡ q)
+    → ExplainEnds shelf s t silent budget statements (reported b q)
+    → ExplainEnds shelf s t silent budget statements (reported a r)
+ends_so shelf s t silent budget statements a b r q same ends =
+    subst (λ z. ExplainEnds shelf s t silent budget statements (reported z r)) (sym same.0)
+    (subst (λ z. ExplainEnds shelf s t silent budget statements (reported b z)) (sym same.1) ends)
+
+explain_reports : (shelf : Seen) (s t : List ℕ) (limits : Limits) (spec : Spec)
+    (events : List Event) → HoldsSpecification shelf s spec → HoldsTrace shelf t spec events
+    → (status : Status) (report : List ℕ) (found : Searched) → IsSearched limits spec events found
+    → Tells limits.statements (length events) found status report
+    → ExplainEnds shelf s t limits.silent limits.budget limits.statements (reported status report)
+explain_reports shelf s t limits spec events holds traced status report (came.Found verdict) is
+    tells = ends_so shelf s t _ _ _ _ _ _ _ tells
+    (searched spec events is.0 is.1 verdict holds traced is.2 is.3)
+explain_reports shelf s t limits spec events holds traced status report (came.Fault fault) is
+    tells = ends_so shelf s t _ _ _ _ _ _ _ tells (not_started spec events fault holds traced is)
+explain_reports shelf s t limits spec events holds traced status report came.Limit is tells =
+    ends_so shelf s t _ _ _ _ _ _ _ tells (start_over spec events holds traced is)
+
+pub search_reports : (shelf : Seen) (s t : List ℕ) (limits : Limits) (spec : Spec)
+    (events : List Event) → HoldsSpecification shelf s spec → HoldsTrace shelf t spec events
+    → (status : Status) (report : List ℕ) → IsExplained limits spec events status report
+    → ExplainEnds shelf s t limits.silent limits.budget limits.statements (reported status report)
+search_reports shelf s t limits spec events holds traced status report is =
+    explain_reports shelf s t limits spec events holds traced status report is.0 is.1 is.2
 
 pub unbuilt_reports : (shelf : Seen) (s t e : List ℕ) (silent statements : ℕ) (read : Specification)
     (counts : Counts) → read ≡ found.Whole counts → HoldsRead shelf s read

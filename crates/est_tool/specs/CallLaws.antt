@@ -3,7 +3,7 @@ use Rattle.std.specs.Prelude.{◌≡◌, ℕ, List, Some}
 use Rattle.est_tool.specs.declared.status.Status.{Status}
 use Rattle.est_tool.specs.Seen.{Seen}
 use Rattle.est_tool.specs.Ends.{reported, Ends}
-use Rattle.est_tool.specs.Requests.{Request, check, replay, Asks}
+use Rattle.est_tool.specs.Requests.{Request, check, explain, replay, Asks}
 
 -- two shelves tell a file, and tell the same bytes of it
 abbrev pub TellAlike : Seen → Seen → List ℕ → Type 0
@@ -14,6 +14,8 @@ TellAlike shelf shelf' name =
 -- two shelves tell each file that is asked for, and tell the same bytes of it
 abbrev pub TellFilesAlike : Seen → Seen → Request → Type 0
 TellFilesAlike shelf shelf' (check specification) = TellAlike shelf shelf' specification
+TellFilesAlike shelf shelf' (explain specification trace silent budget statements) =
+    TellAlike shelf shelf' specification × TellAlike shelf shelf' trace
 TellFilesAlike shelf shelf' (replay specification trace explanation silent statements) =
     TellAlike shelf shelf' specification × TellAlike shelf shelf' trace
     × TellAlike shelf shelf' explanation

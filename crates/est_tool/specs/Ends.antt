@@ -7,21 +7,30 @@ use Rattle.est_blocks.specs.declared.counts.Counts.{Counts}
 use Rattle.est_check.specs.declared.checked.Specification.{Specification}
 use Rattle.est_check.specs.declared.checked.Specification.TheVariants as found
 use Rattle.est_meaning.specs.declared.event.Event.{Event}
+use Rattle.est_meaning.specs.declared.firing.BlockFault.{BlockFault}
+use Rattle.est_meaning.specs.Situation.{Situation}
+use Rattle.est_meaning.specs.Blocks.{Done, Fault, Limit}
+use Rattle.est_meaning.specs.Step.{start_of}
+use Rattle.est_runs.specs.Run.{Setup}
+use Rattle.est_search.specs.Verdict.{IsVerdict}
+use Rattle.est_search.specs.declared.verdict.Verdict.{Verdict}
 use Rattle.est_replay.specs.Replay.{IsReplay}
 use Rattle.est_explanation.specs.declared.explanation.Explanation.{Explanation}
 use Rattle.est_replay.specs.declared.verdict.Replayed.{Replayed}
 use Rattle.est_tool.specs.declared.file.File.{File}
 use Rattle.est_tool.specs.declared.file.File.TheVariants as file
 use Rattle.est_tool.specs.declared.status.Status.{Status}
-use Rattle.est_tool.specs.declared.status.Status.TheVariants.{Fine, TooLong, NotBuilt}
+use Rattle.est_tool.specs.declared.status.Status.TheVariants.{Fine, OverBudget, TooLong}
+use Rattle.est_tool.specs.declared.status.Status.TheVariants.{NoStart, NotBuilt}
 use Rattle.est_tool.specs.Files.{limit_of}
 use Rattle.est_tool.specs.Reports.{ok_line, too_long_line, not_built_line, replay_line}
+use Rattle.est_tool.specs.SearchReports.{no_start_line, over_start_line, verdict_report}
 use Rattle.est_tool.specs.Seen.{Seen}
-use Rattle.est_tool.specs.Statuses.{replay_status}
+use Rattle.est_tool.specs.Statuses.{replay_status, verdict_status}
 use Rattle.est_tool.specs.FileTexts.{Holds, OfSpecification, OfTrace}
 use Rattle.est_tool.specs.FileTexts.{OfExplanation, Refusals, RefusesSpecification}
 use Rattle.est_tool.specs.FileTexts.{RefusesTrace, RefusesExplanation, IsReported}
-use Rattle.est_tool.specs.Requests.{Request, check, replay}
+use Rattle.est_tool.specs.Requests.{Request, check, explain, replay}
 
 -- an end of a call: a status with a report, or a file that could not be read
 pub data End : Type 0 where
@@ -111,8 +120,57 @@ pub data ReplayEnds
       → ReplayEnds shelf specification trace explanation silent statements
       (reported (replay_status answer) (replay_line (length events) answer))
 
+-- the runs of a specification along a trace, from a start that is ready
+abbrev pub task_of : ℕ → ℕ → Spec → List Event → Situation → List Event → Setup
+task_of silent statements spec events s outs = record {
+  spec = spec;
+  limit = statements;
+  silent = silent;
+  trace = events;
+  start = s;
+  start_outs = outs;
+}
+
+-- `explain` ends at the first of its files that is refused, or at a good specification that is no
+-- skeleton, or at a start that faults or passes its limit, or tells the verdict
+pub data ExplainEnds
+    (shelf : Seen) (specification trace : List ℕ) (silent budget statements : ℕ)
+    : End → Type 0 where
+  ends_at_specification : (end : End)
+      → EndsAt shelf file.Specification specification RefusesSpecification end
+      → ExplainEnds shelf specification trace silent budget statements end
+  not_run : (counts : Counts) → HoldsRead shelf specification (found.Whole counts)
+      → ExplainEnds shelf specification trace silent budget statements
+      (reported NotBuilt not_built_line)
+  ends_at_trace : (spec : Spec) (end : End)
+      → HoldsSpecification shelf specification spec
+      → EndsAt shelf file.Trace trace (RefusesTrace spec) end
+      → ExplainEnds shelf specification trace silent budget statements end
+  not_started : (spec : Spec) (events : List Event) (fault : BlockFault)
+      → HoldsSpecification shelf specification spec
+      → HoldsTrace shelf trace spec events
+      → start_of statements spec ≡ Fault fault
+      → ExplainEnds shelf specification trace silent budget statements
+      (reported NoStart (no_start_line fault))
+  start_over : (spec : Spec) (events : List Event)
+      → HoldsSpecification shelf specification spec
+      → HoldsTrace shelf trace spec events
+      → start_of statements spec ≡ Limit
+      → ExplainEnds shelf specification trace silent budget statements
+      (reported OverBudget (over_start_line statements))
+  searched : (spec : Spec) (events : List Event) (s : Situation) (outs : List Event)
+      (verdict : Verdict)
+      → HoldsSpecification shelf specification spec
+      → HoldsTrace shelf trace spec events
+      → start_of statements spec ≡ Done s outs
+      → IsVerdict (task_of silent statements spec events s outs) budget verdict
+      → ExplainEnds shelf specification trace silent budget statements
+      (reported (verdict_status verdict) (verdict_report statements (length events) verdict))
+
 -- how what the words ask for ends
 abbrev pub Ends : Seen → Request → End → Type 0
 Ends shelf (check specification) end = CheckEnds shelf specification end
+Ends shelf (explain specification trace silent budget statements) end =
+    ExplainEnds shelf specification trace silent budget statements end
 Ends shelf (replay specification trace explanation silent statements) end =
     ReplayEnds shelf specification trace explanation silent statements end

@@ -1,8 +1,10 @@
 pub mod Ends
 pub mod Files
 pub mod CallLaws
+pub mod Completeness
 pub mod Reports
 pub mod Result
+pub mod SearchReports
 pub mod Seen
 pub mod Started
 pub mod Statuses

@@ -4,7 +4,7 @@ use Rattle.est_syntax.specs.declared.specification.Spec.{Spec}
 use Rattle.est_meaning.specs.declared.event.Event.{Event}
 use Rattle.est_tool.specs.Seen.{Seen}
 use Rattle.est_tool.specs.Ends.{HoldsSpecification, HoldsTrace}
-use Rattle.est_tool.specs.Requests.{Request, check, replay}
+use Rattle.est_tool.specs.Requests.{Request, check, explain, replay}
 
 -- `check` starts its file, once
 abbrev pub CheckStarts : List ℕ → List (List ℕ) → Type 0
@@ -21,8 +21,17 @@ pub data ReplayStarts (shelf : Seen) (specification trace explanation : List ℕ
       → ReplayStarts shelf specification trace explanation
       (specification ∷ trace ∷ explanation ∷ [])
 
+-- `explain` starts its files in their order, each once, and the trace only where the specification
+-- is good
+pub data ExplainStarts (shelf : Seen) (specification trace : List ℕ) : List (List ℕ) → Type 0 where
+  first_alone : ExplainStarts shelf specification trace (specification ∷ [])
+  both : (spec : Spec) → HoldsSpecification shelf specification spec
+      → ExplainStarts shelf specification trace (specification ∷ trace ∷ [])
+
 -- the files of these names are all that is started for what the words ask for
 abbrev pub Starts : Seen → Request → List (List ℕ) → Type 0
 Starts shelf (check specification) names = CheckStarts specification names
+Starts shelf (explain specification trace silent budget statements) names =
+    ExplainStarts shelf specification trace names
 Starts shelf (replay specification trace explanation silent statements) names =
     ReplayStarts shelf specification trace explanation names

@@ -2,11 +2,13 @@
 use Rattle.std.specs.Prelude.{ℕ}
 use Rattle.est_replay.specs.declared.verdict.Replayed.{Replayed}
 use Rattle.est_replay.specs.declared.verdict.Replayed.TheVariants.{Confirmed, Rejected}
+use Rattle.est_search.specs.declared.verdict.Verdict.{Verdict}
+use Rattle.est_search.specs.declared.verdict.Verdict.TheVariants as verdict
 use Rattle.est_tool.specs.declared.status.Status.{Status}
 use Rattle.est_tool.specs.declared.status.Status.TheVariants.{Fine, Refused, BadSpec, BadTrace}
-use Rattle.est_tool.specs.declared.status.Status.TheVariants.{BadExplanation, TooLong, Usage}
-use Rattle.est_tool.specs.declared.status.Status.TheVariants.{ReadFault, WriteFault}
-use Rattle.est_tool.specs.declared.status.Status.TheVariants.{OutOfMemory, NotBuilt}
+use Rattle.est_tool.specs.declared.status.Status.TheVariants.{BadExplanation, OverBudget, TooLong}
+use Rattle.est_tool.specs.declared.status.Status.TheVariants.{Usage, ReadFault, WriteFault}
+use Rattle.est_tool.specs.declared.status.Status.TheVariants.{OutOfMemory, NoStart, NotBuilt}
 
 -- the exit status of the program
 abbrev pub code_of : Status → ℕ
@@ -15,14 +17,23 @@ code_of Refused = 1
 code_of BadSpec = 2
 code_of BadTrace = 3
 code_of BadExplanation = 4
+code_of OverBudget = 5
 code_of TooLong = 6
 code_of Usage = 7
 code_of ReadFault = 8
 code_of WriteFault = 9
 code_of OutOfMemory = 10
+code_of NoStart = 11
 code_of NotBuilt = 12
 
 -- the status of a replay
 abbrev pub replay_status : Replayed → Status
 replay_status (Confirmed claim) = Fine
 replay_status (Rejected at why) = Refused
+
+-- the status of a search
+abbrev pub verdict_status : Verdict → Status
+verdict_status (verdict.Accepted run) = Fine
+verdict_status (verdict.Refused at run faulted) = Refused
+verdict_status (verdict.OverFirings tried) = OverBudget
+verdict_status (verdict.OverAction run events firing) = OverBudget

@@ -1,16 +1,18 @@
 //! The commands.
 ghost use Rattle.std.specs.Prelude.{◌≤◌, [], ◌∷◌, length};
-ghost use Rattle.est_meaning.specs.Allowed.{IsAllowedTrace};
+ghost use Rattle.est_meaning.specs.Allowed.{IsAllowedTrace, most_events};
 ghost use Rattle.est_replay.specs.Replay.{most_moves};
 ghost use Rattle.est_tool.specs.declared.file.File.TheVariants as file;
 ghost use Rattle.est_tool.specs.Seen.{seen, shelved};
 ghost use Rattle.est_tool.specs.FileTexts.{Holds, OfTrace};
-ghost use Rattle.est_tool.specs.Requests.{check, replay};
+ghost use Rattle.est_tool.specs.Requests.{check, explain, replay};
 ghost use Rattle.est_tool.specs.inside.Work.{IsWork, Gives, IsCounted, IsUnbuilt};
-ghost use Rattle.est_tool.specs.inside.Work.{IsAnswered, OfSkeleton};
+ghost use Rattle.est_tool.specs.inside.Work.{IsAnswered, IsExplained, Tells, OfSkeleton};
 
 use crate::explanation::explanation_in;
 use crate::report::{Report, line_report, ok_report, replay_report, replay_status};
+use crate::search::{Searched, search};
+use crate::search_report::{no_start_report, over_start_report, verdict_report, verdict_status};
 use crate::specification::specification_in;
 use crate::status::Status;
 use crate::stop::Stop;
@@ -23,6 +25,13 @@ use est_replay::checked::replay;
 use est_runs::run::Limits;
 use est_specification::Specification;
 use std::alloc::Global;
+
+/// The names of the files of a search.
+#[derive(Clone, Copy)]
+pub(crate) struct ExplainFiles<'n> {
+    pub specification: &'n str,
+    pub trace: &'n str,
+}
 
 /// The names of the files of a replay.
 #[derive(Clone, Copy)]
@@ -54,8 +63,106 @@ fn counted(alloc: Global, read: &Specification) -> Result<Report, Stop>
     let text = ok_report(alloc, counts)?;
     Ok(Report {
         status: Status::Fine,
-        text,
+        text: text.into_bytes(),
     })
+}
+
+// The report of a good specification that cannot be run yet.
+fn unbuilt(alloc: Global) -> Result<Report, Stop>
+    ensures { Gives IsUnbuilt result }
+{
+    let text = line_report(alloc, "not built yet")?;
+    Ok(Report {
+        status: Status::NotBuilt,
+        text: text.into_bytes(),
+    })
+}
+
+/// Searches for an explanation of a trace.
+pub(crate) fn explain_files<S: Shelf>(
+    alloc: Global,
+    shelf: &mut S,
+    files: &ExplainFiles<'_>,
+    limits: &Limits,
+) -> Result<Report, Stop>
+    ensures { IsWork []
+        (explain files.now.specification.now files.now.trace.now
+        limits.now.silent limits.now.budget limits.now.statements)
+        (seen
+        (shelved (S.told shelf.old) (S.faults shelf.old) (S.started shelf.old) (S.taken shelf.old))
+        (shelved (S.told shelf.new) (S.faults shelf.new) (S.started shelf.new) (S.taken shelf.new)))
+        result }
+{
+    match specification_in(alloc, shelf, files.specification)? {
+        Specification::Skeleton(checked) => explain_trace(alloc, shelf, files, limits, &checked),
+        Specification::Whole(_) => unbuilt(alloc),
+    }
+}
+
+// What is left of a search once the specification was read.
+fn explain_trace<S: Shelf>(
+    alloc: Global,
+    shelf: &mut S,
+    files: &ExplainFiles<'_>,
+    limits: &Limits,
+    checked: &Checked,
+) -> Result<Report, Stop>
+    requires { Holds file.Specification (S.told shelf.old files.now.specification.now)
+        (OfSkeleton checked.now) }
+    ensures { IsWork (files.now.specification.now ∷ [])
+        (explain files.now.specification.now files.now.trace.now
+        limits.now.silent limits.now.budget limits.now.statements)
+        (seen
+        (shelved (S.told shelf.old) (S.faults shelf.old) (S.started shelf.old) (S.taken shelf.old))
+        (shelved (S.told shelf.new) (S.faults shelf.new) (S.started shelf.new) (S.taken shelf.new)))
+        result }
+{
+    let trace = trace_in(alloc, shelf, files.trace, checked)?;
+    explained(alloc, checked, &trace, limits)
+}
+
+// The report of a search.
+fn explained(
+    alloc: Global,
+    checked: &Checked,
+    trace: &Trace,
+    limits: &Limits,
+) -> Result<Report, Stop>
+    requires { IsAllowedTrace checked.now trace.now }
+    ensures { Gives (IsExplained limits.now checked.now trace.now) result }
+{
+    let found = search(alloc, checked, trace, limits)?;
+    told(alloc, &found, trace.len() as u32, limits.statements)
+}
+
+// The report of what came of a search on a trace of so many events.
+fn told(alloc: Global, found: &Searched, events: u32, limit: u32) -> Result<Report, Stop>
+    requires { events ≤ most_events }
+    ensures { Gives (Tells limit events found.now) result }
+{
+    match found {
+        Searched::Found(verdict) => {
+            let text = verdict_report(alloc, verdict, events, limit)?;
+            Ok(Report {
+                status: verdict_status(verdict),
+                text,
+            })
+        }
+        Searched::Fault(fault) => {
+            let text = no_start_report(alloc, *fault)?;
+            Ok(Report {
+                status: Status::NoStart,
+                text: text.into_bytes(),
+            })
+        }
+        Searched::Limit => {
+            let text = over_start_report(alloc, limit)?;
+            Ok(Report {
+                status: Status::OverBudget,
+                text: text.into_bytes(),
+            })
+        }
+    }
 }
 
 /// Replays the explanation of a trace.
@@ -77,17 +184,6 @@ pub(crate) fn replay_files<S: Shelf>(
         Specification::Skeleton(checked) => replay_trace(alloc, shelf, files, limits, &checked),
         Specification::Whole(_) => unbuilt(alloc),
     }
-}
-
-// The report of a good specification that cannot be run yet.
-fn unbuilt(alloc: Global) -> Result<Report, Stop>
-    ensures { Gives IsUnbuilt result }
-{
-    let text = line_report(alloc, "not built yet")?;
-    Ok(Report {
-        status: Status::NotBuilt,
-        text,
-    })
 }
 
 // What is left of a replay once the specification was read.
@@ -155,6 +251,6 @@ fn judged(
     let text = replay_report(alloc, answer, trace.len() as u32)?;
     Ok(Report {
         status: replay_status(answer),
-        text,
+        text: text.into_bytes(),
     })
 }

@@ -8,6 +8,8 @@ pub mod laws;
 mod reading;
 mod refusal;
 mod report;
+mod search;
+mod search_report;
 mod specification;
 pub mod status;
 mod stop;

@@ -37,7 +37,7 @@ fn too_long(alloc: Global, file: File) -> Stop
     match too_long_report(alloc, file) {
         Ok(text) => Stop::Refused(Report {
             status: Status::TooLong,
-            text,
+            text: text.into_bytes(),
         }),
         Err(_) => Stop::OutOfMemory,
     }

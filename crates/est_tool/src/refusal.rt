@@ -34,7 +34,10 @@ pub(crate) fn refuse(
         return Stop::OutOfMemory;
     };
     match refusal_text(alloc, file, tokens, place, why) {
-        Ok(text) => Stop::Refused(Report { status, text }),
+        Ok(text) => Stop::Refused(Report {
+            status,
+            text: text.into_bytes(),
+        }),
         Err(_) => Stop::OutOfMemory,
     }
 }

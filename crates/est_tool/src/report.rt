@@ -17,7 +17,7 @@ use std::alloc::{AllocError, Global};
 #[derive(Drop)]
 pub(crate) struct Report {
     pub status: Status,
-    pub text: String,
+    pub text: Vec<u8>,
 }
 
 /// The report of a good specification.
@@ -162,8 +162,8 @@ fn with_fault(alloc: Global, why: &str, fault: BlockFault) -> Result<String, All
     format!(in alloc; "{why} {fault}")
 }
 
-// What goes wrong in a block.
-fn fault_text(fault: BlockFault) -> &'static str
+/// What goes wrong in a block.
+pub(crate) fn fault_text(fault: BlockFault) -> &'static str
     ensures { result.now ≡ fault_text fault }
 {
     match fault {

@@ -5,9 +5,9 @@ ghost use Rattle.est_tool.specs.Statuses.{code_of};
 /// How a call ended. Its number is the exit status of the program.
 #[derive(Clone, Copy, PartialEq, Eq)]
 pub enum Status {
-    /// The specification is good, or the explanation is confirmed.
+    /// The specification is good, the trace is explained, or the explanation is confirmed.
     Fine = 0,
-    /// The explanation is rejected.
+    /// No run explains the trace, or the explanation is rejected.
     Refused = 1,
     /// The specification's text has a fault.
     BadSpec = 2,
@@ -15,6 +15,8 @@ pub enum Status {
     BadTrace = 3,
     /// The explanation's text has a fault.
     BadExplanation = 4,
+    /// The firings that may be tried were used up, or something passed its limit of statements.
+    OverBudget = 5,
     /// A file is longer than its limit.
     TooLong = 6,
     /// The words ask for nothing that the program does.
@@ -25,6 +27,8 @@ pub enum Status {
     WriteFault = 9,
     /// Out of memory.
     OutOfMemory = 10,
+    /// The start of the specification faults.
+    NoStart = 11,
     /// The specification is good and no skeleton: its runs are not built yet.
     NotBuilt = 12,
 }

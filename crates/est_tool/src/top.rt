@@ -5,7 +5,7 @@ ghost use Rattle.est_tool.specs.Requests.{IsCommand};
 ghost use Rattle.est_tool.specs.inside.Work.{IsMade, IsObeyed};
 ghost use Rattle.est_tool.specs.inside.Written.{HasReport, IsReportable, Delivers, Sends};
 
-use crate::commands::{ReplayFiles, check_file, replay_files};
+use crate::commands::{ExplainFiles, ReplayFiles, check_file, explain_files, replay_files};
 use crate::report::Report;
 use crate::status::Status;
 use crate::stop::Stop;
@@ -48,6 +48,13 @@ fn obey<S: Shelf>(
 {
     match command {
         Command::Check => check_file(alloc, shelf, words[1].as_str()),
+        Command::Explain { limits } => {
+            let files = ExplainFiles {
+                specification: words[1].as_str(),
+                trace: words[2].as_str(),
+            };
+            explain_files(alloc, shelf, &files, &limits)
+        }
         Command::Replay { limits } => {
             let files = ReplayFiles {
                 specification: words[1].as_str(),
@@ -81,7 +88,7 @@ fn send<K: Sink>(report: Report, sink: &mut K) -> Status
         (sent (K.written sink.old) (K.faults sink.old) (K.written sink.new) (K.faults sink.new))
         result }
 {
-    match write_whole(sink, report.text.as_bytes()) {
+    match write_whole(sink, report.text.as_slice()) {
         Ok(()) => report.status,
         Err(_) => Status::WriteFault,
     }

@@ -7,7 +7,7 @@ use Rattle.est_meaning.specs.declared.firing.Firing.{Firing}
 use Rattle.est_meaning.specs.Situation.{Situation}
 use Rattle.est_meaning.specs.Blocks.{Fault}
 use Rattle.est_runs.specs.declared.run.Move.{Move}
-use Rattle.est_runs.specs.declared.run.Move.TheVariants.{Take, Fire}
+use Rattle.est_runs.specs.declared.run.Move.TheVariants.{Fire}
 use Rattle.est_runs.specs.Order.{Mark, Trying, marks_of, IsFirst}
 use Rattle.est_runs.specs.Stack.{Stack}
 use Rattle.est_runs.specs.Task.{Suits, IsSetup}

@@ -1,6 +1,6 @@
 -- What a function answers that reads a file.
 use Rattle.std.specs.Prelude.{◌≡◌, ℕ, ◌≤◌, List, [], ◌∷◌, ◌++◌, length, IfSome}
-use Rattle.std.specs.Prelude.{IfOk, IfErr, Result, Ok, Err, string_bytes}
+use Rattle.std.specs.Prelude.{IfOk, IfErr, Result, Ok, Err}
 use Rattle.std.specs.Global.{Vec}
 use Rattle.est_lexer.specs.declared.kind.Token.{Token}
 use Rattle.est_edge.specs.FaultCounts.{Rose, AllStay}
@@ -16,14 +16,14 @@ use Rattle.est_tool.specs.Ends.{End, reported, unread, IsTooLong, EndsAt}
 
 -- a function stops before its work is done; memory may run out at any time
 abbrev pub IsStop : (End → Type 0) → Stop → Type 0
-IsStop P (Refused report) = P (reported report.status (string_bytes report.text))
+IsStop P (Refused report) = P (reported report.status report.text.items)
 IsStop P ReadFault = P unread
 IsStop P OutOfMemory = Unit {0}
 
 -- a function stops with this report, or because memory ran out
 abbrev pub StopsWith : Status → List ℕ → Stop → Type 0
 StopsWith status text (Refused report) =
-    (report.status ≡ status) × (string_bytes report.text ≡ text)
+    (report.status ≡ status) × (report.text.items ≡ text)
 StopsWith status text ReadFault = ⊥
 StopsWith status text OutOfMemory = Unit {0}
 

@@ -1,5 +1,5 @@
 -- What a function answers that does what the words ask for, or what is left of it.
-use Rattle.std.specs.Prelude.{◌≡◌, ℕ, List, [], ◌++◌, length, Result, Ok, Err, String, string_bytes}
+use Rattle.std.specs.Prelude.{◌≡◌, ℕ, List, [], ◌++◌, length, Result, Ok, Err, String}
 use Rattle.std.specs.Global.{Global}
 use Rattle.est_edge.specs.Pieces.{SameTold}
 use Rattle.est_lexer.specs.declared.kind.Token.{Token}
@@ -7,7 +7,7 @@ use Rattle.est_tool.specs.declared.report.Report.{Report}
 use Rattle.est_tool.specs.declared.stop.Stop.{Stop}
 use Rattle.est_tool.specs.declared.stop.Stop.TheVariants.{OutOfMemory}
 use Rattle.est_tool.specs.declared.status.Status.{Status}
-use Rattle.est_tool.specs.declared.status.Status.TheVariants.{Fine, NotBuilt}
+use Rattle.est_tool.specs.declared.status.Status.TheVariants.{Fine, OverBudget, NoStart, NotBuilt}
 use Rattle.est_syntax.specs.declared.specification.Spec.{Spec}
 use Rattle.est_check.specs.declared.checked.Specification.{Specification}
 use Rattle.est_check.specs.declared.checked.Specification.TheVariants as found
@@ -17,12 +17,17 @@ use Rattle.est_explanation.specs.declared.explanation.Explanation.{Explanation}
 use Rattle.est_replay.specs.declared.verdict.Replayed.{Replayed}
 use Rattle.est_tool.specs.FileTexts.{OfSpecification}
 use Rattle.est_tool.specs.Reports.{ok_line, not_built_line, replay_line}
-use Rattle.est_tool.specs.Statuses.{replay_status}
+use Rattle.est_tool.specs.SearchReports.{no_start_line, over_start_line, verdict_report}
+use Rattle.est_tool.specs.Statuses.{replay_status, verdict_status}
 use Rattle.est_tool.specs.Seen.{Seen}
 use Rattle.est_tool.specs.Ends.{End, reported, numbers_of, Ends}
 use Rattle.est_tool.specs.Started.{Starts}
 use Rattle.est_tool.specs.Requests.{Request, Asks, bytes_of}
+use Rattle.est_runs.specs.declared.run.Limits.{Limits}
+use Rattle.est_tool.specs.declared.search.Searched.{Searched}
+use Rattle.est_tool.specs.declared.search.Searched.TheVariants as searched
 use Rattle.est_tool.specs.inside.Reads.{IsStop, IsQuiet}
+use Rattle.est_tool.specs.inside.Searching.{IsSearched}
 
 -- the tokens of the text are this skeleton, which breaks no rule
 abbrev pub OfSkeleton : Spec → List ℕ → List Token → Type 0
@@ -30,12 +35,12 @@ OfSkeleton spec = OfSpecification (found.Skeleton spec)
 
 -- a command ends with a report, or stops before
 abbrev pub IsMade : (End → Type 0) → Result Report Stop → Type 0
-IsMade P (Ok report) = P (reported report.status (string_bytes report.text))
+IsMade P (Ok report) = P (reported report.status report.text.items)
 IsMade P (Err stop) = IsStop P stop
 
 -- this holds of the report that is made, unless memory ran out
 abbrev pub Gives : (Status → List ℕ → Type 0) → Result Report Stop → Type 0
-Gives P (Ok report) = P report.status (string_bytes report.text)
+Gives P (Ok report) = P report.status report.text.items
 Gives P (Err stop) = stop ≡ OutOfMemory
 
 -- the report of a good specification
@@ -51,6 +56,21 @@ abbrev pub IsAnswered : ℕ → ℕ → Spec → List Event → Explanation → 
 IsAnswered silent statements spec events read status report =
     (answer : Replayed) × IsReplay statements silent spec events read.moves read.claim answer
     × (status ≡ replay_status answer) × (report ≡ replay_line (length events) answer)
+
+-- the report of what came of a search on a trace of so many events, within this limit of statements
+abbrev pub Tells : ℕ → ℕ → Searched → Status → List ℕ → Type 0
+Tells limit events (searched.Found verdict) status report =
+    (status ≡ verdict_status verdict) × (report ≡ verdict_report limit events verdict)
+Tells limit events (searched.Fault fault) status report =
+    (status ≡ NoStart) × (report ≡ no_start_line fault)
+Tells limit events searched.Limit status report =
+    (status ≡ OverBudget) × (report ≡ over_start_line limit)
+
+-- the report of a search within limits, by the one thing that came of it
+abbrev pub IsExplained : Limits → Spec → List Event → Status → List ℕ → Type 0
+IsExplained limits spec events status report =
+    (found : Searched) × IsSearched limits spec events found
+    × Tells limits.statements (length events) found status report
 
 -- the work of a request is done, of which these files were started before
 pub record IsWork

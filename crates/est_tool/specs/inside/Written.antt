@@ -1,5 +1,5 @@
 -- What a function writes.
-use Rattle.std.specs.Prelude.{◌≡◌, ◌≢◌, ℕ, List, Option, Result, Ok, Err, string_bytes}
+use Rattle.std.specs.Prelude.{◌≡◌, ◌≢◌, ℕ, List, Option, Result, Ok, Err}
 use Rattle.est_edge.specs.FaultCounts.{Rose}
 use Rattle.est_edge.specs.Pieces.{appended, IsPrefix}
 use Rattle.est_tool.specs.declared.report.Report.{Report}
@@ -37,9 +37,9 @@ pub data IsSent (status : Status) (report : List ℕ)
 abbrev pub IsDelivered :
     Result Report Stop → Status → Option (List ℕ) → Option (List ℕ) → Type 0
 IsDelivered (Ok report) status before after =
-    IsSent report.status (string_bytes report.text) status before after
+    IsSent report.status report.text.items status before after
 IsDelivered (Err (stop.Refused report)) status before after =
-    IsSent report.status (string_bytes report.text) status before after
+    IsSent report.status report.text.items status before after
 IsDelivered (Err stop.ReadFault) status before after = (status ≡ ReadFault) × (after ≡ before)
 IsDelivered (Err stop.OutOfMemory) status before after = (status ≡ OutOfMemory) × (after ≡ before)
 
@@ -57,5 +57,5 @@ pub record Delivers (made : Result Report Stop) (output : Sent) (status : Status
 -- a report is written
 pub record Sends (report : Report) (output : Sent) (status : Status) : Type 0 where
   pub answers : AnswersOutput output status
-  pub sent : IsSent report.status (string_bytes report.text) status
+  pub sent : IsSent report.status report.text.items status
       output.before.written output.after.written

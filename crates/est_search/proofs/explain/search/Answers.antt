@@ -1,9 +1,6 @@
-use Rattle.std.proofs.Common.{◌≡◌, ◌≤◌, ◌+◌, ◌-◌, length, refl, sym, subst, arith}
+use Rattle.std.proofs.Common.{◌≤◌, ◌+◌, length, refl, subst, arith}
 use Rattle.std.proofs.Math.Logic.{∥∥₁_elim}
 use Rattle.std.specs.Coded.{le_prop}
-use Rattle.est_meaning.specs.Allowed.{most_events}
-use Rattle.est_search.specs.declared.walk.Step.TheVariants.{Done}
-use Rattle.est_search.specs.inside.Walk.{StepIs}
 use Rattle.est_search.proofs.StartLaws.{answer_departs, answer_whole, ready_at_start}
 use Rattle.est_search.proofs.VerdictLaws.{answered, answered_tried, if_ok, done_yields}
 use Rattle.est_search.proofs.explain.search.Goals as goal
@@ -27,15 +24,26 @@ returns-then-matched-task-clause-verdict g c spec speaks = answer_whole (g.setup
 pub walk_all-step-requires : goal.walk_all-step-requires
 walk_all-step-requires g c κs within =
     let none = c.new-walk.ensures.tried in
-    let room = c.requires.1.0 in
-    (within, (omega arith, (omega arith, (c.requires.1.1.0, λ spec speaks. ready_at_start
-    (g.setup spec) spec (g.W.World.limit c.args.world.now) c.args.task.now.silent
-    c.args.task.now.trace.now (g.W.World.stack c.args.world.now spec) c.args.start_outs.now
-    (c.requires.1.1.1 spec speaks) c.agreed-matched.result c.agreed-matched.ensures
-    c.new-walk.result c.if-matched-start_outs.false
-    (let w = c.agreed-matched.ensures.within in let n = c.if-matched-task.false in omega arith)
-    c.new-walk.ensures.path c.new-walk.ensures.best c.new-walk.ensures.common
-    c.new-walk.ensures.tail c.new-walk.ensures.notes c.new-walk.ensures.tried))))
+    let room = c.requires.1.0 in (
+      within,
+      (
+        omega arith,
+        (
+          omega arith,
+          (
+            c.requires.1.1.0,
+            λ spec speaks. ready_at_start
+                (g.setup spec) spec (g.W.World.limit c.args.world.now) c.args.task.now.silent
+                c.args.task.now.trace.now (g.W.World.stack c.args.world.now spec) c.args.start_outs.now
+                (c.requires.1.1.1 spec speaks) c.agreed-matched.result c.agreed-matched.ensures
+                c.new-walk.result c.if-matched-start_outs.false
+                (let w = c.agreed-matched.ensures.within in let n = c.if-matched-task.false in omega arith)
+                c.new-walk.ensures.path c.new-walk.ensures.best c.new-walk.ensures.common
+                c.new-walk.ensures.tail c.new-walk.ensures.notes c.new-walk.ensures.tried,
+          ),
+        ),
+      ),
+    )
 
 pub answer-requires-clause-few : goal.answer-requires-clause-few
 answer-requires-clause-few g c e = ∥∥₁_elim (g.met.W.World.spoken c.args.world.now) le_prop (λ s.

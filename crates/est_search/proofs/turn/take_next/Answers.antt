@@ -1,6 +1,4 @@
-use Rattle.std.proofs.Common.{◌≡◌, ◌≤◌, ◌+◌, ◌^◌, get_or, length, refl, sym, ap, subst, arith}
-use Rattle.est_meaning.specs.Allowed.{units_of}
-use Rattle.est_runs.specs.Run.{IsFromOutside}
+use Rattle.std.proofs.Common.{◌≡◌, ◌+◌, get_or, length, refl, sym, ap, subst, arith}
 use Rattle.est_runs.specs.declared.run.Move.TheVariants.{Take}
 use Rattle.est_search.specs.declared.path.Stage.TheVariants.{Taken}
 use Rattle.est_search.specs.inside.Path.{HasReached}

@@ -1,0 +1,43 @@
+//! The search for an explanation, from the start of a specification.
+ghost use Rattle.std.specs.Prelude.{IfOk};
+ghost use Rattle.est_meaning.specs.Allowed.{IsAllowedTrace};
+ghost use Rattle.est_tool.specs.inside.Searching.{IsSearched};
+
+use est_check::Checked;
+use est_meaning::event::Trace;
+use est_meaning::firing::BlockFault;
+use est_plain::world::PlainWorld;
+use est_runs::run::{Limits, Started};
+use est_search::explain::explain;
+use est_search::verdict::Verdict;
+use std::alloc::{AllocError, Global};
+
+/// What came of a search: a verdict, or, of a start that is not ready, a fault or a passed limit.
+#[derive(Drop)]
+pub(crate) enum Searched {
+    Found(Verdict),
+    Fault(BlockFault),
+    Limit,
+}
+
+/// Searches for a run of a checked specification that explains a trace.
+pub(crate) fn search(
+    alloc: Global,
+    checked: &Checked,
+    trace: &Trace,
+    limits: &Limits,
+) -> Result<Searched, AllocError>
+    requires { IsAllowedTrace checked.now trace.now }
+    ensures { IfOk result (IsSearched limits.now checked.now trace.now) }
+{
+    let started = PlainWorld::start(alloc, checked, limits.statements)?;
+    match started {
+        Started::Fault(fault) => Ok(Searched::Fault(fault)),
+        Started::Limit => Ok(Searched::Limit),
+        Started::Ready { world, outs } => {
+            let mut world = world;
+            let verdict = explain(alloc, &mut world, outs.as_slice(), trace, limits)?;
+            Ok(Searched::Found(verdict))
+        }
+    }
+}
