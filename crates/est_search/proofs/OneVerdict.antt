@@ -66,7 +66,7 @@ no_longer (x ∷ xs) ys distinct all =
     ]) in
     omega arith
 
-too_many : (P : List Move → Type 0) (budget : ℕ) → HasMany P (budget + 1) → HasAtMost P budget
+pub too_many : (P : List Move → Type 0) (budget : ℕ) → HasMany P (budget + 1) → HasAtMost P budget
     → ⊥
 too_many P budget m a =
     let le = no_longer m.runs a.2.found.runs m.distinct (λ x i. a.2.all x (m.each x i)) in

@@ -165,12 +165,16 @@ decides : (c : Setup) (budget : ℕ) (status : Status) (v : Verdict) → IsVerdi
     → status ≡ verdict_status v → IsWithinLimits c budget → Decides c status
 decides c budget status (verdict.Accepted run) is same within = record {
   fine = (λ e. (_, is.first.has), λ e. same);
-  refused = (λ e. absurd (let f : Refused ≡ Fine = sym e ∙ same in cc),
-      λ none. absurd (none _ is.first.has));
+  refused = (
+    λ e. absurd (let f : Refused ≡ Fine = sym e ∙ same in cc),
+    λ none. absurd (none _ is.first.has),
+  );
 }
 decides c budget status (verdict.Refused at run faulted) is same within = record {
-  fine = (λ e. absurd (let f : Fine ≡ Refused = sym e ∙ same in cc),
-      λ run. absurd (is.unexplained.none run.0 run.1));
+  fine = (
+    λ e. absurd (let f : Fine ≡ Refused = sym e ∙ same in cc),
+    λ run. absurd (is.unexplained.none run.0 run.1),
+  );
   refused = (λ e. is.unexplained.none, λ none. same);
 }
 decides c budget status (verdict.OverFirings tried) is same within =

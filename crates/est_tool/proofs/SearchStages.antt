@@ -104,9 +104,9 @@ found_searched limits spec events s outs outs' verdict same begun is = (
 one_found : (limits : Limits) (spec : Spec) (events : List Event) (a b : Searched)
     → IsSearched limits spec events a → IsSearched limits spec events b → a ≡ b
 one_found limits spec events (came.Found v) (came.Found w) x y =
-    ap (λ z. came.Found z) (verdict_unique (task_of limits.silent limits.statements spec events y.0 y.1)
-    limits.budget v w
-    (verdict_at limits spec events x.0 y.0 x.1 y.1 v x.2 y.2 x.3) y.3)
+    ap (λ z. came.Found z)
+    (verdict_unique (task_of limits.silent limits.statements spec events y.0 y.1)
+    limits.budget v w (verdict_at limits spec events x.0 y.0 x.1 y.1 v x.2 y.2 x.3) y.3)
 one_found limits spec events (came.Found v) (came.Fault fault) x y =
     let e : Done x.0 x.1 ≡ Fault fault = sym x.2 ∙ y in absurd cc
 one_found limits spec events (came.Found v) came.Limit x y =

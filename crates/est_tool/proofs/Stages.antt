@@ -480,10 +480,10 @@ abbrev pub AtSpecification : Seen → List ℕ → (Read → Status → List ℕ
 AtSpecification shelf name Next = Stage shelf Specification name RefusesSpecification
     OfSpecification Next
 
-abbrev pub AtTrace : Seen → List ℕ → Spec → (List Event → Status → List ℕ → Type 0) → Status → List ℕ
-    → Type 0
+abbrev pub AtTrace : Seen → List ℕ → Spec → (List Event → Status → List ℕ → Type 0) → Status
+    → List ℕ → Type 0
 AtTrace shelf name spec Next = Stage shelf Trace name (RefusesTrace spec) (OfTrace spec) Next
 
-abbrev pub AtExplanation : Seen → List ℕ → (Explanation → Status → List ℕ → Type 0) → Status → List ℕ
-    → Type 0
+abbrev pub AtExplanation : Seen → List ℕ → (Explanation → Status → List ℕ → Type 0) → Status
+    → List ℕ → Type 0
 AtExplanation shelf name Next = Stage shelf Explaining name RefusesExplanation OfExplanation Next

@@ -1,6 +1,7 @@
 -- What words ask for, by the words at their places.
 use Rattle.std.proofs.Common.{◌≡◌, ◌≢◌, ℕ, ◌-◌, ◌<◌, ◌≤◌, Bool, true, false, ◌==◌}
-use Rattle.std.proofs.Common.{Option, Some, None, MatchOption, List, [], ◌∷◌, length, get_or, take, drop, codes, String}
+use Rattle.std.proofs.Common.{Option, Some, None, MatchOption, List, [], ◌∷◌, length, get_or}
+use Rattle.std.proofs.Common.{take, drop, codes, String}
 use Rattle.std.proofs.Common.{string_bytes, string_len, sym, refl, ap, subst, arith, ◌∙◌}
 use Rattle.std.proofs.lemmas.Bool.Decides.{nat_tests}
 use Rattle.std.proofs.lemmas.List.{nil_from_length, take_all}

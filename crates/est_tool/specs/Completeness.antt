@@ -20,8 +20,8 @@ pub record IsToldWell (shelf : Seen) (name : List ℕ) : Type 0 where
   pub told : shelf.before.told name ≡ Some bytes
   pub quiet : Rose (shelf.before.faults name) (shelf.after.faults name) → ⊥
 
--- the words ask for a search within this budget for the runs of the setup: both files are told, they
--- hold the skeleton and the trace, the start is ready, and no count rose
+-- the words ask for a search within this budget for the runs of the setup: both files are told,
+-- they hold the skeleton and the trace, the start is ready, and no count rose
 pub record IsSearchOf (words : List (String Global)) (shelf : Seen) (output : Sent) (budget : ℕ)
     (c : Setup) : Type 0 where
   pub specification : List ℕ
@@ -47,8 +47,8 @@ pub record IsWithinLimits (c : Setup) (budget : ℕ) : Type 0 where
   pub size : HasAtMost (IsTrial c) budget
   pub passes : (x : List Mark) → PassesLimit c x → ⊥
 
--- the status is that of a trace that is explained where a run explains it, and else that of one that
--- is refused
+-- the status is that of a trace that is explained where a run explains it, and else that of one
+-- that is refused
 pub record Decides (c : Setup) (status : Status) : Type 0 where
   pub fine : (status ≡ Fine) ↔ ((run : List Move) × Explains c run)
   pub refused : (status ≡ Refused) ↔ ((run : List Move) → Explains c run → ⊥)

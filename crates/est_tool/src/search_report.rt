@@ -2,8 +2,9 @@
 ghost use Rattle.std.specs.Prelude.{◌≡◌, ◌≤◌, ◌++◌, IfOk, codes, string_bytes};
 ghost use Rattle.est_meaning.specs.Allowed.{most_events};
 ghost use Rattle.est_tool.specs.SearchReports.{accepted_line, explanation_text, fault_end};
-ghost use Rattle.est_tool.specs.SearchReports.{fault_line, faulted_line, no_start_line, over_action_line};
-ghost use Rattle.est_tool.specs.SearchReports.{over_firings_line, over_start_line};
+ghost use Rattle.est_tool.specs.SearchReports.{fault_line, faulted_line, no_start_line};
+ghost use Rattle.est_tool.specs.SearchReports.{over_action_line, over_firings_line};
+ghost use Rattle.est_tool.specs.SearchReports.{over_start_line};
 ghost use Rattle.est_tool.specs.SearchReports.{refused_at_line, refused_end_line, refused_line};
 ghost use Rattle.est_tool.specs.SearchReports.{verdict_report};
 ghost use Rattle.est_tool.specs.Statuses.{verdict_status};
@@ -188,8 +189,10 @@ fn over_block(alloc: Global, limit: u32, firing: Firing) -> Result<String, Alloc
         transition,
         choice,
     } = firing;
-    format!(in alloc; "{{ over budget: firing {instance} {transition} {choice} passed the limit \
-        {limit} after these moves }}\n")
+    format!(in alloc;
+        "{{ over budget: firing {instance} {transition} {choice} passed the limit \
+        {limit} after these moves }}\n"
+    )
 }
 
 /// The line of a start that passes the limit of statements.

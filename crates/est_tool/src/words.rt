@@ -71,13 +71,13 @@ fn read_explain(words: &[String]) -> Result<Command, BadUsage>
     ensures refused { OnErr result (AsksNothing words.now) }
 {
     match words {
-        [_, specification, trace, limits @ ..]
-            if !specification.is_empty() && !trace.is_empty() => {
-            match read_search_limits(limits) {
-                Some(limits) => Ok(Command::Explain { limits }),
-                None => Err(BadUsage),
+        [_, specification, trace, limits @ ..] if !specification.is_empty() && !trace.is_empty() =>
+            {
+                match read_search_limits(limits) {
+                    Some(limits) => Ok(Command::Explain { limits }),
+                    None => Err(BadUsage),
+                }
             }
-        }
         _ => Err(BadUsage),
     }
 }
