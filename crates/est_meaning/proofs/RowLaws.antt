@@ -29,7 +29,8 @@ use Rattle.est_meaning.specs.Blocks.{delivered, sent, all_sent, sending_at, send
 use Rattle.est_meaning.specs.Step.{without_awaited, with_state, completed, fired_by}
 use Rattle.est_meaning.specs.Step.{outcome, initialized, made, born, begun}
 use Rattle.est_meaning.specs.Step.{start_of, arrived_as, arrived_at, after_event}
-use Rattle.est_meaning.specs.StepLaws.{BeginsWithRoot, AreAscending, HasRowsInOrder, RowsStayInOrder}
+use Rattle.est_meaning.specs.StepLaws.{BeginsWithRoot, AreAscending, HasRowsInOrder}
+use Rattle.est_meaning.specs.StepLaws.{RowsStayInOrder}
 use Rattle.est_meaning.proofs.StepLaws.{limit_done, fault_done, done_situation}
 
 -- A STATE IS SET
@@ -76,7 +77,8 @@ state_ordered s number (Some state) h =
 -- A BLOCK
 
 delivered_ordered : (spec : Spec) (s : Situation) (signal : Name) (values : List Value)
-    (route : Route) → HasRowsInOrder s → HasRowsInOrder (delivered spec s signal values route).situation
+    (route : Route) → HasRowsInOrder s → HasRowsInOrder (delivered spec s signal values
+    route).situation
 delivered_ordered spec s signal values (Within q) h = h
 delivered_ordered spec s signal values (Outside port) h = h
 delivered_ordered spec s signal values Lost h = h
@@ -120,7 +122,8 @@ awaited_ordered spec s number None h = h
 awaited_ordered spec s number (Some w) h = h
 
 fired_ordered : (limit : ℕ) (spec : Spec) (s t : Situation) (f : Firing) (c : Option Choice)
-    (outs : List Event) → HasRowsInOrder s → option_map_or (fired_by limit spec s f) c (Fault NoModule)
+    (outs : List Event) → HasRowsInOrder s → option_map_or (fired_by limit spec s f) c (Fault
+    NoModule)
     ≡ Done t outs → HasRowsInOrder t
 fired_ordered limit spec s t f None outs h e = absurd (fault_done NoModule t outs e)
 fired_ordered limit spec s t f (Some c) outs h e =
@@ -143,7 +146,8 @@ arrived_ordered : (spec : Spec) (s : Situation) (p : InteractionPoint) (values :
 arrived_ordered spec s p values None h = h
 arrived_ordered spec s p values (Some signal) h = h
 
-arrival_ordered : (spec : Spec) (s : Situation) (i : Interaction) (port : Option Port) → HasRowsInOrder s
+arrival_ordered : (spec : Spec) (s : Situation) (i : Interaction) (port : Option Port) →
+    HasRowsInOrder s
     → HasRowsInOrder (arrived_at spec s i port)
 arrival_ordered spec s i None h = h
 arrival_ordered spec s i (Some port) h = arrived_ordered spec s (port_point port) i.values

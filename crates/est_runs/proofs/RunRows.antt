@@ -12,7 +12,8 @@ rows_in_order c [] p begun r = subst (λ (w : Place). HasRowsInOrder w.situation
 rows_in_order c (Take ∷ h) p begun r =
     let q = r.0 in
     let t = r.2 in
-    subst (λ (w : Place). HasRowsInOrder w.situation) (sym t.leads) (rows_stay.event c.spec q.situation
+    subst (λ (w : Place). HasRowsInOrder w.situation) (sym t.leads) (rows_stay.event c.spec
+    q.situation
     t.event (rows_in_order c h q begun r.1))
 rows_in_order c (Fire f ∷ h) p begun r =
     let q = r.0 in

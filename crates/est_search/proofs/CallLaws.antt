@@ -1,7 +1,9 @@
 -- The steps of a search, as the code asks for them.
-use Rattle.std.proofs.Common.{◌≡◌, ℕ, suc, ◌+◌, ◌*◌, ◌-◌, ◌^◌, ◌<◌, ◌≤◌, ◌⊎◌, Bool, true, false, nat_eq}
+use Rattle.std.proofs.Common.{◌≡◌, ℕ, suc, ◌+◌, ◌*◌, ◌-◌, ◌^◌, ◌<◌, ◌≤◌, ◌⊎◌, Bool, true, false}
+use Rattle.std.proofs.Common.{nat_eq}
 use Rattle.std.proofs.Common.{List, [], ◌∷◌, Some, None, length, reverse, take, drop}
-use Rattle.std.proofs.Common.{Result, Ok, Err, OnErr, get_or, refl, sym, ap, subst, ◌∙◌, inl, inr, arith}
+use Rattle.std.proofs.Common.{Result, Ok, Err, OnErr, get_or, refl, sym, ap, subst, ◌∙◌, inl}
+use Rattle.std.proofs.Common.{inr, arith}
 use Rattle.std.specs.Option.{option_or}
 use Rattle.std.proofs.lemmas.Bool.Decides.{nat_tests}
 use Rattle.std.proofs.lemmas.List.{length-reverse, reverse-reverse, append_cancel_left}
@@ -34,11 +36,11 @@ use Rattle.est_search.specs.inside.Path.{View, view_of, place_at, entered, with_
 use Rattle.est_search.specs.inside.Path.{IsNext, IsUndone, stage_after, HasReached, HasKept}
 use Rattle.est_search.specs.inside.Walk.{IsOnWay, IsWalk, IsReady, IsTrying, IsFound, Accepts}
 use Rattle.est_search.specs.inside.Walk.{HasLedOn, HasLanded, KnowsAll, IsOver, weight_of, load}
+use Rattle.est_search.proofs.WalkLaws.{skipped, taken_found, taken_on, settled_on, unsettled_on}
+use Rattle.est_search.proofs.FiringLaws.{fire_possible, over, fault_on, limit_on, silent_on}
+use Rattle.est_search.proofs.FiringLaws.{departed_on, led_found, led_on, back_depth, back_on}
+use Rattle.est_search.proofs.FiringLaws.{all_done}
 use Rattle.est_search.proofs.EventLaws.{next_event}
-use Rattle.est_search.proofs.WalkLaws.{skipped, taken_found, taken_on}
-use Rattle.est_search.proofs.WalkLaws.{settled_on, unsettled_on, fire_possible, over, fault_on}
-use Rattle.est_search.proofs.WalkLaws.{limit_on, silent_on, departed_on, led_found, led_on}
-use Rattle.est_search.proofs.WalkLaws.{back_depth, back_on, all_done}
 
 pub made_many : (p : Path) → length p.moves.items ≡ length (view_of p).moves
 made_many p = sym (length-reverse p.moves.items)
@@ -226,7 +228,8 @@ module _ (c : Setup) (spec : Spec) (limit silent : ℕ) (trace : List Event) (st
       omega arith
 
   pub many_trying : HasMany (IsTrial c) (w.tried + 1)
-  many_trying = (over c stack t.before w.tried w.best w.notes t.on_way f (view_of w.path) t.next).size
+  many_trying = (over c stack t.before w.tried w.best w.notes t.on_way f (view_of w.path)
+      t.next).size
 
   pub fault_call : (stack' : Stack) (new : Walk) (fault : BlockFault) (events : List Event)
       → FiredAs (outcome limit spec stack.now f) (fired.Fault fault) events stack stack'
@@ -255,7 +258,8 @@ module _ (c : Setup) (spec : Spec) (limit silent : ℕ) (trace : List Event) (st
       rw (a.1, path, tried, best, notes) way
 
   -- it is done
-  module _ (mid : Walk) (stack' : Stack) (path : mid.path ≡ w.path) (tried : mid.tried ≡ w.tried + 1)
+  module _ (mid : Walk) (stack' : Stack) (path : mid.path ≡ w.path) (tried : mid.tried ≡ w.tried +
+      1)
       (best : mid.best ≡ w.best) (notes : mid.notes ≡ w.notes)
       (is : FiredAs (outcome limit spec stack.now f) fired.Done mid.outs.items stack stack')
     where
@@ -273,7 +277,8 @@ module _ (c : Setup) (spec : Spec) (limit silent : ℕ) (trace : List Event) (st
       silent_is = ap (λ (p : Path). p.top.silent) path ∙ top_silent
 
       made_is : length mid.path.moves.items ≡ length t.before.moves
-      made_is = ap (λ (p : Path). length p.moves.items) path ∙ made_many w.path ∙ ap length moves_same
+      made_is = ap (λ (p : Path). length p.moves.items) path ∙ made_many w.path ∙ ap length
+          moves_same
 
       few_there : silent_after mid.path.top.silent mid.outs.items ≤ silent
           → silent_after t.before.top.silent mid.outs.items ≤ c.silent
@@ -288,12 +293,15 @@ module _ (c : Setup) (spec : Spec) (limit silent : ℕ) (trace : List Event) (st
           (sym t.suits.trace_is) (subst (λ n. AgreeFor trace n mid.outs.items k) matched_is a)
 
       module _ (new : Walk) (tried' : new.tried ≡ mid.tried) where
-        reached_there : (k : ℕ) → HasReached mid.best new.best (length mid.path.moves.items) (Fire f)
+        reached_there : (k : ℕ) → HasReached mid.best new.best (length mid.path.moves.items) (Fire
+            f)
             (mid.path.top.matched + k)
             → HasReached w.best new.best (length mid.path.moves.items) (Fire f)
             (t.before.top.matched + k)
-        reached_there k r = subst (λ n. HasReached w.best new.best (length mid.path.moves.items) (Fire f)
-            (n + k)) matched_is (subst (λ b. HasReached b new.best (length mid.path.moves.items) (Fire f)
+        reached_there k r = subst (λ n. HasReached w.best new.best (length mid.path.moves.items)
+            (Fire f)
+            (n + k)) matched_is (subst (λ b. HasReached b new.best (length mid.path.moves.items)
+            (Fire f)
             (mid.path.top.matched + k)) best r)
 
         -- it does not lead on
@@ -343,9 +351,11 @@ module _ (c : Setup) (spec : Spec) (limit silent : ℕ) (trace : List Event) (st
             let lt = landed.1 in
             let n : length c.trace ≡ length trace = ap length t.suits.trace_is in
             let e = matched_is in
-            let way = led_on c stack t.before w.tried w.best w.notes t.on_way f (view_of w.path) t.next
+            let way = led_on c stack t.before w.tried w.best w.notes t.on_way f (view_of w.path)
+            t.next
             done.0 mid.outs.items done_there (few_there l.few)
-            (agree_there (length mid.outs.items) l.agree) new.best (length mid.path.moves.items) made_is
+            (agree_there (length mid.outs.items) l.agree) new.best (length mid.path.moves.items)
+            made_is
             (reached_there (length mid.outs.items) l.best) (omega arith) in
             let v = entered_there l in
             let n' : new.tried ≡ w.tried + 1 = tried' ∙ tried in
@@ -374,9 +384,11 @@ module _ (c : Setup) (spec : Spec) (limit silent : ℕ) (trace : List Event) (st
 load_after : (n : ℕ) (made : Move) (w : View) → w.stage ≡ stage_after made
     → load n w ≤ 2 + 2 * length w.lower
 load_after n Take w e =
-    (let k : weight_of n w.top.matched w.stage ≡ 2 = ap (weight_of n w.top.matched) e in omega arith)
+    (let k : weight_of n w.top.matched w.stage ≡ 2 = ap (weight_of n w.top.matched) e in omega
+    arith)
 load_after n (Fire f) w e =
-    (let k : weight_of n w.top.matched w.stage ≡ 1 = ap (weight_of n w.top.matched) e in omega arith)
+    (let k : weight_of n w.top.matched w.stage ≡ 1 = ap (weight_of n w.top.matched) e in omega
+    arith)
 
 pub load_back : (n : ℕ) (made : Move) (v w : View) → v.stage ≡ Listed → IsUndone v made w
     → load n w < load n v

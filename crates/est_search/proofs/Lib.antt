@@ -3,6 +3,7 @@ pub mod KnownLaws
 pub mod EventLaws
 pub mod PathLaws
 pub mod WalkLaws
+pub mod FiringLaws
 pub mod StartLaws
 pub mod VerdictLaws
 pub mod CallLaws

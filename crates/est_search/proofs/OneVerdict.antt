@@ -149,7 +149,8 @@ one_faulted c (Some a) (Some b) x y =
     let f : a.firing ≡ b.firing = cc in
     let m : marks_of (reverse a.run) ≡ marks_of (reverse b.run) = cc in
     let r : reverse a.run ≡ reverse b.run = marks_same (reverse a.run) (reverse b.run) m in
-    let g : a.fault ≡ b.fault = one_fault c (reverse a.run) (reverse b.run) a.firing b.firing a.fault
+    let g : a.fault ≡ b.fault = one_fault c (reverse a.run) (reverse b.run) a.firing b.firing
+    a.fault
     b.fault r f x.comes y.comes in
     ap Some (same_faulted a b (reversed_same a.run b.run r) f g)
 
@@ -183,7 +184,8 @@ verdict_unique c budget (Refused at x f) (Accepted y) a b =
     absurd (a.unexplained.none (reverse y) b.first.has)
 verdict_unique c budget (Refused m x f) (Refused n y g) a b =
     let e = one_number c m n a.least b.least in
-    let r = reversed_same x y (one_before c m n (reverse x) (reverse y) e a.least a.first b.first) in
+    let r = reversed_same x y (one_before c m n (reverse x) (reverse y) e a.least a.first b.first)
+    in
     ap (λ w. let v : Verdict = Refused w x f in v) e
     ∙ ap (λ w. let v : Verdict = Refused n w f in v) r
     ∙ ap (λ w. let v : Verdict = Refused n y w in v) (one_faulted c f g a.faulted_is b.faulted_is)

@@ -268,7 +268,8 @@ module _ (c : Setup) (P P' : List Mark → Type 0) (h : List Move) (last : Move)
                   run_is = ap (λ w. w ++ h) (sym raised.2);
                 };
                 knows = subst (λ n. KnowsBest c P' n (last ∷ h)) (sym raised.0)
-                    (best_more c P P' (last ∷ h) turn old.yields k run y (λ j q. few (last ∷ h) j refl q)
+                    (best_more c P P' (last ∷ h) turn old.yields k run y (λ j q. few (last ∷ h) j
+                    refl q)
                     lt knows);
               })
         ]

@@ -129,7 +129,8 @@ fn land(task: &Task<'_>, walk: &mut Walk, firing: Firing) -> Result<Landed, Allo
     ensures tried { walk.new.tried ≡ walk.old.tried }
     ensures load { IfOk result
         (λ _. load (length task.now.trace.now) (view_of walk.new.path)
-        < load (length task.now.trace.now) (view_of walk.old.path) + (3 * length task.now.trace.now + 5)) }
+        < load (length task.now.trace.now) (view_of walk.old.path) + (3 * length task.now.trace.now
+        + 5)) }
     ensures landed { IfOk result
         (λ landed. HasLanded task.now.trace.now task.now.silent walk.old walk.new firing landed) }
 {
@@ -173,7 +174,8 @@ fn try_firing<W: World>(
     ensures bottom { SameBottom W.speaks W.stack world.old world.new }
     ensures load { IfOk result
         (λ _. load (length task.now.trace.now) (view_of walk.new.path)
-        < load (length task.now.trace.now) (view_of walk.old.path) + (3 * length task.now.trace.now + 5)) }
+        < load (length task.now.trace.now) (view_of walk.old.path) + (3 * length task.now.trace.now
+        + 5)) }
     ensures many { OnErr result ((spec : Spec) → W.speaks world.old spec
         → HasMany (IsTrial (setup spec)) walk.new.tried) }
     ensures ok { IfOk result (λ found. (spec : Spec) → W.speaks world.old spec
@@ -213,7 +215,8 @@ fn go_back<W: World>(world: &mut W, walk: &mut Walk) -> Result<Step, AllocError>
     ensures tried { walk.new.tried ≡ walk.old.tried }
     ensures bottom { SameBottom W.speaks W.stack world.old world.new }
     ensures load { IfOk result
-        (λ step. step ≡ Step.Going → (n : ℕ) → load n (view_of walk.new.path) < load n (view_of walk.old.path)) }
+        (λ step. step ≡ Step.Going → (n : ℕ) → load n (view_of walk.new.path) < load n (view_of
+        walk.old.path)) }
     ensures over { IfOk result (λ step. step ≡ Step.Over → ⊥) }
     ensures ok { IfOk result (λ step. (spec : Spec) → W.speaks world.old spec
         → StepIs (setup spec) (W.stack world.new spec) step walk.new) }

@@ -34,10 +34,12 @@ walk_all-step-requires g c κs within =
             c.requires.1.1.0,
             λ spec speaks. ready_at_start
                 (g.setup spec) spec (g.W.World.limit c.args.world.now) c.args.task.now.silent
-                c.args.task.now.trace.now (g.W.World.stack c.args.world.now spec) c.args.start_outs.now
+                c.args.task.now.trace.now (g.W.World.stack c.args.world.now spec)
+                c.args.start_outs.now
                 (c.requires.1.1.1 spec speaks) c.agreed-matched.result c.agreed-matched.ensures
                 c.new-walk.result c.if-matched-start_outs.false
-                (let w = c.agreed-matched.ensures.within in let n = c.if-matched-task.false in omega arith)
+                (let w = c.agreed-matched.ensures.within in let n = c.if-matched-task.false in
+                omega arith)
                 c.new-walk.ensures.path c.new-walk.ensures.best c.new-walk.ensures.common
                 c.new-walk.ensures.tail c.new-walk.ensures.notes c.new-walk.ensures.tried,
           ),

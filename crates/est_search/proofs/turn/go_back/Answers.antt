@@ -18,4 +18,5 @@ returns-clause-ok g c spec speaks =
     (record w { path = c.undo.new.self; best = c.keep.new.self })
     (g.W.World.stack c.back.new.self spec) c.in-Some.undone c.in-Some.ensures.some
     (c.back.ensures.stack spec speaks)
-    (subst (λ n. HasKept w.best c.keep.new.self n c.in-Some.undone) left c.in_ok-keep.ensures) refl refl
+    (subst (λ n. HasKept w.best c.keep.new.self n c.in-Some.undone) left c.in_ok-keep.ensures) refl
+    refl

@@ -44,4 +44,5 @@ returns-clause-ok g c spec speaks =
     (record w { path = c.enter.new.self; best = c.reach.new.self }) _
     (rw c.if-not-branch.false at c.in_ok-happen.ensures.outside)
     (rw c.if-not-branch.false at (c.in_ok-happen.ensures.happened spec speaks))
-    (subst (λ n. HasReached w.best c.reach.new.self n Take (at + 1)) made c.in_ok-reach.ensures) c.in_ok-enter.ensures refl refl refl
+    (subst (λ n. HasReached w.best c.reach.new.self n Take (at + 1)) made c.in_ok-reach.ensures)
+    c.in_ok-enter.ensures refl refl refl
