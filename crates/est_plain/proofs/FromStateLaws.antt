@@ -138,9 +138,9 @@ pub lists_among : (points : List PointQueue) (plain : Held) (ts : List Transitio
     → ListsFirst (is_enabled_in points plain) ts n fs
 lists_among points plain ts n fs all e =
     let same : firings_among (passes_at (is_enabled_in points plain) ts) (numbers_below (length ts))
-        ≡ fs = ap (map firing_at) (sym (filter_both (passes_at (fits plain.state) ts)
-        (passes_at (has_awaited points plain.waiting) ts) (passes_at (is_enabled_in points plain) ts)
-        (passes_both points plain ts) (numbers_below (length ts)))) ∙ sym e in
+    ≡ fs = ap (map firing_at) (sym (filter_both (passes_at (fits plain.state) ts)
+    (passes_at (has_awaited points plain.waiting) ts) (passes_at (is_enabled_in points plain) ts)
+    (passes_both points plain ts) (numbers_below (length ts)))) ∙ sym e in
     subst (λ m. ListsFirst (is_enabled_in points plain) ts m fs) (sym all)
     (subst (λ l. ListsFirst (is_enabled_in points plain) ts (length ts) l) same
     (lists_below (is_enabled_in points plain) ts (length ts) (omega arith)))

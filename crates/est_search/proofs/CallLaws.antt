@@ -186,8 +186,10 @@ module _ (c : Setup) (spec : Spec) (limit silent : ℕ) (trace : List Event) (st
       (settled_on c stack (view_of w.path) w.tried w.best w.notes r.on_way taken offers
       (settled_there o.0) (options_there o.1))
 
-  pub unsettled_call : new.notes ≡ record w.notes { passed = option_or w.notes.passed
-      (Some (record { run = w.path.moves.items; events = w.path.top.matched; firing = None })) }
+  pub unsettled_call : new.notes ≡ record w.notes {
+    passed = option_or w.notes.passed
+        (Some (record { run = w.path.moves.items; events = w.path.top.matched; firing = None }));
+  }
       → OffersAre limit spec stack.now Unsettled offers → IsWalk c stack' new
   unsettled_call notes o = listed_call _ notes
       (unsettled_on c stack (view_of w.path) w.tried w.best w.notes r.on_way taken offers
@@ -248,8 +250,10 @@ module _ (c : Setup) (spec : Spec) (limit silent : ℕ) (trace : List Event) (st
   pub limit_call : (stack' : Stack) (new : Walk) (events : List Event)
       → FiredAs (outcome limit spec stack.now f) fired.Limit events stack stack'
       → new.path ≡ w.path → new.tried ≡ w.tried + 1 → new.best ≡ w.best
-      → new.notes ≡ record w.notes { passed = option_or w.notes.passed
-      (Some (record { run = w.path.moves.items; events = w.path.top.matched; firing = Some f })) }
+      → new.notes ≡ record w.notes {
+        passed = option_or w.notes.passed
+            (Some (record { run = w.path.moves.items; events = w.path.top.matched; firing = Some f }));
+      }
       → IsWalk c stack' new
   limit_call stack' new events is path tried best notes =
       let a = fired_limit (outcome limit spec stack.now f) events stack stack' is in

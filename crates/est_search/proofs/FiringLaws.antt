@@ -236,9 +236,10 @@ module _ (c : Setup) (stack : Stack) (v : View) (tried : ℕ) (best : Best) (not
         fault = fault;
         at = refl;
         comes = comes (Fault fault) is;
-      }) (faulted_at notes.faulted) n))
-      (fault_is notes.faulted moves fault same (comes (Fault fault) is) all_listed.noted.0,
-      all_listed.noted.1)
+      }) (faulted_at notes.faulted) n)) (
+        fault_is notes.faulted moves fault same (comes (Fault fault) is) all_listed.noted.0,
+        all_listed.noted.1,
+      )
 
   pass_noted : (o : Option Passed) (moves : List Move) (many : ℕ) → reverse moves ≡ v.moves
       → passed_at (option_or o (Some (record { run = moves; events = many; firing = Some f })))
@@ -263,9 +264,11 @@ module _ (c : Setup) (stack : Stack) (v : View) (tried : ℕ) (best : Best) (not
       (IsAhead (marks_of v.moves) (Some (Trying f))) (marks_of (Fire f ∷ v.moves))
       (off_turn off) (PassesLimit c) (passes_in_tree c)
       (block v.moves f refl (comes Limit is)) (passed_at notes.passed) n))
-      (sound off (λ fault l. let e : Limit ≡ Fault fault = sym is ∙ l in cc))
-      (all_listed.noted.0, events_noted c v.moves stack.now v.top way.at.node notes.passed moves
-      many (Some f) same count all_listed.noted.1)
+      (sound off (λ fault l. let e : Limit ≡ Fault fault = sym is ∙ l in cc)) (
+        all_listed.noted.0,
+        events_noted c v.moves stack.now v.top way.at.node notes.passed moves
+            many (Some f) same count all_listed.noted.1,
+      )
 
   -- IT IS DONE
 

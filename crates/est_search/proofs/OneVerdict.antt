@@ -21,7 +21,7 @@ use Rattle.est_search.specs.declared.verdict.Faulted.{Faulted}
 use Rattle.est_search.specs.declared.verdict.Verdict.{Verdict}
 use Rattle.est_search.specs.declared.verdict.Verdict.TheVariants.{Accepted, Refused}
 use Rattle.est_search.specs.declared.verdict.Verdict.TheVariants.{OverFirings, OverAction}
-use Rattle.est_search.specs.Verdict.{HasEvents, IsLeastUnyielded, IsFirstFaulted, IsVerdict}
+use Rattle.est_search.specs.Verdict.{HasEvents, IsLeastUnyielded, IsFirstFaulted}
 use Rattle.est_search.specs.Verdict.{VerdictIsUnique}
 
 -- COUNTING

@@ -20,10 +20,8 @@ use Rattle.est_search.specs.Verdict.{IsUnexplained}
 use Rattle.est_search.specs.Verdict.{IsFirstFaulted, IsRefused, IsVerdict, IsWithinTried}
 use Rattle.est_syntax.specs.Least.{IsIn}
 use Rattle.est_search.specs.inside.Known.{KnowsTrials, IsNoted}
-use Rattle.est_search.specs.inside.Path.{IsKept}
-use Rattle.est_search.specs.inside.Walk.{passed_at, faulted_at, FaultIs, EventsAre, KnowsAll}
-use Rattle.est_search.specs.inside.Walk.{Accepts}
-use Rattle.est_search.specs.inside.Walk.{IsOver, IsDone, StepIs, Concludes, Answers}
+use Rattle.est_search.specs.inside.Walk.{passed_at, faulted_at, FaultIs, EventsAre}
+use Rattle.est_search.specs.inside.Walk.{IsDone, StepIs, Concludes, Answers}
 
 nil_start : (later start : List Move) → [] ≡ later ++ start → start ≡ []
 nil_start [] start e = sym e

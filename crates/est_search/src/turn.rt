@@ -189,7 +189,8 @@ fn try_firing<W: World>(
         }
         Fired::Limit => {
             let events = walk.path.top.matched;
-            walk.notes.pass(alloc, &walk.path.moves, events, Some(firing))?;
+            walk.notes
+                .pass(alloc, &walk.path.moves, events, Some(firing))?;
             Ok(false)
         }
         Fired::Done => match land(task, walk, firing)? {

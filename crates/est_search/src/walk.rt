@@ -76,8 +76,10 @@ impl Notes {
         firing: Option<Firing>,
     ) -> Result<(), AllocError>
         ensures { OnOk result
-            (self.new ≡ record self.old { passed = option_or self.old.passed
-            (Some (record { run = moves.now; events = events; firing = firing })) }) }
+            (self.new ≡ record self.old {
+              passed = option_or self.old.passed
+                  (Some (record { run = moves.now; events = events; firing = firing }));
+            }) }
     {
         if self.passed.is_none() {
             self.passed = Some(Passed {
