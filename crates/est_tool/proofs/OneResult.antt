@@ -24,13 +24,10 @@ use Rattle.est_language.specs.Sentences.{HasPartial, IsFirstBadPlace}
 use Rattle.est_productions.specs.Productions.{specification as specification_rule}
 use Rattle.est_skeleton.specs.Ports.{ports_of}
 use Rattle.est_skeleton.specs.Skeleton.{IsSkeleton}
-use Rattle.est_check.specs.declared.checked.Specification.{Specification as Read}
-use Rattle.est_check.specs.declared.checked.Specification.TheVariants as found
 use Rattle.est_meaning.specs.declared.event.Event.{Event}
 use Rattle.est_meaning.specs.Allowed.{most_events}
-use Rattle.est_specification.specs.SpecificationText.{IsGoodText, IsNoSpecification}
+use Rattle.est_specification.specs.SpecificationText.{IsSpecification, IsNoSpecification}
 use Rattle.est_blocks.specs.LeastFault.{IsGood, IsLeastFault}
-use Rattle.est_blocks.specs.Counts.{counts_of}
 use Rattle.est_specification.specs.declared.error.SpecificationError.{SpecificationError}
 use Rattle.est_specification.specs.declared.error.SpecificationError.TheVariants as specification
 use Rattle.est_specification.proofs.Unique.{same_specification}
@@ -204,12 +201,6 @@ module _ (text : List ℕ) (tokens : List Token) where
       → HasOneTree text tokens spec → ⊥
   not_deep at spec x one = x.0.no_tree _ one.tree
 
-  -- a specification that is a skeleton is no other one
-  skeleton_only : (spec spec' : Spec) → HasOneTree text tokens spec → IsSkeleton spec
-      → HasOneTree text tokens spec' → (IsSkeleton spec' → ⊥) → ⊥
-  skeleton_only spec spec' one is one' not =
-      not (subst IsSkeleton (same_specification text tokens spec spec' one one') is)
-
   one_fault : (spec spec' : Spec) (at at' : ℕ) (r r' : Rule) → HasOneTree text tokens spec
       → BreaksFirst spec at r → HasOneTree text tokens spec' → BreaksFirst spec' at' r'
       → (at ≡ at') × (r ≡ r')
@@ -263,34 +254,14 @@ good_not_refused text tokens spec s place why one none (deep at x e f g) = not_d
 good_not_refused text tokens spec s place why one none (broken at spec' r one' x e f g) =
     not_broken text tokens spec spec' at r one none one' x
 
-read_not_refused : (text : List ℕ) (tokens : List Token) (read : Read) (s : Status)
-    (place : Option ℕ) (why : List ℕ) → IsGoodText text tokens read
-    → IsRefusedSpecification text tokens s place why → ⊥
-read_not_refused text tokens (found.Skeleton spec) s place why is x = good_not_refused text tokens
-    spec s place why is.tree is.good x
-read_not_refused text tokens (found.Whole counts) s place why is x = good_not_refused text tokens
-    is.spec s place why is.tree is.good x
-
-one_read : (text : List ℕ) (tokens : List Token) (a b : Read) → IsGoodText text tokens a
-    → IsGoodText text tokens b → a ≡ b
-one_read text tokens (found.Skeleton spec) (found.Skeleton spec') x y = ap (λ z. found.Skeleton z)
-    (same_specification text tokens spec spec' x.tree y.tree)
-one_read text tokens (found.Skeleton spec) (found.Whole counts) x y =
-    absurd (skeleton_only text tokens spec y.spec x.tree x.skeleton y.tree y.no_skeleton)
-one_read text tokens (found.Whole counts) (found.Skeleton spec) x y =
-    absurd (skeleton_only text tokens spec x.spec y.tree y.skeleton x.tree x.no_skeleton)
-one_read text tokens (found.Whole counts) (found.Whole counts') x y =
-    ap (λ z. found.Whole z) (x.numbers ∙ ap counts_of (same_specification text tokens x.spec y.spec
-    x.tree y.tree) ∙ sym y.numbers)
-
 specifications_decided : IsDecided RefusesSpecification OfSpecification
 specifications_decided = record {
   one_refusal = λ text tokens s s' place place' why why' x y. specifications_alike text tokens s s'
       place place' why why' (how_refused text tokens x.0 s place why x.1 x.2)
       (how_refused text tokens y.0 s' place' why' y.1 y.2);
-  not_both = λ read text tokens s place why is x. read_not_refused text tokens read s place why is
-      (how_refused text tokens x.0 s place why x.1 x.2);
-  one_value = λ a b text tokens x y. one_read text tokens a b x y;
+  not_both = λ spec text tokens s place why is x. good_not_refused text tokens spec s place why
+      is.tree is.good (how_refused text tokens x.0 s place why x.1 x.2);
+  one_value = λ a b text tokens x y. same_specification text tokens a b x.tree y.tree;
 }
 
 -- TRACES
@@ -470,7 +441,7 @@ module _ {A : Type 0} (file : File) (name bytes : List ℕ) (Refuses : Refusals)
 -- COMMANDS
 
 -- the stages of a call, with what is reported after the last one
-abbrev AtSpecification : Seen → List ℕ → (Read → Status → List ℕ → Type 0) → Status → List ℕ
+abbrev AtSpecification : Seen → List ℕ → (Spec → Status → List ℕ → Type 0) → Status → List ℕ
     → Type 0
 AtSpecification shelf name Next = Stage shelf Specification name RefusesSpecification
     OfSpecification Next
@@ -483,9 +454,9 @@ abbrev AtExplanation : Seen → List ℕ → (Explanation → Status → List �
     → Type 0
 AtExplanation shelf name Next = Stage shelf Explaining name RefusesExplanation OfExplanation Next
 
-one_counted : (read : Read) (s s' : Status) (r r' : List ℕ) → IsCounted read s r
-    → IsCounted read s' r' → AreSame s s' r r'
-one_counted read s s' r r' x y = (x.0 ∙ sym y.0, x.1 ∙ sym y.1)
+one_counted : (spec : Spec) (s s' : Status) (r r' : List ℕ) → IsCounted spec s r
+    → IsCounted spec s' r' → AreSame s s' r r'
+one_counted spec s s' r r' x y = (x.0 ∙ sym y.0, x.1 ∙ sym y.1)
 
 one_answered : (silent statements : ℕ) (spec : Spec) (events : List Event) (read : Explanation)
     (s s' : Status) (r r' : List ℕ) → IsAnswered silent statements spec events read s r
@@ -506,11 +477,11 @@ check_stages shelf name _ (at_its_file unread x) = tt
 check_stages shelf name _ (good read holds) = goes_on read holds (refl, refl)
 
 -- the stages of a replay: one that is no skeleton ends it
-abbrev Runs : Seen → List ℕ → List ℕ → ℕ → ℕ → Read → Status → List ℕ → Type 0
-Runs shelf trace explanation silent statements (found.Skeleton spec) s r =
-    AtTrace shelf trace spec (λ events. AtExplanation shelf explanation
-    (IsAnswered silent statements spec events)) s r
-Runs shelf trace explanation silent statements (found.Whole counts) s r = IsUnbuilt s r
+abbrev Runs : Seen → List ℕ → List ℕ → ℕ → ℕ → Spec → Status → List ℕ → Type 0
+Runs shelf trace explanation silent statements spec s r =
+    (IsSkeleton spec × AtTrace shelf trace spec (λ events. AtExplanation shelf explanation
+    (IsAnswered silent statements spec events)) s r)
+    ⊎ ((IsSkeleton spec → ⊥) × IsUnbuilt s r)
 
 abbrev Replays : Seen → List ℕ → List ℕ → List ℕ → ℕ → ℕ → Status → List ℕ → Type 0
 Replays shelf specification trace explanation silent statements =
@@ -522,16 +493,16 @@ replay_stages : (shelf : Seen) (specification trace explanation : List ℕ) (sil
 replay_stages shelf specification trace explanation silent statements _
     (at_specification (reported s r) x) = stops (stopped shelf Specification specification
     RefusesSpecification (reported s r) x)
-replay_stages shelf specification trace explanation silent statements _ (unbuilt counts holds) =
-    goes_on (found.Whole counts) holds (refl, refl)
+replay_stages shelf specification trace explanation silent statements _ (unbuilt spec holds none) =
+    goes_on spec holds (inr (none, (refl, refl)))
 replay_stages shelf specification trace explanation silent statements _
-    (at_trace spec (reported s r) holds x) = goes_on (found.Skeleton spec) holds
-    (stops (stopped shelf Trace trace (RefusesTrace spec) (reported s r) x))
+    (at_trace spec (reported s r) holds x) = goes_on spec holds.0
+    (inl (holds.1, stops (stopped shelf Trace trace (RefusesTrace spec) (reported s r) x)))
 replay_stages shelf specification trace explanation silent statements _
     (at_explanation spec events (reported s r) holds traced x) =
-    goes_on (found.Skeleton spec) holds
-    (goes_on events traced (stops (stopped shelf Explaining explanation RefusesExplanation
-    (reported s r) x)))
+    goes_on spec holds.0
+    (inl (holds.1, goes_on events traced (stops (stopped shelf Explaining explanation
+    RefusesExplanation (reported s r) x))))
 replay_stages shelf specification trace explanation silent statements _
     (at_specification unread x) = tt
 replay_stages shelf specification trace explanation silent statements _
@@ -540,8 +511,8 @@ replay_stages shelf specification trace explanation silent statements _
     (at_explanation spec events unread holds traced x) = tt
 replay_stages shelf specification trace explanation silent statements _
     (replayed spec events read answer holds traced explained is) =
-    goes_on (found.Skeleton spec) holds
-    (goes_on events traced (goes_on read explained (answer, is, refl, refl)))
+    goes_on spec holds.0
+    (inl (holds.1, goes_on events traced (goes_on read explained (answer, is, refl, refl))))
 
 one_check : (shelf shelf' : Seen) (name : List ℕ) (s s' : Status) (r r' : List ℕ)
     → TellAlike shelf shelf' name
@@ -581,11 +552,13 @@ one_replay shelf shelf' specification trace explanation silent statements s s' r
         shelf shelf' traced.1 traced.2 _ _
         (at_explanation_one spec) s s' r r' x y
 
-    runs_one : (read : Read) (s s' : Status) (r r' : List ℕ)
-        → Runs shelf trace explanation silent statements read s r
-        → Runs shelf' trace explanation silent statements read s' r' → AreSame s s' r r'
-    runs_one (found.Skeleton spec) s s' r r' x y = at_trace_one spec s s' r r' x y
-    runs_one (found.Whole counts) s s' r r' x y = (x.0 ∙ sym y.0, x.1 ∙ sym y.1)
+    runs_one : (spec : Spec) (s s' : Status) (r r' : List ℕ)
+        → Runs shelf trace explanation silent statements spec s r
+        → Runs shelf' trace explanation silent statements spec s' r' → AreSame s s' r r'
+    runs_one spec s s' r r' (inl x) (inl y) = at_trace_one spec s s' r r' x.1 y.1
+    runs_one spec s s' r r' (inl x) (inr y) = absurd (y.0 x.0)
+    runs_one spec s s' r r' (inr x) (inl y) = absurd (x.0 y.0)
+    runs_one spec s s' r r' (inr x) (inr y) = (x.1.0 ∙ sym y.1.0, x.1.1 ∙ sym y.1.1)
 
 pub result_one : OneResult
 result_one shelf shelf' (check specification) s s' r r' told x y =

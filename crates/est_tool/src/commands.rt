@@ -1,13 +1,14 @@
 //! The commands.
 ghost use Rattle.std.specs.Prelude.{◌≤◌, [], ◌∷◌, length};
 ghost use Rattle.est_meaning.specs.Allowed.{IsAllowedTrace};
+ghost use Rattle.est_skeleton.specs.Skeleton.{IsSkeleton};
 ghost use Rattle.est_replay.specs.Replay.{most_moves};
 ghost use Rattle.est_tool.specs.declared.file.File.TheVariants as file;
 ghost use Rattle.est_tool.specs.Seen.{seen, shelved};
-ghost use Rattle.est_tool.specs.FileTexts.{Holds, OfTrace};
+ghost use Rattle.est_tool.specs.FileTexts.{Holds, OfSpecification, OfTrace};
 ghost use Rattle.est_tool.specs.Requests.{check, replay};
 ghost use Rattle.est_tool.specs.inside.Work.{IsWork, Gives, IsCounted, IsUnbuilt};
-ghost use Rattle.est_tool.specs.inside.Work.{IsAnswered, OfSkeleton};
+ghost use Rattle.est_tool.specs.inside.Work.{IsAnswered};
 
 use crate::explanation::explanation_in;
 use crate::report::{Report, line_report, ok_report, replay_report, replay_status};
@@ -15,13 +16,12 @@ use crate::specification::specification_in;
 use crate::status::Status;
 use crate::stop::Stop;
 use crate::trace::trace_in;
-use est_check::Checked;
+use est_check::{Checked, Skeleton};
 use est_edge::Shelf;
 use est_meaning::event::Trace;
 use est_meaning::run::Limits;
 use est_replay::checked::replay;
 use est_replay::explanation::Explanation;
-use est_specification::Specification;
 use std::alloc::Global;
 
 /// The names of the files of a replay.
@@ -39,19 +39,15 @@ pub(crate) fn check_file<S: Shelf>(alloc: Global, shelf: &mut S, name: &str) -> 
         (shelved (S.told shelf.new) (S.faults shelf.new) (S.started shelf.new) (S.taken shelf.new)))
         result }
 {
-    let read = specification_in(alloc, shelf, name)?;
-    counted(alloc, &read)
+    let checked = specification_in(alloc, shelf, name)?;
+    counted(alloc, &checked)
 }
 
 // The report of a good specification.
-fn counted(alloc: Global, read: &Specification) -> Result<Report, Stop>
-    ensures { Gives (IsCounted read.now) result }
+fn counted(alloc: Global, checked: &Checked) -> Result<Report, Stop>
+    ensures { Gives (IsCounted checked.now) result }
 {
-    let counts = match read {
-        Specification::Skeleton(checked) => checked.counts(),
-        Specification::Whole(counts) => *counts,
-    };
-    let text = ok_report(alloc, counts)?;
+    let text = ok_report(alloc, checked.counts())?;
     Ok(Report {
         status: Status::Fine,
         text,
@@ -73,9 +69,11 @@ pub(crate) fn replay_files<S: Shelf>(
         (shelved (S.told shelf.new) (S.faults shelf.new) (S.started shelf.new) (S.taken shelf.new)))
         result }
 {
-    match specification_in(alloc, shelf, files.specification)? {
-        Specification::Skeleton(checked) => replay_trace(alloc, shelf, files, limits, &checked),
-        Specification::Whole(_) => unbuilt(alloc),
+    let checked = specification_in(alloc, shelf, files.specification)?;
+    match Skeleton::of(alloc, checked) {
+        Err(_) => Err(Stop::OutOfMemory),
+        Ok(None) => unbuilt(alloc),
+        Ok(Some(skeleton)) => replay_trace(alloc, shelf, files, limits, &skeleton),
     }
 }
 
@@ -96,10 +94,11 @@ fn replay_trace<S: Shelf>(
     shelf: &mut S,
     files: &ReplayFiles<'_>,
     limits: &Limits,
-    checked: &Checked,
+    checked: &Skeleton,
 ) -> Result<Report, Stop>
-    requires { Holds file.Specification (S.told shelf.old files.now.specification.now)
-        (OfSkeleton checked.now) }
+    requires checked { Holds file.Specification (S.told shelf.old files.now.specification.now)
+        (OfSpecification checked.now) }
+    requires skeleton { IsSkeleton checked.now }
     ensures { IsWork (files.now.specification.now ∷ [])
         (replay files.now.specification.now files.now.trace.now files.now.explanation.now
         limits.now.silent limits.now.statements)
@@ -118,12 +117,13 @@ fn replay_explanation<S: Shelf>(
     shelf: &mut S,
     files: &ReplayFiles<'_>,
     limits: &Limits,
-    checked: &Checked,
+    checked: &Skeleton,
     trace: &Trace,
 ) -> Result<Report, Stop>
     requires allowed { IsAllowedTrace checked.now trace.now }
     requires checked { Holds file.Specification (S.told shelf.old files.now.specification.now)
-        (OfSkeleton checked.now) }
+        (OfSpecification checked.now) }
+    requires skeleton { IsSkeleton checked.now }
     requires traced { Holds file.Trace (S.told shelf.old files.now.trace.now)
         (OfTrace checked.now trace.now) }
     ensures { IsWork (files.now.specification.now ∷ files.now.trace.now ∷ [])
@@ -141,7 +141,7 @@ fn replay_explanation<S: Shelf>(
 // The report of a replay.
 fn judged(
     alloc: Global,
-    checked: &Checked,
+    checked: &Skeleton,
     trace: &Trace,
     explanation: &Explanation,
     limits: &Limits,
