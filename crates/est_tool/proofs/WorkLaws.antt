@@ -1,5 +1,5 @@
 -- What is made of a request, from what its steps answered.
-use Rattle.std.proofs.Common.{◌≡◌, ◌∙◌, ◌<◌, ℕ, List, [], ◌∷◌, ◌++◌, Option, length}
+use Rattle.std.proofs.Common.{◌≡◌, ◌∙◌, ◌<◌, ℕ, List, [], ◌∷◌, ◌++◌, Option, Some, None, length}
 use Rattle.std.proofs.Common.{sym, subst, ap, IfSome, Result, Ok, Err, append_assoc}
 use Rattle.std.specs.Result.{IsErr, IsErrAnd}
 use Rattle.est_lexer.specs.declared.kind.Token.{Token}
@@ -11,6 +11,7 @@ use Rattle.est_syntax.specs.declared.specification.Spec.{Spec}
 use Rattle.est_meaning.specs.declared.event.Event.{Event}
 use Rattle.est_replay.specs.declared.explanation.Explanation.{Explanation}
 use Rattle.est_skeleton.specs.Skeleton.{IsSkeleton}
+use Rattle.est_check.specs.Checked.{IsSkeletonOf}
 use Rattle.est_tool.specs.declared.report.Report.{Report}
 use Rattle.est_tool.specs.declared.stop.Stop.{Stop}
 use Rattle.est_tool.specs.declared.stop.Stop.TheVariants.{Refused, ReadFault, OutOfMemory}
@@ -47,6 +48,14 @@ skeleton_holds {old} {new} skeleton checked is same holds =
     subst (λ (told : Option (List ℕ)). Holds Specification told (OfSpecification skeleton))
     (sym same)
     (subst (λ (s : Spec). Holds Specification old (OfSpecification s)) (sym is) holds)
+
+pub skeleton_none : (checked : Spec) (found : Option Spec) → IsSkeletonOf checked found
+    → found ≡ None → IsSkeleton checked → ⊥
+skeleton_none checked found h e = subst (IsSkeletonOf checked) e h
+
+pub skeleton_some : (checked skeleton : Spec) (found : Option Spec) → IsSkeletonOf checked found
+    → found ≡ Some skeleton → (skeleton ≡ checked) × IsSkeleton checked
+skeleton_some checked skeleton found h e = subst (IsSkeletonOf checked) e h
 
 pub skeleton_is : (skeleton checked : Spec) → skeleton ≡ checked → IsSkeleton checked
     → IsSkeleton skeleton

@@ -5,6 +5,7 @@ use Rattle.est_tool.specs.declared.stop.Stop.TheVariants.{OutOfMemory}
 use Rattle.est_tool.specs.Ends.{at_specification}
 use Rattle.est_tool.specs.Started.{one}
 use Rattle.est_tool.proofs.WorkLaws.{stops_at, goes_on, ends_work, unbuilt_reports}
+use Rattle.est_tool.proofs.WorkLaws.{skeleton_none, skeleton_some, skeleton_holds, skeleton_is}
 use Rattle.est_tool.proofs.commands.replay_files.Goals as goal
 
 -- nothing is reported
@@ -25,8 +26,23 @@ pub returns-in-Ok-None : goal.returns-in-Ok-None
 returns-in-Ok-None g c =
     ends_work OfSpecification RefusesSpecification [] _ _ _ c.unbuilt.result _
     c.in_ok-checked.ensures c.unbuilt.ensures one
-    (unbuilt_reports _ _ _ _ _ _ _ c.in_ok-checked.ensures.good c.in-Ok-None.ensures)
+    (unbuilt_reports _ _ _ _ _ _ _ c.in_ok-checked.ensures.good (skeleton_none
+    c.in_ok-checked.checked c.in-Ok-None.field-0 c.in-Ok-None.ensures (cc)))
 
 pub returns-in-Ok-Some : goal.returns-in-Ok-Some
 returns-in-Ok-Some g c = goes_on OfSpecification RefusesSpecification [] _ _ _ _ _
     c.replay_trace.result c.in_ok-checked.ensures c.replay_trace.ensures
+
+pub replay_trace-requires-clause-checked : goal.replay_trace-requires-clause-checked
+replay_trace-requires-clause-checked g c =
+    let is = skeleton_some c.in_ok-checked.checked c.in-Ok-Some.skeleton c.in-Ok-Some.field-0
+    c.in-Ok-Some.ensures (cc) in
+    skeleton_holds c.in-Ok-Some.skeleton c.in_ok-checked.checked is.0
+    (c.in_ok-checked.ensures.touches.told c.args.files.now.specification.now)
+    c.in_ok-checked.ensures.good
+
+pub replay_trace-requires-clause-skeleton : goal.replay_trace-requires-clause-skeleton
+replay_trace-requires-clause-skeleton g c =
+    let is = skeleton_some c.in_ok-checked.checked c.in-Ok-Some.skeleton c.in-Ok-Some.field-0
+    c.in-Ok-Some.ensures (cc) in
+    skeleton_is c.in-Ok-Some.skeleton c.in_ok-checked.checked is.0 is.1
