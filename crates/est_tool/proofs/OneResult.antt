@@ -71,8 +71,11 @@ replay_stages shelf specification trace explanation silent statements _
 replay_stages shelf specification trace explanation silent statements _
     (at_explanation spec events (reported s r) holds traced x) =
     goes_on spec holds.0
-    (inl (holds.1, goes_on events traced (stops (stopped shelf Explaining explanation
-    RefusesExplanation (reported s r) x))))
+    (inl (
+      holds.1,
+      goes_on events traced (stops (stopped shelf Explaining explanation
+          RefusesExplanation (reported s r) x)),
+    ))
 replay_stages shelf specification trace explanation silent statements _
     (at_specification unread x) = tt
 replay_stages shelf specification trace explanation silent statements _

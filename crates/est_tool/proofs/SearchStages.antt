@@ -65,8 +65,11 @@ explain_stages shelf specification trace silent budget statements _
 explain_stages shelf specification trace silent budget statements _
     (searched spec events s outs verdict holds traced begun is) =
     goes_on spec holds.0
-    (inl (holds.1, goes_on events traced
-    (came.Found verdict, (s, outs, begun, is), (refl, refl))))
+    (inl (
+      holds.1,
+      goes_on events traced
+          (came.Found verdict, (s, outs, begun, is), (refl, refl)),
+    ))
 
 -- a start that is ready is so in one way
 one_start : (o : Outcome) (s t : Situation) (outs outs' : List Event) → o ≡ Done s outs

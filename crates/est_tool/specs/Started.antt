@@ -22,7 +22,7 @@ pub data ReplayStarts (shelf : Seen) (specification trace explanation : List ℕ
       (specification ∷ trace ∷ explanation ∷ [])
 
 -- `explain` starts its files in their order, each once, and the trace only where the specification
--- is good
+-- is a good skeleton
 pub data ExplainStarts (shelf : Seen) (specification trace : List ℕ) : List (List ℕ) → Type 0 where
   first_alone : ExplainStarts shelf specification trace (specification ∷ [])
   both : (spec : Spec) → HoldsSkeleton shelf specification spec

@@ -11,5 +11,6 @@ returns-in_err-checked g c =
 
 pub returns : goal.returns
 returns g c =
-    ends_work OfSpecification RefusesSpecification [] _ _ _ c.counted.result _ c.in_ok-checked.ensures
-    c.counted.ensures refl (check_reports _ _ _ c.in_ok-checked.ensures.good)
+    ends_work OfSpecification RefusesSpecification [] _ _ _ c.counted.result _
+    c.in_ok-checked.ensures c.counted.ensures refl
+    (check_reports _ _ _ c.in_ok-checked.ensures.good)
