@@ -1,32 +1,32 @@
 //! Checked specifications.
 
 ghost use Rattle.std.specs.Prelude.{◌≡◌, IfOk};
+ghost use Rattle.est_outline.specs.Bodies.{outline_of};
 ghost use Rattle.est_blocks.specs.LeastFault.{IsGood};
 ghost use Rattle.est_blocks.specs.Counts.{counts_of};
-ghost use Rattle.est_skeleton.specs.Ports.{ports_of, body_started, header_meant};
-ghost use Rattle.est_skeleton.specs.Skeleton.{IsSkeleton};
+ghost use Rattle.est_ports.specs.PortList.{ports_of};
 ghost use Rattle.est_skeleton.specs.Small.{IsSmall};
 ghost use Rattle.est_check.specs.Checked.{IsChecked};
 
 use est_blocks::counts::Counts;
 use est_items::Boxed;
-use est_syntax::ports::Ports;
+use est_ports::ports::Ports;
 use est_syntax::specification::Spec;
 use est_syntax::tree::SyntaxTree;
+use est_types::table::Table;
 use std::alloc::{AllocError, Global};
 use std::marker::Model;
 
-// A tree with its ports, the body that it starts and the header of that, and its numbers.
+// A tree with what it declares, its ports and its numbers.
 #[derive(Drop)]
 struct Whole {
     tree: SyntaxTree,
+    table: Table,
     ports: Ports,
-    body: Option<u32>,
-    header: Option<u32>,
     counts: Counts,
 }
 
-/// A skeleton that breaks no rule, with its ports and numbers. Contracts see its tree.
+/// A specification that breaks no rule, with all that was found of it. Contracts see its tree.
 pub struct Checked {
     kept: Boxed<Whole>,
 }
@@ -42,11 +42,10 @@ impl Model for Checked {
 
     ghost view = { λ c. c.kept.tree };
 
-    ghost invariant = { λ c. IsChecked c.kept.tree c.kept.ports c.kept.body c.kept.header
-        c.kept.counts };
+    ghost invariant = { λ c. IsChecked c.kept.tree c.kept.table c.kept.ports c.kept.counts };
 }
 
-// In words, so that no crate above follows the tree and the ports down to their last list.
+// In words, so that no crate above follows the tree and the table down to their last list.
 impl Drop for Checked {
     fn drop(self) {
         let Checked { kept } = self;
@@ -59,12 +58,11 @@ impl Checked {
     pub(crate) fn new(
         alloc: Global,
         tree: SyntaxTree,
+        table: Table,
         ports: Ports,
-        body: Option<u32>,
-        header: Option<u32>,
         counts: Counts,
     ) -> Result<Checked, AllocError>
-        requires { IsChecked tree ports body header counts }
+        requires { IsChecked tree table ports counts }
         ensures { IfOk result (λ checked. checked ≡ tree) }
     {
         Ok(Checked {
@@ -72,9 +70,8 @@ impl Checked {
                 alloc,
                 Whole {
                     tree,
+                    table,
                     ports,
-                    body,
-                    header,
                     counts,
                 },
             )?,
@@ -84,11 +81,17 @@ impl Checked {
     /// The tree.
     pub fn spec(&self) -> &Spec
         ensures same { result.now ≡ self.now }
-        ensures skeleton { IsSkeleton self.now }
         ensures small { IsSmall self.now }
         ensures good { IsGood self.now }
     {
         self.kept.get().tree.spec()
+    }
+
+    /// What it declares.
+    pub fn table(&self) -> &Table
+        ensures { result.now.outline ≡ outline_of self.now }
+    {
+        &self.kept.get().table
     }
 
     /// The ports, in order of declaration.
@@ -98,31 +101,10 @@ impl Checked {
         &self.kept.get().ports
     }
 
-    /// The body of the module that it starts, by the place of its name.
-    pub fn body(&self) -> Option<u32>
-        ensures { result ≡ body_started self.now }
-    {
-        self.kept.get().body
-    }
-
-    /// The header of that body, by the place of its name.
-    pub fn header(&self) -> Option<u32>
-        ensures { result ≡ header_meant self.now (body_started self.now) }
-    {
-        self.kept.get().header
-    }
-
     /// How many bodies, transitions and ports there are.
     pub fn counts(&self) -> Counts
         ensures { result ≡ counts_of self.now }
     {
         self.kept.get().counts
     }
-}
-
-/// A specification that breaks no rule: a skeleton, which can be run, or the numbers of another.
-#[derive(Drop)]
-pub enum Specification {
-    Skeleton(Checked),
-    Whole(Counts),
 }

@@ -4,8 +4,10 @@
 mod checked;
 mod error;
 mod judging;
+mod runnable;
 
-pub use checked::{Checked, Specification};
+pub use checked::Checked;
 pub use error::CheckError;
 pub use est_blocks::counts::Counts;
 pub use judging::check;
+pub use runnable::Skeleton;

@@ -16,7 +16,7 @@ use crate::history::History;
 use crate::outline::{queues_of, transitions_of};
 use crate::situation::PointQueue;
 use crate::text::{header_of, root_of};
-use est_check::Checked;
+use est_check::Skeleton;
 use est_meaning::event::{Event, Events};
 use est_meaning::firing::{BlockFault, Firing};
 use est_runs::run::{Fired, Offers, Started};
@@ -202,7 +202,7 @@ impl<'c> PlainWorld<'c> {
     /// The world after the start of a checked specification.
     pub fn start(
         alloc: Global,
-        checked: &'c Checked,
+        checked: &'c Skeleton,
         statements: u32,
     ) -> Result<Started<PlainWorld<'c>>, AllocError>
         ensures { IfOk result

@@ -66,12 +66,13 @@ found ps g name e t r before n h rank b m l =
     let w = within (tuples_of e.kinds) q t rank.1 in
     let k = length-map (tuples_of e.kinds) (element name e.kinds e.signals) in
     let rank_is = rank.2 in
-    let z : ahead ports_at g ps + q ≡ n = omega (arith, b, m, l, rank_is) in
-    (element name e.kinds e.signals t,
+    let z : ahead ports_at g ps + q ≡ n = omega (arith, b, m, l, rank_is) in (
+      element name e.kinds e.signals t,
       ap (slice_get (listed ps)) (sym z) ∙ flat_get ports_at ps g (name, e) q h (omega (arith, w, k))
           ∙ mapped (element name e.kinds e.signals) (tuples_of e.kinds) q t rank.1,
       refl,
-      refl)
+      refl,
+    )
 
 -- a port of this name and these subscripts is an element of an interaction point of this name
 pub element_of : (ps : Points) (name : List ℕ) (t : List ℤ) (n : ℕ) (p : Port)

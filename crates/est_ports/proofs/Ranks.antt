@@ -113,9 +113,11 @@ tuple_value [] n t j k z e f g = cc
 tuple_value (x ∷ ks) n t zero k z e f g =
     let p = tuple_parts x ks n t e in
     let s : slice_get (p.0 ∷ p.1.0) 0 ≡ Some z = ap (λ u. slice_get u 0) (sym p.1.1.1.1) ∙ g in
-    let same : p.0 ≡ z = same_Some p.0 z s in
-    (p.1.1.0, ap (λ v. slice_get (values_of v) p.1.1.0) (sym (same_Some x k f)) ∙ p.1.1.1.2
-    ∙ ap Some same)
+    let same : p.0 ≡ z = same_Some p.0 z s in (
+      p.1.1.0,
+      ap (λ v. slice_get (values_of v) p.1.1.0) (sym (same_Some x k f)) ∙ p.1.1.1.2
+          ∙ ap Some same,
+    )
 tuple_value (x ∷ ks) n t (suc j) k z e f g =
     let p = tuple_parts x ks n t e in
     let s : slice_get p.1.0 j ≡ Some z = ap (λ u. slice_get u (suc j)) (sym p.1.1.1.1) ∙ g in

@@ -155,11 +155,14 @@ pub added : (ps new : Points) (name : List ℕ) (kinds shared : List Kind) (sign
     → new ≡ ps ++ (name, record { kinds = shared; signals = signals; until = until }) ∷ []
     → IsWith name (map (element name kinds signals) (tuples_of kinds)) ps new
 added ps new name kinds shared signals size before elements until t fresh z b n u s e =
-    let made = λ (ks : List Kind). ps ++ (name, record {
-      kinds = ks;
-      signals = signals;
-      until = until;
-    }) ∷ [] in
+    let made = λ (ks : List Kind). ps ++ (
+      name,
+      record {
+        kinds = ks;
+        signals = signals;
+        until = until;
+      },
+    ) ∷ [] in
     subst (IsWith name (map (element name kinds signals) (tuples_of kinds)) ps)
     (sym (e ∙ ap made s))
     (with_point ps name record { kinds = kinds; signals = signals; until = until } before elements

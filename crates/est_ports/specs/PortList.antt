@@ -29,7 +29,7 @@ abbrev pub kind_by : Option Entry → List Kind
 kind_by None = []
 kind_by (Some e) =
     if same_sort sort.Variable e.declared.sort then
-        option_to_list (option_map (λ (m : Measured). m.kind) e.kind)
+    option_to_list (option_map (λ (m : Measured). m.kind) e.kind)
     else []
 
 -- the kinds of the parameters among the names of a region, in the order of the text

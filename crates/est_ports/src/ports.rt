@@ -199,7 +199,10 @@ impl Ports {
         ensures { option_copied result
             ≡ option_map (λ p. p.index_kinds) (slice_get self.now number) }
     {
-        match self.points.elements(points_before(&self.points, number as u64)) {
+        match self
+            .points
+            .elements(points_before(&self.points, number as u64))
+        {
             None => None,
             Some(elements) => Some(elements.kinds.get()),
         }
@@ -209,7 +212,10 @@ impl Ports {
     pub fn signals(&self, number: u32) -> Option<&Signals>
         ensures { option_copied result ≡ option_map (λ p. p.signals) (slice_get self.now number) }
     {
-        match self.points.elements(points_before(&self.points, number as u64)) {
+        match self
+            .points
+            .elements(points_before(&self.points, number as u64))
+        {
             None => None,
             Some(elements) => Some(elements.signals.get()),
         }

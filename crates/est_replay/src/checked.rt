@@ -5,7 +5,7 @@ ghost use Rattle.est_replay.specs.Replay.{IsReplay, most_moves};
 
 use crate::replay::{Replaying, replay_in};
 use crate::verdict::{Replayed, Why};
-use est_check::Checked;
+use est_check::Skeleton;
 use est_explanation::explanation::Explanation;
 use est_meaning::event::Trace;
 use est_plain::world::PlainWorld;
@@ -16,7 +16,7 @@ use std::alloc::{AllocError, Global};
 /// that fits (`laws::one_answer`).
 pub fn replay(
     alloc: Global,
-    checked: &Checked,
+    checked: &Skeleton,
     trace: &Trace,
     explanation: &Explanation,
     limits: &Limits,

@@ -13,7 +13,6 @@ use Rattle.est_reader.proofs.SameTokens.{seen_alike, same_length}
 use Rattle.est_productions.specs.Productions.{specification, production}
 use Rattle.est_grammar.specs.Answer.{levels, estelle_in, HasTree, HasOneTree}
 use Rattle.est_grammar.specs.Answer.{Says, left_out_kind, is_left_out}
-use Rattle.est_check.specs.declared.checked.Specification.TheVariants as found
 use Rattle.est_specification.specs.declared.error.SpecificationError.{SpecificationError}
 use Rattle.est_specification.specs.declared.error.SpecificationError.TheVariants as errors
 use Rattle.est_specification.specs.SpecificationText.{IsNoSpecification}
@@ -111,20 +110,10 @@ refusal_of_both text other ts us (errors.BrokenRule place r) w h =
 refusal_of_both text other ts us (errors.Memory error) w h = h
 
 pub layout_means_nothing : LayoutMeansNothing
-layout_means_nothing text other ts us (Ok (found.Skeleton c)) w h =
-    record {
-      tree = one_tree_of_both text other ts us _ w h.tree;
-      skeleton = h.skeleton;
-      good = h.good;
-    }
-layout_means_nothing text other ts us (Ok (found.Whole counts)) w h =
-    record {
-      spec = h.spec;
-      tree = one_tree_of_both text other ts us h.spec w h.tree;
-      no_skeleton = h.no_skeleton;
-      good = h.good;
-      numbers = h.numbers;
-    }
+layout_means_nothing text other ts us (Ok spec) w h = record {
+  tree = one_tree_of_both text other ts us spec w h.tree;
+  good = h.good;
+}
 layout_means_nothing text other ts us (Err e) w h = refusal_of_both text other ts us e w h
 
 -- a list that is the same up to a token has it

@@ -3,7 +3,7 @@
 use Rattle.std.specs.Prelude.{◌≡◌, ℕ, suc, ◌<◌, List, length, take, Option, Some, None, Result}
 use Rattle.est_lexer.specs.declared.kind.Token.{Token}
 use Rattle.est_reader.specs.SameTokens.{AreSameTokens}
-use Rattle.est_check.specs.declared.checked.Specification.{Specification}
+use Rattle.est_syntax.specs.declared.specification.Spec.{Spec}
 use Rattle.est_specification.specs.declared.error.SpecificationError.{SpecificationError}
 use Rattle.est_specification.specs.declared.error.SpecificationError.TheVariants as errors
 use Rattle.est_specification.specs.SpecificationText.{IsNoSpecification, ReadsSpecification}
@@ -11,7 +11,7 @@ use Rattle.est_specification.specs.SpecificationText.{IsNoSpecification, ReadsSp
 -- What is true of a text is true of one with the same tokens.
 abbrev pub LayoutMeansNothing : Type 0
 LayoutMeansNothing = (text other : List ℕ) (ts us : List Token)
-    (read : Result Specification SpecificationError) → AreSameTokens text other ts us
+    (read : Result Spec SpecificationError) → AreSameTokens text other ts us
     → ReadsSpecification text ts read → ReadsSpecification other us read
 
 -- the place of a token that the grammar refuses

@@ -1,37 +1,17 @@
 -- Which tokens are a specification, and what its reader answers.
-use Rattle.std.specs.Prelude.{◌≡◌, ℕ, List, Some, Result, Ok, Err}
+use Rattle.std.specs.Prelude.{ℕ, List, Some, Result, Ok, Err}
 use Rattle.est_lexer.specs.declared.kind.Token.{Token}
 use Rattle.est_syntax.specs.declared.specification.Spec.{Spec}
-use Rattle.est_skeleton.specs.Skeleton.{IsSkeleton}
 use Rattle.est_blocks.specs.LeastFault.{IsGood, IsLeastFault}
-use Rattle.est_blocks.specs.Counts.{counts_of}
-use Rattle.est_blocks.specs.declared.counts.Counts.{Counts}
-use Rattle.est_check.specs.declared.checked.Specification.{Specification}
-use Rattle.est_check.specs.declared.checked.Specification.TheVariants as found
 use Rattle.est_grammar.specs.Answer.{HasOneTree, IsRefusal}
 use Rattle.est_grammar.specs.declared.error.ParseError.TheVariants as refusals
 use Rattle.est_specification.specs.declared.error.SpecificationError.{SpecificationError}
 use Rattle.est_specification.specs.declared.error.SpecificationError.TheVariants as errors
 
--- The tokens have the tree of this specification and no other, and it is a skeleton that breaks no
--- rule.
+-- the tokens have the tree of this specification and no other, and it breaks no rule
 pub record IsSpecification (text : List ℕ) (tokens : List Token) (spec : Spec) : Type 0 where
   pub tree : HasOneTree text tokens spec
-  pub skeleton : IsSkeleton spec
   pub good : IsGood spec
-
--- The tokens have one tree, which is no skeleton and breaks no rule, and these are its numbers.
-pub record HasNumbers (text : List ℕ) (tokens : List Token) (counts : Counts) : Type 0 where
-  pub spec : Spec
-  pub tree : HasOneTree text tokens spec
-  pub no_skeleton : IsSkeleton spec → ⊥
-  pub good : IsGood spec
-  pub numbers : counts ≡ counts_of spec
-
--- what the tokens are: a skeleton, or another specification
-abbrev pub IsGoodText : List ℕ → List Token → Specification → Type 0
-IsGoodText text tokens (found.Skeleton spec) = IsSpecification text tokens spec
-IsGoodText text tokens (found.Whole counts) = HasNumbers text tokens counts
 
 -- The tokens are refused by the grammar at this place, or have one tree, which breaks this rule
 -- first; out of memory says nothing of them.
@@ -48,7 +28,6 @@ IsNoSpecification text tokens (errors.BrokenRule place rule) = (spec : Spec)
 IsNoSpecification text tokens (errors.Memory error) = Unit {0}
 
 -- what read_specification answers: the specification that the tokens are, or why they are none
-abbrev pub ReadsSpecification :
-    List ℕ → List Token → Result Specification SpecificationError → Type 0
-ReadsSpecification text tokens (Ok read) = IsGoodText text tokens read
+abbrev pub ReadsSpecification : List ℕ → List Token → Result Spec SpecificationError → Type 0
+ReadsSpecification text tokens (Ok spec) = IsSpecification text tokens spec
 ReadsSpecification text tokens (Err error) = IsNoSpecification text tokens error

@@ -6,5 +6,5 @@ pub mod laws;
 mod read;
 
 pub use error::SpecificationError;
-pub use est_check::Specification;
+pub use est_check::Checked;
 pub use read::read_specification;

@@ -6,16 +6,13 @@ ghost use Rattle.est_skeleton.specs.Small.{most_parts};
 ghost use Rattle.est_specification.specs.SpecificationText.{ReadsSpecification};
 
 use crate::error::SpecificationError;
-use est_check::{Specification, check};
+use est_check::{Checked, check};
 use est_grammar::parse;
 use est_lexer::tokens::Tokens;
 use std::alloc::Global;
 
 /// The specification that the tokens are, which breaks no rule, or why they are none.
-pub fn read_specification(
-    alloc: Global,
-    tokens: &Tokens,
-) -> Result<Specification, SpecificationError>
+pub fn read_specification(alloc: Global, tokens: &Tokens) -> Result<Checked, SpecificationError>
     requires few { length (tokens_of tokens.now) ≤ most_parts }
     ensures { ReadsSpecification (text_of tokens.now) (tokens_of tokens.now) result }
 {

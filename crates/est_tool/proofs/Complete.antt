@@ -1,11 +1,13 @@
 -- What a search answers of good texts whose start is ready.
-use Rattle.std.proofs.Common.{◌≡◌, ◌≢◌, ◌∙◌, ℕ, List, Option, sym, subst, refl}
+use Rattle.std.proofs.Common.{◌≡◌, ◌≢◌, ◌∙◌, ◌⊎◌, inl, inr, ℕ, List, Option, sym, subst, refl}
 use Rattle.std.specs.Prelude.{String}
 use Rattle.std.specs.Global.{Global}
 use Rattle.est_edge.specs.FaultCounts.{Rose}
-use Rattle.est_check.specs.declared.checked.Specification.TheVariants as found
+use Rattle.est_syntax.specs.declared.specification.Spec.{Spec}
+use Rattle.est_skeleton.specs.Skeleton.{IsSkeleton}
 use Rattle.est_meaning.specs.Blocks.{Outcome, Done, Fault, Limit}
 use Rattle.est_meaning.specs.Step.{start_of}
+use Rattle.est_runs.specs.declared.run.Limits.{Limits}
 use Rattle.est_runs.specs.declared.run.Move.{Move}
 use Rattle.est_runs.specs.Run.{Setup, Explains}
 use Rattle.est_runs.specs.Trials.{IsTrial}
@@ -35,7 +37,7 @@ use Rattle.est_tool.specs.Seen.{Seen, Sent}
 use Rattle.est_tool.specs.Statuses.{verdict_status}
 use Rattle.est_tool.specs.inside.Work.{IsExplained}
 use Rattle.est_tool.proofs.OneRequest.{request_one}
-use Rattle.est_tool.proofs.Stages.{specifications_decided, traces_decided, stage_next}
+use Rattle.est_tool.proofs.Stages.{specifications_decided, traces_decided, stage_next, AtTrace}
 use Rattle.est_tool.proofs.SearchStages.{limits_of, Explains as Stages, Searches, explain_stages}
 use Rattle.est_tool.proofs.SearchStages.{verdict_at}
 
@@ -53,6 +55,13 @@ record IsTold (c : Setup) (budget : ℕ) (status : Status) : Type 0 where
   is : IsVerdict c budget told
   status_is : status ≡ verdict_status told
 
+-- after a skeleton a search comes to its trace
+at_trace_of : (shelf : Seen) (trace : List ℕ) (limits : Limits) (spec : Spec) (status : Status)
+    (report : List ℕ) → IsSkeleton spec → Searches shelf trace limits spec status report
+    → AtTrace shelf trace spec (IsExplained limits spec) status report
+at_trace_of shelf trace limits spec status report is (inl x) = x.1
+at_trace_of shelf trace limits spec status report is (inr x) = absurd (x.0 is)
+
 module _ (words : List (String Global)) (shelf : Seen) (output : Sent) (budget : ℕ) (c : Setup)
     (search_of : IsSearchOf words shelf output budget c) where
   -- how the call ends is how the search does
@@ -66,7 +75,7 @@ module _ (words : List (String Global)) (shelf : Seen) (output : Sent) (budget :
       → ExplainEnds shelf search_of.specification search_of.trace c.silent budget c.limit end → ⊥
   not_unread _ is (ends_at_specification end at) =
       search_of.specification_told.quiet (unread_rose shelf Specification _ _ end is at)
-  not_unread _ is (not_run counts holds) = cc
+  not_unread _ is (not_run spec holds none) = cc
   not_unread _ is (ends_at_trace spec end holds at) =
       search_of.trace_told.quiet (unread_rose shelf Trace _ _ end is at)
   not_unread _ is (not_started spec events fault holds traced comes) = cc
@@ -96,16 +105,17 @@ module _ (words : List (String Global)) (shelf : Seen) (output : Sent) (budget :
       (limits_of c.silent budget c.limit) status report =
       explain_stages shelf search_of.specification search_of.trace c.silent budget c.limit
       (reported status report) (search_ends (reported status report) reports) in
-      let after : Searches shelf search_of.trace (limits_of c.silent budget c.limit)
-      (found.Skeleton c.spec) status report =
+      let after : Searches shelf search_of.trace (limits_of c.silent budget c.limit) c.spec status
+      report =
       stage_next Specification search_of.specification search_of.specification_told.bytes
       RefusesSpecification OfSpecification specifications_decided shelf
-      search_of.specification_told.told _ (found.Skeleton c.spec) search_of.good status report
-      stages in
+      search_of.specification_told.told _ c.spec search_of.good.0 status report stages in
       is_verdict status report
       (stage_next Trace search_of.trace search_of.trace_told.bytes (RefusesTrace c.spec)
       (OfTrace c.spec) (traces_decided c.spec) shelf search_of.trace_told.told _ c.trace
-      search_of.traced status report after)
+      search_of.traced status report
+      (at_trace_of shelf search_of.trace (limits_of c.silent budget c.limit) c.spec status report
+      search_of.good.1 after))
 
 -- a verdict has such a status
 verdict_judged : (v : Verdict) → IsJudged (verdict_status v)

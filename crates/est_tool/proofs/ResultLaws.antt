@@ -105,7 +105,7 @@ ends_reportable shelf (check name) _ (good spec holds) = tt
 ends_reportable shelf (explain s t silent budget statements) _ (ends_at_specification end is) =
     at_file RefusesSpecification end (λ text tokens status place why refuses. of_specification
     refuses.0 status place why refuses.2) is
-ends_reportable shelf (explain s t silent budget statements) _ (not_run counts holds) = tt
+ends_reportable shelf (explain s t silent budget statements) _ (not_run spec holds none) = tt
 ends_reportable shelf (explain s t silent budget statements) _ (ends_at_trace spec end holds is) =
     at_file (RefusesTrace spec) end (λ text tokens status place why refuses. of_trace refuses.0
     status place why refuses.2) is
@@ -118,7 +118,7 @@ ends_reportable shelf (explain s t silent budget statements) _
 ends_reportable shelf (replay s t e silent statements) _ (at_specification end is) =
     at_file RefusesSpecification end (λ text tokens status place why refuses. of_specification
     refuses.0 status place why refuses.2) is
-ends_reportable shelf (replay s t e silent statements) _ (unbuilt counts holds) = tt
+ends_reportable shelf (replay s t e silent statements) _ (unbuilt spec holds none) = tt
 ends_reportable shelf (replay s t e silent statements) _ (at_trace spec end holds is) =
     at_file (RefusesTrace spec) end (λ text tokens status place why refuses. of_trace refuses.0
     status place why refuses.2) is

@@ -1,8 +1,7 @@
 -- What the specification and the trace of a search determine.
-use Rattle.std.proofs.Common.{◌≡◌, ◌∙◌, ℕ, List, length, sym, subst, ap, refl}
+use Rattle.std.proofs.Common.{◌≡◌, ◌∙◌, ◌⊎◌, inl, inr, ℕ, List, length, sym, subst, ap, refl}
 use Rattle.est_syntax.specs.declared.specification.Spec.{Spec}
-use Rattle.est_check.specs.declared.checked.Specification.{Specification as Read}
-use Rattle.est_check.specs.declared.checked.Specification.TheVariants as found
+use Rattle.est_skeleton.specs.Skeleton.{IsSkeleton}
 use Rattle.est_meaning.specs.declared.event.Event.{Event}
 use Rattle.est_meaning.specs.Situation.{Situation}
 use Rattle.est_meaning.specs.Blocks.{Outcome, Done, Fault, Limit}
@@ -32,10 +31,10 @@ limits_of silent budget statements =
     record { silent = silent; budget = budget; statements = statements }
 
 -- the stages of a search: a specification that is no skeleton ends it
-abbrev pub Searches : Seen → List ℕ → Limits → Read → Status → List ℕ → Type 0
-Searches shelf trace limits (found.Skeleton spec) s r =
-    AtTrace shelf trace spec (IsExplained limits spec) s r
-Searches shelf trace limits (found.Whole counts) s r = IsUnbuilt s r
+abbrev pub Searches : Seen → List ℕ → Limits → Spec → Status → List ℕ → Type 0
+Searches shelf trace limits spec s r =
+    (IsSkeleton spec × AtTrace shelf trace spec (IsExplained limits spec) s r)
+    ⊎ ((IsSkeleton spec → ⊥) × IsUnbuilt s r)
 
 abbrev pub Explains : Seen → List ℕ → List ℕ → Limits → Status → List ℕ → Type 0
 Explains shelf specification trace limits =
@@ -49,24 +48,28 @@ explain_stages shelf specification trace silent budget statements _
     RefusesSpecification (reported s r) x)
 explain_stages shelf specification trace silent budget statements _
     (ends_at_specification unread x) = tt
-explain_stages shelf specification trace silent budget statements _ (not_run counts holds) =
-    goes_on (found.Whole counts) holds (refl, refl)
+explain_stages shelf specification trace silent budget statements _ (not_run spec holds none) =
+    goes_on spec holds (inr (none, (refl, refl)))
 explain_stages shelf specification trace silent budget statements _
-    (ends_at_trace spec (reported s r) holds x) = goes_on (found.Skeleton spec) holds
-    (stops (stopped shelf Trace trace (RefusesTrace spec) (reported s r) x))
+    (ends_at_trace spec (reported s r) holds x) = goes_on spec holds.0
+    (inl (holds.1, stops (stopped shelf Trace trace (RefusesTrace spec) (reported s r) x)))
 explain_stages shelf specification trace silent budget statements _
     (ends_at_trace spec unread holds x) = tt
 explain_stages shelf specification trace silent budget statements _
     (not_started spec events fault holds traced is) =
-    goes_on (found.Skeleton spec) holds
-    (goes_on events traced (came.Fault fault, is, (refl, refl)))
+    goes_on spec holds.0
+    (inl (holds.1, goes_on events traced (came.Fault fault, is, (refl, refl))))
 explain_stages shelf specification trace silent budget statements _
     (start_over spec events holds traced is) =
-    goes_on (found.Skeleton spec) holds (goes_on events traced (came.Limit, is, (refl, refl)))
+    goes_on spec holds.0 (inl (holds.1, goes_on events traced (came.Limit, is, (refl, refl))))
 explain_stages shelf specification trace silent budget statements _
     (searched spec events s outs verdict holds traced begun is) =
-    goes_on (found.Skeleton spec) holds
-    (goes_on events traced (came.Found verdict, (s, outs, begun, is), (refl, refl)))
+    goes_on spec holds.0
+    (inl (
+      holds.1,
+      goes_on events traced
+          (came.Found verdict, (s, outs, begun, is), (refl, refl)),
+    ))
 
 -- a start that is ready is so in one way
 one_start : (o : Outcome) (s t : Situation) (outs outs' : List Event) → o ≡ Done s outs

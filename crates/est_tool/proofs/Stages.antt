@@ -23,14 +23,10 @@ use Rattle.est_language.specs.Grammar.{rule}
 use Rattle.est_language.specs.Sentences.{HasPartial, IsFirstBadPlace}
 use Rattle.est_productions.specs.Productions.{specification as specification_rule}
 use Rattle.est_skeleton.specs.Ports.{ports_of}
-use Rattle.est_skeleton.specs.Skeleton.{IsSkeleton}
-use Rattle.est_check.specs.declared.checked.Specification.{Specification as Read}
-use Rattle.est_check.specs.declared.checked.Specification.TheVariants as found
 use Rattle.est_meaning.specs.declared.event.Event.{Event}
 use Rattle.est_meaning.specs.Allowed.{most_events}
-use Rattle.est_specification.specs.SpecificationText.{IsGoodText, IsNoSpecification}
+use Rattle.est_specification.specs.SpecificationText.{IsSpecification, IsNoSpecification}
 use Rattle.est_blocks.specs.LeastFault.{IsGood, IsLeastFault}
-use Rattle.est_blocks.specs.Counts.{counts_of}
 use Rattle.est_specification.specs.declared.error.SpecificationError.{SpecificationError}
 use Rattle.est_specification.specs.declared.error.SpecificationError.TheVariants as specification
 use Rattle.est_specification.proofs.Unique.{same_specification}
@@ -197,12 +193,6 @@ module _ (text : List ℕ) (tokens : List Token) where
       → HasOneTree text tokens spec → ⊥
   not_deep at spec x one = x.0.no_tree _ one.tree
 
-  -- a specification that is a skeleton is no other one
-  skeleton_only : (spec spec' : Spec) → HasOneTree text tokens spec → IsSkeleton spec
-      → HasOneTree text tokens spec' → (IsSkeleton spec' → ⊥) → ⊥
-  skeleton_only spec spec' one is one' not =
-      not (subst IsSkeleton (same_specification text tokens spec spec' one one') is)
-
   one_fault : (spec spec' : Spec) (at at' : ℕ) (r r' : Rule) → HasOneTree text tokens spec
       → BreaksFirst spec at r → HasOneTree text tokens spec' → BreaksFirst spec' at' r'
       → (at ≡ at') × (r ≡ r')
@@ -256,34 +246,14 @@ good_not_refused text tokens spec s place why one none (deep at x e f g) = not_d
 good_not_refused text tokens spec s place why one none (broken at spec' r one' x e f g) =
     not_broken text tokens spec spec' at r one none one' x
 
-read_not_refused : (text : List ℕ) (tokens : List Token) (read : Read) (s : Status)
-    (place : Option ℕ) (why : List ℕ) → IsGoodText text tokens read
-    → IsRefusedSpecification text tokens s place why → ⊥
-read_not_refused text tokens (found.Skeleton spec) s place why is x = good_not_refused text tokens
-    spec s place why is.tree is.good x
-read_not_refused text tokens (found.Whole counts) s place why is x = good_not_refused text tokens
-    is.spec s place why is.tree is.good x
-
-one_read : (text : List ℕ) (tokens : List Token) (a b : Read) → IsGoodText text tokens a
-    → IsGoodText text tokens b → a ≡ b
-one_read text tokens (found.Skeleton spec) (found.Skeleton spec') x y = ap (λ z. found.Skeleton z)
-    (same_specification text tokens spec spec' x.tree y.tree)
-one_read text tokens (found.Skeleton spec) (found.Whole counts) x y =
-    absurd (skeleton_only text tokens spec y.spec x.tree x.skeleton y.tree y.no_skeleton)
-one_read text tokens (found.Whole counts) (found.Skeleton spec) x y =
-    absurd (skeleton_only text tokens spec x.spec y.tree y.skeleton x.tree x.no_skeleton)
-one_read text tokens (found.Whole counts) (found.Whole counts') x y =
-    ap (λ z. found.Whole z) (x.numbers ∙ ap counts_of (same_specification text tokens x.spec y.spec
-    x.tree y.tree) ∙ sym y.numbers)
-
 pub specifications_decided : IsDecided RefusesSpecification OfSpecification
 specifications_decided = record {
   one_refusal = λ text tokens s s' place place' why why' x y. specifications_alike text tokens s s'
       place place' why why' (how_refused text tokens x.0 s place why x.1 x.2)
       (how_refused text tokens y.0 s' place' why' y.1 y.2);
-  not_both = λ read text tokens s place why is x. read_not_refused text tokens read s place why is
-      (how_refused text tokens x.0 s place why x.1 x.2);
-  one_value = λ a b text tokens x y. one_read text tokens a b x y;
+  not_both = λ spec text tokens s place why is x. good_not_refused text tokens spec s place why
+      is.tree is.good (how_refused text tokens x.0 s place why x.1 x.2);
+  one_value = λ a b text tokens x y. same_specification text tokens a b x.tree y.tree;
 }
 
 -- TRACES
@@ -475,7 +445,7 @@ module _ {A : Type 0} (file : File) (name bytes : List ℕ) (Refuses : Refusals)
 -- COMMANDS
 
 -- the stages of a call, with what is reported after the last one
-abbrev pub AtSpecification : Seen → List ℕ → (Read → Status → List ℕ → Type 0) → Status → List ℕ
+abbrev pub AtSpecification : Seen → List ℕ → (Spec → Status → List ℕ → Type 0) → Status → List ℕ
     → Type 0
 AtSpecification shelf name Next = Stage shelf Specification name RefusesSpecification
     OfSpecification Next

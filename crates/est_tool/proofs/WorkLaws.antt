@@ -1,5 +1,5 @@
 -- What is made of a request, from what its steps answered.
-use Rattle.std.proofs.Common.{◌≡◌, ◌∙◌, ◌<◌, ℕ, List, [], ◌∷◌, ◌++◌, Option, length}
+use Rattle.std.proofs.Common.{◌≡◌, ◌∙◌, ◌<◌, ℕ, List, [], ◌∷◌, ◌++◌, Option, Some, None, length}
 use Rattle.std.proofs.Common.{sym, subst, ap, IfSome, Result, Ok, Err, append_assoc}
 use Rattle.std.specs.Result.{IsErr, IsErrAnd}
 use Rattle.est_lexer.specs.declared.kind.Token.{Token}
@@ -10,9 +10,8 @@ use Rattle.est_edge.proofs.PieceLaws.{SameTold-then}
 use Rattle.est_syntax.specs.declared.specification.Spec.{Spec}
 use Rattle.est_meaning.specs.declared.event.Event.{Event}
 use Rattle.est_explanation.specs.declared.explanation.Explanation.{Explanation}
-use Rattle.est_blocks.specs.declared.counts.Counts.{Counts}
-use Rattle.est_check.specs.declared.checked.Specification.{Specification}
-use Rattle.est_check.specs.declared.checked.Specification.TheVariants as found
+use Rattle.est_skeleton.specs.Skeleton.{IsSkeleton}
+use Rattle.est_check.specs.Checked.{IsSkeletonOf}
 use Rattle.est_runs.specs.declared.run.Limits.{Limits}
 use Rattle.est_tool.specs.declared.search.Searched.{Searched}
 use Rattle.est_tool.specs.declared.search.Searched.TheVariants as came
@@ -20,6 +19,7 @@ use Rattle.est_tool.specs.declared.report.Report.{Report}
 use Rattle.est_tool.specs.declared.stop.Stop.{Stop}
 use Rattle.est_tool.specs.declared.stop.Stop.TheVariants.{Refused, ReadFault, OutOfMemory}
 use Rattle.est_tool.specs.declared.file.File.{File}
+use Rattle.est_tool.specs.declared.file.File.TheVariants.{Specification}
 use Rattle.est_tool.specs.declared.status.Status.{Status}
 use Rattle.est_tool.specs.declared.status.Status.TheVariants.{Fine, OverBudget, NoStart, NotBuilt}
 use Rattle.est_tool.specs.Files.{limit_of}
@@ -29,7 +29,7 @@ use Rattle.est_tool.specs.FileTexts.{Holds, Refusals, IsReported, OfSpecificatio
 use Rattle.est_tool.specs.FileTexts.{OfTrace, OfExplanation}
 use Rattle.est_tool.specs.Requests.{Request, check, explain, replay}
 use Rattle.est_tool.specs.Ends.{End, reported, IsTooLong, EndsAt, longer, refused, failed}
-use Rattle.est_tool.specs.Ends.{HoldsRead, HoldsSpecification, HoldsTrace, HoldsExplanation}
+use Rattle.est_tool.specs.Ends.{HoldsSpecification, HoldsSkeleton, HoldsTrace, HoldsExplanation}
 use Rattle.est_tool.specs.Ends.{CheckEnds, at_its_file, good, ReplayEnds, at_specification}
 use Rattle.est_tool.specs.Ends.{unbuilt, at_trace, at_explanation, replayed, Ends}
 use Rattle.est_tool.specs.Ends.{ExplainEnds, ends_at_specification, not_run, ends_at_trace}
@@ -37,7 +37,7 @@ use Rattle.est_tool.specs.Ends.{not_started, start_over, searched}
 use Rattle.est_tool.specs.Started.{ExplainStarts, first_alone, both}
 use Rattle.est_tool.specs.Started.{ReplayStarts, one, two, three, Starts}
 use Rattle.est_tool.specs.inside.Reads.{IsStop, IsQuiet, ReadsFile}
-use Rattle.est_tool.specs.inside.Work.{OfSkeleton, IsMade, Gives, IsCounted}
+use Rattle.est_tool.specs.inside.Work.{IsMade, Gives, IsCounted}
 use Rattle.est_tool.specs.inside.Work.{IsUnbuilt, IsAnswered, Tells, IsExplained, IsWork}
 use Rattle.est_tool.specs.inside.Searching.{IsSearched}
 use Rattle.est_tool.proofs.ReadLaws.{stop_then, stops_for, quiet_any, quiet_stop}
@@ -46,6 +46,27 @@ use Rattle.est_tool.proofs.ReadLaws.{stop_then, stops_for, quiet_any, quiet_stop
 pub holds_before : (file : File) {old new : Option (List ℕ)} (Is : List ℕ → List Token → Type 0)
     → new ≡ old → Holds file new Is → Holds file old Is
 holds_before file Is same holds = subst (λ told. Holds file told Is) same holds
+
+-- of a skeleton that a checked specification is
+pub skeleton_holds : {old new : Option (List ℕ)} (skeleton checked : Spec) → skeleton ≡ checked
+    → new ≡ old → Holds Specification old (OfSpecification checked)
+    → Holds Specification new (OfSpecification skeleton)
+skeleton_holds {old} {new} skeleton checked is same holds =
+    subst (λ (told : Option (List ℕ)). Holds Specification told (OfSpecification skeleton))
+    (sym same)
+    (subst (λ (s : Spec). Holds Specification old (OfSpecification s)) (sym is) holds)
+
+pub skeleton_none : (checked : Spec) (found : Option Spec) → IsSkeletonOf checked found
+    → found ≡ None → IsSkeleton checked → ⊥
+skeleton_none checked found h e = subst (IsSkeletonOf checked) e h
+
+pub skeleton_some : (checked skeleton : Spec) (found : Option Spec) → IsSkeletonOf checked found
+    → found ≡ Some skeleton → (skeleton ≡ checked) × IsSkeleton checked
+skeleton_some checked skeleton found h e = subst (IsSkeletonOf checked) e h
+
+pub skeleton_is : (skeleton checked : Spec) → skeleton ≡ checked → IsSkeleton checked
+    → IsSkeleton skeleton
+skeleton_is skeleton checked is h = subst IsSkeleton (sym is) h
 
 -- what holds of the end of a command holds in a weaker form too
 pub made_then : {P Q : End → Type 0} (made : Result Report Stop) → ((end : End) → P end → Q end)
@@ -77,55 +98,58 @@ module _ (before middle after : Shelved) (same : SameTold before.told middle.tol
       is)
   file_before {name = name} _ (failed rose) = failed (rose_then stay name rose)
 
+  skeleton_before : (name : List ℕ) (spec : Spec) → HoldsSkeleton (seen middle after) name spec
+      → HoldsSkeleton (seen before after) name spec
+  skeleton_before name spec holds =
+      (holds_before _ (OfSpecification spec) (same name) holds.0, holds.1)
+
   ends_before : (request : Request) (end : End) → Ends (seen middle after) request end
       → Ends (seen before after) request end
   ends_before (check s) _ (at_its_file end at) = at_its_file end (file_before end at)
-  ends_before (check s) _ (good read holds) = good read (holds_before _ (OfSpecification read)
+  ends_before (check s) _ (good spec holds) = good spec (holds_before _ (OfSpecification spec)
       (same s) holds)
   ends_before (explain s t n b m) _ (ends_at_specification end at) = ends_at_specification end
       (file_before end at)
-  ends_before (explain s t n b m) _ (not_run counts holds) = not_run counts
-      (holds_before _ (OfSpecification (found.Whole counts)) (same s) holds)
+  ends_before (explain s t n b m) _ (not_run spec holds none) = not_run spec
+      (holds_before _ (OfSpecification spec) (same s) holds) none
   ends_before (explain s t n b m) _ (ends_at_trace spec end holds at) = ends_at_trace spec end
-      (holds_before _ (OfSkeleton spec) (same s) holds) (file_before end at)
+      (skeleton_before s spec holds) (file_before end at)
   ends_before (explain s t n b m) _ (not_started spec events fault holds traced is) =
-      not_started spec events fault (holds_before _ (OfSkeleton spec) (same s) holds)
+      not_started spec events fault (skeleton_before s spec holds)
       (holds_before _ (OfTrace spec events) (same t) traced) is
   ends_before (explain s t n b m) _ (start_over spec events holds traced is) =
-      start_over spec events (holds_before _ (OfSkeleton spec) (same s) holds)
+      start_over spec events (skeleton_before s spec holds)
       (holds_before _ (OfTrace spec events) (same t) traced) is
   ends_before (explain s t n b m) _
       (searched spec events situation outs verdict holds traced begun is) =
-      searched spec events situation outs verdict (holds_before _ (OfSkeleton spec) (same s) holds)
+      searched spec events situation outs verdict (skeleton_before s spec holds)
       (holds_before _ (OfTrace spec events) (same t) traced) begun is
   ends_before (replay s t e n m) _ (at_specification end at) = at_specification end
       (file_before end at)
-  ends_before (replay s t e n m) _ (unbuilt counts holds) = unbuilt counts
-      (holds_before _ (OfSpecification (found.Whole counts)) (same s) holds)
+  ends_before (replay s t e n m) _ (unbuilt spec holds none) = unbuilt spec
+      (holds_before _ (OfSpecification spec) (same s) holds) none
   ends_before (replay s t e n m) _ (at_trace spec end holds at) = at_trace spec end
-      (holds_before _ (OfSkeleton spec) (same s) holds) (file_before end at)
+      (skeleton_before s spec holds) (file_before end at)
   ends_before (replay s t e n m) _ (at_explanation spec events end holds traced at) =
-      at_explanation spec events end (holds_before _ (OfSkeleton spec) (same s) holds)
+      at_explanation spec events end (skeleton_before s spec holds)
       (holds_before _ (OfTrace spec events) (same t) traced) (file_before end at)
   ends_before (replay s t e n m) _ (replayed spec events read answer holds traced explained is) =
-      replayed spec events read answer (holds_before _ (OfSkeleton spec) (same s) holds)
+      replayed spec events read answer (skeleton_before s spec holds)
       (holds_before _ (OfTrace spec events) (same t) traced)
       (holds_before _ (OfExplanation read) (same e) explained) is
 
   replay_starts_before : (s t e : List ℕ) (names : List (List ℕ))
       → ReplayStarts (seen middle after) s t e names → ReplayStarts (seen before after) s t e names
   replay_starts_before s t e _ one = one
-  replay_starts_before s t e _ (two spec holds) = two spec (holds_before _ (OfSkeleton spec)
-      (same s) holds)
+  replay_starts_before s t e _ (two spec holds) = two spec (skeleton_before s spec holds)
   replay_starts_before s t e _ (three spec events holds traced) =
-      three spec events (holds_before _ (OfSkeleton spec) (same s) holds)
+      three spec events (skeleton_before s spec holds)
       (holds_before _ (OfTrace spec events) (same t) traced)
 
   explain_starts_before : (s t : List ℕ) (names : List (List ℕ))
       → ExplainStarts (seen middle after) s t names → ExplainStarts (seen before after) s t names
   explain_starts_before s t _ first_alone = first_alone
-  explain_starts_before s t _ (both spec holds) = both spec (holds_before _ (OfSkeleton spec)
-      (same s) holds)
+  explain_starts_before s t _ (both spec holds) = both spec (skeleton_before s spec holds)
 
   starts_before : (request : Request) (names : List (List ℕ))
       → Starts (seen middle after) request names → Starts (seen before after) request names
@@ -202,22 +226,22 @@ module _
 
 -- REPORTS
 
-pub check_reports : (shelf : Seen) (name : List ℕ) (read : Specification)
-    → HoldsRead shelf name read
-    → (status : Status) (report : List ℕ) → IsCounted read status report
+pub check_reports : (shelf : Seen) (name : List ℕ) (spec : Spec)
+    → HoldsSpecification shelf name spec
+    → (status : Status) (report : List ℕ) → IsCounted spec status report
     → CheckEnds shelf name (reported status report)
-check_reports shelf name read holds status report is =
+check_reports shelf name spec holds status report is =
     subst (λ s. CheckEnds shelf name (reported s report)) (sym is.0)
-    (subst (λ r. CheckEnds shelf name (reported Fine r)) (sym is.1) (good read holds))
+    (subst (λ r. CheckEnds shelf name (reported Fine r)) (sym is.1) (good spec holds))
 
 pub not_run_reports : (shelf : Seen) (s t : List ℕ) (silent budget statements : ℕ)
-    (read : Specification) (counts : Counts) → read ≡ found.Whole counts → HoldsRead shelf s read
+    (spec : Spec) → HoldsSpecification shelf s spec → (IsSkeleton spec → ⊥)
     → (status : Status) (report : List ℕ) → IsUnbuilt status report
     → ExplainEnds shelf s t silent budget statements (reported status report)
-not_run_reports shelf s t silent budget statements read counts whole holds status report is =
+not_run_reports shelf s t silent budget statements spec holds none status report is =
     subst (λ z. ExplainEnds shelf s t silent budget statements (reported z report)) (sym is.0)
     (subst (λ r. ExplainEnds shelf s t silent budget statements (reported NotBuilt r)) (sym is.1)
-    (not_run counts (subst (λ z. HoldsRead shelf s z) whole holds)))
+    (not_run spec holds none))
 
 -- an end with this status and this report
 ends_so : (shelf : Seen) (s t : List ℕ) (silent budget statements : ℕ) (a b : Status)
@@ -229,7 +253,7 @@ ends_so shelf s t silent budget statements a b r q same ends =
     (subst (λ z. ExplainEnds shelf s t silent budget statements (reported b z)) (sym same.1) ends)
 
 explain_reports : (shelf : Seen) (s t : List ℕ) (limits : Limits) (spec : Spec)
-    (events : List Event) → HoldsSpecification shelf s spec → HoldsTrace shelf t spec events
+    (events : List Event) → HoldsSkeleton shelf s spec → HoldsTrace shelf t spec events
     → (status : Status) (report : List ℕ) (found : Searched) → IsSearched limits spec events found
     → Tells limits.statements (length events) found status report
     → ExplainEnds shelf s t limits.silent limits.budget limits.statements (reported status report)
@@ -242,24 +266,24 @@ explain_reports shelf s t limits spec events holds traced status report came.Lim
     ends_so shelf s t _ _ _ _ _ _ _ tells (start_over spec events holds traced is)
 
 pub search_reports : (shelf : Seen) (s t : List ℕ) (limits : Limits) (spec : Spec)
-    (events : List Event) → HoldsSpecification shelf s spec → HoldsTrace shelf t spec events
+    (events : List Event) → HoldsSkeleton shelf s spec → HoldsTrace shelf t spec events
     → (status : Status) (report : List ℕ) → IsExplained limits spec events status report
     → ExplainEnds shelf s t limits.silent limits.budget limits.statements (reported status report)
 search_reports shelf s t limits spec events holds traced status report is =
     explain_reports shelf s t limits spec events holds traced status report is.0 is.1 is.2
 
-pub unbuilt_reports : (shelf : Seen) (s t e : List ℕ) (silent statements : ℕ) (read : Specification)
-    (counts : Counts) → read ≡ found.Whole counts → HoldsRead shelf s read
+pub unbuilt_reports : (shelf : Seen) (s t e : List ℕ) (silent statements : ℕ) (spec : Spec)
+    → HoldsSpecification shelf s spec → (IsSkeleton spec → ⊥)
     → (status : Status) (report : List ℕ) → IsUnbuilt status report
     → ReplayEnds shelf s t e silent statements (reported status report)
-unbuilt_reports shelf s t e silent statements read counts whole holds status report is =
+unbuilt_reports shelf s t e silent statements spec holds none status report is =
     subst (λ z. ReplayEnds shelf s t e silent statements (reported z report)) (sym is.0)
     (subst (λ r. ReplayEnds shelf s t e silent statements (reported NotBuilt r)) (sym is.1)
-    (unbuilt counts (subst (λ z. HoldsRead shelf s z) whole holds)))
+    (unbuilt spec holds none))
 
 pub replay_reports : (shelf : Seen) (s t e : List ℕ) (silent statements : ℕ) (spec : Spec)
     (events : List Event) (read : Explanation)
-    → HoldsSpecification shelf s spec → HoldsTrace shelf t spec events
+    → HoldsSkeleton shelf s spec → HoldsTrace shelf t spec events
     → HoldsExplanation shelf e read
     → (status : Status) (report : List ℕ)
     → IsAnswered silent statements spec events read status report

@@ -10,7 +10,7 @@ use Rattle.est_tool.specs.declared.status.Status.{Status}
 use Rattle.est_tool.specs.declared.status.Status.TheVariants.{Fine, Refused, OverBudget}
 use Rattle.est_tool.specs.declared.status.Status.TheVariants.{OutOfMemory}
 use Rattle.est_tool.specs.Seen.{Seen, Sent}
-use Rattle.est_tool.specs.Ends.{HoldsSpecification, HoldsTrace}
+use Rattle.est_tool.specs.Ends.{HoldsSkeleton, HoldsTrace}
 use Rattle.est_tool.specs.Requests.{Asks, explain, bytes_of}
 use Rattle.est_tool.specs.Result.{IsResult}
 
@@ -30,7 +30,7 @@ pub record IsSearchOf (words : List (String Global)) (shelf : Seen) (output : Se
   pub specification_told : IsToldWell shelf specification
   pub trace_told : IsToldWell shelf trace
   pub written : Rose output.before.faults output.after.faults → ⊥
-  pub good : HoldsSpecification shelf specification c.spec
+  pub good : HoldsSkeleton shelf specification c.spec
   pub traced : HoldsTrace shelf trace c.spec c.trace
   pub begun : IsBegun c
 

@@ -3,9 +3,7 @@ use Rattle.std.specs.Prelude.{◌≡◌, ℕ, ◌+◌, ◌<◌, List, length, If
 use Rattle.est_edge.specs.FaultCounts.{Rose}
 use Rattle.est_syntax.specs.declared.specification.Spec.{Spec}
 use Rattle.est_blocks.specs.Counts.{counts_of}
-use Rattle.est_blocks.specs.declared.counts.Counts.{Counts}
-use Rattle.est_check.specs.declared.checked.Specification.{Specification}
-use Rattle.est_check.specs.declared.checked.Specification.TheVariants as found
+use Rattle.est_skeleton.specs.Skeleton.{IsSkeleton}
 use Rattle.est_meaning.specs.declared.event.Event.{Event}
 use Rattle.est_meaning.specs.declared.firing.BlockFault.{BlockFault}
 use Rattle.est_meaning.specs.Situation.{Situation}
@@ -59,14 +57,14 @@ pub data EndsAt (shelf : Seen) (file : File) (name : List ℕ) (Refuses : Refusa
   failed : Rose (shelf.before.faults name) (shelf.after.faults name)
       → EndsAt shelf file name Refuses unread
 
--- the file of this name holds the text of a specification that breaks no rule, and this is what is
--- read of it: the tree of a skeleton, or the numbers of another
-abbrev pub HoldsRead : Seen → List ℕ → Specification → Type 0
-HoldsRead shelf name read = Holds file.Specification (shelf.before.told name) (OfSpecification read)
-
--- the file holds the text of this skeleton, which breaks no rule
+-- the file of this name holds the text of this specification, which breaks no rule
 abbrev pub HoldsSpecification : Seen → List ℕ → Spec → Type 0
-HoldsSpecification shelf name spec = HoldsRead shelf name (found.Skeleton spec)
+HoldsSpecification shelf name spec =
+    Holds file.Specification (shelf.before.told name) (OfSpecification spec)
+
+-- it holds the text of this skeleton, which breaks no rule
+abbrev pub HoldsSkeleton : Seen → List ℕ → Spec → Type 0
+HoldsSkeleton shelf name spec = HoldsSpecification shelf name spec × IsSkeleton spec
 
 -- the file holds the text of this trace of a specification, and of no other
 abbrev pub HoldsTrace : Seen → List ℕ → Spec → List Event → Type 0
@@ -80,17 +78,12 @@ HoldsExplanation shelf name explanation =
 
 -- COMMANDS
 
--- the numbers of a specification
-abbrev pub numbers_of : Specification → Counts
-numbers_of (found.Skeleton spec) = counts_of spec
-numbers_of (found.Whole counts) = counts
-
 -- `check` ends at its file, or tells the numbers of a good specification
 pub data CheckEnds (shelf : Seen) (name : List ℕ) : End → Type 0 where
   at_its_file : (end : End) → EndsAt shelf file.Specification name RefusesSpecification end
       → CheckEnds shelf name end
-  good : (read : Specification) → HoldsRead shelf name read
-      → CheckEnds shelf name (reported Fine (ok_line (numbers_of read)))
+  good : (spec : Spec) → HoldsSpecification shelf name spec
+      → CheckEnds shelf name (reported Fine (ok_line (counts_of spec)))
 
 -- `replay` ends at the first of its files that is refused, or at a good specification that is no
 -- skeleton, which cannot be run yet, or tells the answer
@@ -100,20 +93,20 @@ pub data ReplayEnds
   at_specification : (end : End)
       → EndsAt shelf file.Specification specification RefusesSpecification end
       → ReplayEnds shelf specification trace explanation silent statements end
-  unbuilt : (counts : Counts) → HoldsRead shelf specification (found.Whole counts)
+  unbuilt : (spec : Spec) → HoldsSpecification shelf specification spec → (IsSkeleton spec → ⊥)
       → ReplayEnds shelf specification trace explanation silent statements
       (reported NotBuilt not_built_line)
   at_trace : (spec : Spec) (end : End)
-      → HoldsSpecification shelf specification spec
+      → HoldsSkeleton shelf specification spec
       → EndsAt shelf file.Trace trace (RefusesTrace spec) end
       → ReplayEnds shelf specification trace explanation silent statements end
   at_explanation : (spec : Spec) (events : List Event) (end : End)
-      → HoldsSpecification shelf specification spec
+      → HoldsSkeleton shelf specification spec
       → HoldsTrace shelf trace spec events
       → EndsAt shelf file.Explanation explanation RefusesExplanation end
       → ReplayEnds shelf specification trace explanation silent statements end
   replayed : (spec : Spec) (events : List Event) (read : Explanation) (answer : Replayed)
-      → HoldsSpecification shelf specification spec
+      → HoldsSkeleton shelf specification spec
       → HoldsTrace shelf trace spec events
       → HoldsExplanation shelf explanation read
       → IsReplay statements silent spec events read.moves read.claim answer
@@ -132,35 +125,36 @@ task_of silent statements spec events s outs = record {
 }
 
 -- `explain` ends at the first of its files that is refused, or at a good specification that is no
--- skeleton, or at a start that faults or passes its limit, or tells the verdict
+-- skeleton, which cannot be run yet, or at a start that faults or passes its limit, or tells the
+-- verdict
 pub data ExplainEnds
     (shelf : Seen) (specification trace : List ℕ) (silent budget statements : ℕ)
     : End → Type 0 where
   ends_at_specification : (end : End)
       → EndsAt shelf file.Specification specification RefusesSpecification end
       → ExplainEnds shelf specification trace silent budget statements end
-  not_run : (counts : Counts) → HoldsRead shelf specification (found.Whole counts)
+  not_run : (spec : Spec) → HoldsSpecification shelf specification spec → (IsSkeleton spec → ⊥)
       → ExplainEnds shelf specification trace silent budget statements
       (reported NotBuilt not_built_line)
   ends_at_trace : (spec : Spec) (end : End)
-      → HoldsSpecification shelf specification spec
+      → HoldsSkeleton shelf specification spec
       → EndsAt shelf file.Trace trace (RefusesTrace spec) end
       → ExplainEnds shelf specification trace silent budget statements end
   not_started : (spec : Spec) (events : List Event) (fault : BlockFault)
-      → HoldsSpecification shelf specification spec
+      → HoldsSkeleton shelf specification spec
       → HoldsTrace shelf trace spec events
       → start_of statements spec ≡ Fault fault
       → ExplainEnds shelf specification trace silent budget statements
       (reported NoStart (no_start_line fault))
   start_over : (spec : Spec) (events : List Event)
-      → HoldsSpecification shelf specification spec
+      → HoldsSkeleton shelf specification spec
       → HoldsTrace shelf trace spec events
       → start_of statements spec ≡ Limit
       → ExplainEnds shelf specification trace silent budget statements
       (reported OverBudget (over_start_line statements))
   searched : (spec : Spec) (events : List Event) (s : Situation) (outs : List Event)
       (verdict : Verdict)
-      → HoldsSpecification shelf specification spec
+      → HoldsSkeleton shelf specification spec
       → HoldsTrace shelf trace spec events
       → start_of statements spec ≡ Done s outs
       → IsVerdict (task_of silent statements spec events s outs) budget verdict

@@ -6,10 +6,9 @@ use Rattle.est_lexer.specs.Offsets.{offset_at}
 use Rattle.est_lexer.specs.TokenList.{IsTokenList}
 use Rattle.est_syntax.specs.declared.specification.Spec.{Spec}
 use Rattle.est_skeleton.specs.Ports.{ports_of}
-use Rattle.est_check.specs.declared.checked.Specification.{Specification}
 use Rattle.est_meaning.specs.declared.event.Event.{Event}
 use Rattle.est_explanation.specs.declared.explanation.Explanation.{Explanation}
-use Rattle.est_specification.specs.SpecificationText.{IsGoodText, IsNoSpecification}
+use Rattle.est_specification.specs.SpecificationText.{IsSpecification, IsNoSpecification}
 use Rattle.est_specification.specs.declared.error.SpecificationError.{SpecificationError}
 use Rattle.est_specification.specs.declared.error.SpecificationError.TheVariants as specification
 use Rattle.est_trace.specs.TraceText.{IsOnlyTraceText, IsTraceRefusal}
@@ -43,8 +42,8 @@ abbrev pub Holds : File → Option (List ℕ) → (List ℕ → List Token → T
 Holds file told Is = SomeText told (λ text. IsText file text Is)
 
 -- the tokens of the text are this specification, which breaks no rule
-abbrev pub OfSpecification : Specification → List ℕ → List Token → Type 0
-OfSpecification read text tokens = IsGoodText text tokens read
+abbrev pub OfSpecification : Spec → List ℕ → List Token → Type 0
+OfSpecification spec text tokens = IsSpecification text tokens spec
 
 -- the tokens are a text of this trace of the specification, and of no other
 abbrev pub OfTrace : Spec → List Event → List ℕ → List Token → Type 0

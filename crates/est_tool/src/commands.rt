@@ -2,12 +2,13 @@
 ghost use Rattle.std.specs.Prelude.{◌≤◌, [], ◌∷◌, length};
 ghost use Rattle.est_meaning.specs.Allowed.{IsAllowedTrace, most_events};
 ghost use Rattle.est_replay.specs.Replay.{most_moves};
+ghost use Rattle.est_skeleton.specs.Skeleton.{IsSkeleton};
 ghost use Rattle.est_tool.specs.declared.file.File.TheVariants as file;
 ghost use Rattle.est_tool.specs.Seen.{seen, shelved};
-ghost use Rattle.est_tool.specs.FileTexts.{Holds, OfTrace};
+ghost use Rattle.est_tool.specs.FileTexts.{Holds, OfSpecification, OfTrace};
 ghost use Rattle.est_tool.specs.Requests.{check, explain, replay};
 ghost use Rattle.est_tool.specs.inside.Work.{IsWork, Gives, IsCounted, IsUnbuilt};
-ghost use Rattle.est_tool.specs.inside.Work.{IsAnswered, IsExplained, Tells, OfSkeleton};
+ghost use Rattle.est_tool.specs.inside.Work.{IsAnswered, IsExplained, Tells};
 
 use crate::explanation::explanation_in;
 use crate::report::{Report, line_report, ok_report, replay_report, replay_status};
@@ -17,13 +18,12 @@ use crate::specification::specification_in;
 use crate::status::Status;
 use crate::stop::Stop;
 use crate::trace::trace_in;
-use est_check::Checked;
+use est_check::{Checked, Skeleton};
 use est_edge::Shelf;
 use est_explanation::explanation::Explanation;
 use est_meaning::event::Trace;
 use est_replay::checked::replay;
 use est_runs::run::Limits;
-use est_specification::Specification;
 use std::alloc::Global;
 
 /// The names of the files of a search.
@@ -48,19 +48,15 @@ pub(crate) fn check_file<S: Shelf>(alloc: Global, shelf: &mut S, name: &str) -> 
         (shelved (S.told shelf.new) (S.faults shelf.new) (S.started shelf.new) (S.taken shelf.new)))
         result }
 {
-    let read = specification_in(alloc, shelf, name)?;
-    counted(alloc, &read)
+    let checked = specification_in(alloc, shelf, name)?;
+    counted(alloc, &checked)
 }
 
 // The report of a good specification.
-fn counted(alloc: Global, read: &Specification) -> Result<Report, Stop>
-    ensures { Gives (IsCounted read.now) result }
+fn counted(alloc: Global, checked: &Checked) -> Result<Report, Stop>
+    ensures { Gives (IsCounted checked.now) result }
 {
-    let counts = match read {
-        Specification::Skeleton(checked) => checked.counts(),
-        Specification::Whole(counts) => *counts,
-    };
-    let text = ok_report(alloc, counts)?;
+    let text = ok_report(alloc, checked.counts())?;
     Ok(Report {
         status: Status::Fine,
         text: text.into_bytes(),
@@ -93,9 +89,11 @@ pub(crate) fn explain_files<S: Shelf>(
         (shelved (S.told shelf.new) (S.faults shelf.new) (S.started shelf.new) (S.taken shelf.new)))
         result }
 {
-    match specification_in(alloc, shelf, files.specification)? {
-        Specification::Skeleton(checked) => explain_trace(alloc, shelf, files, limits, &checked),
-        Specification::Whole(_) => unbuilt(alloc),
+    let checked = specification_in(alloc, shelf, files.specification)?;
+    match Skeleton::of(alloc, checked) {
+        Err(_) => Err(Stop::OutOfMemory),
+        Ok(None) => unbuilt(alloc),
+        Ok(Some(skeleton)) => explain_trace(alloc, shelf, files, limits, &skeleton),
     }
 }
 
@@ -105,10 +103,11 @@ fn explain_trace<S: Shelf>(
     shelf: &mut S,
     files: &ExplainFiles<'_>,
     limits: &Limits,
-    checked: &Checked,
+    checked: &Skeleton,
 ) -> Result<Report, Stop>
-    requires { Holds file.Specification (S.told shelf.old files.now.specification.now)
-        (OfSkeleton checked.now) }
+    requires checked { Holds file.Specification (S.told shelf.old files.now.specification.now)
+        (OfSpecification checked.now) }
+    requires skeleton { IsSkeleton checked.now }
     ensures { IsWork (files.now.specification.now ∷ [])
         (explain files.now.specification.now files.now.trace.now
         limits.now.silent limits.now.budget limits.now.statements)
@@ -124,7 +123,7 @@ fn explain_trace<S: Shelf>(
 // The report of a search.
 fn explained(
     alloc: Global,
-    checked: &Checked,
+    checked: &Skeleton,
     trace: &Trace,
     limits: &Limits,
 ) -> Result<Report, Stop>
@@ -180,9 +179,11 @@ pub(crate) fn replay_files<S: Shelf>(
         (shelved (S.told shelf.new) (S.faults shelf.new) (S.started shelf.new) (S.taken shelf.new)))
         result }
 {
-    match specification_in(alloc, shelf, files.specification)? {
-        Specification::Skeleton(checked) => replay_trace(alloc, shelf, files, limits, &checked),
-        Specification::Whole(_) => unbuilt(alloc),
+    let checked = specification_in(alloc, shelf, files.specification)?;
+    match Skeleton::of(alloc, checked) {
+        Err(_) => Err(Stop::OutOfMemory),
+        Ok(None) => unbuilt(alloc),
+        Ok(Some(skeleton)) => replay_trace(alloc, shelf, files, limits, &skeleton),
     }
 }
 
@@ -192,10 +193,11 @@ fn replay_trace<S: Shelf>(
     shelf: &mut S,
     files: &ReplayFiles<'_>,
     limits: &Limits,
-    checked: &Checked,
+    checked: &Skeleton,
 ) -> Result<Report, Stop>
-    requires { Holds file.Specification (S.told shelf.old files.now.specification.now)
-        (OfSkeleton checked.now) }
+    requires checked { Holds file.Specification (S.told shelf.old files.now.specification.now)
+        (OfSpecification checked.now) }
+    requires skeleton { IsSkeleton checked.now }
     ensures { IsWork (files.now.specification.now ∷ [])
         (replay files.now.specification.now files.now.trace.now files.now.explanation.now
         limits.now.silent limits.now.statements)
@@ -214,12 +216,13 @@ fn replay_explanation<S: Shelf>(
     shelf: &mut S,
     files: &ReplayFiles<'_>,
     limits: &Limits,
-    checked: &Checked,
+    checked: &Skeleton,
     trace: &Trace,
 ) -> Result<Report, Stop>
     requires allowed { IsAllowedTrace checked.now trace.now }
     requires checked { Holds file.Specification (S.told shelf.old files.now.specification.now)
-        (OfSkeleton checked.now) }
+        (OfSpecification checked.now) }
+    requires skeleton { IsSkeleton checked.now }
     requires traced { Holds file.Trace (S.told shelf.old files.now.trace.now)
         (OfTrace checked.now trace.now) }
     ensures { IsWork (files.now.specification.now ∷ files.now.trace.now ∷ [])
@@ -237,7 +240,7 @@ fn replay_explanation<S: Shelf>(
 // The report of a replay.
 fn judged(
     alloc: Global,
-    checked: &Checked,
+    checked: &Skeleton,
     trace: &Trace,
     explanation: &Explanation,
     limits: &Limits,

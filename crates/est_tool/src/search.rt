@@ -3,7 +3,7 @@ ghost use Rattle.std.specs.Prelude.{IfOk};
 ghost use Rattle.est_meaning.specs.Allowed.{IsAllowedTrace};
 ghost use Rattle.est_tool.specs.inside.Searching.{IsSearched};
 
-use est_check::Checked;
+use est_check::Skeleton;
 use est_meaning::event::Trace;
 use est_meaning::firing::BlockFault;
 use est_plain::world::PlainWorld;
@@ -20,10 +20,10 @@ pub(crate) enum Searched {
     Limit,
 }
 
-/// Searches for a run of a checked specification that explains a trace.
+/// Searches for a run of a checked skeleton that explains a trace.
 pub(crate) fn search(
     alloc: Global,
-    checked: &Checked,
+    checked: &Skeleton,
     trace: &Trace,
     limits: &Limits,
 ) -> Result<Searched, AllocError>

@@ -12,9 +12,10 @@ use crate::refusal::{Refusal, refuse};
 use crate::report::rule_text;
 use crate::status::Status;
 use crate::stop::Stop;
+use est_check::Checked;
 use est_edge::Shelf;
 use est_lexer::lex::lex;
-use est_specification::{Specification, SpecificationError, read_specification};
+use est_specification::{SpecificationError, read_specification};
 use std::alloc::Global;
 
 /// The specification in the file of this name.
@@ -22,7 +23,7 @@ pub(crate) fn specification_in<S: Shelf>(
     alloc: Global,
     shelf: &mut S,
     name: &str,
-) -> Result<Specification, Stop>
+) -> Result<Checked, Stop>
     ensures { ReadsFile File.Specification name.now OfSpecification RefusesSpecification (seen
         (shelved (S.told shelf.old) (S.faults shelf.old) (S.started shelf.old) (S.taken shelf.old))
         (shelved (S.told shelf.new) (S.faults shelf.new) (S.started shelf.new) (S.taken shelf.new)))
@@ -33,7 +34,7 @@ pub(crate) fn specification_in<S: Shelf>(
 }
 
 // The specification that a text within its limit is.
-fn specification_of(alloc: Global, text: &[u8]) -> Result<Specification, Stop>
+fn specification_of(alloc: Global, text: &[u8]) -> Result<Checked, Stop>
     requires { length text.now ≤ limit_of File.Specification }
     ensures { ReadsText File.Specification OfSpecification RefusesSpecification text.now result }
 {

@@ -11,7 +11,7 @@ use crate::reading::read_text;
 use crate::refusal::{Refusal, refuse};
 use crate::status::Status;
 use crate::stop::Stop;
-use est_check::Checked;
+use est_check::Skeleton;
 use est_edge::Shelf;
 use est_lexer::lex::lex;
 use est_meaning::event::Trace;
@@ -24,7 +24,7 @@ pub(crate) fn trace_in<S: Shelf>(
     alloc: Global,
     shelf: &mut S,
     name: &str,
-    checked: &Checked,
+    checked: &Skeleton,
 ) -> Result<Trace, Stop>
     ensures allowed { IfOk result (IsAllowedTrace checked.now) }
     ensures reads { ReadsFile File.Trace name.now
@@ -38,7 +38,7 @@ pub(crate) fn trace_in<S: Shelf>(
 }
 
 // The trace of a specification that a text within its limit is.
-fn trace_of(alloc: Global, text: &[u8], checked: &Checked) -> Result<Trace, Stop>
+fn trace_of(alloc: Global, text: &[u8], checked: &Skeleton) -> Result<Trace, Stop>
     requires { length text.now ≤ limit_of File.Trace }
     ensures allowed { IfOk result (IsAllowedTrace checked.now) }
     ensures reads { ReadsText File.Trace

@@ -20,7 +20,7 @@ use crate::error::TraceError;
 use crate::hints::Hints;
 use crate::interaction::port_signal;
 use crate::lookup::{Directory, directory_of};
-use est_check::Checked;
+use est_check::Skeleton;
 use est_lexer::tokens::Tokens;
 use est_meaning::event::{Event, MOST_EVENTS, Trace};
 use est_reader::{Outcome, Reader};
@@ -29,7 +29,7 @@ use est_syntax::ports::{Direction, Ports};
 use std::alloc::{AllocError, Global};
 
 /// The trace of a specification that the tokens are, or the first token that is refused.
-pub fn read_trace(alloc: Global, checked: &Checked, tokens: &Tokens) -> Result<Trace, TraceError>
+pub fn read_trace(alloc: Global, checked: &Skeleton, tokens: &Tokens) -> Result<Trace, TraceError>
     ensures reads { ReadsTrace (ports_of checked.now) (text_of tokens.now)
         (tokens_of tokens.now) result }
     ensures allowed { IfOk result (λ x. IsAllowedTrace checked.now x) }

@@ -2,25 +2,22 @@
 use Rattle.std.specs.Prelude.{◌≡◌, ℕ, List, [], ◌++◌, length, Result, Ok, Err, String}
 use Rattle.std.specs.Global.{Global}
 use Rattle.est_edge.specs.Pieces.{SameTold}
-use Rattle.est_lexer.specs.declared.kind.Token.{Token}
 use Rattle.est_tool.specs.declared.report.Report.{Report}
 use Rattle.est_tool.specs.declared.stop.Stop.{Stop}
 use Rattle.est_tool.specs.declared.stop.Stop.TheVariants.{OutOfMemory}
 use Rattle.est_tool.specs.declared.status.Status.{Status}
 use Rattle.est_tool.specs.declared.status.Status.TheVariants.{Fine, OverBudget, NoStart, NotBuilt}
 use Rattle.est_syntax.specs.declared.specification.Spec.{Spec}
-use Rattle.est_check.specs.declared.checked.Specification.{Specification}
-use Rattle.est_check.specs.declared.checked.Specification.TheVariants as found
+use Rattle.est_blocks.specs.Counts.{counts_of}
 use Rattle.est_meaning.specs.declared.event.Event.{Event}
 use Rattle.est_replay.specs.Replay.{IsReplay}
 use Rattle.est_explanation.specs.declared.explanation.Explanation.{Explanation}
 use Rattle.est_replay.specs.declared.verdict.Replayed.{Replayed}
-use Rattle.est_tool.specs.FileTexts.{OfSpecification}
 use Rattle.est_tool.specs.Reports.{ok_line, not_built_line, replay_line}
 use Rattle.est_tool.specs.SearchReports.{no_start_line, over_start_line, verdict_report}
 use Rattle.est_tool.specs.Statuses.{replay_status, verdict_status}
 use Rattle.est_tool.specs.Seen.{Seen}
-use Rattle.est_tool.specs.Ends.{End, reported, numbers_of, Ends}
+use Rattle.est_tool.specs.Ends.{End, reported, Ends}
 use Rattle.est_tool.specs.Started.{Starts}
 use Rattle.est_tool.specs.Requests.{Request, Asks, bytes_of}
 use Rattle.est_runs.specs.declared.run.Limits.{Limits}
@@ -28,10 +25,6 @@ use Rattle.est_tool.specs.declared.search.Searched.{Searched}
 use Rattle.est_tool.specs.declared.search.Searched.TheVariants as searched
 use Rattle.est_tool.specs.inside.Reads.{IsStop, IsQuiet}
 use Rattle.est_tool.specs.inside.Searching.{IsSearched}
-
--- the tokens of the text are this skeleton, which breaks no rule
-abbrev pub OfSkeleton : Spec → List ℕ → List Token → Type 0
-OfSkeleton spec = OfSpecification (found.Skeleton spec)
 
 -- a command ends with a report, or stops before
 abbrev pub IsMade : (End → Type 0) → Result Report Stop → Type 0
@@ -44,8 +37,8 @@ Gives P (Ok report) = P report.status report.text.items
 Gives P (Err stop) = stop ≡ OutOfMemory
 
 -- the report of a good specification
-abbrev pub IsCounted : Specification → Status → List ℕ → Type 0
-IsCounted read status report = (status ≡ Fine) × (report ≡ ok_line (numbers_of read))
+abbrev pub IsCounted : Spec → Status → List ℕ → Type 0
+IsCounted spec status report = (status ≡ Fine) × (report ≡ ok_line (counts_of spec))
 
 -- the report of one that cannot be run yet
 abbrev pub IsUnbuilt : Status → List ℕ → Type 0
