@@ -1,0 +1,131 @@
+-- A search that accepts or refuses a trace tells the verdict on a skeleton and a trace.
+use Rattle.std.proofs.Common.{◌≡◌, ◌∙◌, ℕ, List, length, Option, Some, None, refl, subst}
+use Rattle.est_lexer.specs.declared.kind.Token.{Token}
+use Rattle.est_syntax.specs.declared.specification.Spec.{Spec}
+use Rattle.est_meaning.specs.declared.event.Event.{Event}
+use Rattle.est_meaning.specs.Situation.{Situation}
+use Rattle.est_meaning.specs.Blocks.{Done}
+use Rattle.est_meaning.specs.Step.{start_of}
+use Rattle.est_search.specs.declared.verdict.Verdict.{Verdict}
+use Rattle.est_search.specs.Verdict.{IsVerdict}
+use Rattle.est_specification.specs.declared.error.SpecificationError.{SpecificationError}
+use Rattle.est_specification.specs.declared.error.SpecificationError.TheVariants as specification
+use Rattle.est_trace.specs.declared.error.TraceError.{TraceError}
+use Rattle.est_trace.specs.declared.error.TraceError.TheVariants as trace
+use Rattle.est_tool.specs.declared.file.File.{File}
+use Rattle.est_tool.specs.declared.file.File.TheVariants as file
+use Rattle.est_tool.specs.declared.status.Status.{Status}
+use Rattle.est_tool.specs.declared.status.Status.TheVariants.{Fine, Refused}
+use Rattle.est_tool.specs.declared.status.Status.TheVariants.{OverBudget, NoStart, NotBuilt}
+use Rattle.est_tool.specs.FileTexts.{Holds, Refusals, IsReported, RefusesSpecification}
+use Rattle.est_tool.specs.FileTexts.{RefusesTrace, SaysOfSpecification, SaysOfTrace}
+use Rattle.est_tool.specs.SearchReports.{verdict_report}
+use Rattle.est_tool.specs.Statuses.{verdict_status}
+use Rattle.est_tool.specs.Seen.{Seen}
+use Rattle.est_tool.specs.Ends.{End, reported, EndsAt, longer, refused, failed, task_of}
+use Rattle.est_tool.specs.Ends.{HoldsSkeleton, HoldsTrace, ExplainEnds, ends_at_specification}
+use Rattle.est_tool.specs.Ends.{not_run, ends_at_trace, not_started, start_over, searched}
+
+-- the status of a trace that is explained or refused
+abbrev pub IsDecision : Status → Type 0
+IsDecision Fine = Unit {0}
+IsDecision Refused = Unit {0}
+IsDecision _ = ⊥
+
+-- where a text is held, there is one
+held : (file : File) (told : Option (List ℕ)) (Is : List ℕ → List Token → Type 0)
+    → Holds file told Is → (text : List ℕ) × (tokens : List Token) × Is text tokens
+held file (Some text) Is h = (text, h.tokens, h.is)
+held file None Is h = (h.0, h.1.tokens, h.1.is)
+
+-- a refusal that is told has another status
+abbrev RefusesSo : Refusals → Type 0
+RefusesSo Refuses = (text : List ℕ) (tokens : List Token) (status : Status) (place : Option ℕ)
+    (why : List ℕ) → Refuses text tokens status place why → IsDecision status → ⊥
+
+specification_says : (error : SpecificationError) (status : Status) (place : Option ℕ)
+    (why : List ℕ) → SaysOfSpecification error status place why → IsDecision status → ⊥
+specification_says (specification.BadToken at) status place why h d = subst IsDecision h.0 d
+specification_says (specification.LeftOut at) status place why h d = subst IsDecision h.0 d
+specification_says (specification.TooDeep at) status place why h d = subst IsDecision h.0 d
+specification_says (specification.BrokenRule at rule) status place why h d =
+    subst IsDecision h.0 d
+specification_says (specification.Memory error) status place why h d = h
+
+refuses_specification : RefusesSo RefusesSpecification
+refuses_specification text tokens status place why h d =
+    specification_says h.0 status place why h.2 d
+
+trace_says : (error : TraceError) (status : Status) (place : Option ℕ) (why : List ℕ)
+    → SaysOfTrace error status place why → IsDecision status → ⊥
+trace_says (trace.BadToken at) status place why h d = subst IsDecision h.0 d
+trace_says (trace.TooMany at) status place why h d = subst IsDecision h.0 d
+trace_says (trace.Memory error) status place why h d = h
+
+refuses_trace : (spec : Spec) → RefusesSo (RefusesTrace spec)
+refuses_trace spec text tokens status place why h d = trace_says h.0 status place why h.2 d
+
+status_of : (s t : Status) (q r : List ℕ) → reported s q ≡ reported t r → t ≡ s
+status_of s t q r e = cc
+
+-- a call that ends at a file has another status
+ends_not : (shelf : Seen) (file : File) (name : List ℕ) (Refuses : Refusals) → RefusesSo Refuses
+    → (end : End) (status : Status) (report : List ℕ) → end ≡ reported status report
+    → EndsAt shelf file name Refuses end → IsDecision status → ⊥
+ends_not shelf file name Refuses so _ status report e (longer s r x) d =
+    subst IsDecision (status_of s status r report e ∙ x.status_is) d
+ends_not shelf file name Refuses so _ status report e (refused s r x) d =
+    let h = held file (shelf.before.told name) (IsReported file Refuses s r) x in
+    so h.0 h.1 s h.2.place h.2.why h.2.refused (subst IsDecision (status_of s status r report e) d)
+ends_not shelf file name Refuses so _ status report e (failed x) d = cc
+
+-- what such a search found
+pub record IsFound (shelf : Seen) (specification trace : List ℕ) (silent budget statements : ℕ)
+    (status : Status) (report : List ℕ) : Type 0 where
+  pub spec : Spec
+  pub events : List Event
+  pub start : Situation
+  pub outs : List Event
+  pub verdict : Verdict
+  pub holds : HoldsSkeleton shelf specification spec
+  pub traced : HoldsTrace shelf trace spec events
+  pub begun : start_of statements spec ≡ Done start outs
+  pub is : IsVerdict (task_of silent statements spec events start outs) budget verdict
+  pub status_is : status ≡ verdict_status verdict
+  pub report_is : report ≡ verdict_report statements (length events) verdict
+
+module _ (shelf : Seen) (specification trace : List ℕ) (silent budget statements : ℕ)
+    (status : Status) (report : List ℕ) (d : IsDecision status) where
+  found_at : (end : End) → end ≡ reported status report
+      → ExplainEnds shelf specification trace silent budget statements end
+      → IsFound shelf specification trace silent budget statements status report
+  found_at _ e (ends_at_specification end at) =
+      absurd (ends_not shelf file.Specification specification RefusesSpecification
+      refuses_specification end status report e at d)
+  found_at _ e (not_run spec holds none) =
+      let same : status ≡ NotBuilt = cc in absurd (subst IsDecision same d)
+  found_at _ e (ends_at_trace spec end holds at) =
+      absurd (ends_not shelf file.Trace trace (RefusesTrace spec) (refuses_trace spec) end status
+      report e at d)
+  found_at _ e (not_started spec events fault holds traced is) =
+      let same : status ≡ NoStart = cc in absurd (subst IsDecision same d)
+  found_at _ e (start_over spec events holds traced is) =
+      let same : status ≡ OverBudget = cc in absurd (subst IsDecision same d)
+  found_at _ e (searched spec events s outs verdict holds traced begun is) = record {
+    spec = spec;
+    events = events;
+    start = s;
+    outs = outs;
+    verdict = verdict;
+    holds = holds;
+    traced = traced;
+    begun = begun;
+    is = is;
+    status_is = cc;
+    report_is = cc;
+  }
+
+  pub found : ExplainEnds shelf specification trace silent budget statements
+      (reported status report)
+      → IsFound shelf specification trace silent budget statements status report
+  found ends = found_at (reported status report) refl ends

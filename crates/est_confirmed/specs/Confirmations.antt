@@ -1,0 +1,63 @@
+-- What `explain` reports, `replay` confirms.
+use Rattle.std.specs.Prelude.{◌≡◌, ℕ, ◌+◌, ◌≤◌, List, ◌++◌, Some, length}
+use Rattle.est_tool.specs.declared.file.File.TheVariants as file
+use Rattle.est_tool.specs.declared.status.Status.{Status}
+use Rattle.est_tool.specs.declared.status.Status.TheVariants.{Fine, Refused}
+use Rattle.est_tool.specs.Files.{limit_of}
+use Rattle.est_tool.specs.Reports.{first_line, all_line}
+use Rattle.est_tool.specs.SearchReports.{accepted_line, refused_line}
+use Rattle.est_tool.specs.Seen.{Seen}
+use Rattle.est_tool.specs.Ends.{reported, Ends}
+use Rattle.est_tool.specs.Requests.{explain, replay}
+use Rattle.est_tool.specs.CallLaws.{TellAlike}
+
+-- Two calls: a search ends with this status and this report, and a replay of this report as an
+-- explanation, of the same bytes of specification and trace and with the same limits, ends with
+-- that status and that report. The first report is within the limit of an explanation.
+pub record IsFedBack (status : Status) (report : List ℕ) (status' : Status) (report' : List ℕ)
+    : Type 0 where
+  pub shelf : Seen
+  pub shelf' : Seen
+  pub specification : List ℕ
+  pub trace : List ℕ
+  pub explanation : List ℕ
+  pub silent : ℕ
+  pub budget : ℕ
+  pub statements : ℕ
+  pub same_specification : TellAlike shelf shelf' specification
+  pub same_trace : TellAlike shelf shelf' trace
+  pub fed : shelf'.before.told explanation ≡ Some report
+  pub short : length report ≤ limit_of file.Explanation
+  pub search : Ends shelf (explain specification trace silent budget statements)
+      (reported status report)
+  pub replayed : Ends shelf' (replay specification trace explanation silent statements)
+      (reported status' report')
+
+-- a report begins with this line
+abbrev pub BeginsWith : List ℕ → List ℕ → Type 0
+BeginsWith line report = (rest : List ℕ) × (report ≡ line ++ rest)
+
+-- a trace of so many events was accepted, and all of them are confirmed
+pub record IsConfirmedWhole (report : List ℕ) (status' : Status) (report' : List ℕ)
+    : Type 0 where
+  pub events : ℕ
+  pub accepted : BeginsWith (accepted_line events) report
+  pub fine : status' ≡ Fine
+  pub confirmed : report' ≡ all_line events
+
+-- one was refused at an event, and all before it are confirmed
+pub record IsConfirmedBefore (report : List ℕ) (status' : Status) (report' : List ℕ)
+    : Type 0 where
+  pub events : ℕ
+  pub claim : ℕ
+  pub refused : BeginsWith (refused_line (claim + 1) events) report
+  pub fine : status' ≡ Fine
+  pub confirmed : report' ≡ first_line claim events
+
+-- What a search reports of a trace that it accepts or refuses is confirmed: all events, or all
+-- before the refused one.
+pub record ExplainedIsConfirmed : Type 0 where
+  pub accepted : (report : List ℕ) (status' : Status) (report' : List ℕ)
+      → IsFedBack Fine report status' report' → IsConfirmedWhole report status' report'
+  pub refused : (report : List ℕ) (status' : Status) (report' : List ℕ)
+      → IsFedBack Refused report status' report' → IsConfirmedBefore report status' report'

@@ -1,0 +1,4 @@
+//! What `explain` reports, `replay` confirms.
+#![tactic(auto)]
+
+pub mod laws;

@@ -1,0 +1,13 @@
+pub mod Full
+pub mod FullExpressions
+pub mod FullStatements
+pub mod FullProcedures
+pub mod WholeStatements
+pub mod WholeBodies
+pub mod Written
+pub mod FullDeclarations
+pub mod WrittenParts
+pub mod FullOutlines
+pub mod Sentences
+pub mod ParameterOrder
+pub mod WholeSentences

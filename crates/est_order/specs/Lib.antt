@@ -1,0 +1,8 @@
+pub mod ClosedSaid
+pub mod Grown
+pub mod Growth
+pub mod Later
+pub mod Order
+pub mod PlacesAscend
+pub mod Said
+pub mod Staying
