@@ -1,6 +1,8 @@
 //! One value on the heap with several owners.
 ghost use Rattle.std.specs.Prelude.{◌≡◌, IfOk};
+ghost use Rattle.std.specs.Borrow.{sem};
 
+use crate::twin::Twin;
 use std::alloc::{AllocError, Global};
 use std::marker::Model;
 use std::rc::Rc;
@@ -47,5 +49,28 @@ impl<T: Drop> Shared<T> {
         Ok(Shared {
             value: self.value.clone()?,
         })
+    }
+}
+
+impl<T: Twin + Drop> Shared<T> {
+    ghost use Rattle.est_items.specs.Lending.{LendsValue};
+
+    /// The value, to write to. Where it has other owners, this one gets a copy of its own first, and
+    /// theirs stays. Errs where memory runs out; the value is then as it was.
+    pub fn own(&mut self, alloc: Global) -> Result<&mut T, AllocError>
+        ensures* writes_back { sem 𝓛 (LendsValue T.row self.entry result) }
+        ensures value { IfOk result (λ value. value.now ≡ self.old) }
+    {
+        if Rc::strong_count(&self.value) != 1 {
+            let copy = self.value.as_ref().twin(alloc)?;
+            self.value = match Rc::new(alloc, copy) {
+                Ok(value) => value,
+                Err(_) => return Err(AllocError),
+            };
+        }
+        match Rc::get_mut(&mut self.value) {
+            Some(value) => Ok(value),
+            None => Err(AllocError),
+        }
     }
 }
