@@ -1,0 +1,16 @@
+use Rattle.std.proofs.Common.{rules}
+use Rattle.est_chunks.proofs.LaidLaws.{full_drop, count_there, count_drop, laid_drop}
+use Rattle.est_chunks.proofs.LaidLaws.{items_there}
+use Rattle.est_chunks.proofs.chunks.Chunks.cut.Goals as goal
+
+pub overflow_sub-self : goal.overflow_sub-self
+overflow_sub-self g c = search (rules, count_there)
+
+pub invariant_of-self : goal.invariant_of-self
+invariant_of-self g c = (search (rules, full_drop), search (rules, count_drop))
+
+pub returns-clause-there : goal.returns-clause-there
+returns-clause-there g c = search (rules, items_there)
+
+pub returns-clause-ok : goal.returns-clause-ok
+returns-clause-ok g c = search (rules, laid_drop)
