@@ -1,2 +1,5 @@
+pub mod AscendingOn
+pub mod FitsByForm
+pub mod Gaps
 pub mod SameValues
 pub mod WrittenValues

@@ -1,1 +1,3 @@
+pub mod FittingValues
 pub mod PartsOfValues
+pub mod inside
