@@ -2,4 +2,5 @@ pub mod AscendingOn
 pub mod FitsByForm
 pub mod Gaps
 pub mod SameValues
+pub mod UndefinedParts
 pub mod WrittenValues

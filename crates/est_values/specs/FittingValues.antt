@@ -87,14 +87,14 @@ pub data Fits : Kind → Value → Type 0 where
 
 -- The value of a kind each scalar of which is undefined: variables begin with it (ISO 7185, 6.5.1).
 pub data IsUndefinedOf : Kind → Value → Type 0 where
-  scalar : {k : Kind} {v : Value} → out-Value v ≡ value.Undefined → IsTrue (is_scalar k)
+  undefined_scalar : {k : Kind} {v : Value} → out-Value v ≡ value.Undefined → IsTrue (is_scalar k)
       → IsUndefinedOf k v
-  array : {k : Kind} {v : Value} (index of : Kind) (parts : List Value)
+  undefined_array : {k : Kind} {v : Value} (index of : Kind) (parts : List Value)
       → out-Kind k ≡ kind.ArrayOf index of → out-Value v ≡ value.Group parts
       → length parts ≡ ordinal_count index
       → ((i : ℕ) (part : Value) → slice_get parts i ≡ Some part → IsUndefinedOf of part)
       → IsUndefinedOf k v
-  fields : {k : Kind} {v : Value} (fields : List FieldKind) (parts : List Value)
+  undefined_fields : {k : Kind} {v : Value} (fields : List FieldKind) (parts : List Value)
       → out-Kind k ≡ kind.Fields fields → out-Value v ≡ value.Group parts
       → length parts ≡ length fields
       → ((i : ℕ) (field : FieldKind) (part : Value) → slice_get fields i ≡ Some field

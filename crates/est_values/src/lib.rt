@@ -4,4 +4,5 @@
 pub mod fitting;
 pub mod ordinals;
 pub mod parts;
+pub mod undefined;
 pub mod value;

@@ -7,7 +7,7 @@ use Rattle.est_values.specs.declared.value.Value.{Value}
 use Rattle.est_values.specs.declared.value.Value.TheOpen as value
 use Rattle.est_values.specs.PartsOfValues.{ValueLayer}
 use Rattle.est_values.specs.FittingValues.{KindLayer, first_of, last_of, ordinal_count}
-use Rattle.est_values.specs.FittingValues.{AreMembersOf, Fits}
+use Rattle.est_values.specs.FittingValues.{AreMembersOf, Fits, IsUndefinedOf}
 
 -- one that fits an ordinal kind
 abbrev pub FitsOrdinal : KindLayer → ValueLayer → Type 0
@@ -47,3 +47,12 @@ FitsLayer (kind.SetOf base) v = FitsSet base v
 FitsLayer (kind.ArrayOf index of) v = FitsArray index of v
 FitsLayer (kind.Fields fields) v = FitsRecord fields v
 FitsLayer l v = FitsOrdinal l v
+
+-- undefined values, one for each field
+abbrev pub EachUndefined : List FieldKind → List Value → Type 0
+EachUndefined fields parts = (i : ℕ) (field : FieldKind) (part : Value)
+    → slice_get fields i ≡ Some field → slice_get parts i ≡ Some part
+    → IsUndefinedOf field.kind part
+
+abbrev pub AreUndefined : List FieldKind → List Value → Type 0
+AreUndefined fields parts = (length parts ≡ length fields) × EachUndefined fields parts
