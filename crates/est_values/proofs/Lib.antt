@@ -3,4 +3,5 @@ pub mod FitsByForm
 pub mod Gaps
 pub mod SameValues
 pub mod UndefinedParts
+pub mod WideNumbers
 pub mod WrittenValues

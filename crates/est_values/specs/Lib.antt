@@ -1,3 +1,4 @@
 pub mod FittingValues
+pub mod Integers
 pub mod PartsOfValues
 pub mod inside

@@ -1,6 +1,7 @@
-//! Values as runs hold them, and what kinds say of them (ISO 7185, 6.4 and 6.5).
+//! Values as runs hold them, what kinds say of them, and arithmetic (ISO 7185, 6.4, 6.5 and 6.7.2).
 #![tactic(auto)]
 
+pub mod arithmetic;
 pub mod fitting;
 pub mod ordinals;
 pub mod parts;
