@@ -1,15 +1,13 @@
 -- Groups of undefined values.
-use Rattle.std.proofs.Common.{◌≡◌, refl, sym, ap, ◌∙◌, subst, arith, ℕ, zero, suc, ◌+◌, Bool, true}
-use Rattle.std.proofs.Common.{List, [], ◌∷◌, ◌++◌, length, replicate, slice_get, Some, IsTrue}
-use Rattle.std.proofs.Common.{length-append}
+use Rattle.std.proofs.Common.{◌≡◌, refl, sym, ap, ◌∙◌, subst, arith, ℕ, zero, suc, true}
+use Rattle.std.proofs.Common.{List, [], ◌∷◌, ◌++◌, length, replicate, slice_get, Some}
 use Rattle.std.proofs.Common.{◌⊎◌, inl, inr}
 use Rattle.std.proofs.lemmas.List.{length-replicate, get_or-replicate}
 use Rattle.std.proofs.lemmas.Option.{slice_get_within, get_or_from_slice_get, same_Some}
 use Rattle.est_syntax.specs.declared.kind.Kind.{Kind, out-Kind}
-use Rattle.est_syntax.specs.declared.kind.Kind.TheOpen as seen
 use Rattle.est_syntax.specs.declared.kind.Kind.TheVariants as kind
 use Rattle.est_syntax.specs.declared.kind.FieldKind.{FieldKind}
-use Rattle.est_values.specs.declared.value.Value.{Value, out-Value}
+use Rattle.est_values.specs.declared.value.Value.{Value}
 use Rattle.est_values.specs.declared.value.Value.TheVariants as value
 use Rattle.est_values.specs.FittingValues.{KindLayer, scalar_of, ordinal_count, IsUndefinedOf}
 use Rattle.est_values.specs.FittingValues.{undefined_scalar, undefined_array, undefined_fields}

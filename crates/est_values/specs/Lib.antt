@@ -1,4 +1,5 @@
 pub mod FittingValues
 pub mod Integers
+pub mod OrdinalTuples
 pub mod PartsOfValues
 pub mod inside

@@ -5,5 +5,6 @@ pub mod arithmetic;
 pub mod fitting;
 pub mod ordinals;
 pub mod parts;
+pub mod tuples;
 pub mod undefined;
 pub mod value;

@@ -1,0 +1,32 @@
+-- Tuples of ordinals, one for each of some kinds, in lexicographic order: the choices of the `any`
+-- variables of a transition (ISO 9074, any-clause).
+use Rattle.std.specs.Prelude.{ℕ, ℤ, pos, ◌+ℤ◌, int_lt, List, [], ◌∷◌, map, flat_map}
+use Rattle.std.specs.Prelude.{Option, Some, None, if◌then◌else◌}
+use Rattle.std.specs.List.{range_with_len}
+use Rattle.est_syntax.specs.declared.kind.Kind.{Kind}
+use Rattle.est_values.specs.FittingValues.{first_ordinal, last_ordinal, ordinal_count}
+
+-- the ordinals of a kind, from the first to the last
+abbrev pub ordinals_of : Kind → List ℤ
+ordinals_of k = map (λ (i : ℕ). first_ordinal k +ℤ pos i) (range_with_len 0 (ordinal_count k))
+
+-- the tuples of ordinals of these kinds, in lexicographic order
+abbrev pub ordinal_tuples : List Kind → List (List ℤ)
+ordinal_tuples [] = [] ∷ []
+ordinal_tuples (k ∷ ks) =
+    flat_map (λ (z : ℤ). map (λ (t : List ℤ). z ∷ t) (ordinal_tuples ks)) (ordinals_of k)
+
+-- the tuple of the first ordinals
+abbrev pub first_tuple : List Kind → List ℤ
+first_tuple ks = map first_ordinal ks
+
+-- the tuple after one of these kinds that begins with an ordinal, where that after the rest is known
+abbrev pub carried : Kind → List Kind → ℤ → Option (List ℤ) → Option (List ℤ)
+carried k ks z (Some t) = Some (z ∷ t)
+carried k ks z None =
+    if int_lt z (last_ordinal k) then Some ((z +ℤ pos 1) ∷ first_tuple ks) else None
+
+-- the tuple after another in lexicographic order, if there is one
+abbrev pub next_tuple : List Kind → List ℤ → Option (List ℤ)
+next_tuple (k ∷ ks) (z ∷ t) = carried k ks z (next_tuple ks t)
+next_tuple _ _ = None
