@@ -3,6 +3,7 @@ pub mod FitsByForm
 pub mod Gaps
 pub mod NextTuples
 pub mod SameValues
+pub mod TuplesInOrder
 pub mod UndefinedParts
 pub mod WideNumbers
 pub mod WrittenValues

@@ -1,6 +1,6 @@
 -- Tuples of ordinals, one for each of some kinds, in lexicographic order: the choices of the `any`
 -- variables of a transition (ISO 9074, any-clause).
-use Rattle.std.specs.Prelude.{ℕ, ℤ, pos, ◌+ℤ◌, int_lt, List, [], ◌∷◌, map, flat_map}
+use Rattle.std.specs.Prelude.{◌≡◌, ℕ, suc, slice_get, ℤ, pos, ◌+ℤ◌, int_lt, List, [], ◌∷◌, map, flat_map}
 use Rattle.std.specs.Prelude.{Option, Some, None, if◌then◌else◌}
 use Rattle.std.specs.List.{range_with_len}
 use Rattle.est_syntax.specs.declared.kind.Kind.{Kind}
@@ -30,3 +30,8 @@ carried k ks z None =
 abbrev pub next_tuple : List Kind → List ℤ → Option (List ℤ)
 next_tuple (k ∷ ks) (z ∷ t) = carried k ks z (next_tuple ks t)
 next_tuple _ _ = None
+
+-- in the list of tuples each one is followed by its next one, and the last by none
+abbrev pub TuplesFollow : Type 0
+TuplesFollow = (ks : List Kind) (i : ℕ) (t : List ℤ) → slice_get (ordinal_tuples ks) i ≡ Some t
+    → slice_get (ordinal_tuples ks) (suc i) ≡ next_tuple ks t

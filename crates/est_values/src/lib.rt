@@ -3,6 +3,7 @@
 
 pub mod arithmetic;
 pub mod fitting;
+pub mod laws;
 pub mod ordinals;
 pub mod parts;
 pub mod tuples;
