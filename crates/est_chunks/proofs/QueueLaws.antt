@@ -14,7 +14,8 @@ get_behind_taken (x ∷ xs) (suc n) k =
     get_behind_taken xs n k ∙ ap (slice_get (x ∷ xs)) e
 
 -- the head
-pub head_behind_taken : {T : Type 0} (xs : List T) (n : ℕ) → slice_get xs n ≡ slice_get (drop n xs) 0
+pub head_behind_taken : {T : Type 0} (xs : List T) (n : ℕ)
+    → slice_get xs n ≡ slice_get (drop n xs) 0
 head_behind_taken xs n = ap (slice_get xs) (sym (add-zero n)) ∙ sym (get_behind_taken xs n 0)
 
 -- nothing is left of nothing

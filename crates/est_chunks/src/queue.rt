@@ -7,8 +7,8 @@ use est_items::Twin;
 use std::alloc::{AllocError, Global};
 use std::marker::Model;
 
-/// The items of a queue that were not yet taken, in the order in which they were put. Several queues
-/// can share them.
+/// The items of a queue that were not yet taken, in the order in which they were put. Several
+/// queues can share them.
 #[derive(Drop)]
 pub struct Queue<T> {
     items: Chunks<T>,

@@ -55,8 +55,8 @@ impl<T: Drop> Shared<T> {
 impl<T: Twin + Drop> Shared<T> {
     ghost use Rattle.est_items.specs.Lending.{LendsValue};
 
-    /// The value, to write to. Where it has other owners, this one gets a copy of its own first, and
-    /// theirs stays. Errs where memory runs out; the value is then as it was.
+    /// The value, to write to. Where it has other owners, this one gets a copy of its own first
+    /// and theirs stays. Errs where memory runs out; the value is then as it was.
     pub fn own(&mut self, alloc: Global) -> Result<&mut T, AllocError>
         ensures* writes_back { sem 𝓛 (LendsValue T.row self.entry result) }
         ensures value { IfOk result (λ value. value.now ≡ self.old) }

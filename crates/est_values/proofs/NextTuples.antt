@@ -116,7 +116,8 @@ module _ (ks : List Kind) (old new : List ℤ) (i m : ℕ) (k : Kind) where
       ∙ ap (λ b. if b then Some ((z +ℤ pos 1) ∷ s) else None) less
       ∙ ap (λ y. Some (y ∷ s)) (sym more) in
       next_of_rest ks old (x ∷ s) i e (omega (arith, h)) rest
-      ∙ ap Some (sym (set_before old s i x (omega (arith, e, h))) ∙ ap (λ l. set l i x) (sym d.carries))
+      ∙ ap Some (sym (set_before old s i x (omega (arith, e, h)))
+      ∙ ap (λ l. set l i x) (sym d.carries))
 
   -- one that is the last gives way to the first, and more is carried
   pub carried_more : length old ≡ length ks → m ≡ suc i → IsCarried ks old new m

@@ -1,7 +1,8 @@
 -- The tuple after one in the list of tuples is the next one.
 use Rattle.std.proofs.Common.{◌≡◌, refl, sym, ap, ◌∙◌, subst, arith, ℕ, zero, suc, ◌+◌, ◌<◌}
 use Rattle.std.specs.Int.{int_gap}
-use Rattle.std.proofs.Common.{ℤ, pos, negsuc, ◌<ℤ◌, ◌+ℤ◌, true, false, List, [], ◌∷◌, ◌++◌, map, length}
+use Rattle.std.proofs.Common.{ℤ, pos, negsuc, ◌<ℤ◌, ◌+ℤ◌, true, false, List, [], ◌∷◌, ◌++◌, map}
+use Rattle.std.proofs.Common.{length}
 use Rattle.std.proofs.Common.{Option, Some, None, slice_get, ◌⊎◌, inl, inr}
 use Rattle.std.specs.Prelude.{int_lt, flat_map, if◌then◌else◌}
 use Rattle.std.specs.List.{range_with_len}
@@ -42,8 +43,8 @@ in_either (y ∷ xs) ys (suc i) x at = later (in_either xs ys i x at)
     later (inr e) = inr (e.0, omega (arith, e.1), e.2)
 
 -- what a list is made of by a function
-unmapped : {A B : Type 0} (f : A → B) (xs : List A) (i : ℕ) (y : B) → slice_get (map f xs) i ≡ Some y
-    → (x : A) × (slice_get xs i ≡ Some x) × (f x ≡ y)
+unmapped : {A B : Type 0} (f : A → B) (xs : List A) (i : ℕ) (y : B)
+    → slice_get (map f xs) i ≡ Some y → (x : A) × (slice_get xs i ≡ Some x) × (f x ≡ y)
 unmapped f [] i y at = cc
 unmapped f (x ∷ xs) zero y at = (x, refl, same_Some (f x) y at)
 unmapped f (x ∷ xs) (suc i) y at = unmapped f xs i y at
@@ -209,7 +210,8 @@ follow k ks rests s (suc n) i t reaches at =
         let l : suc i ≡ length (front_of k ks s) + suc e.0 = omega (arith, e.1) in
         let r : Reaches k (s + 1) n =
         λ h. ap (λ m. first_ordinal k +ℤ pos m) (omega arith) ∙ reaches (omega arith) in
-        ap (slice_get (front_of k ks s ++ rest_of k ks s n)) l ∙ second_of_both (front_of k ks s) (rest_of k ks s n) (suc e.0)
+        ap (slice_get (front_of k ks s ++ rest_of k ks s n)) l
+        ∙ second_of_both (front_of k ks s) (rest_of k ks s n) (suc e.0)
         ∙ later e.0 r e.2
 
 pub tuples_follow : TuplesFollow

@@ -1,6 +1,7 @@
 -- Tuples of ordinals, one for each of some kinds, in lexicographic order: the choices of the `any`
 -- variables of a transition (ISO 9074, any-clause).
-use Rattle.std.specs.Prelude.{◌≡◌, ℕ, suc, slice_get, ℤ, pos, ◌+ℤ◌, int_lt, List, [], ◌∷◌, map, flat_map}
+use Rattle.std.specs.Prelude.{◌≡◌, ℕ, suc, slice_get, ℤ, pos, ◌+ℤ◌, int_lt, List, [], ◌∷◌, map}
+use Rattle.std.specs.Prelude.{flat_map}
 use Rattle.std.specs.Prelude.{Option, Some, None, if◌then◌else◌}
 use Rattle.std.specs.List.{range_with_len}
 use Rattle.est_syntax.specs.declared.kind.Kind.{Kind}
@@ -20,7 +21,7 @@ ordinal_tuples (k ∷ ks) =
 abbrev pub first_tuple : List Kind → List ℤ
 first_tuple ks = map first_ordinal ks
 
--- the tuple after one of these kinds that begins with an ordinal, where that after the rest is known
+-- the tuple after one that begins with an ordinal of a kind, where that after its rest is known
 abbrev pub carried : Kind → List Kind → ℤ → Option (List ℤ) → Option (List ℤ)
 carried k ks z (Some t) = Some (z ∷ t)
 carried k ks z None =
