@@ -1,5 +1,9 @@
 //! Why an explanation text is refused.
 
+ghost use Rattle.std.specs.Prelude.{◌≡◌};
+ghost use Rattle.est_explanation.specs.ExplanationErrors.{of_refusal};
+
+use est_reader::Refusal;
 use std::alloc::AllocError;
 use thiserror::Error;
 
@@ -11,4 +15,16 @@ pub enum ExplanationError {
     BadToken { place: u32 },
     #[error(transparent)]
     Memory(AllocError),
+}
+
+impl From<Refusal> for ExplanationError {
+    ghost from_gives = { λ refusal e. e ≡ of_refusal refusal };
+
+    fn from(refusal: Refusal) -> ExplanationError {
+        match refusal {
+            Refusal::BadToken { place } => ExplanationError::BadToken { place },
+            Refusal::TooDeep { place } => ExplanationError::BadToken { place },
+            Refusal::Memory(error) => ExplanationError::Memory(error),
+        }
+    }
 }

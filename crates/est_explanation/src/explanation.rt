@@ -16,9 +16,9 @@ use crate::error::ExplanationError;
 use est_lexer::tokens::Tokens;
 use est_meaning::event::MOST_EVENTS;
 use est_meaning::firing::Firing;
-use est_reader::{Outcome, Reader};
+use est_reader::Reader;
 use est_runs::run::{Move, Run};
-use std::alloc::{AllocError, Global};
+use std::alloc::Global;
 
 // The greatest number of an instance, a transition or a choice that can be written.
 const MOST_ORDINAL: u32 = 999_999_999;
@@ -38,19 +38,7 @@ pub fn read_explanation(alloc: Global, tokens: &Tokens) -> Result<Explanation, E
 {
     let mut reader = Reader::new(alloc, tokens, 0);
     let found = whole_explanation(&mut reader);
-    let place = reader.at;
-    match reader.outcome {
-        Outcome::Well => {
-            if place == tokens.count() {
-                Ok(found)
-            } else {
-                Err(ExplanationError::BadToken { place })
-            }
-        }
-        Outcome::Wrong => Err(ExplanationError::BadToken { place }),
-        Outcome::TooDeep => Err(ExplanationError::BadToken { place }),
-        Outcome::NoMemory => Err(ExplanationError::Memory(AllocError)),
-    }
+    Ok(reader.finish(found)?)
 }
 
 // explanation = "explanation" "1" { move } "yields" number .

@@ -1,8 +1,9 @@
 //! The parser of a whole specification.
 
-ghost use Rattle.std.specs.Prelude.{◌≡◌, IfOk, IfErr, Err, MatchResult};
+ghost use Rattle.std.specs.Prelude.{◌≡◌, IfOk, IfErr, MatchResult};
 ghost use Rattle.est_lexer.specs.Offsets.{text_of, tokens_of};
 ghost use Rattle.est_language.specs.Refusals.{wrong_at};
+ghost use Rattle.est_reader.specs.Whole.{cause_of};
 ghost use Rattle.est_grammar.specs.Answer.{HasOneTree, IsRefusal, Says};
 ghost use Rattle.est_grammar.specs.inside.OutOfMemory.{IsMemory};
 
@@ -10,10 +11,10 @@ use crate::error::ParseError;
 use crate::specification::specification;
 use est_lexer::kind::TokenKind;
 use est_lexer::tokens::Tokens;
-use est_reader::{Outcome, Reader};
+use est_reader::{Reader, Refusal};
 use est_syntax::specification::Spec;
 use est_syntax::tree::SyntaxTree;
-use std::alloc::{AllocError, Global};
+use std::alloc::Global;
 
 // So many levels may be open.
 const LEVELS: u32 = 32;
@@ -25,18 +26,9 @@ pub fn parse(alloc: Global, tokens: &Tokens) -> Result<SyntaxTree, ParseError>
 {
     let mut reader = Reader::new(alloc, tokens, LEVELS);
     let spec = specification(&mut reader);
-    let place = reader.at;
-    match reader.outcome {
-        Outcome::Well => {
-            if place == tokens.count() {
-                owned(alloc, spec)
-            } else {
-                instead(spec, refusal(tokens, place))
-            }
-        }
-        Outcome::Wrong => instead(spec, refusal(tokens, place)),
-        Outcome::TooDeep => instead(spec, ParseError::TooDeep { place }),
-        Outcome::NoMemory => instead(spec, ParseError::Memory(AllocError)),
+    match reader.finish(spec) {
+        Ok(spec) => owned(alloc, spec),
+        Err(refusal) => Err(refused(tokens, refusal)),
     }
 }
 
@@ -50,16 +42,20 @@ fn owned(alloc: Global, spec: Spec) -> Result<SyntaxTree, ParseError>
     }
 }
 
-// An error in the place of a specification.
-fn instead(spec: Spec, error: ParseError) -> Result<SyntaxTree, ParseError>
-    ensures { result ≡ Err error }
+// Why the list is refused, by what its reader says.
+fn refused(tokens: &Tokens, refusal: Refusal) -> ParseError
+    ensures { Says (text_of tokens.now) (tokens_of tokens.now) (cause_of refusal)
+        → IsRefusal (text_of tokens.now) (tokens_of tokens.now) result }
 {
-    drop(spec);
-    Err(error)
+    match refusal {
+        Refusal::BadToken { place } => bad_token(tokens, place),
+        Refusal::TooDeep { place } => ParseError::TooDeep { place },
+        Refusal::Memory(error) => ParseError::Memory(error),
+    }
 }
 
 // Why the token of a place, or the end of the list, is refused where the list goes wrong there.
-fn refusal(tokens: &Tokens, place: u32) -> ParseError
+fn bad_token(tokens: &Tokens, place: u32) -> ParseError
     ensures { Says (text_of tokens.now) (tokens_of tokens.now) (wrong_at place)
         → IsRefusal (text_of tokens.now) (tokens_of tokens.now) result }
 {

@@ -1,57 +1,38 @@
 -- From what a reader of a whole text does to its answer.
-use Rattle.std.proofs.Common.{◌≡◌, ℕ, Bool, true, false, List, length, refl, subst}
+use Rattle.std.proofs.Common.{◌≡◌, ℕ, Bool, true, length, sym, ap, subst, ◌∙◌}
+use Rattle.std.proofs.Common.{Ok}
 use Rattle.est_lexer.specs.declared.tokens.Tokens.{Tokens}
 use Rattle.est_lexer.specs.Offsets.{text_of, tokens_of}
-use Rattle.est_language.specs.Grammar.{Language, Grammar}
-use Rattle.est_language.specs.Marks.{Marks}
-use Rattle.est_language.specs.Findings.{Refused}
 use Rattle.est_language.specs.Refusals.{Cause, SaysWhy, wrong_at, too_deep_at}
 use Rattle.est_language.specs.Sentences.{HasTree}
 use Rattle.est_language.specs.Shown.{Shows}
 use Rattle.est_language.proofs.Exits as exits
-use Rattle.est_language.proofs.Flat.{flat, flat_opens_none}
 use Rattle.est_reader.specs.declared.reader.Reader.{Reader}
 use Rattle.est_reader.specs.declared.outcome.Outcome.{Outcome}
 use Rattle.est_reader.specs.declared.outcome.Outcome.TheVariants.{Well, Wrong, TooDeep, NoMemory}
+use Rattle.est_reader.specs.declared.refusal.Refusal.{Refusal}
+use Rattle.est_reader.specs.declared.refusal.Refusal.TheVariants as refusal
 use Rattle.est_reader.specs.Tests.{language}
 use Rattle.est_reader.specs.Moving.{Does}
-use Rattle.est_reader.specs.Whole.{IsReadAs}
+use Rattle.est_reader.specs.Whole.{Starts, StopsFor, Finishes, cause_of, IsReadAs}
 use Rattle.est_reader.specs.Going.{Rule, Shape, View, Finds, Fails, Goes}
 use Rattle.est_reader.proofs.Going.{Known}
 
--- what is known of the place that is reached, by what became of the reading
-module _ (P : ℕ → Type 0) (Q : ℕ → Bool → Type 0) (a b : ℕ) where
-  pub got : (o : Outcome) → Does P Q a Well b o → o ≡ Well → P b
-  got Well x e = x
-  got Wrong x e = absurd cc
-  got TooDeep x e = absurd cc
-  got NoMemory x e = absurd cc
+-- what is known of the place that is reached, where all went well
+pub got : (P : ℕ → Type 0) (Q : ℕ → Bool → Type 0) (a b : ℕ) (o : Outcome) → Does P Q a Well b o
+    → o ≡ Well → P b
+got P Q a b Well x e = x
+got P Q a b Wrong x e = absurd cc
+got P Q a b TooDeep x e = absurd cc
+got P Q a b NoMemory x e = absurd cc
 
-  pub got_wrong : (o : Outcome) → Does P Q a Well b o → o ≡ Wrong → Q b false
-  got_wrong Well x e = absurd cc
-  got_wrong Wrong x e = x
-  got_wrong TooDeep x e = absurd cc
-  got_wrong NoMemory x e = absurd cc
-
-  pub got_deep : (o : Outcome) → Does P Q a Well b o → o ≡ TooDeep → Q b true
-  got_deep Well x e = absurd cc
-  got_deep Wrong x e = absurd cc
-  got_deep TooDeep x e = x
-  got_deep NoMemory x e = absurd cc
-
--- what opens no level is not refused for lack of levels
-pub flat_not_deep : {Token V T P : Type 0} {L : Language Token V T P} {S : Marks T P}
-    {s : List Token} {g : Grammar T P} {d a i : ℕ}
-    → flat g ≡ true
-    → Refused L S s g d a i true → ⊥
-flat_not_deep {L = L} {s = s} {i = i} f h = flat_opens_none L s i f (h.more refl).1
-
--- a reader at the first of these tokens, with so many levels to open
-pub record Starts (tokens : Tokens) (d : ℕ) (A : Reader) : Type 0 where
-  pub tokens_are : A.tokens.now ≡ tokens
-  pub at : A.at ≡ 0
-  pub levels : A.levels ≡ d
-  pub well : A.outcome ≡ Well
+-- and of one that is refused for lack of levels
+pub got_deep : (P : ℕ → Type 0) (Q : ℕ → Bool → Type 0) (a b n place : ℕ) (o : Outcome)
+    → Does P Q a Well b o → StopsFor o b n (refusal.TooDeep place) → Q place true
+got_deep P Q a b n place TooDeep x e = subst (λ i. Q i true) (sym e) x
+got_deep P Q a b n place Well x e = absurd e
+got_deep P Q a b n place Wrong x e = absurd e
+got_deep P Q a b n place NoMemory x e = absurd e
 
 module _ {P N : Type 0} (K : Known P N) {tokens : Tokens} {g : Rule P} {d : ℕ} {A B : Reader}
     {v : View N} (x : Goes K.syntax g A v B) (s : Starts tokens d A) where
@@ -80,43 +61,47 @@ module _ {P N : Type 0} (K : Known P N) {tokens : Tokens} {g : Rule P} {d : ℕ}
       (subst (λ ts. Does (Finds K.syntax ts g A.levels A.at v) (Fails K.syntax ts g A.levels A.at)
       A.at A.outcome B.at B.outcome) s.tokens_are x.moves)))
 
+  -- the reader still has these tokens
+  as_many : length (tokens_of B.tokens.now) ≡ length (tokens_of tokens)
+  as_many = ap (λ ts. length (tokens_of ts)) (x.same.tokens ∙ s.tokens_are)
+
   -- the whole list is read: it has one tree, whose shape the view shows
-  pub whole_read : B.outcome ≡ Well → B.at ≡ length (tokens_of tokens)
+  pub whole_read : {T : Type 0} {value kept : T} → Finishes B value (Ok kept)
       → (t : Shape) × IsTree t × Shows K.syntax.layer v t × ((u : Shape) → IsTree u → u ≡ t)
-  whole_read w e =
-      let f = got Here NotHere 0 B.at B.outcome started w in
-      let r = exits.whole_tree (K.fits (text_of tokens)) g d (tokens_of tokens) f.0 B.at e f.1 in
+  whole_read h =
+      let f = got Here NotHere 0 B.at B.outcome started h.1 in
+      let r = exits.whole_tree (K.fits (text_of tokens)) g d (tokens_of tokens) f.0 B.at
+      (h.2 ∙ as_many) f.1 in
       (f.0, r.0, f.2, r.1)
 
-  -- tokens stand after the end
-  pub more_after : B.outcome ≡ Well → (B.at ≡ length (tokens_of tokens) → ⊥) → Why (wrong_at B.at)
-  more_after w n =
-      let f = got Here NotHere 0 B.at B.outcome started w in
-      exits.tokens_behind (K.fits (text_of tokens)) g d (tokens_of tokens) B.at f.0 n f.1
+  refused_at : (o : Outcome) (error : Refusal) → Does Here NotHere 0 Well B.at o
+      → StopsFor o B.at (length (tokens_of B.tokens.now)) error → Why (cause_of error)
+  refused_at Well (refusal.BadToken place) m h = subst (λ i. Why (wrong_at i)) (sym h.0)
+      (exits.tokens_behind (K.fits (text_of tokens)) g d (tokens_of tokens) B.at m.0
+      (λ e. h.1 (e ∙ sym as_many)) m.1)
+  refused_at Wrong (refusal.BadToken place) m h = subst (λ i. Why (wrong_at i)) (sym h)
+      (exits.explained (K.fits (text_of tokens)) g d (tokens_of tokens) (wrong_at B.at) m)
+  refused_at TooDeep (refusal.TooDeep place) m h = subst (λ i. Why (too_deep_at i)) (sym h)
+      (exits.explained (K.fits (text_of tokens)) g d (tokens_of tokens) (too_deep_at B.at) m)
+  refused_at NoMemory (refusal.Memory error) m h = tt
+  refused_at _ _ m h = absurd h
 
-  -- the grammar is refused
-  pub whole_wrong : B.outcome ≡ Wrong → Why (wrong_at B.at)
-  whole_wrong w = exits.explained (K.fits (text_of tokens)) g d (tokens_of tokens) (wrong_at B.at)
-      (got_wrong Here NotHere 0 B.at B.outcome started w)
-
-  pub fails_deep : B.outcome ≡ TooDeep → Fails K.syntax tokens g d 0 B.at true
-  fails_deep w = got_deep Here NotHere 0 B.at B.outcome started w
-
-  pub whole_deep : B.outcome ≡ TooDeep → Why (too_deep_at B.at)
-  whole_deep w = exits.explained (K.fits (text_of tokens)) g d (tokens_of tokens) (too_deep_at B.at)
-      (fails_deep w)
+  -- the list is not read: it has no tree, for this cause
+  pub whole_refused : (error : Refusal)
+      → StopsFor B.outcome B.at (length (tokens_of B.tokens.now)) error → Why (cause_of error)
+  whole_refused error h = refused_at B.outcome error started h
 
 -- the whole list is read as this value, where no two values show one shape
 pub read_as : {I P N : Type 0} (K : Known P N) {tokens : Tokens} {g : Rule P} {d : ℕ} {A B : Reader}
-    (view : I → View N) (i : I)
+    (view : I → View N) (i : I) {kept : I}
     → ((j : I) (t : Shape) → Shows K.syntax.layer (view j) t → Shows K.syntax.layer (view i) t
     → j ≡ i)
-    → Goes K.syntax g A (view i) B → Starts tokens d A → B.outcome ≡ Well
-    → B.at ≡ length (tokens_of tokens)
-    → IsReadAs K.syntax.production K.syntax.layer (text_of tokens) (tokens_of tokens) g d view i
-read_as K view i one x s w e =
-    let r = whole_read K x s w e in
-    record {
+    → Goes K.syntax g A (view i) B → Starts tokens d A → Finishes B i (Ok kept)
+    → IsReadAs K.syntax.production K.syntax.layer (text_of tokens) (tokens_of tokens) g d view kept
+read_as K {tokens} {g} {d} view i one x s h =
+    let r = whole_read K x s h in
+    subst (λ j. IsReadAs K.syntax.production K.syntax.layer (text_of tokens) (tokens_of tokens) g d
+    view j) (sym h.0) record {
       shape = r.0;
       tree = r.1;
       shows = r.2;

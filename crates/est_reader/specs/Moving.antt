@@ -96,7 +96,8 @@ pub record Takes (test : Test) (old new : Reader) : Type 0 where
   pub unspent : NoneSpent old.outcome new.outcome
   pub same : Same old new
 
--- an identifier is taken, and this is its name in lower case, with its place
+-- an identifier is taken, and this is its name in lower case, with its place; memory may run out
+-- only where there is one
 pub record TakesName (old : Reader) (used : Used) (new : Reader) : Type 0 where
   pub takes : Does
       (λ b. Taken old.tokens.now (kind Identifier) old.at b
@@ -104,6 +105,8 @@ pub record TakesName (old : Reader) (used : Used) (new : Reader) : Type 0 where
       (λ token. used.name.bytes ≡ lowered (text_of old.tokens.now) token))
       (NotThere old.tokens.now (kind Identifier) old.at) old.at old.outcome new.at new.outcome
   pub place : used.place ≡ old.at
+  pub unasked : stands old.tokens.now old.at (kind Identifier) ≡ false
+      → NoneSpent old.outcome new.outcome
   pub same : Same old new
 
 -- a number within bounds is taken, and this is its value
@@ -203,8 +206,10 @@ pub record Kept {T : Type 0} (old new : Reader) (items : List T) (item : T)
   pub still : Still old new
   pub added : new.outcome ≡ Well → items' ≡ items ++ item ∷ []
 
--- the reader stays, and where all is well the item is put last, if there is one
+-- the reader stays, and where all is well the item is put last, if there is one; memory may run out
+-- only where there is one
 pub record KeptSome {T : Type 0} (old new : Reader) (items : List T) (item : Option T)
     (items' : List T) : Type 0 where
   pub still : Still old new
   pub added : new.outcome ≡ Well → items' ≡ items ++ option_to_list item
+  pub unasked : item ≡ None → NoneSpent old.outcome new.outcome

@@ -4,7 +4,9 @@
 mod number;
 mod outcome;
 mod reader;
+mod refusal;
 mod spelling;
 
 pub use outcome::Outcome;
 pub use reader::Reader;
+pub use refusal::Refusal;

@@ -1,17 +1,18 @@
 //! A reader of tokens, which keeps its place and what became of the reading.
 
-ghost use Rattle.std.specs.Prelude.{◌≡◌, ◌≤◌, ◌<◌, true, length, slice_get};
+ghost use Rattle.std.specs.Prelude.{◌≡◌, ◌≤◌, ◌<◌, true, false, length, slice_get};
 ghost use Rattle.std.specs.Prelude.{Some, IfSome, ◌++◌, ◌∷◌, []};
 ghost use Rattle.est_lexer.specs.Offsets.{text_of, tokens_of};
 
 use crate::number::{value, value_up_to};
 use crate::outcome::Outcome;
+use crate::refusal::Refusal;
 use crate::spelling::is_spelled;
 use est_items::{Boxed, Items};
 use est_lexer::kind::{ReservedWord, Symbol, TokenKind};
 use est_lexer::tokens::Tokens;
 use est_syntax::name::{Name, Used};
-use std::alloc::Global;
+use std::alloc::{AllocError, Global};
 
 /// The tokens, the place of the next one, the levels that may still be opened, and what became of
 /// the reading.
@@ -26,12 +27,11 @@ pub struct Reader<'t> {
 }
 
 impl<'t> Reader<'t> {
+    ghost use Rattle.est_reader.specs.Whole.{Starts};
+
     /// A reader at the first token, with so many levels to open.
     pub fn new(alloc: Global, tokens: &'t Tokens<'t>, levels: u32) -> Reader<'t>
-        ensures tokens { result.tokens.now ≡ tokens.now }
-        ensures at { result.at ≡ 0 }
-        ensures levels { result.levels ≡ levels }
-        ensures outcome { result.outcome ≡ Outcome.Well }
+        ensures { Starts tokens.now levels result }
     {
         Reader {
             tokens,
@@ -48,7 +48,9 @@ impl Reader<'_> {
     ghost use Rattle.est_reader.specs.Moving.{IsTest, Sees, Steps, Takes, TakesName, TakesNumber};
     ghost use Rattle.est_reader.specs.Moving.{TakesValue, TakesCharacter, IsNamedAt, FindsNumber};
     ghost use Rattle.est_reader.specs.Moving.{Opens, Enters, Closes, Still, Kept, KeptSome};
-    ghost use Rattle.est_lexer.specs.declared.kind.TokenKind.TheVariants.{Reserved};
+    ghost use Rattle.est_reader.specs.Moving.{NoneSpent};
+    ghost use Rattle.est_reader.specs.Whole.{Finishes};
+    ghost use Rattle.est_lexer.specs.declared.kind.TokenKind.TheVariants.{Identifier, Reserved};
     ghost use Rattle.est_lexer.specs.declared.kind.TokenKind.TheVariants as token;
     ghost use Rattle.est_reader.specs.declared.outcome.Outcome.TheVariants.{Well};
     ghost use Rattle.std.specs.Str.{str_to_ascii_lowercase};
@@ -234,6 +236,8 @@ impl Reader<'_> {
         ensures still { Still self.old self.new }
         ensures named { self.new.outcome ≡ Well
             → IsNamedAt self.old.tokens.now self.old.at (option_map (λ bytes. bytes.items) result) }
+        ensures unasked { stands self.old.tokens.now self.old.at (kind Identifier) ≡ false
+            → NoneSpent self.old.outcome self.new.outcome }
     {
         if !self.stands(TokenKind::Identifier) {
             return None;
@@ -327,6 +331,27 @@ impl Reader<'_> {
             Some(item) => self.keep(items, item),
             None => {}
         }
+    }
+
+    /// Ends the reading of a value: the value, where all has gone well and all tokens are taken;
+    /// or why not, with the place.
+    pub fn finish<T: Drop>(self, value: T) -> Result<T, Refusal>
+        ensures { Finishes self.entry value result }
+    {
+        let place = self.at;
+        let refusal = match self.outcome {
+            Outcome::Well => {
+                if place == self.tokens.count() {
+                    return Ok(value);
+                }
+                Refusal::BadToken { place }
+            }
+            Outcome::Wrong => Refusal::BadToken { place },
+            Outcome::TooDeep => Refusal::TooDeep { place },
+            Outcome::NoMemory => Refusal::Memory(AllocError),
+        };
+        drop(value);
+        Err(refusal)
     }
 
     /// Tells that memory ran out.

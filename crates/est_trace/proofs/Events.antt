@@ -4,15 +4,16 @@ use Rattle.std.proofs.Common.{◌&&◌, List, [], ◌∷◌, ◌++◌, length, r
 use Rattle.std.proofs.Common.{subst, arith, slice_get, inl, inr, append_assoc, append-nil}
 use Rattle.est_lexer.specs.declared.tokens.Tokens.{Tokens}
 use Rattle.est_lexer.specs.Offsets.{text_of, tokens_of}
-use Rattle.est_language.specs.Grammar.{word, done, one_of, when, rule, seq, deeper, nothing}
+use Rattle.est_language.specs.Grammar.{Grammar, Language, word, done, one_of, when, rule, seq}
+use Rattle.est_language.specs.Grammar.{deeper, nothing}
 use Rattle.est_language.specs.Grammar.{some, both, Tree, t_rule, t_opt_in, t_opt_out, t_deeper}
 use Rattle.est_language.specs.Grammar.{t_seq, Partial, p_none, p_word, p_left, p_right, p_first}
-use Rattle.est_language.specs.Marks.{MeetsOne, Apart, can_begin, can_go_on}
-use Rattle.est_language.specs.Findings.{Found}
+use Rattle.est_language.specs.Marks.{Marks, MeetsOne, Apart, can_begin, can_go_on}
+use Rattle.est_language.specs.Findings.{Found, Refused}
 use Rattle.est_language.specs.Shown.{Shows, node, s_empty, s_pair, s_given, s_node}
 use Rattle.est_language.proofs.Laws as laws
 use Rattle.est_language.proofs.Repeats as repeats
-use Rattle.est_language.proofs.Flat.{flat, too_deep_any}
+use Rattle.est_language.proofs.Flat.{flat, flat_opens_none, too_deep_any}
 use Rattle.est_syntax.specs.declared.ports.Signal.{Signal}
 use Rattle.est_syntax.specs.declared.ports.Port.{Port}
 use Rattle.est_meaning.specs.declared.event.Event.{Event}
@@ -27,7 +28,6 @@ use Rattle.est_reader.proofs.Steps.{onto, after, stay, seen_among, sees_well}
 use Rattle.est_reader.proofs.Steps.{sees_it, none_meets, left_of, bit_small}
 use Rattle.est_reader.proofs.Going.{begins_it}
 use Rattle.est_reader.proofs.Turns.{lessens}
-use Rattle.est_reader.proofs.Whole.{flat_not_deep}
 use Rattle.est_syntax.specs.declared.ports.Direction.{Direction}
 use Rattle.est_syntax.specs.declared.ports.Direction.TheVariants.{Receives, Sends}
 use Rattle.est_trace.specs.TraceGrammar.{Rule, passes, some_pass, signal, dot_signal}
@@ -48,6 +48,13 @@ event_partial tokens a ports (inr (inl e)) =
 event_partial tokens a ports (inr (inr (inl e))) =
     p_right (p_right (p_word (said "out") (omega arith) e (p_none refl)))
 event_partial tokens a ports (inr (inr (inr e))) = elim e [ ]
+
+-- what opens no level is not refused for lack of levels
+flat_not_deep : {Token V T P : Type 0} {L : Language Token V T P} {S : Marks T P}
+    {s : List Token} {g : Grammar T P} {d a i : ℕ}
+    → flat g ≡ true
+    → Refused L S s g d a i true → ⊥
+flat_not_deep {L = L} {s = s} {i = i} f h = flat_opens_none L s i f (h.more refl).1
 
 -- an event opens no level
 both_true : (a b : Bool) → a ≡ true → b ≡ true → (a && b) ≡ true

@@ -1,3 +1,4 @@
+pub mod TraceErrors
 pub mod TraceGrammar
 pub mod TraceNodes
 pub mod TraceText

@@ -1,5 +1,9 @@
 //! Why a trace text is refused.
 
+ghost use Rattle.std.specs.Prelude.{◌≡◌};
+ghost use Rattle.est_trace.specs.TraceErrors.{of_refusal};
+
+use est_reader::Refusal;
 use std::alloc::AllocError;
 use thiserror::Error;
 
@@ -13,4 +17,16 @@ pub enum TraceError {
     TooMany { place: u32 },
     #[error(transparent)]
     Memory(AllocError),
+}
+
+impl From<Refusal> for TraceError {
+    ghost from_gives = { λ refusal e. e ≡ of_refusal refusal };
+
+    fn from(refusal: Refusal) -> TraceError {
+        match refusal {
+            Refusal::BadToken { place } => TraceError::BadToken { place },
+            Refusal::TooDeep { place } => TraceError::TooMany { place },
+            Refusal::Memory(error) => TraceError::Memory(error),
+        }
+    }
 }

@@ -1,6 +1,6 @@
 //! Trace texts.
 
-ghost use Rattle.std.specs.Prelude.{◌≡◌, ◌≤◌, [], length, IfOk, Err};
+ghost use Rattle.std.specs.Prelude.{◌≡◌, ◌≤◌, [], length, IfOk};
 ghost use Rattle.est_lexer.specs.Offsets.{text_of, tokens_of};
 ghost use Rattle.est_language.specs.Grammar.{rule};
 ghost use Rattle.est_language.specs.Shown.{node};
@@ -23,10 +23,10 @@ use crate::lookup::{Directory, directory_of};
 use est_check::Skeleton;
 use est_lexer::tokens::Tokens;
 use est_meaning::event::{Event, MOST_EVENTS, Trace};
-use est_reader::{Outcome, Reader};
+use est_reader::Reader;
 use est_syntax::kind::MAXINT;
 use est_syntax::ports::{Direction, Ports};
-use std::alloc::{AllocError, Global};
+use std::alloc::Global;
 
 /// The trace of a specification that the tokens are, or the first token that is refused.
 pub fn read_trace(alloc: Global, checked: &Skeleton, tokens: &Tokens) -> Result<Trace, TraceError>
@@ -49,27 +49,7 @@ fn read_events(alloc: Global, ports: &Ports, tokens: &Tokens) -> Result<Trace, T
 {
     let mut reader = Reader::new(alloc, tokens, MOST_EVENTS);
     let found = trace_of(&mut reader, ports);
-    let place = reader.at;
-    match reader.outcome {
-        Outcome::Well => {
-            if place == tokens.count() {
-                Ok(found)
-            } else {
-                instead(found, TraceError::BadToken { place })
-            }
-        }
-        Outcome::Wrong => instead(found, TraceError::BadToken { place }),
-        Outcome::TooDeep => instead(found, TraceError::TooMany { place }),
-        Outcome::NoMemory => instead(found, TraceError::Memory(AllocError)),
-    }
-}
-
-// An error in the place of a trace.
-fn instead(found: Trace, error: TraceError) -> Result<Trace, TraceError>
-    ensures { result ≡ Err error }
-{
-    drop(found);
-    Err(error)
+    Ok(reader.finish(found)?)
 }
 
 // The trace that comes next, for a specification with these ports.
