@@ -1,5 +1,5 @@
 -- What expressions yield, and what may be assigned to a variable (ISO 7185, 6.4.6 and 6.7.1).
-use Rattle.std.specs.Prelude.{Bool, true, false, nat_eq, Option, Some, None}
+use Rattle.std.specs.Prelude.{Bool, true, false, nat_eq, length, Option, Some, None}
 use Rattle.est_syntax.specs.declared.kind.Kind.{Kind, out-Kind}
 use Rattle.est_syntax.specs.declared.kind.Kind.TheOpen as seen
 use Rattle.est_syntax.specs.declared.kind.FieldKind.{FieldKind}
@@ -32,7 +32,7 @@ abbrev pub is_host : Host → Host → Bool
 is_host host.Integer host.Integer = true
 is_host host.Boolean host.Boolean = true
 is_host host.Char host.Char = true
-is_host (host.Enumeration p) (host.Enumeration q) = nat_eq p q
+is_host (host.Enumeration p n) (host.Enumeration q m) = nat_eq p q
 is_host _ _ = false
 
 -- the host that a kind is
@@ -43,7 +43,7 @@ host_in k = held (out-Kind k)
     held seen.Integer = Some host.Integer
     held seen.Boolean = Some host.Boolean
     held seen.Char = Some host.Char
-    held (seen.Enumeration place names) = Some (host.Enumeration place)
+    held (seen.Enumeration place names) = Some (host.Enumeration place (length names))
     held _ = None
 
 -- the host of a kind or of what it is a part of

@@ -8,13 +8,13 @@ use crate::alike::is_alike;
 use est_syntax::kind::Kind;
 
 /// An ordinal type that is no part of another. An enumeration is known by the place of its
-/// declaration.
+/// declaration, and has so many constants.
 #[derive(Clone, Copy)]
 pub enum Host {
     Integer,
     Boolean,
     Char,
-    Enumeration(u32),
+    Enumeration { declared: u32, count: usize },
 }
 
 /// What an expression yields: an ordinal of a host, a set of members of a host, or of any for
@@ -35,7 +35,13 @@ impl Host {
             (Host::Integer, Host::Integer) => true,
             (Host::Boolean, Host::Boolean) => true,
             (Host::Char, Host::Char) => true,
-            (Host::Enumeration(place), Host::Enumeration(other)) => place == other,
+            (
+                Host::Enumeration { declared, count: _ },
+                Host::Enumeration {
+                    declared: other,
+                    count: _,
+                },
+            ) => declared == other,
             _ => false,
         }
     }
@@ -49,7 +55,10 @@ pub fn host_in(kind: &Kind) -> Option<Host>
         Kind::Integer => Some(Host::Integer),
         Kind::Boolean => Some(Host::Boolean),
         Kind::Char => Some(Host::Char),
-        Kind::Enumeration { declared, names: _ } => Some(Host::Enumeration(*declared)),
+        Kind::Enumeration { declared, names } => Some(Host::Enumeration {
+            declared: *declared,
+            count: names.get().len(),
+        }),
         _ => None,
     }
 }

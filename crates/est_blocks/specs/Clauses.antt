@@ -18,6 +18,7 @@ use Rattle.est_scope.specs.declared.declaration.Measured.{Measured}
 use Rattle.est_scope.specs.declared.declaration.Meant.{Meant}
 use Rattle.est_scope.specs.declared.declaration.Sort.{Sort}
 use Rattle.est_scope.specs.declared.declaration.Sort.TheVariants as sort
+use Rattle.est_scope.specs.declared.predeclared.PredeclaredName.{PredeclaredName}
 use Rattle.est_scope.specs.Outline.{Outline, entry_at}
 use Rattle.est_scope.specs.Uses.{meaning, meaning_faults, use_faults}
 use Rattle.est_kinds.specs.declared.value.Valued.{Valued}
@@ -44,7 +45,7 @@ is_state_sort (Some e) = held e.declared.sort
 
 -- what a name of this meaning breaks where a state or a state set is wanted
 abbrev pub state_used : Outline → ℕ → Meant → List Fault
-state_used o place m = meaning_faults m place (broken place WrongSort)
+state_used o place m = meaning_faults m place (λ (n : PredeclaredName). broken place WrongSort)
     (λ (p : ℕ). if is_state_sort (entry_at o p) then [] else broken place WrongSort)
 
 -- what a name breaks where a state or a state set is wanted

@@ -55,7 +55,7 @@ fn check_state(outline: &Outline, used: &Used, least: &mut Least)
 {
     match outline.meaning(used) {
         Meant::Nothing => least.note(used.place, Rule::UnknownName),
-        Meant::Predeclared => least.note(used.place, Rule::WrongSort),
+        Meant::Predeclared(_) => least.note(used.place, Rule::WrongSort),
         Meant::Unseen(_) => least.note(used.place, Rule::NotSeenHere),
         Meant::Seen(place) => if !is_state(outline, place) {
             least.note(used.place, Rule::WrongSort);

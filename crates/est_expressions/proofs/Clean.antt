@@ -38,6 +38,7 @@ use Rattle.est_scope.specs.declared.declaration.Meant.{Meant}
 use Rattle.est_scope.specs.declared.declaration.Meant.TheVariants as meant
 use Rattle.est_scope.specs.declared.declaration.Sort.{Sort}
 use Rattle.est_scope.specs.declared.declaration.Sort.TheVariants as sort
+use Rattle.est_scope.specs.declared.predeclared.PredeclaredName.{PredeclaredName}
 use Rattle.est_scope.specs.Outline.{Outline, entry_at}
 use Rattle.est_scope.specs.Uses.{meaning}
 use Rattle.est_kinds.specs.declared.value.Valued.{Valued}
@@ -289,10 +290,10 @@ end_clean (Modules p) x name h = absurd (none-some x h)
 end_clean (Module p) x name h = absurd (none-some x h)
 
 -- names
-predeclared_clean : (v : Option Valued) (name : List ℕ) (place : ℕ)
-    → is_whole (predeclared_head v) ≡ true → predeclared_faults v name place ≡ []
-predeclared_clean None name place h = absurd (true≢false (sym h))
-predeclared_clean (Some v) name place h = refl
+predeclared_clean : (v : Option Valued) (n : PredeclaredName) (place : ℕ)
+    → is_whole (predeclared_head v) ≡ true → predeclared_faults v n place ≡ []
+predeclared_clean None n place h = absurd (true≢false (sym h))
+predeclared_clean (Some v) n place h = refl
 
 sort_clean : (o : Outline) (p : ℕ) (e : Entry) (s : Sort) (place : ℕ)
     → is_whole (head_by o p e s) ≡ true → sort_faults o p s place ≡ []
@@ -315,13 +316,12 @@ entry_clean : (o : Outline) (p : ℕ) (e : Option Entry) (place : ℕ) → is_wh
 entry_clean o p None place h = absurd (true≢false (sym h))
 entry_clean o p (Some e) place h = sort_clean o p e e.declared.sort place h
 
-meant_clean : (o : Outline) (name : List ℕ) (m : Meant) (place : ℕ)
-    → is_whole (head_meant o name m) ≡ true → meant_faults o name m place ≡ []
-meant_clean o name meant.Nothing place h = absurd (true≢false (sym h))
-meant_clean o name meant.Predeclared place h = predeclared_clean (predeclared_constant name) name
-    place h
-meant_clean o name (meant.Unseen p) place h = absurd (true≢false (sym h))
-meant_clean o name (meant.Seen p) place h = entry_clean o p (entry_at o p) place h
+meant_clean : (o : Outline) (m : Meant) (place : ℕ) → is_whole (head_meant o m) ≡ true
+    → meant_faults o m place ≡ []
+meant_clean o meant.Nothing place h = absurd (true≢false (sym h))
+meant_clean o (meant.Predeclared n) place h = predeclared_clean (predeclared_constant n) n place h
+meant_clean o (meant.Unseen p) place h = absurd (true≢false (sym h))
+meant_clean o (meant.Seen p) place h = entry_clean o p (entry_at o p) place h
 
 -- calls
 call_clean : (o : Outline) (r : Option Receiver) (taken : Bool) (t : Option Yielded) (x : Yielded)
@@ -330,12 +330,12 @@ call_clean o r false t x h = absurd (none-some x h)
 call_clean o None true t x h = absurd (none-some x h)
 call_clean o (Some r) true t x h = ((r, refl), refl)
 
-callee_clean : (o : Outline) (name : List ℕ) (m : Meant) (r : Receiver) (place : ℕ)
-    → callee_meant o name m ≡ Some r → callee_faults_by o name m place ≡ []
-callee_clean o name meant.Nothing r place h = absurd (none-some r h)
-callee_clean o name meant.Predeclared r place h = ap (λ c. no_callee c place) h
-callee_clean o name (meant.Unseen p) r place h = absurd (none-some r h)
-callee_clean o name (meant.Seen p) r place h = ap (λ c. no_callee c place) h
+callee_clean : (o : Outline) (m : Meant) (r : Receiver) (place : ℕ)
+    → callee_meant o m ≡ Some r → callee_faults_by o m place ≡ []
+callee_clean o meant.Nothing r place h = absurd (none-some r h)
+callee_clean o (meant.Predeclared n) r place h = ap (λ c. no_callee c place) h
+callee_clean o (meant.Unseen p) r place h = absurd (none-some r h)
+callee_clean o (meant.Seen p) r place h = ap (λ c. no_callee c place) h
 
 -- an operation, where its right operand breaks nothing by itself
 operation_clean : (op : Operator) (l r : Option Yielded) (own : List Fault) (first second : ℕ)
@@ -429,12 +429,12 @@ mutual
       let s = selected_clean o (head o name) name.place path e.0 in
       three (head_faults o name) (row_selected_faults o (head o name) name.place path)
       (end_faults (row_selected o (head o name) path) name.place)
-      (meant_clean o (spelled name) (meaning o name) name.place s.0) s.1 e.1
+      (meant_clean o (meaning o name) name.place s.0) s.1 e.1
   factor_clean o (factor.Call' name n es place) x h =
       let c = call_clean o (callee o name) (row_taken o (callee o name) 0 es) (row_first o es) x h
       in
       joined (callee_faults o name) (row_taken_faults o (callee o name) 0 name.place es)
-      (callee_clean o (spelled name) (meaning o name) c.0.0 name.place c.0.1)
+      (callee_clean o (meaning o name) c.0.0 name.place c.0.1)
       (row_clean o (callee o name) 0 name.place es c.1)
 
   box_clean : (o : Outline) {n : _} (row : Row_of-Expr n) (x : Yielded) → row_first o row ≡ Some x

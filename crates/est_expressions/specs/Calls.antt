@@ -2,7 +2,6 @@
 -- points and module variables).
 use Rattle.std.specs.Prelude.{ℕ, Bool, false, List, [], Option, Some, None, if◌then◌else◌}
 use Rattle.std.specs.Option.{option_map}
-use Rattle.est_syntax.specs.Names.{spelled}
 use Rattle.est_syntax.specs.Faults.{broken}
 use Rattle.est_syntax.specs.declared.name.Used.{Used}
 use Rattle.est_syntax.specs.declared.rule.Fault.{Fault}
@@ -55,14 +54,14 @@ abbrev pub required_callee : Option Required → Option Receiver
 required_callee function = option_map (λ (f : Required). receiver.Function f) function
 
 -- what a name of this meaning calls
-abbrev pub callee_meant : Outline → List ℕ → Meant → Option Receiver
-callee_meant o name Predeclared = required_callee (required_function name)
-callee_meant o name (Seen p) = declared_callee (is_sort sort.Function (entry_at o p)) p
-callee_meant o name _ = None
+abbrev pub callee_meant : Outline → Meant → Option Receiver
+callee_meant o (Predeclared n) = required_callee (required_function n)
+callee_meant o (Seen p) = declared_callee (is_sort sort.Function (entry_at o p)) p
+callee_meant o _ = None
 
 -- what a name calls
 abbrev pub callee : Outline → Used → Option Receiver
-callee o u = callee_meant o (spelled u) (meaning o u)
+callee o u = callee_meant o (meaning o u)
 
 -- what a name breaks that calls nothing
 abbrev pub no_callee : Option Receiver → ℕ → List Fault
@@ -70,14 +69,14 @@ no_callee None place = broken place WrongSort
 no_callee (Some r) place = []
 
 -- what a name of this meaning breaks where a function is called
-abbrev pub callee_faults_by : Outline → List ℕ → Meant → ℕ → List Fault
-callee_faults_by o name Nothing place = broken place UnknownName
-callee_faults_by o name (Unseen p) place = broken place NotSeenHere
-callee_faults_by o name m place = no_callee (callee_meant o name m) place
+abbrev pub callee_faults_by : Outline → Meant → ℕ → List Fault
+callee_faults_by o Nothing place = broken place UnknownName
+callee_faults_by o (Unseen p) place = broken place NotSeenHere
+callee_faults_by o m place = no_callee (callee_meant o m) place
 
 -- what a name breaks where a function is called
 abbrev pub callee_faults : Outline → Used → List Fault
-callee_faults o u = callee_faults_by o (spelled u) (meaning o u) u.place
+callee_faults o u = callee_faults_by o (meaning o u) u.place
 
 -- what a predeclared function yields for an argument
 abbrev pub value_by : Required → Option Yielded → Option Yielded

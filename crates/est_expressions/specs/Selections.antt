@@ -1,9 +1,8 @@
 -- What a name in an expression stands for (ISO 7185, 6.5 and 6.7.1; ISO 9074, exported variables).
 use Rattle.std.specs.Prelude.{ℕ, ◌-◌, Bool, true, false, ◌||◌, ◌&&◌, not, nat_eq}
 use Rattle.std.specs.Prelude.{List, [], ◌∷◌, Option, Some, None, is_some, option_and_then}
-use Rattle.std.specs.Prelude.{if◌then◌else◌, codes}
+use Rattle.std.specs.Prelude.{if◌then◌else◌}
 use Rattle.std.specs.Option.{option_map}
-use Rattle.est_syntax.specs.Names.{is_name, spelled}
 use Rattle.est_syntax.specs.Faults.{broken}
 use Rattle.est_syntax.specs.declared.kind.Kind.{Kind}
 use Rattle.est_syntax.specs.declared.name.Used.{Used}
@@ -17,6 +16,8 @@ use Rattle.est_scope.specs.declared.declaration.Section.{Section}
 use Rattle.est_scope.specs.declared.declaration.Section.TheVariants as section
 use Rattle.est_scope.specs.declared.declaration.Sort.{Sort}
 use Rattle.est_scope.specs.declared.declaration.Sort.TheVariants as sort
+use Rattle.est_scope.specs.declared.predeclared.PredeclaredName.{PredeclaredName}
+use Rattle.est_scope.specs.declared.predeclared.PredeclaredName.TheVariants as known
 use Rattle.est_scope.specs.Outline.{Outline, entry_at, nth}
 use Rattle.est_scope.specs.Uses.{meaning, meaning_faults}
 use Rattle.est_kinds.specs.declared.value.Valued.{Valued}
@@ -88,20 +89,16 @@ has_before o place n = nat_eq n 0 || is_some (parameter o place (n - 1))
 abbrev pub takes_so_many : Outline → ℕ → ℕ → Bool
 takes_so_many o place n = has_before o place n && not (is_some (parameter o place n))
 
--- the functions of integers that are predeclared (ISO 7185, 6.6.6)
-abbrev pub integer_function : List ℕ → Option Required
-integer_function name =
-    if is_name name (codes "abs") then Some required.Abs else
-    (if is_name name (codes "odd") then Some required.Odd else
-    (if is_name name (codes "sqr") then Some required.Sqr else None))
-
--- all functions that are predeclared (ISO 7185, 6.6.6)
-abbrev pub required_function : List ℕ → Option Required
-required_function name =
-    if is_name name (codes "ord") then Some required.Ord else
-    (if is_name name (codes "chr") then Some required.Chr else
-    (if is_name name (codes "succ") then Some required.Succ else
-    (if is_name name (codes "pred") then Some required.Pred else integer_function name)))
+-- the functions that are predeclared (ISO 7185, 6.6.6)
+abbrev pub required_function : PredeclaredName → Option Required
+required_function known.Ord = Some required.Ord
+required_function known.Chr = Some required.Chr
+required_function known.Succ = Some required.Succ
+required_function known.Pred = Some required.Pred
+required_function known.Abs = Some required.Abs
+required_function known.Odd = Some required.Odd
+required_function known.Sqr = Some required.Sqr
+required_function _ = None
 
 -- what they take
 abbrev pub argument_of : Required → Wanted
@@ -162,14 +159,14 @@ head_in o p None = Broken
 head_in o p (Some e) = head_by o p e e.declared.sort
 
 -- what a name of this meaning is in an expression
-abbrev pub head_meant : Outline → List ℕ → Meant → Selection
-head_meant o name Predeclared = predeclared_head (predeclared_constant name)
-head_meant o name (Seen p) = head_in o p (entry_at o p)
-head_meant o name _ = Broken
+abbrev pub head_meant : Outline → Meant → Selection
+head_meant o (Predeclared n) = predeclared_head (predeclared_constant n)
+head_meant o (Seen p) = head_in o p (entry_at o p)
+head_meant o _ = Broken
 
 -- what a name is in an expression
 abbrev pub head : Outline → Used → Selection
-head o u = head_meant o (spelled u) (meaning o u)
+head o u = head_meant o (meaning o u)
 
 -- what the name of something predeclared breaks that is no constant
 abbrev pub function_faults : Option Required → ℕ → List Fault
@@ -177,9 +174,9 @@ function_faults None place = broken place WrongSort
 function_faults (Some f) place = broken place WrongNumber
 
 -- what the name of something predeclared breaks
-abbrev pub predeclared_faults : Option Valued → List ℕ → ℕ → List Fault
-predeclared_faults None name place = function_faults (required_function name) place
-predeclared_faults (Some v) name place = []
+abbrev pub predeclared_faults : Option Valued → PredeclaredName → ℕ → List Fault
+predeclared_faults None n place = function_faults (required_function n) place
+predeclared_faults (Some v) n place = []
 
 -- what the name of a declaration of this sort breaks
 abbrev pub sort_faults : Outline → ℕ → Sort → ℕ → List Fault
@@ -195,11 +192,12 @@ entry_faults o p None place = broken place WrongSort
 entry_faults o p (Some e) place = sort_faults o p e.declared.sort place
 
 -- what a name of this meaning breaks in an expression
-abbrev pub meant_faults : Outline → List ℕ → Meant → ℕ → List Fault
-meant_faults o name m place =
-    meaning_faults m place (predeclared_faults (predeclared_constant name) name place)
+abbrev pub meant_faults : Outline → Meant → ℕ → List Fault
+meant_faults o m place =
+    meaning_faults m place
+    (λ (n : PredeclaredName). predeclared_faults (predeclared_constant n) n place)
     (λ (p : ℕ). entry_faults o p (entry_at o p) place)
 
 -- what a name breaks in an expression
 abbrev pub head_faults : Outline → Used → List Fault
-head_faults o u = meant_faults o (spelled u) (meaning o u) u.place
+head_faults o u = meant_faults o (meaning o u) u.place

@@ -19,7 +19,8 @@ use est_alike::types::ValueType;
 use est_scope::declaration::{Meant, Sort};
 use est_scope::least::Least;
 use est_scope::outline::Outline;
-use est_syntax::name::{Name, Used};
+use est_scope::predeclared::PredeclaredName;
+use est_syntax::name::Used;
 use est_syntax::rule::Rule;
 
 /// Whether what stands with this number, counted from 0, is taken, with what it breaks at its
@@ -73,10 +74,10 @@ fn declared_callee(outline: &Outline, place: u32) -> Option<Receiver>
 }
 
 // What is called by a name that is predeclared.
-fn required_callee(name: &Name) -> Option<Receiver>
-    ensures { result ≡ required_callee (required_function name.now.bytes) }
+fn required_callee(known: PredeclaredName) -> Option<Receiver>
+    ensures { result ≡ required_callee (required_function known) }
 {
-    match required_function(name) {
+    match required_function(known) {
         None => None,
         Some(function) => Some(Receiver::Function(function)),
     }
@@ -106,8 +107,8 @@ pub fn check_callee(outline: &Outline, used: &Used, least: &mut Least) -> Option
             least.note(used.place, Rule::NotSeenHere);
             None
         },
-        Meant::Predeclared => {
-            let receiver = required_callee(&used.name);
+        Meant::Predeclared(known) => {
+            let receiver = required_callee(known);
             check_known(receiver, used.place, least);
             receiver
         },

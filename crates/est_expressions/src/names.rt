@@ -9,7 +9,7 @@ ghost use Rattle.est_kinds.specs.Constants.{predeclared_constant};
 ghost use Rattle.est_alike.specs.Types.{yields, yielded};
 ghost use Rattle.est_expressions.specs.Selections.{selects, type_in, is_parameter, parameter_at};
 ghost use Rattle.est_expressions.specs.Selections.{parameter, has_before, takes_so_many};
-ghost use Rattle.est_expressions.specs.Selections.{declared_type, integer_function};
+ghost use Rattle.est_expressions.specs.Selections.{declared_type};
 ghost use Rattle.est_expressions.specs.Selections.{required_function, argument_of};
 ghost use Rattle.est_expressions.specs.Selections.{value_of, predeclared_head, value_head};
 ghost use Rattle.est_expressions.specs.Selections.{variable_head, module_head};
@@ -23,8 +23,9 @@ use est_alike::types::{Host, ValueType, type_of};
 use est_scope::declaration::{Entry, Meant, Measured, Section, SharedKinds, Sort};
 use est_scope::least::Least;
 use est_scope::outline::Outline;
+use est_scope::predeclared::PredeclaredName;
 use est_syntax::kind::Kind;
-use est_syntax::name::{Name, Used};
+use est_syntax::name::Used;
 use est_syntax::rule::Rule;
 
 /// A function that is predeclared (ISO 7185, 6.6.6).
@@ -124,37 +125,19 @@ pub fn parameter_type(outline: &Outline, place: u32, number: usize) -> Option<Va
     }
 }
 
-// The function of integers that is predeclared under a name.
-fn integer_function(name: &Name) -> Option<Required>
-    ensures { result ≡ integer_function name.now.bytes }
-{
-    let bytes = name.bytes.as_slice();
-    if bytes == b"abs".as_slice() {
-        Some(Required::Abs)
-    } else if bytes == b"odd".as_slice() {
-        Some(Required::Odd)
-    } else if bytes == b"sqr".as_slice() {
-        Some(Required::Sqr)
-    } else {
-        None
-    }
-}
-
 /// The function that is predeclared under a name.
-pub fn required_function(name: &Name) -> Option<Required>
-    ensures { result ≡ required_function name.now.bytes }
+pub fn required_function(known: PredeclaredName) -> Option<Required>
+    ensures { result ≡ required_function known }
 {
-    let bytes = name.bytes.as_slice();
-    if bytes == b"ord".as_slice() {
-        Some(Required::Ord)
-    } else if bytes == b"chr".as_slice() {
-        Some(Required::Chr)
-    } else if bytes == b"succ".as_slice() {
-        Some(Required::Succ)
-    } else if bytes == b"pred".as_slice() {
-        Some(Required::Pred)
-    } else {
-        integer_function(name)
+    match known {
+        PredeclaredName::Ord => Some(Required::Ord),
+        PredeclaredName::Chr => Some(Required::Chr),
+        PredeclaredName::Succ => Some(Required::Succ),
+        PredeclaredName::Pred => Some(Required::Pred),
+        PredeclaredName::Abs => Some(Required::Abs),
+        PredeclaredName::Odd => Some(Required::Odd),
+        PredeclaredName::Sqr => Some(Required::Sqr),
+        _ => None,
     }
 }
 
@@ -186,18 +169,14 @@ impl Required {
 }
 
 // What a constant is that is predeclared, if this is one.
-fn predeclared_head<'o>(name: &Name) -> Selected<'o>
-    ensures { selects result ≡ predeclared_head (predeclared_constant name.now.bytes) }
+fn predeclared_head<'o>(known: PredeclaredName) -> Selected<'o>
+    ensures { selects result ≡ predeclared_head (predeclared_constant known) }
 {
-    let bytes = name.bytes.as_slice();
-    if bytes == b"false".as_slice() {
-        Selected::Value(ValueType::Ordinal(Host::Boolean))
-    } else if bytes == b"true".as_slice() {
-        Selected::Value(ValueType::Ordinal(Host::Boolean))
-    } else if bytes == b"maxint".as_slice() {
-        Selected::Value(ValueType::Ordinal(Host::Integer))
-    } else {
-        Selected::Broken
+    match known {
+        PredeclaredName::False => Selected::Value(ValueType::Ordinal(Host::Boolean)),
+        PredeclaredName::True => Selected::Value(ValueType::Ordinal(Host::Boolean)),
+        PredeclaredName::Maxint => Selected::Value(ValueType::Ordinal(Host::Integer)),
+        _ => Selected::Broken,
     }
 }
 
@@ -267,39 +246,34 @@ pub fn head<'o>(outline: &'o Outline, used: &Used) -> Selected<'o>
     ensures { selects result ≡ head outline.now used.now }
 {
     match outline.meaning(used) {
-        Meant::Predeclared => predeclared_head(&used.name),
+        Meant::Predeclared(known) => predeclared_head(known),
         Meant::Seen(place) => head_in(outline, place),
         _ => Selected::Broken,
     }
 }
 
 // Notes the name of a function that is predeclared, without arguments, or of another such thing.
-fn check_function(used: &Used, least: &mut Least)
+fn check_function(known: PredeclaredName, place: u32, least: &mut Least)
     ensures { least.new.at ≡ least_with least.old.at
-        (function_faults (required_function used.now.name.bytes) used.now.place) }
+        (function_faults (required_function known) place) }
 {
-    match required_function(&used.name) {
-        None => least.note(used.place, Rule::WrongSort),
-        Some(_) => least.note(used.place, Rule::WrongNumber),
+    match required_function(known) {
+        None => least.note(place, Rule::WrongSort),
+        Some(_) => least.note(place, Rule::WrongNumber),
     }
 }
 
 // Notes the name of something predeclared that is no constant.
-fn check_predeclared(used: &Used, least: &mut Least)
-    ensures { least.new.at ≡ least_with least.old.at (predeclared_faults
-        (predeclared_constant used.now.name.bytes) used.now.name.bytes used.now.place) }
+fn check_predeclared(known: PredeclaredName, place: u32, least: &mut Least)
+    ensures { least.new.at ≡ least_with least.old.at
+        (predeclared_faults (predeclared_constant known) known place) }
 {
-    let bytes = used.name.bytes.as_slice();
-    if bytes == b"false".as_slice() {
-        return;
+    match known {
+        PredeclaredName::False => (),
+        PredeclaredName::True => (),
+        PredeclaredName::Maxint => (),
+        _ => check_function(known, place, least),
     }
-    if bytes == b"true".as_slice() {
-        return;
-    }
-    if bytes == b"maxint".as_slice() {
-        return;
-    }
-    check_function(used, least);
 }
 
 // Notes the name of a declaration of a sort that stands in no expression, or a function without
@@ -336,7 +310,7 @@ pub fn check_head(outline: &Outline, used: &Used, least: &mut Least)
 {
     match outline.meaning(used) {
         Meant::Nothing => least.note(used.place, Rule::UnknownName),
-        Meant::Predeclared => check_predeclared(used, least),
+        Meant::Predeclared(known) => check_predeclared(known, used.place, least),
         Meant::Unseen(_) => least.note(used.place, Rule::NotSeenHere),
         Meant::Seen(place) => check_entry(outline, place, used.place, least),
     }

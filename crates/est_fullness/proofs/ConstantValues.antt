@@ -1,12 +1,11 @@
 -- A constant that breaks no rule has a value.
-use Rattle.std.specs.Prelude.{if◌then◌else◌, nat_le, is_none, codes}
+use Rattle.std.specs.Prelude.{if◌then◌else◌, nat_le, is_none}
 use Rattle.std.proofs.Common.{◌≡◌, refl, sym, ap, subst, ◌∙◌, true≢false, ℕ, ◌≤◌}
 use Rattle.std.proofs.Common.{ℤ, pos, ◌-ℤ◌, int_lt, Bool, true, false, [], Option, Some, None}
 use Rattle.std.proofs.Common.{arith}
 use Rattle.std.proofs.lemmas.Int.{ints}
 use Rattle.std.proofs.lemmas.Bool.Decides.{nat_tests}
 use Rattle.est_syntax.specs.Kinds.{maxint}
-use Rattle.est_syntax.specs.Names.{is_name, spelled}
 use Rattle.est_syntax.specs.declared.constant.Constant.{Constant}
 use Rattle.est_syntax.specs.declared.constant.Constant.TheVariants as constants
 use Rattle.est_syntax.specs.declared.kind.Kind.{out-Kind}
@@ -16,6 +15,8 @@ use Rattle.est_syntax.specs.declared.rule.Rule.TheVariants.{WrongSort, NumberToo
 use Rattle.est_scope.specs.declared.declaration.Meant.{Meant}
 use Rattle.est_scope.specs.declared.declaration.Meant.TheVariants as meant
 use Rattle.est_scope.specs.declared.declaration.Sort.TheVariants as sort
+use Rattle.est_scope.specs.declared.predeclared.PredeclaredName.{PredeclaredName}
+use Rattle.est_scope.specs.declared.predeclared.PredeclaredName.TheVariants as known
 use Rattle.est_scope.specs.Outline.{Outline}
 use Rattle.est_scope.specs.Uses.{meaning}
 use Rattle.est_kinds.specs.declared.value.Valued.{Valued}
@@ -45,26 +46,19 @@ number_fits true n h = negated_fits (pos n) (natural_fits n h)
 number_fits false n h = natural_fits n h
 
 -- what is predeclared
-abbrev one_of : Bool → Bool → Bool → Option Valued
-one_of a b c =
-    if a then Some (valued kind.Boolean (pos 0)) else
-    (if b then Some (valued kind.Boolean (pos 1)) else
-    (if c then Some (valued kind.Integer (pos maxint)) else None))
-
-one_fits : (a b c : Bool) → is_none (one_of a b c) ≡ false → HasValue (one_of a b c)
-one_fits true b c h = (valued kind.Boolean (pos 0), refl, λ j. (refl, refl))
-one_fits false true c h = (valued kind.Boolean (pos 1), refl, λ j. (refl, refl))
-one_fits false false true h = (valued kind.Integer (pos maxint), refl, λ j. (refl, refl))
-one_fits false false false h = absurd (true≢false h)
+predeclared_fits : (n : PredeclaredName) → is_none (predeclared_constant n) ≡ false
+    → HasValue (predeclared_constant n)
+predeclared_fits known.False h = (valued kind.Boolean (pos 0), refl, λ j. (refl, refl))
+predeclared_fits known.True h = (valued kind.Boolean (pos 1), refl, λ j. (refl, refl))
+predeclared_fits known.Maxint h = (valued kind.Integer (pos maxint), refl, λ j. (refl, refl))
+predeclared_fits _ h = absurd (true≢false h)
 
 -- the name of a constant
 used_fits : (o : Outline) (u : Used) (m : Meant) → IsFullAt o u → meaning o u ≡ m
-    → constant_used o u m ≡ [] → HasValue (value_meant o (spelled u) m)
+    → constant_used o u m ≡ [] → HasValue (value_meant o m)
 used_fits o u meant.Nothing full is h = cc
-used_fits o u meant.Predeclared full is h =
-    one_fits (is_name (spelled u) (codes "false")) (is_name (spelled u) (codes "true"))
-    (is_name (spelled u) (codes "maxint"))
-    (unbroken_if (is_none (predeclared_constant (spelled u))) u.place WrongSort h)
+used_fits o u (meant.Predeclared n) full is h =
+    predeclared_fits n (unbroken_if (is_none (predeclared_constant n)) u.place WrongSort h)
 used_fits o u (meant.Unseen p) full is h = cc
 used_fits o u (meant.Seen p) full is h =
     let s = right_sort o sort.Constant u.place p h in

@@ -174,13 +174,12 @@ declared_full o p place (Some e) full is h =
       (type_of k.0.kind, ap declared_type is ∙ ap type_in k.1),
     )
 
-pub callee_full : (o : Outline) (name : List ℕ) (m : Meant) (place : ℕ) → AreFull o
-    → callee_faults_by o name m place ≡ [] → IsCallee o (callee_meant o name m)
-callee_full o name meant.Nothing place full h = not_broken place rule.UnknownName h
-callee_full o name meant.Predeclared place full h =
-    required_full o (required_function name) place h
-callee_full o name (meant.Unseen p) place full h = not_broken place rule.NotSeenHere h
-callee_full o name (meant.Seen p) place full h =
+pub callee_full : (o : Outline) (m : Meant) (place : ℕ) → AreFull o
+    → callee_faults_by o m place ≡ [] → IsCallee o (callee_meant o m)
+callee_full o meant.Nothing place full h = not_broken place rule.UnknownName h
+callee_full o (meant.Predeclared n) place full h = required_full o (required_function n) place h
+callee_full o (meant.Unseen p) place full h = not_broken place rule.NotSeenHere h
+callee_full o (meant.Seen p) place full h =
     declared_full o p place (entry_at o p) full refl h
 
 -- a call yields something where its first argument does, if it has to have one

@@ -6,7 +6,6 @@ use Rattle.std.proofs.Common.{true, List, [], ◌∷◌, ◌++◌, Option, Some,
 use Rattle.std.proofs.lemmas.Bool.{and_parts}
 use Rattle.est_syntax.specs.Faults.{broken}
 use Rattle.est_syntax.specs.Kinds.{maxint}
-use Rattle.est_syntax.specs.Names.{spelled}
 use Rattle.est_syntax.specs.declared.expression.Expr.{Expr, Expr', Held-Expr-relation}
 use Rattle.est_syntax.specs.declared.expression.Expr.{Expr-relation-None', Expr-relation-Some'}
 use Rattle.est_syntax.specs.declared.expression.Factor.{Factor, Row_of-Expr, end_of-Expr}
@@ -179,7 +178,7 @@ mutual
   factor_full o (factor.Call' name n es place) w h =
       let s = parted (callee_faults o name) (row_taken_faults o (callee o name) 0 name.place es) h
       in
-      let c = callee_full o (spelled name) (meaning o name) name.place w.full s.0 in
+      let c = callee_full o (meaning o name) name.place w.full s.0 in
       let t = row_full o c.0 0 name.place es w (callable_ready o c.0 w c.2)
       (subst (λ (r : Option Receiver). row_taken_faults o r 0 name.place es ≡ []) c.1 s.1) in
       let first = λ (f : Required) (is : c.0 ≡ receiver.Function f). first_full o f es

@@ -73,7 +73,7 @@ internal_point (Some e) h = by e.declared.sort h
 meant_end : (o : Outline) (m : Meant) (place : ℕ) → end_used o place m ≡ []
     → IsThere (end_meant o m)
 meant_end o meant.Nothing place h = not_broken place rule.UnknownName h
-meant_end o meant.Predeclared place h = not_broken place rule.WrongSort h
+meant_end o (meant.Predeclared n) place h = not_broken place rule.WrongSort h
 meant_end o (meant.Unseen p) place h = not_broken place rule.NotSeenHere h
 meant_end o (meant.Seen p) place h = (
   p,
@@ -84,7 +84,7 @@ meant_end o (meant.Seen p) place h = (
 internal_end : (o : Outline) (m : Meant) (place : ℕ) → AreFull o → end_used o place m ≡ []
     → internal_faults o (end_meant o m) place ≡ [] → IsPoint o (meant_as o sort.Point m)
 internal_end o meant.Nothing place full h k = not_broken place rule.UnknownName h
-internal_end o meant.Predeclared place full h k = not_broken place rule.WrongSort h
+internal_end o (meant.Predeclared n) place full h k = not_broken place rule.WrongSort h
 internal_end o (meant.Unseen p) place full h k = not_broken place rule.NotSeenHere h
 internal_end o (meant.Seen p) place full h k =
     let e = meant_end o (meant.Seen p) place h in
@@ -101,7 +101,7 @@ internal_end o (meant.Seen p) place full h k =
 meant_ready : (o : Outline) (m : Meant) (place p : ℕ) → AreFull o → end_used o place m ≡ []
     → end_meant o m ≡ Some p → IsReady o (receiver.Subscripts p)
 meant_ready o meant.Nothing place p full h is = not_broken place rule.UnknownName h
-meant_ready o meant.Predeclared place p full h is = not_broken place rule.WrongSort h
+meant_ready o (meant.Predeclared n) place p full h is = not_broken place rule.WrongSort h
 meant_ready o (meant.Unseen q) place p full h is = not_broken place rule.NotSeenHere h
 meant_ready o (meant.Seen q) place p full h is =
     let c = cond_some (is_end_sort (entry_at o q)) q p is in

@@ -1,10 +1,9 @@
 -- What a name stands for is known where it and its selectors break nothing.
-use Rattle.std.specs.Prelude.{if◌then◌else◌, option_and_then, pos, codes}
+use Rattle.std.specs.Prelude.{if◌then◌else◌, option_and_then}
 use Rattle.std.proofs.Common.{◌≡◌, refl, sym, ap, subst, true≢false, ℕ, Bool, true, false, List, []}
 use Rattle.std.proofs.Common.{◌∷◌, Option, Some, None}
 use Rattle.est_syntax.specs.Faults.{broken}
-use Rattle.est_syntax.specs.Kinds.{maxint}
-use Rattle.est_syntax.specs.Names.{spelled, is_name}
+use Rattle.est_syntax.specs.Names.{spelled}
 use Rattle.est_syntax.specs.declared.kind.FieldKind.{FieldKind}
 use Rattle.est_syntax.specs.declared.kind.Kind.{Kind, out-Kind}
 use Rattle.est_syntax.specs.declared.kind.Kind.TheOpen as seen
@@ -22,7 +21,9 @@ use Rattle.est_scope.specs.declared.declaration.Section.TheVariants as section
 use Rattle.est_scope.specs.declared.declaration.Sort.{Sort}
 use Rattle.est_scope.specs.declared.declaration.Sort.TheVariants as sort
 use Rattle.est_scope.specs.declared.declaration.Standing.{Standing}
-use Rattle.est_kinds.specs.Constants.{predeclared_constant, valued}
+use Rattle.est_scope.specs.declared.predeclared.PredeclaredName.{PredeclaredName}
+use Rattle.est_scope.specs.declared.predeclared.PredeclaredName.TheVariants as known
+use Rattle.est_kinds.specs.Constants.{predeclared_constant}
 use Rattle.est_alike.specs.Types.{Yielded, type_of, is_assignable, host_in}
 use Rattle.est_alike.specs.declared.types.Host.{Host}
 use Rattle.est_alike.specs.declared.types.Host.TheVariants as host
@@ -63,23 +64,16 @@ no_function : {X : Type 0} (f : Option Required) (place : ℕ) → function_faul
 no_function None place h = not_broken place rule.WrongSort h
 no_function (Some f) place h = not_broken place rule.WrongNumber h
 
-predeclared_known : (o : Outline) (name : List ℕ) (place : ℕ)
-    → predeclared_faults (predeclared_constant name) name place ≡ []
-    → IsKnown o (predeclared_head (predeclared_constant name))
-predeclared_known o name place =
-    by (is_name name (codes "false")) (is_name name (codes "true")) (is_name name (codes "maxint"))
-  where
-    by : (a b c : Bool)
-        → predeclared_faults (if a then Some (valued kind.Boolean (pos 0)) else
-        (if b then Some (valued kind.Boolean (pos 1)) else
-        (if c then Some (valued kind.Integer (pos maxint)) else None))) name place ≡ []
-        → IsKnown o (predeclared_head (if a then Some (valued kind.Boolean (pos 0)) else
-        (if b then Some (valued kind.Boolean (pos 1)) else
-        (if c then Some (valued kind.Integer (pos maxint)) else None))))
-    by true b c h = host_known o (host_in kind.Boolean) (host.Boolean, boolean_host)
-    by false true c h = host_known o (host_in kind.Boolean) (host.Boolean, boolean_host)
-    by false false true h = host_known o (host_in kind.Integer) (host.Integer, integer_host)
-    by false false false h = no_function (required_function name) place h
+predeclared_known : (o : Outline) (n : PredeclaredName) (place : ℕ)
+    → predeclared_faults (predeclared_constant n) n place ≡ []
+    → IsKnown o (predeclared_head (predeclared_constant n))
+predeclared_known o known.False place h =
+    host_known o (host_in kind.Boolean) (host.Boolean, boolean_host)
+predeclared_known o known.True place h =
+    host_known o (host_in kind.Boolean) (host.Boolean, boolean_host)
+predeclared_known o known.Maxint place h =
+    host_known o (host_in kind.Integer) (host.Integer, integer_host)
+predeclared_known o n place h = no_function (required_function n) place h
 
 -- what stands for a variable or a module, and for no value
 abbrev pub IsPlace : Outline → Selection → Type 0
@@ -133,16 +127,16 @@ entry_known o p None place full is h = not_broken place rule.WrongSort h
 entry_known o p (Some e) place full is h =
     sort_known o p e e.declared.sort place is (full p e is) h
 
-meant_known : (o : Outline) (name : List ℕ) (m : Meant) (place : ℕ) → AreFull o
-    → meant_faults o name m place ≡ [] → IsKnown o (head_meant o name m)
-meant_known o name meant.Nothing place full h = not_broken place rule.UnknownName h
-meant_known o name meant.Predeclared place full h = predeclared_known o name place h
-meant_known o name (meant.Unseen p) place full h = not_broken place rule.NotSeenHere h
-meant_known o name (meant.Seen p) place full h = entry_known o p (entry_at o p) place full refl h
+meant_known : (o : Outline) (m : Meant) (place : ℕ) → AreFull o → meant_faults o m place ≡ []
+    → IsKnown o (head_meant o m)
+meant_known o meant.Nothing place full h = not_broken place rule.UnknownName h
+meant_known o (meant.Predeclared n) place full h = predeclared_known o n place h
+meant_known o (meant.Unseen p) place full h = not_broken place rule.NotSeenHere h
+meant_known o (meant.Seen p) place full h = entry_known o p (entry_at o p) place full refl h
 
 pub head_known : (o : Outline) (u : Used) → AreFull o → head_faults o u ≡ []
     → IsKnown o (head o u)
-head_known o u full h = meant_known o (spelled u) (meaning o u) u.place full h
+head_known o u full h = meant_known o (meaning o u) u.place full h
 
 -- subscripts of arrays
 abbrev pub IsComponent : Selection → Type 0

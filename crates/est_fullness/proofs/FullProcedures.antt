@@ -3,7 +3,6 @@ use Rattle.std.specs.Prelude.{if◌then◌else◌}
 use Rattle.std.proofs.Common.{◌≡◌, refl, sym, subst, ◌∙◌, true≢false, ℕ, ◌+◌, ◌≤◌, Bool, true}
 use Rattle.std.proofs.Common.{false, List, [], ◌∷◌, ◌++◌, Option, Some, None, arith}
 use Rattle.est_syntax.specs.Faults.{broken}
-use Rattle.est_syntax.specs.Names.{spelled}
 use Rattle.est_syntax.specs.declared.expression.Expr.{Expr}
 use Rattle.est_syntax.specs.declared.expression.Selector.{Selector}
 use Rattle.est_syntax.specs.declared.name.Used.{Used}
@@ -69,8 +68,8 @@ meant_place : (o : Outline) (loops : List ℕ) (u : Used) (path : List Selector)
     → AreFull o → target_meant_faults o None loops u path m ≡ []
     → IsPlace o (target_meant o None loops m)
 meant_place o loops u path meant.Nothing full h = not_broken u.place rule.UnknownName h
-meant_place o loops u path meant.Predeclared full h =
-    absurd (no_predeclared (predeclared_constant (spelled u)) (spelled u) u.place h)
+meant_place o loops u path (meant.Predeclared n) full h =
+    absurd (no_predeclared (predeclared_constant n) n u.place h)
 meant_place o loops u path (meant.Unseen p) full h = not_broken u.place rule.NotSeenHere h
 meant_place o loops u path (meant.Seen p) full h =
     entry_place o loops p (entry_at o p) path u.place full refl h

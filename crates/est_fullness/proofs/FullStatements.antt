@@ -24,6 +24,7 @@ use Rattle.est_scope.specs.declared.declaration.Side.{Side}
 use Rattle.est_scope.specs.declared.declaration.Sort.{Sort}
 use Rattle.est_scope.specs.declared.declaration.Sort.TheVariants as sort
 use Rattle.est_scope.specs.declared.declaration.Standing.{Standing}
+use Rattle.est_scope.specs.declared.predeclared.PredeclaredName.{PredeclaredName}
 use Rattle.est_kinds.specs.Constants.{predeclared_constant}
 use Rattle.est_kinds.specs.declared.value.Valued.{Valued}
 use Rattle.est_alike.specs.Types.{Yielded, type_of}
@@ -102,10 +103,10 @@ entry_target o f loops p (Some e) path place full is h =
     by true w h = target_known o f loops p e e.declared.sort is (full p e is) w
     by false w h = absurd (no_target e path place h)
 
-pub no_predeclared : (v : Option Valued) (name : List ℕ) (place : ℕ)
-    → predeclared_target v name place ≡ [] → ⊥
-no_predeclared (Some v) name place h = not_broken place rule.NotWritable h
-no_predeclared None name place h = by (required_function name) h
+pub no_predeclared : (v : Option Valued) (n : PredeclaredName) (place : ℕ)
+    → predeclared_target v n place ≡ [] → ⊥
+no_predeclared (Some v) n place h = not_broken place rule.NotWritable h
+no_predeclared None n place h = by (required_function n) h
   where
     by : (f : Option Required) → function_target f place ≡ [] → ⊥
     by None h = not_broken place rule.WrongSort h
@@ -115,8 +116,8 @@ meant_target : (o : Outline) (f : Option ℕ) (loops : List ℕ) (u : Used) (pat
     (m : Meant) → AreFull o → target_meant_faults o f loops u path m ≡ []
     → IsKnown o (target_meant o f loops m)
 meant_target o f loops u path meant.Nothing full h = not_broken u.place rule.UnknownName h
-meant_target o f loops u path meant.Predeclared full h =
-    absurd (no_predeclared (predeclared_constant (spelled u)) (spelled u) u.place h)
+meant_target o f loops u path (meant.Predeclared n) full h =
+    absurd (no_predeclared (predeclared_constant n) n u.place h)
 meant_target o f loops u path (meant.Unseen p) full h = not_broken u.place rule.NotSeenHere h
 meant_target o f loops u path (meant.Seen p) full h =
     entry_target o f loops p (entry_at o p) path u.place full refl h

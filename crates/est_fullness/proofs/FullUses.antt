@@ -49,7 +49,7 @@ pub record IsUsed (o : Outline) (s : Sort) (u : Used) : Type 0 where
 declared_at : (o : Outline) (s : Sort) (m : Meant) (p : ℕ) → AreFull o → meant_as o s m ≡ Some p
     → IsAt o s p
 declared_at o s meant.Nothing p full h = nowhere (p, h)
-declared_at o s meant.Predeclared p full h = nowhere (p, h)
+declared_at o s (meant.Predeclared n) p full h = nowhere (p, h)
 declared_at o s (meant.Unseen q) p full h = nowhere (p, h)
 declared_at o s (meant.Seen q) p full h =
     let c = cond_some (is_sort s (entry_at o q)) q p h in

@@ -4,7 +4,9 @@ use Rattle.std.proofs.Common.{◌≡◌, refl, ap, ◌∙◌, ℕ, zero, suc, �
 use Rattle.std.proofs.Common.{List, [], ◌∷◌, Option, Some, None, arith}
 use Rattle.std.proofs.lemmas.Bool.Decides.{Decides-ltb}
 use Rattle.std.proofs.lemmas.Option.{same_Some, none-some}
-use Rattle.est_syntax.specs.Names.{spelled, is_predeclared}
+use Rattle.est_syntax.specs.Names.{spelled}
+use Rattle.est_scope.specs.declared.predeclared.PredeclaredName.{PredeclaredName}
+use Rattle.est_scope.specs.Predeclared.{predeclared_name}
 use Rattle.est_syntax.specs.declared.name.Used.{Used}
 use Rattle.est_scope.specs.declared.declaration.Extent.{Extent}
 use Rattle.est_scope.specs.declared.declaration.Meant.TheVariants as meant
@@ -49,7 +51,8 @@ around_same : (shared : Bool) (q p : ℕ) → seen_around shared q ≡ meant.See
 around_same true q p h = cc
 around_same false q p h = cc
 
-meant_stands : (o : Outline) (known : Bool) (own around : Option ℕ) (name : List ℕ) (place p : ℕ)
+meant_stands : (o : Outline) (known : Option PredeclaredName) (own around : Option ℕ)
+    (name : List ℕ) (place p : ℕ)
     → ((q : ℕ) → own ≡ Some q → IsInForce o name place q)
     → ((q : ℕ) → around ≡ Some q → IsInForce o name place q)
     → meant_by o known own around ≡ meant.Seen p → IsInForce o name place p
@@ -57,16 +60,16 @@ meant_stands o known (Some q) around name place p inner outer h =
     let same : q ≡ p = cc in moved o name place q p same (inner q refl)
 meant_stands o known None (Some q) name place p inner outer h =
     moved o name place q p (around_same (is_shared (entry_at o q)) q p h) (outer q refl)
-meant_stands o true None None name place p inner outer h = cc
-meant_stands o false None None name place p inner outer h = cc
+meant_stands o None None None name place p inner outer h = cc
+meant_stands o (Some n) None None name place p inner outer h = cc
 
 within_stands : (o : Outline) (x : Option Extent) (name : List ℕ) (place p : ℕ)
     → meant_within o x name place ≡ meant.Seen p → IsInForce o name place p
 within_stands o None name place p h =
-    meant_stands o (is_predeclared name) None None name place p (λ q k. absurd (none-some q k))
+    meant_stands o (predeclared_name name) None None name place p (λ q k. absurd (none-some q k))
     (λ q k. absurd (none-some q k)) h
 within_stands o (Some e) name place p h =
-    meant_stands o (is_predeclared name) (found o e.own name place) (found o e.around name place)
+    meant_stands o (predeclared_name name) (found o e.own name place) (found o e.around name place)
     name place p (found_stands o e.own name place) (found_stands o e.around name place) h
 
 meaning_stands : (o : Outline) (u : Used) (p : ℕ) → meaning o u ≡ meant.Seen p

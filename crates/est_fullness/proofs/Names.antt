@@ -367,7 +367,7 @@ module _ (o : Outline) where
       → Each (OfStateSet IsSoAt IsAMember) ss
   statesets_full ss said = each_then (StateSetSaid o) (OfStateSet IsSoAt IsAMember)
       (λ s is. plain_full sort.StateSet (λ e. tt) (λ e q. of_sort sort.StateSet e q tt) s.name
-      (names_last s.states s.name.place) is) ss said
+      (names_last s.states s.name.place) (λ e at. (is e at).0)) ss said
 
   -- formals
   formal_full : (result : Option Used) (f : Formal) → FormalSaid o f

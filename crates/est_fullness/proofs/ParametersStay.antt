@@ -34,9 +34,10 @@ use Rattle.est_outline.specs.Declares.{typedef_named, typedef_declares, types_de
 use Rattle.est_outline.specs.Declares.{vardef_declares, vars_declare, roles_put, side_of}
 use Rattle.est_outline.specs.Declares.{point_declares, points_declare, modvar_declares}
 use Rattle.est_outline.specs.Declares.{modvars_declare, before, after, stands_before}
-use Rattle.est_outline.specs.Declares.{sections_declare, states_declare, stateset_declares}
+use Rattle.est_outline.specs.Declares.{sections_declare, states_declare, states_named}
+use Rattle.est_outline.specs.Declares.{stateset_declares}
 use Rattle.est_outline.specs.Declares.{statesets_declare}
-use Rattle.est_outline.specs.Entries.{plain, constant, numbered, point, module_variable}
+use Rattle.est_outline.specs.Entries.{plain, constant, numbered, point, module_variable, state_set}
 use Rattle.est_outline.specs.Lasts.{names_last, text_last}
 use Rattle.est_order.proofs.Declaring.{order_on, constdef_on, typedef_on, vardef_on, vars_on}
 use Rattle.est_order.proofs.Declaring.{dims_on, point_on, modvar_on, stateset_on}
@@ -293,8 +294,8 @@ module _ (B : ℕ → Type 0) (a b : ℕ) where
       let g = h.6 in
       let k = h.7 in
       keeps_then (keeps_lying w p.place)
-      (names_keep w p.names p.role.place (point w dims (dims_elements dims) (side_of o1 p)) o1 i
-      h.0 h.3 l (omega arith) fit)
+      (names_keep w p.names p.role.place (point w dims (dims_elements dims) (side_of o1 p) p.queue)
+      o1 i h.0 h.3 l (omega arith) fit)
 
   pub points_keep : (w : Within) (ps : List Point) (o : Outline) (i j : ℕ)
       → InOrder PointPlaced i j ps → a ≤ i → j ≤ b → Fits B a b w → Keeps o (points_declare w ps o)
@@ -362,8 +363,8 @@ module _ (B : ℕ → Type 0) (a b : ℕ) where
       let q = h.0 in
       let k = names_on (suc place) j s.states h.1 in
       keeps_then (keeps_lying w place)
-      (keeps_declared w s.name (names_last s.states place) (plain w sort.StateSet) (omega arith)
-      (omega arith) fit)
+      (keeps_declared w s.name (names_last s.states place)
+      (state_set w (states_named (lying w place o) s.states)) (omega arith) (omega arith) fit)
 
   pub statesets_keep : (w : Within) (ss : List StateSet) (o : Outline) (i j : ℕ)
       → InOrder StateSetPlaced i j ss → a ≤ i → j ≤ b → Fits B a b w

@@ -18,14 +18,14 @@ use Rattle.est_fullness.proofs.NoFaults.{unbroken}
 
 pub meaning_known : MeaningsAreKnown
 meaning_known meant.Nothing place known declared h = cc
-meaning_known meant.Predeclared place known declared h = h
+meaning_known (meant.Predeclared n) place known declared h = h
 meaning_known (meant.Unseen p) place known declared h = cc
 meaning_known (meant.Seen p) place known declared h = h
 
 seen_by : (o : Outline) (s : Sort) (place : ℕ) (m : Meant) → used_as o s place m ≡ []
     → IsThere (meant_as o s m)
 seen_by o s place meant.Nothing h = cc
-seen_by o s place meant.Predeclared h = cc
+seen_by o s place (meant.Predeclared n) h = cc
 seen_by o s place (meant.Unseen p) h = cc
 seen_by o s place (meant.Seen p) h = (
   p,

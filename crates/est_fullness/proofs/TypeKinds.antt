@@ -4,7 +4,6 @@ use Rattle.std.proofs.Common.{◌≡◌, refl, sym, ap, subst, ◌∙◌, ℕ, �
 use Rattle.std.proofs.Common.{true, false, List, [], ◌∷◌, ◌++◌, Option, Some, None, length, arith}
 use Rattle.est_syntax.specs.Faults.{broken}
 use Rattle.est_syntax.specs.Kinds.{is_ordinal}
-use Rattle.est_syntax.specs.Names.{spelled}
 use Rattle.est_syntax.specs.declared.kind.Kind.TheVariants as kind
 use Rattle.est_syntax.specs.declared.name.Used.{Used}
 use Rattle.est_syntax.specs.declared.rule.Rule.TheVariants as rule
@@ -40,11 +39,11 @@ use Rattle.est_fullness.proofs.ConstantValues.{constant_fits}
 
 -- names of types
 meant_there : (o : Outline) (u : Used) (m : Meant) → IsFullAt o u → meaning o u ≡ m
-    → type_used o u m ≡ [] → IsThere (type_meant o (spelled u) m)
+    → type_used o u m ≡ [] → IsThere (type_meant o m)
 meant_there o u meant.Nothing full is h = cc
-meant_there o u meant.Predeclared full is h =
-    not_none (predeclared_type (spelled u))
-    (unbroken_if (is_none (predeclared_type (spelled u))) u.place rule.WrongSort h)
+meant_there o u (meant.Predeclared n) full is h =
+    not_none (predeclared_type n)
+    (unbroken_if (is_none (predeclared_type n)) u.place rule.WrongSort h)
 meant_there o u (meant.Unseen p) full is h = cc
 meant_there o u (meant.Seen p) full is h =
     let s = right_sort o sort.TypeName u.place p h in

@@ -56,7 +56,7 @@ use Rattle.est_outline.specs.declared.context.ClauseKind.TheVariants as kind
 use Rattle.est_outline.specs.declared.context.Given.{Given}
 use Rattle.est_outline.specs.Contexts.{dropped, given, under}
 use Rattle.est_outline.specs.Entries.{plain, constant, numbered, point, module_variable, header}
-use Rattle.est_outline.specs.Entries.{outermost, inner, in_region, in_section}
+use Rattle.est_outline.specs.Entries.{state_set, outermost, inner, in_region, in_section}
 use Rattle.est_outline.specs.Lasts.{names_last, text_last, channel_last, header_last}
 use Rattle.est_outline.specs.Declares.{names_declare, constdef_declares, consts_declare}
 use Rattle.est_outline.specs.Declares.{numbers_declare, kinds_given, enumeration_declares}
@@ -68,7 +68,8 @@ use Rattle.est_outline.specs.Declares.{by_part_declares, by_parts_declare, chann
 use Rattle.est_outline.specs.Declares.{side_of, point_declares, points_declare, modvar_declares}
 use Rattle.est_outline.specs.Declares.{modvars_declare, stands_before, before, after}
 use Rattle.est_outline.specs.Declares.{sections_declare, has_exports, header_named}
-use Rattle.est_outline.specs.Declares.{header_declares, states_declare, stateset_declares}
+use Rattle.est_outline.specs.Declares.{header_declares, states_declare, states_named}
+use Rattle.est_outline.specs.Declares.{stateset_declares}
 use Rattle.est_outline.specs.Declares.{statesets_declare, formal_section, formal_named}
 use Rattle.est_outline.specs.Declares.{formal_declares, formals_declare}
 use Rattle.est_outline.specs.Bodies.{Clausal, statement_place, expr_place, all_by, over_header}
@@ -356,8 +357,8 @@ module _ (D : ℕ → ℕ → Type 0) (M : ℕ → Type 0) (P : Outline → Type
   point_kept w x o q p =
       let o1 = lying w x.place o in
       let dims = dims_of o1 x.dims in
-      names_kept w x.names x.role.place (point w dims (dims_elements dims) (side_of o1 x)) o1 q
-      (kept.lies o w x.place p)
+      names_kept w x.names x.role.place (point w dims (dims_elements dims) (side_of o1 x) x.queue)
+      o1 q (kept.lies o w x.place p)
 
   points_kept : (w : Within) (ps : List Point) (o : Outline) → Each (OfPoint D M) ps → P o
       → P (points_declare w ps o)
@@ -430,8 +431,8 @@ module _ (D : ℕ → ℕ → Type 0) (M : ℕ → Type 0) (P : Outline → Type
   statesets_kept w (s ∷ ss) o q p =
       let o1 = lying w s.name.place o in
       statesets_kept w ss (stateset_declares w s o) q.1
-      (kept.declares o1 w s.name (names_last s.states s.name.place) (plain w sort.StateSet) q.0
-      (kept.lies o w s.name.place p))
+      (kept.declares o1 w s.name (names_last s.states s.name.place)
+      (state_set w (states_named o1 s.states)) q.0 (kept.lies o w s.name.place p))
 
   -- formals
   formals_kept : (w : Within) (fs : List Formal) (o : Outline) → Each (OfFormal D M) fs → P o

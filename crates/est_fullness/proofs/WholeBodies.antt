@@ -67,7 +67,7 @@ use Rattle.est_fullness.proofs.WholeStatements.{wanted_full, statement_whole}
 -- clauses
 state_seen : (o : Outline) (m : Meant) (place : ℕ) → state_used o place m ≡ [] → IsState o m
 state_seen o meant.Nothing place h = not_broken place rule.UnknownName h
-state_seen o meant.Predeclared place h = not_broken place rule.WrongSort h
+state_seen o (meant.Predeclared n) place h = not_broken place rule.WrongSort h
 state_seen o (meant.Unseen p) place h = not_broken place rule.NotSeenHere h
 state_seen o (meant.Seen p) place h = unbroken (is_state_sort (entry_at o p)) place rule.WrongSort h
 

@@ -17,6 +17,7 @@ use Rattle.est_scope.specs.declared.declaration.Sort.TheVariants as sort
 use Rattle.est_scope.specs.declared.declaration.Meant.{Meant}
 use Rattle.est_scope.specs.declared.declaration.Meant.TheVariants.{Predeclared, Seen}
 use Rattle.est_scope.specs.declared.declaration.Standing.{Standing}
+use Rattle.est_scope.specs.declared.predeclared.PredeclaredName.{PredeclaredName}
 use Rattle.est_scope.specs.Outline.{Outline, standing, entry_at}
 use Rattle.est_scope.specs.Uses.{meaning_faults, use_faults, declaration_of, twices_faults}
 use Rattle.est_kinds.specs.declared.value.Valued.{Valued}
@@ -58,15 +59,16 @@ abbrev pub PlaceByPlace : Type 0
 PlaceByPlace = (o : Outline) → EachIsFullInTime o → (b : ℕ) → AreFullBefore o b
 
 -- what is predeclared or declared breaks nothing of its own
-abbrev pub IsKnown : Meant → List Fault → (ℕ → List Fault) → Type 0
-IsKnown Predeclared known declared = known ≡ []
+abbrev pub IsKnown : Meant → (PredeclaredName → List Fault) → (ℕ → List Fault) → Type 0
+IsKnown (Predeclared n) known declared = known n ≡ []
 IsKnown (Seen place) known declared = declared place ≡ []
 IsKnown _ known declared = ⊥
 
 -- a use that breaks nothing means what is predeclared, or a declaration that is seen
 abbrev pub MeaningsAreKnown : Type 0
-MeaningsAreKnown = (m : Meant) (place : ℕ) (known : List Fault) (declared : ℕ → List Fault)
-    → meaning_faults m place known declared ≡ [] → IsKnown m known declared
+MeaningsAreKnown = (m : Meant) (place : ℕ) (known : PredeclaredName → List Fault)
+    (declared : ℕ → List Fault) → meaning_faults m place known declared ≡ []
+    → IsKnown m known declared
 
 -- a name whose use as a sort breaks nothing means a declaration of that sort
 abbrev pub UsesAreSeen : Type 0

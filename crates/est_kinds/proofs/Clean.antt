@@ -3,7 +3,6 @@ use Rattle.std.specs.Prelude.{if◌then◌else◌, nat_le, is_some, is_none, ◌
 use Rattle.std.proofs.lemmas.Option.{none-some}
 use Rattle.std.proofs.Common.{◌≡◌, refl, sym, true≢false, ap, ℕ, Bool, true}
 use Rattle.std.proofs.Common.{false, List, [], ◌∷◌, ◌++◌, Option, Some, None}
-use Rattle.est_syntax.specs.Names.{spelled}
 use Rattle.est_syntax.specs.Faults.{broken, broken_if}
 use Rattle.est_syntax.specs.Kinds.{maxint, is_ordinal}
 use Rattle.est_syntax.specs.declared.name.Used.{Used}
@@ -59,9 +58,9 @@ entry_clean (Some e) m place h = met (is_sort sort.TypeName (Some e)) e.kind m p
     h
 
 meant_clean : (o : Outline) (u : Used) (w : Meant) (m : Measured)
-    → type_meant o (spelled u) w ≡ Some m → type_used o u w ≡ []
+    → type_meant o w ≡ Some m → type_used o u w ≡ []
 meant_clean o u meant.Nothing m h = absurd (none-some m h)
-meant_clean o u meant.Predeclared m h = ap (λ k. broken_if (is_none k) u.place rule.WrongSort) h
+meant_clean o u (meant.Predeclared n) m h = ap (λ k. broken_if (is_none k) u.place rule.WrongSort) h
 meant_clean o u (meant.Unseen p) m h = absurd (none-some m h)
 meant_clean o u (meant.Seen p) m h = entry_clean (entry_at o p) m u.place h
 
@@ -73,9 +72,9 @@ value_clean (Some e) v place h = met (is_sort sort.Constant (Some e)) (value_wit
     v place rule.WrongSort h
 
 used_clean : (o : Outline) (u : Used) (w : Meant) (v : Valued)
-    → value_meant o (spelled u) w ≡ Some v → constant_used o u w ≡ []
+    → value_meant o w ≡ Some v → constant_used o u w ≡ []
 used_clean o u meant.Nothing v h = absurd (none-some v h)
-used_clean o u meant.Predeclared v h = ap (λ k. broken_if (is_none k) u.place rule.WrongSort) h
+used_clean o u (meant.Predeclared n) v h = ap (λ k. broken_if (is_none k) u.place rule.WrongSort) h
 used_clean o u (meant.Unseen p) v h = absurd (none-some v h)
 used_clean o u (meant.Seen p) v h = value_clean (entry_at o p) v u.place h
 

@@ -1,8 +1,6 @@
 -- The values of constants (ISO 7185, 6.3).
 use Rattle.std.specs.Prelude.{ℕ, suc, ◌-◌, ◌^◌, min, ℤ, pos, ◌-ℤ◌, int_lt, Bool, true, false}
 use Rattle.std.specs.Prelude.{nat_le, List, [], ◌++◌, Option, Some, None, is_none, if◌then◌else◌}
-use Rattle.std.specs.Prelude.{codes}
-use Rattle.est_syntax.specs.Names.{is_name, spelled}
 use Rattle.est_syntax.specs.Faults.{broken, broken_if}
 use Rattle.est_syntax.specs.Kinds.{maxint}
 use Rattle.est_syntax.specs.declared.name.Used.{Used}
@@ -19,6 +17,8 @@ use Rattle.est_scope.specs.declared.declaration.Measured.{Measured}
 use Rattle.est_scope.specs.declared.declaration.Meant.{Meant}
 use Rattle.est_scope.specs.declared.declaration.Meant.TheVariants.{Predeclared, Seen}
 use Rattle.est_scope.specs.declared.declaration.Sort.TheVariants as sort
+use Rattle.est_scope.specs.declared.predeclared.PredeclaredName.{PredeclaredName}
+use Rattle.est_scope.specs.declared.predeclared.PredeclaredName.TheVariants as known
 use Rattle.est_scope.specs.Outline.{Outline, entry_at}
 use Rattle.est_scope.specs.Uses.{is_sort, meaning, meaning_faults, other_sort_faults}
 use Rattle.est_kinds.specs.declared.value.Valued.{Valued}
@@ -28,11 +28,11 @@ abbrev pub valued : Kind → ℤ → Valued
 valued host z = record { host = host; ordinal = z }
 
 -- the constants that are predeclared
-abbrev pub predeclared_constant : List ℕ → Option Valued
-predeclared_constant name =
-    if is_name name (codes "false") then Some (valued kind.Boolean (pos 0)) else
-    (if is_name name (codes "true") then Some (valued kind.Boolean (pos 1)) else
-    (if is_name name (codes "maxint") then Some (valued kind.Integer (pos maxint)) else None))
+abbrev pub predeclared_constant : PredeclaredName → Option Valued
+predeclared_constant known.False = Some (valued kind.Boolean (pos 0))
+predeclared_constant known.True = Some (valued kind.Boolean (pos 1))
+predeclared_constant known.Maxint = Some (valued kind.Integer (pos maxint))
+predeclared_constant _ = None
 
 -- whether a kind is that of the integers
 abbrev pub is_integer : Kind → Bool
@@ -76,14 +76,14 @@ value_by None = None
 value_by (Some e) = if is_sort sort.Constant (Some e) then value_with e.kind e.ordinal else None
 
 -- the value of the constant that a name of this meaning means
-abbrev pub value_meant : Outline → List ℕ → Meant → Option Valued
-value_meant o name Predeclared = predeclared_constant name
-value_meant o name (Seen p) = value_by (entry_at o p)
-value_meant o name _ = None
+abbrev pub value_meant : Outline → Meant → Option Valued
+value_meant o (Predeclared n) = predeclared_constant n
+value_meant o (Seen p) = value_by (entry_at o p)
+value_meant o _ = None
 
 -- the value of the constant that a name means
 abbrev pub named_value : Outline → Used → Option Valued
-named_value o u = value_meant o (spelled u) (meaning o u)
+named_value o u = value_meant o (meaning o u)
 
 -- the value of a constant
 abbrev pub constant_value : Outline → Constant → Option Valued
@@ -111,7 +111,7 @@ constant_last (constant.Character code place) = place
 -- a name of this meaning where a constant is wanted
 abbrev pub constant_used : Outline → Used → Meant → List Fault
 constant_used o u m = meaning_faults m u.place
-    (broken_if (is_none (predeclared_constant (spelled u))) u.place WrongSort)
+    (λ (n : PredeclaredName). broken_if (is_none (predeclared_constant n)) u.place WrongSort)
     (other_sort_faults o sort.Constant u.place)
 
 -- a sign before the name of a constant that is no integer

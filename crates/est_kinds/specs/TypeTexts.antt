@@ -3,8 +3,7 @@
 use Rattle.std.specs.Prelude.{ℕ, suc, ◌+◌, ◌*◌, ◌-◌, ◌^◌, min, max, ℤ, pos, negsuc, ◌-ℤ◌}
 use Rattle.std.specs.Prelude.{int_lt, Bool, true, false, ◌&&◌, nat_lt, nat_eq, List, [], ◌∷◌}
 use Rattle.std.specs.Prelude.{◌++◌, map, length, Option, Some, None, is_some, is_none}
-use Rattle.std.specs.Prelude.{if◌then◌else◌, codes}
-use Rattle.est_syntax.specs.Names.{is_name, spelled}
+use Rattle.std.specs.Prelude.{if◌then◌else◌}
 use Rattle.est_syntax.specs.Faults.{broken, broken_if}
 use Rattle.est_syntax.specs.Kinds.{is_ordinal}
 use Rattle.est_syntax.specs.declared.name.Used.{Used}
@@ -25,6 +24,8 @@ use Rattle.est_scope.specs.declared.declaration.Measured.{Measured}
 use Rattle.est_scope.specs.declared.declaration.Meant.{Meant}
 use Rattle.est_scope.specs.declared.declaration.Meant.TheVariants.{Predeclared, Seen}
 use Rattle.est_scope.specs.declared.declaration.Sort.TheVariants as sort
+use Rattle.est_scope.specs.declared.predeclared.PredeclaredName.{PredeclaredName}
+use Rattle.est_scope.specs.declared.predeclared.PredeclaredName.TheVariants as known
 use Rattle.est_scope.specs.Outline.{Outline, entry_at, member_at}
 use Rattle.est_scope.specs.Uses.{is_sort, meaning, meaning_faults, other_sort_faults}
 use Rattle.est_scope.specs.Uses.{twices_faults, agains_faults}
@@ -99,11 +100,11 @@ count k = of (out-Kind k)
     of _ = 0
 
 -- the types that are predeclared
-abbrev pub predeclared_type : List ℕ → Option Measured
-predeclared_type name =
-    if is_name name (codes "integer") then Some (scalar kind.Integer) else
-    (if is_name name (codes "boolean") then Some (scalar kind.Boolean) else
-    (if is_name name (codes "char") then Some (scalar kind.Char) else None))
+abbrev pub predeclared_type : PredeclaredName → Option Measured
+predeclared_type known.Integer = Some (scalar kind.Integer)
+predeclared_type known.Boolean = Some (scalar kind.Boolean)
+predeclared_type known.Char = Some (scalar kind.Char)
+predeclared_type _ = None
 
 -- the kind of a declaration, where it is that of a type and has one
 abbrev pub type_by : Option Entry → Option Measured
@@ -111,19 +112,19 @@ type_by None = None
 type_by (Some e) = if is_sort sort.TypeName (Some e) then e.kind else None
 
 -- the kind of the type that a name of this meaning means
-abbrev pub type_meant : Outline → List ℕ → Meant → Option Measured
-type_meant o name Predeclared = predeclared_type name
-type_meant o name (Seen p) = type_by (entry_at o p)
-type_meant o name _ = None
+abbrev pub type_meant : Outline → Meant → Option Measured
+type_meant o (Predeclared n) = predeclared_type n
+type_meant o (Seen p) = type_by (entry_at o p)
+type_meant o _ = None
 
 -- the kind of the type that a name means
 abbrev pub named_type : Outline → Used → Option Measured
-named_type o u = type_meant o (spelled u) (meaning o u)
+named_type o u = type_meant o (meaning o u)
 
 -- a name of this meaning where a type is wanted
 abbrev pub type_used : Outline → Used → Meant → List Fault
 type_used o u m = meaning_faults m u.place
-    (broken_if (is_none (predeclared_type (spelled u))) u.place WrongSort)
+    (λ (n : PredeclaredName). broken_if (is_none (predeclared_type n)) u.place WrongSort)
     (other_sort_faults o sort.TypeName u.place)
 
 -- a name where a type is wanted

@@ -16,34 +16,31 @@ use crate::value::Valued;
 use est_scope::declaration::{Entry, Meant, Sort};
 use est_scope::least::Least;
 use est_scope::outline::Outline;
+use est_scope::predeclared::PredeclaredName;
 use est_syntax::constant::Constant;
 use est_syntax::kind::{Kind, MAXINT};
-use est_syntax::name::{Name, Used};
+use est_syntax::name::Used;
 use est_syntax::rule::Rule;
 use std::alloc::AllocError;
 
 // The constants that are predeclared.
-fn predeclared_constant(name: &Name) -> Option<Valued>
-    ensures { result ≡ predeclared_constant name.now.bytes }
+fn predeclared_constant(known: PredeclaredName) -> Option<Valued>
+    ensures { result ≡ predeclared_constant known }
 {
-    let bytes = name.bytes.as_slice();
-    if bytes == b"false".as_slice() {
-        Some(Valued {
+    match known {
+        PredeclaredName::False => Some(Valued {
             host: Kind::Boolean,
             ordinal: 0,
-        })
-    } else if bytes == b"true".as_slice() {
-        Some(Valued {
+        }),
+        PredeclaredName::True => Some(Valued {
             host: Kind::Boolean,
             ordinal: 1,
-        })
-    } else if bytes == b"maxint".as_slice() {
-        Some(Valued {
+        }),
+        PredeclaredName::Maxint => Some(Valued {
             host: Kind::Integer,
             ordinal: MAXINT as i32,
-        })
-    } else {
-        None
+        }),
+        _ => None,
     }
 }
 
@@ -131,11 +128,11 @@ fn declared_value(outline: &Outline, place: u32) -> Result<Option<Valued>, Alloc
 }
 
 // The value of the constant that a name means.
-fn meant_value(outline: &Outline, name: &Name, meant: Meant) -> Result<Option<Valued>, AllocError>
-    ensures { IfOk result (λ v. v ≡ value_meant outline.now name.now.bytes meant) }
+fn meant_value(outline: &Outline, meant: Meant) -> Result<Option<Valued>, AllocError>
+    ensures { IfOk result (λ v. v ≡ value_meant outline.now meant) }
 {
     match meant {
-        Meant::Predeclared => Ok(predeclared_constant(name)),
+        Meant::Predeclared(known) => Ok(predeclared_constant(known)),
         Meant::Seen(place) => declared_value(outline, place),
         _ => Ok(None),
     }
@@ -176,7 +173,7 @@ fn check_used(outline: &Outline, used: &Used, meant: Meant, least: &mut Least)
 {
     match meant {
         Meant::Nothing => least.note(used.place, Rule::UnknownName),
-        Meant::Predeclared => if predeclared_constant(&used.name).is_none() {
+        Meant::Predeclared(known) => if predeclared_constant(known).is_none() {
             least.note(used.place, Rule::WrongSort);
         },
         Meant::Unseen(_) => least.note(used.place, Rule::NotSeenHere),
@@ -232,7 +229,7 @@ fn check_named(
 {
     let meant = outline.meaning(used);
     check_used(outline, used, meant, least);
-    let value = meant_value(outline, &used.name, meant)?;
+    let value = meant_value(outline, meant)?;
     check_sign(sign, used.place, &value, least);
     Ok(signed(minus, sign, value))
 }

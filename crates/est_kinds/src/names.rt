@@ -12,24 +12,21 @@ use crate::value::copy_kind;
 use est_scope::declaration::{Entry, Meant, Measured, Sort};
 use est_scope::least::Least;
 use est_scope::outline::Outline;
+use est_scope::predeclared::PredeclaredName;
 use est_syntax::kind::Kind;
-use est_syntax::name::{Name, Used};
+use est_syntax::name::Used;
 use est_syntax::rule::Rule;
 use std::alloc::AllocError;
 
 // The types that are predeclared.
-fn predeclared_type(name: &Name) -> Option<Measured>
-    ensures { result ≡ predeclared_type name.now.bytes }
+fn predeclared_type(known: PredeclaredName) -> Option<Measured>
+    ensures { result ≡ predeclared_type known }
 {
-    let bytes = name.bytes.as_slice();
-    if bytes == b"integer".as_slice() {
-        Some(scalar(Kind::Integer))
-    } else if bytes == b"boolean".as_slice() {
-        Some(scalar(Kind::Boolean))
-    } else if bytes == b"char".as_slice() {
-        Some(scalar(Kind::Char))
-    } else {
-        None
+    match known {
+        PredeclaredName::Integer => Some(scalar(Kind::Integer)),
+        PredeclaredName::Boolean => Some(scalar(Kind::Boolean)),
+        PredeclaredName::Char => Some(scalar(Kind::Char)),
+        _ => None,
     }
 }
 
@@ -55,11 +52,11 @@ fn declared_type(outline: &Outline, place: u32) -> Result<Option<Measured>, Allo
 }
 
 // The kind of the type that a name of this meaning means.
-fn meant_type(outline: &Outline, name: &Name, meant: Meant) -> Result<Option<Measured>, AllocError>
-    ensures { IfOk result (λ m. m ≡ type_meant outline.now name.now.bytes meant) }
+fn meant_type(outline: &Outline, meant: Meant) -> Result<Option<Measured>, AllocError>
+    ensures { IfOk result (λ m. m ≡ type_meant outline.now meant) }
 {
     match meant {
-        Meant::Predeclared => Ok(predeclared_type(name)),
+        Meant::Predeclared(known) => Ok(predeclared_type(known)),
         Meant::Seen(place) => declared_type(outline, place),
         _ => Ok(None),
     }
@@ -71,7 +68,7 @@ fn check_used(outline: &Outline, used: &Used, meant: Meant, least: &mut Least)
 {
     match meant {
         Meant::Nothing => least.note(used.place, Rule::UnknownName),
-        Meant::Predeclared => if predeclared_type(&used.name).is_none() {
+        Meant::Predeclared(known) => if predeclared_type(known).is_none() {
             least.note(used.place, Rule::WrongSort);
         },
         Meant::Unseen(_) => least.note(used.place, Rule::NotSeenHere),
@@ -85,7 +82,7 @@ fn check_used(outline: &Outline, used: &Used, meant: Meant, least: &mut Least)
 pub fn named_type(outline: &Outline, used: &Used) -> Result<Option<Measured>, AllocError>
     ensures { IfOk result (λ m. m ≡ named_type outline.now used.now) }
 {
-    meant_type(outline, &used.name, outline.meaning(used))
+    meant_type(outline, outline.meaning(used))
 }
 
 /// Notes a name where a type is wanted, and it means none.
@@ -107,5 +104,5 @@ pub fn check_named(
 {
     let meant = outline.meaning(used);
     check_used(outline, used, meant, least);
-    meant_type(outline, &used.name, meant)
+    meant_type(outline, meant)
 }

@@ -3,7 +3,9 @@ use Rattle.std.proofs.Common.{◌≡◌, ℕ, ◌<◌, Bool, true, false, ◌&&�
 use Rattle.std.proofs.Common.{◌∷◌, refl, sym, subst, ap, ◌∙◌, Option, Some, None, nat_lt}
 use Rattle.std.proofs.Common.{arith}
 use Rattle.std.proofs.lemmas.Option.{same_Some}
-use Rattle.est_syntax.specs.Names.{spelled, is_predeclared}
+use Rattle.est_syntax.specs.Names.{spelled}
+use Rattle.est_scope.specs.declared.predeclared.PredeclaredName.{PredeclaredName}
+use Rattle.est_scope.specs.Predeclared.{predeclared_name}
 use Rattle.est_syntax.specs.declared.name.Used.{Used}
 use Rattle.est_scope.specs.declared.declaration.Entry.{Entry}
 use Rattle.est_scope.specs.declared.declaration.Extent.{Extent}
@@ -101,7 +103,7 @@ module _ (j b place : ℕ) (c : Bool) (o p : Outline) (l : place < j) (before : 
           (λ k. own_entry place (entry_at p place) (λ e at. closed_own e (sym k ∙ at))
           ∙ sym (own_entry place (entry_at o place) own)) same
 
-  free_by : (known : Bool) (x y : Option ℕ) → ((z : ℕ) → x ≡ Some z → z < j)
+  free_by : (known : Option PredeclaredName) (x y : Option ℕ) → ((z : ℕ) → x ≡ Some z → z < j)
       → ((z : ℕ) → y ≡ Some z → z < j)
       → is_free_meant p place (meant_by p known x y) ≡ is_free_meant o place (meant_by o known x y)
   free_by known (Some z) y h k = entry_free z (h z refl)
@@ -109,19 +111,19 @@ module _ (j b place : ℕ) (c : Bool) (o p : Outline) (l : place < j) (before : 
       around_free p place (is_shared (entry_at p z)) z
       ∙ entry_free z (k z refl)
       ∙ sym (around_free o place (is_shared (entry_at o z)) z)
-  free_by true None None h k = refl
-  free_by false None None h k = refl
+  free_by None None None h k = refl
+  free_by (Some n) None None h k = refl
 
   free_within : (q : ℕ) → Later j q o p → (x : Option Extent) (name : List ℕ)
       → is_free_meant p place (meant_within p x name q)
       ≡ is_free_meant o place (meant_within o x name q)
   free_within q later None name =
-      free_by (is_predeclared name) None None (λ z h. absurd cc) (λ z h. absurd cc)
+      free_by (predeclared_name name) None None (λ z h. absurd cc) (λ z h. absurd cc)
   free_within q later (Some e) name =
-      (λ i. is_free_meant p place (meant_by p (is_predeclared name)
+      (λ i. is_free_meant p place (meant_by p (predeclared_name name)
       (found_stays j q o p later e.own name q (omega arith) i)
       (found_stays j q o p later e.around name q (omega arith) i)))
-      ∙ free_by (is_predeclared name) (found o e.own name q) (found o e.around name q)
+      ∙ free_by (predeclared_name name) (found o e.own name q) (found o e.around name q)
       (found_before j o before e.own name q) (found_before j o before e.around name q)
 
   -- a name before the end may be named, or not, as in the whole outline

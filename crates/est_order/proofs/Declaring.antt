@@ -36,7 +36,7 @@ use Rattle.est_kinds.specs.Constants.{constant_value, constant_last}
 use Rattle.est_kinds.specs.TypeTexts.{text_type, text_place, named_type, enumeration}
 use Rattle.est_kinds.specs.Dims.{dims_of, dims_elements}
 use Rattle.est_outline.specs.Entries.{plain, constant, numbered, point}
-use Rattle.est_outline.specs.Entries.{module_variable, header, in_region, in_section}
+use Rattle.est_outline.specs.Entries.{module_variable, state_set, header, in_region, in_section}
 use Rattle.est_outline.specs.Lasts.{names_last, text_last, vars_last, interactions_last, by_last}
 use Rattle.est_outline.specs.Lasts.{channel_last, header_last}
 use Rattle.est_outline.specs.Declares.{names_declare, constdef_declares, consts_declare}
@@ -49,8 +49,9 @@ use Rattle.est_outline.specs.Declares.{by_part_declares, by_parts_declare, chann
 use Rattle.est_outline.specs.Declares.{side_of, point_declares, points_declare, modvar_declares}
 use Rattle.est_outline.specs.Declares.{modvars_declare, before, after, stands_before}
 use Rattle.est_outline.specs.Declares.{sections_declare, has_exports, header_named}
-use Rattle.est_outline.specs.Declares.{header_declares, states_declare, stateset_declares}
-use Rattle.est_outline.specs.Declares.{statesets_declare, formal_section, formal_named}
+use Rattle.est_outline.specs.Declares.{header_declares, states_declare, states_named}
+use Rattle.est_outline.specs.Declares.{stateset_declares, statesets_declare, formal_section}
+use Rattle.est_outline.specs.Declares.{formal_named}
 use Rattle.est_outline.specs.Declares.{formal_declares, formals_declare}
 use Rattle.est_order.specs.Growth.{IsOpen, Grows, g_not, g_then, g_declared, g_put, g_amended}
 use Rattle.est_order.specs.Growth.{g_lying}
@@ -453,8 +454,8 @@ module _ (R : ℕ → Type 0) (unfinished : Bool) (a b : ℕ) (fits : b ≤ 2 ^ 
       let k = h.7 in
       let q = h.2 in
       g_then (g_lying w p.place (omega arith))
-      (names_grow w own p.names p.role.place (point w dims (dims_elements dims) (side_of o1 p)) o1 i
-      h.0 h.3 l (omega arith) (omega arith))
+      (names_grow w own p.names p.role.place
+      (point w dims (dims_elements dims) (side_of o1 p) p.queue) o1 i h.0 h.3 l (omega arith) (omega arith))
 
   pub points_grow : (w : Within) (own : IsOpen R a w.region) (ps : List Point) (o : Outline)
       (i j : ℕ) → InOrder PointPlaced i j ps → a ≤ i → j ≤ b
@@ -567,8 +568,8 @@ module _ (R : ℕ → Type 0) (unfinished : Bool) (a b : ℕ) (fits : b ≤ 2 ^ 
       let f : place ≤ names_last s.states place =
       names_from place (suc place) j place s.states h.1 (omega arith) (omega arith) in
       g_then (g_lying w place (omega arith))
-      (g_declared w own s.name (names_last s.states place) (plain w sort.StateSet) (omega arith)
-      (omega arith) f)
+      (g_declared w own s.name (names_last s.states place)
+      (state_set w (states_named (lying w place o) s.states)) (omega arith) (omega arith) f)
 
   pub statesets_grow : (w : Within) (own : IsOpen R a w.region) (ss : List StateSet) (o : Outline)
       (i j : ℕ) → InOrder StateSetPlaced i j ss → a ≤ i → j ≤ b

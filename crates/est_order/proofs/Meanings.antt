@@ -4,7 +4,9 @@ use Rattle.std.proofs.Common.{[], ◌∷◌, refl, sym, subst, ap, ◌∙◌, Op
 use Rattle.std.proofs.Common.{Some, None, nat_lt, arith}
 use Rattle.std.proofs.lemmas.Option.{same_Some}
 use Rattle.std.proofs.lemmas.Bool.Decides.{nat_tests}
-use Rattle.est_syntax.specs.Names.{spelled, is_predeclared}
+use Rattle.est_syntax.specs.Names.{spelled}
+use Rattle.est_scope.specs.declared.predeclared.PredeclaredName.{PredeclaredName}
+use Rattle.est_scope.specs.Predeclared.{predeclared_name}
 use Rattle.est_syntax.specs.declared.name.Used.{Used}
 use Rattle.est_scope.specs.declared.declaration.Entry.{Entry}
 use Rattle.est_scope.specs.declared.declaration.Extent.{Extent}
@@ -79,13 +81,14 @@ module _ (a c : ℕ) (o p : Outline) (later : Later a c o p) where
 
 -- what is read of a meaning: something of a declaration that is seen, something of a predeclared
 -- name, and else nothing
-abbrev reading : {X : Type 0} → X → X → (ℕ → Option Entry → X) → Outline → Meant → X
+abbrev reading : {X : Type 0} → X → (PredeclaredName → X) → (ℕ → Option Entry → X) → Outline
+    → Meant → X
 reading d k f o Nothing = d
-reading d k f o Predeclared = k
+reading d k f o (Predeclared n) = k n
 reading d k f o (Unseen x) = d
 reading d k f o (Seen x) = f x (entry_at o x)
 
-module _ {X : Type 0} (d k : X) (f : ℕ → Option Entry → X)
+module _ {X : Type 0} (d : X) (k : PredeclaredName → X) (f : ℕ → Option Entry → X)
     (ignores : (x : ℕ) (e : Entry) → is_completed e.declared.sort ≡ true → f x (Some e) ≡ d) where
   -- the same is read of what is known alike
   one_entry : (x : ℕ) (u v : Option Entry) → AreLike true u v → f x v ≡ f x u
@@ -121,7 +124,7 @@ module _ {X : Type 0} (d k : X) (f : ℕ → Option Entry → X)
       by false t = ap (λ z. if is_shared (Some z) then f x (Some z) else d) (h.2.1 t)
 
   module _ (a c : ℕ) (o p : Outline) (later : Later a c o p) where
-    meant_read : (known : Bool) (x y : Option ℕ)
+    meant_read : (known : Option PredeclaredName) (x y : Option ℕ)
         → ((z : ℕ) → x ≡ Some z → AreLike true (entry_at o z) (entry_at p z))
         → ((z : ℕ) → y ≡ Some z → AreLike true (entry_at o z) (entry_at p z))
         → reading d k f p (meant_by p known x y) ≡ reading d k f o (meant_by o known x y)
@@ -130,18 +133,18 @@ module _ {X : Type 0} (d k : X) (f : ℕ → Option Entry → X)
         seen_read p (is_shared (entry_at p z)) z
         ∙ around z (entry_at o z) (entry_at p z) (h z refl)
         ∙ sym (seen_read o (is_shared (entry_at o z)) z)
-    meant_read true None None g h = refl
-    meant_read false None None g h = refl
+    meant_read None None None g h = refl
+    meant_read (Some n) None None g h = refl
 
     within_read : (x : Option Extent) (name : List ℕ) (q : ℕ) → q ≤ c
         → reading d k f p (meant_within p x name q) ≡ reading d k f o (meant_within o x name q)
     within_read None name q l =
-        meant_read (is_predeclared name) None None (λ z h. absurd cc) (λ z h. absurd cc)
+        meant_read (predeclared_name name) None None (λ z h. absurd cc) (λ z h. absurd cc)
     within_read (Some e) name q l =
-        (λ i. reading d k f p (meant_by p (is_predeclared name)
+        (λ i. reading d k f p (meant_by p (predeclared_name name)
         (found_stays a c o p later e.own name q l i)
         (found_stays a c o p later e.around name q l i)))
-        ∙ meant_read (is_predeclared name) (found o e.own name q) (found o e.around name q)
+        ∙ meant_read (predeclared_name name) (found o e.own name q) (found o e.around name q)
         (found_known a c o p later e.own name q l) (found_known a c o p later e.around name q l)
 
     -- the same is read of what a name means
@@ -187,51 +190,51 @@ other_sorts s t h k = absurd cc
 
 -- what is looked up as of a sort, and values and types, are read so
 as_read : (o : Outline) (s : Sort) (m : Meant) → meant_as o s m
-    ≡ reading None None (λ x y. if is_sort s y then Some x else None) o m
+    ≡ reading None (λ n. None) (λ x y. if is_sort s y then Some x else None) o m
 as_read o s Nothing = refl
-as_read o s Predeclared = refl
+as_read o s (Predeclared n) = refl
 as_read o s (Unseen x) = refl
 as_read o s (Seen x) = refl
 
-value_read : (o : Outline) (name : List ℕ) (m : Meant) → value_meant o name m
-    ≡ reading None (predeclared_constant name) (λ x y. value_by y) o m
-value_read o name Nothing = refl
-value_read o name Predeclared = refl
-value_read o name (Unseen x) = refl
-value_read o name (Seen x) = refl
+value_read : (o : Outline) (m : Meant) → value_meant o m
+    ≡ reading None predeclared_constant (λ x y. value_by y) o m
+value_read o Nothing = refl
+value_read o (Predeclared n) = refl
+value_read o (Unseen x) = refl
+value_read o (Seen x) = refl
 
-type_read : (o : Outline) (name : List ℕ) (m : Meant) → type_meant o name m
-    ≡ reading None (predeclared_type name) (λ x y. type_by y) o m
-type_read o name Nothing = refl
-type_read o name Predeclared = refl
-type_read o name (Unseen x) = refl
-type_read o name (Seen x) = refl
+type_read : (o : Outline) (m : Meant) → type_meant o m
+    ≡ reading None predeclared_type (λ x y. type_by y) o m
+type_read o Nothing = refl
+type_read o (Predeclared n) = refl
+type_read o (Unseen x) = refl
+type_read o (Seen x) = refl
 
 module _ (a c : ℕ) (o p : Outline) (later : Later a c o p) (u : Used) (l : u.place ≤ c) where
   pub declaration_stays : (s : Sort) → is_completed s ≡ false
       → declaration_of p s u ≡ declaration_of o s u
   declaration_stays s h =
       as_read p s (meaning p u)
-      ∙ reading_stays None None (λ x y. if is_sort s y then Some x else None)
+      ∙ reading_stays None (λ n. None) (λ x y. if is_sort s y then Some x else None)
       (λ x e t. if_false (same_sort s e.declared.sort) (Some x) None
       (other_sorts s e.declared.sort h t)) a c o p later (spelled u) u.place l
       ∙ sym (as_read o s (meaning o u))
 
   pub value_stays : named_value p u ≡ named_value o u
   value_stays =
-      value_read p (spelled u) (meaning p u)
-      ∙ reading_stays None (predeclared_constant (spelled u)) (λ x y. value_by y)
+      value_read p (meaning p u)
+      ∙ reading_stays None predeclared_constant (λ x y. value_by y)
       (λ x e t. if_false (same_sort sort.Constant e.declared.sort) (value_with e.kind e.ordinal)
       None (other_sorts sort.Constant e.declared.sort refl t)) a c o p later (spelled u) u.place l
-      ∙ sym (value_read o (spelled u) (meaning o u))
+      ∙ sym (value_read o (meaning o u))
 
   pub type_stays : named_type p u ≡ named_type o u
   type_stays =
-      type_read p (spelled u) (meaning p u)
-      ∙ reading_stays None (predeclared_type (spelled u)) (λ x y. type_by y)
+      type_read p (meaning p u)
+      ∙ reading_stays None predeclared_type (λ x y. type_by y)
       (λ x e t. if_false (same_sort sort.TypeName e.declared.sort) e.kind
       None (other_sorts sort.TypeName e.declared.sort refl t)) a c o p later (spelled u) u.place l
-      ∙ sym (type_read o (spelled u) (meaning o u))
+      ∙ sym (type_read o (meaning o u))
 
 pub meanings_stay : MeaningsStay
 meanings_stay a c o p u later l = (

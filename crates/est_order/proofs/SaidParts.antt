@@ -26,8 +26,7 @@ use Rattle.est_scope.specs.Declaring.{declared, put, amended, lying, with_kind}
 use Rattle.est_scope.specs.Uses.{declaration_of}
 use Rattle.est_kinds.specs.TypeTexts.{text_type, text_place, named_type}
 use Rattle.est_kinds.specs.Dims.{dims_of}
-use Rattle.est_outline.specs.Entries.{plain, module_variable, in_region}
-use Rattle.est_outline.specs.Entries.{in_section}
+use Rattle.est_outline.specs.Entries.{plain, module_variable, state_set, in_region, in_section}
 use Rattle.est_outline.specs.Lasts.{names_last, text_last, channel_last}
 use Rattle.est_outline.specs.Declares.{kinds_given, text_declares, typedef_named}
 use Rattle.est_outline.specs.Declares.{typedef_declares, types_declare, vardef_named}
@@ -36,7 +35,8 @@ use Rattle.est_outline.specs.Declares.{interaction_declares, interactions_declar
 use Rattle.est_outline.specs.Declares.{by_part_declares, by_parts_declare, channel_declares}
 use Rattle.est_outline.specs.Declares.{modvar_declares}
 use Rattle.est_outline.specs.Declares.{modvars_declare}
-use Rattle.est_outline.specs.Declares.{states_declare, stateset_declares, statesets_declare}
+use Rattle.est_outline.specs.Declares.{states_declare, states_named}
+use Rattle.est_outline.specs.Declares.{stateset_declares, statesets_declare}
 use Rattle.est_outline.specs.Declares.{formal_section, formal_named}
 use Rattle.est_outline.specs.Declares.{formal_declares, formals_declare}
 use Rattle.est_order.specs.Growth.{is_completed, IsLike, Grows, g_then, g_lying, IsBefore}
@@ -56,11 +56,12 @@ use Rattle.est_order.proofs.Declared.{entry_before, declared_entry, later_names,
 use Rattle.est_order.proofs.Declared.{kinds_have}
 use Rattle.est_order.proofs.Declared.{kinds_apart, later_kinds, later_amended, Waits, waits_names}
 use Rattle.est_order.proofs.Declared.{waits_grown, names_entries, amended_here, amended_apart}
-use Rattle.est_order.proofs.Placed.{NamesPlaced, names_on, text_on, text_from}
+use Rattle.est_order.proofs.Placed.{NamesPlaced, names_on, names_from, names_before, text_on}
+use Rattle.est_order.proofs.Placed.{text_from}
 use Rattle.est_order.proofs.PlacedParts.{InOrder, TypeDefPlaced, VarDefPlaced, InteractionPlaced}
 use Rattle.est_order.proofs.PlacedParts.{ByPartPlaced, ChannelPlaced, ModvarPlaced}
 use Rattle.est_order.proofs.PlacedParts.{FormalPlaced, StateSetPlaced}
-use Rattle.est_order.proofs.Staying.{text_stays, dims_stay}
+use Rattle.est_order.proofs.Staying.{text_stays, dims_stay, states_stay}
 use Rattle.est_order.proofs.Declaring.{order_on, typedef_on, vardef_on, vars_on, interaction_on}
 use Rattle.est_order.proofs.Declaring.{interactions_on, by_parts_on, dims_on, modvar_on}
 use Rattle.est_order.proofs.Declaring.{formal_on, names_grow, text_grows, typedef_grows}
@@ -547,19 +548,36 @@ module _ (unfinished : Bool) (b : ℕ) (fits : b ≤ 2 ^ 32) (p : Outline) where
       let d = names_on (suc place) h.0 s.states h.1.1 in
       let e = order_on StateSetPlaced stateset_on h.0 j ss h.2 in
       let f = stateset_on i h.0 s h.1 in
+      let last = names_last s.states place in
+      let m : last < h.0 = names_before (suc place) h.0 place s.states h.1.1 (omega arith) in
+      let n : place ≤ last =
+      names_from place (suc place) h.0 place s.states h.1.1 (omega arith) (omega arith) in
+      let o0 = lying w place o in
       let o1 = stateset_declares w s o in
+      let entry = state_set w (states_named o0 s.states) in
+      let start : IsBefore place o0 =
+      before_lying place place w o (before_later i place o q before) in
       let before1 : IsBefore h.0 o1 =
       before_grown Anywhere unfinished i h.0 o o1
       (stateset_grows Anywhere unfinished i h.0 (omega arith) w (inl tt) s o i h.0 h.1 (omega arith)
       (omega arith))
-      before (omega arith) in (
-        name_said w (plain w sort.StateSet) refl (IsOf sort.StateSet) refl (lying w place o) s.name
-            (names_last s.states place) h.0 (omega arith)
-            (before_lying place place w o (before_later i place o q before))
-            (grows_on Anywhere unfinished h.0 j b o1 (statesets_declare w ss o1) p e l
-            (statesets_grow
-            Anywhere unfinished h.0 j (omega arith) w (inl tt) ss o1 h.0 j h.2 (omega arith) (omega
-            arith)) rest),
+      before (omega arith) in
+      let all : Grows Anywhere unfinished h.0 b o1 p =
+      grows_on Anywhere unfinished h.0 j b o1 (statesets_declare w ss o1) p e l
+      (statesets_grow Anywhere unfinished h.0 j (omega arith) w (inl tt) ss o1 h.0 j h.2
+      (omega arith) (omega arith)) rest in
+      let later : Later place last o0 p =
+      later_then place last o0 o1 p
+      (later_names w (s.name ∷ []) last entry o0 place (suc place) last (omega arith, omega arith)
+      start (omega arith))
+      (later_weaker h.0 last place last o1 p (omega arith) (omega arith)
+      (later_grown Anywhere unfinished h.0 b o1 p all before1 last m)) in (
+        name_said w entry refl (λ x. (x.declared.sort ≡ sort.StateSet)
+            × (x.states ≡ Some (states_named p s.states))) (
+              refl,
+              ap (λ ps. Some ps) (sym (states_stay place last o0 p later (suc place) h.0 place
+                  s.states h.1.1 (omega arith))),
+            ) o0 s.name last h.0 (omega arith) start all,
         statesets_said w ss o1 h.0 j h.2 l before1 rest,
       )
 

@@ -59,7 +59,7 @@ module _ (R : ℕ → Type 0) (unfinished : Bool) (b : ℕ) (fits : b ≤ 2 ^ 32
       let till = x.channel.place in
       let o1 = lying w x.place o in
       let dims = dims_of o1 x.dims in
-      let entry = point w dims (dims_elements dims) (side_of o1 x) in
+      let entry = point w dims (dims_elements dims) (side_of o1 x) x.queue in
       let o2 = point_declares w x o in
       let before1 : IsBefore i o1 = before_lying i x.place w o before in
       let before2 : IsBefore j o2 =
@@ -78,10 +78,11 @@ module _ (R : ℕ → Type 0) (unfinished : Bool) (b : ℕ) (fits : b ≤ 2 ^ 32
       side_stays R unfinished i b o1 p (followed R unfinished i b (grows_on R unfinished i j b o1 o2
       p (omega arith) l grows rest)) before1 are till x later (omega arith) in
       names_said unfinished b fits p w entry refl (λ e. (e.declared.sort ≡ sort.Point)
-      × (e.dims ≡ dims_of p x.dims) × (e.side ≡ side_of p x)) (
+      × (e.dims ≡ dims_of p x.dims) × (e.side ≡ side_of p x) × (e.queue ≡ x.queue)) (
         refl,
         sym (dims_stay i till o1 p later h.0 h.1 x.dims (omega arith) h.4 (omega arith)),
         sym side,
+        refl,
       ) o2 x.names i h.0 j h.3 (omega arith) (anywhere R unfinished j b rest)
       (names_entries w x.names x.role.place entry o1 i h.0 h.3 (λ q n. before1.declarations q n))
 

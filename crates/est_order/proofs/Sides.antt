@@ -64,7 +64,7 @@ other_sort s (Some e) h = h e refl
 of_sort : (o : Outline) (s : Sort) (m : Meant) (q : ℕ) → meant_as o s m ≡ Some q
     → is_sort s (entry_at o q) ≡ true
 of_sort o s Nothing q h = absurd cc
-of_sort o s Predeclared q h = absurd cc
+of_sort o s (Predeclared n) q h = absurd cc
 of_sort o s (Unseen x) q h = absurd cc
 of_sort o s (Seen x) q h = by (is_sort s (entry_at o x)) refl h
   where

@@ -12,6 +12,7 @@ use Rattle.est_syntax.specs.declared.type_text.TypeText.{more_of-TypeText, Row_o
 use Rattle.est_syntax.specs.declared.type_text.TypeText.{end_of-VarDef, more_of-VarDef}
 use Rattle.est_syntax.specs.declared.type_text.TypeText.TheVariants as text
 use Rattle.est_scope.specs.declared.declaration.Measured.{Measured}
+use Rattle.est_scope.specs.declared.declaration.Sort.TheVariants as sort
 use Rattle.est_scope.specs.Outline.{Outline}
 use Rattle.est_kinds.specs.declared.value.Gathered.{Gathered}
 use Rattle.est_kinds.specs.Constants.{constant_value, constant_last, signed_value}
@@ -19,11 +20,13 @@ use Rattle.est_kinds.specs.TypeTexts.{text_type, row_type, row_arrays, row_field
 use Rattle.est_kinds.specs.TypeTexts.{enumeration, scalar, are_members, known_fields, with_fields}
 use Rattle.est_kinds.specs.TypeTexts.{array_of, record_of, set_of, range, no_fields}
 use Rattle.est_kinds.specs.Dims.{dims_after, dims_of, with_dim}
-use Rattle.est_outline.specs.Lasts.{text_last, row_last, row_fields_last}
+use Rattle.est_outline.specs.Lasts.{names_last, text_last, row_last, row_fields_last}
+use Rattle.est_outline.specs.Declares.{with_state, states_named}
 use Rattle.est_order.specs.Later.{Later}
-use Rattle.est_order.proofs.Meanings.{value_stays, type_stays}
+use Rattle.est_order.proofs.Meanings.{declaration_stays, value_stays, type_stays}
 use Rattle.est_order.proofs.Placed.{NamesPlaced, ConstantPlaced, TextPlaced, RowPlaced}
-use Rattle.est_order.proofs.Placed.{FieldsPlaced, names_on, constant_on, text_on, row_on}
+use Rattle.est_order.proofs.Placed.{FieldsPlaced, names_on, names_from, constant_on, text_on}
+use Rattle.est_order.proofs.Placed.{row_on}
 use Rattle.est_order.proofs.Placed.{fields_on, constant_from, box_from, fields_from, ShortPlaced}
 use Rattle.est_order.proofs.PlacedParts.{InOrder}
 use Rattle.est_order.proofs.Declaring.{dims_on}
@@ -55,6 +58,18 @@ module _ (a c : ℕ) (o p : Outline) (later : Later a c o p) where
   members_stay i j (u ∷ us) h l =
       let n = names_on (suc u.place) j us h.1 in
       λ k. later.members u.place (omega arith) k && members_stay (suc u.place) j us h.1 l k
+
+  -- names up to place c mean the same states
+  pub states_stay : (i j d : ℕ) (us : List Used) → NamesPlaced i j us → names_last us d ≤ c
+      → states_named p us ≡ states_named o us
+  states_stay i j d [] h l = refl
+  states_stay i j d (u ∷ us) h l =
+      let place = u.place in
+      let n : place ≤ names_last us place =
+      names_from place (suc place) j place us h.1 (omega arith) (omega arith) in
+      let m : names_last us place ≤ c = l in
+      λ k. with_state (declaration_stays a c o p later u (omega arith) sort.State refl k)
+      (states_stay (suc place) j place us h.1 l k)
 
   enumeration_stays : (i j : ℕ) (us : List Used) (place : ℕ) → NamesPlaced i j us → j ≤ a
       → enumeration p us place ≡ enumeration o us place

@@ -43,7 +43,7 @@ use Rattle.est_kinds.specs.Constants.{constant_value, value_with}
 use Rattle.est_kinds.specs.TypeTexts.{text_type, named_type, enumeration}
 use Rattle.est_kinds.specs.Dims.{dims_of}
 use Rattle.est_outline.specs.Entries.{ordinal_of}
-use Rattle.est_outline.specs.Declares.{side_of}
+use Rattle.est_outline.specs.Declares.{side_of, states_named}
 use Rattle.est_outline.specs.Bodies.{over_header, body_header, outline_of}
 use Rattle.est_productions.specs.Nodes.{a_specification, layer}
 use Rattle.est_order.specs.Order.{Stands}
@@ -123,7 +123,7 @@ ChannelSaid o c = IsSaid o (IsOf sort.Channel) c.name × Each (IsNoEntry o) c.ro
 -- interaction points, module variables and headers
 abbrev pub PointSaid : Outline → Point → Type 0
 PointSaid o p = Each (IsSaid o (λ e. (e.declared.sort ≡ sort.Point) × (e.dims ≡ dims_of o p.dims)
-    × (e.side ≡ side_of o p))) p.names
+    × (e.side ≡ side_of o p) × (e.queue ≡ p.queue))) p.names
 
 abbrev pub ModvarSaid : Outline → ModvarDef → Type 0
 ModvarSaid o m = Each (IsSaid o (λ e. (e.declared.sort ≡ sort.ModuleVariable)
@@ -135,7 +135,8 @@ HeaderSaid o h = IsSaid o (IsOf sort.Header) h.name × Each (VarDefSaid o) h.par
 
 -- state sets and formals
 abbrev pub StateSetSaid : Outline → StateSet → Type 0
-StateSetSaid o s = IsSaid o (IsOf sort.StateSet) s.name
+StateSetSaid o s = IsSaid o (λ e. (e.declared.sort ≡ sort.StateSet)
+    × (e.states ≡ Some (states_named o s.states))) s.name
 
 abbrev pub FormalSaid : Outline → Formal → Type 0
 FormalSaid o f = Each (IsSaid o (HasKind sort.Variable (named_type o f.kind))) f.names

@@ -16,6 +16,7 @@ use Rattle.est_syntax.specs.declared.channel.InteractionDef.{InteractionDef}
 use Rattle.est_syntax.specs.declared.channel.ByPart.{ByPart}
 use Rattle.est_syntax.specs.declared.channel.Channel.{Channel}
 use Rattle.est_syntax.specs.declared.header.Point.{Point}
+use Rattle.est_syntax.specs.declared.header.Queue.{Queue}
 use Rattle.est_syntax.specs.declared.header.Header.{Header}
 use Rattle.est_syntax.specs.declared.header.ModvarDef.{ModvarDef}
 use Rattle.est_syntax.specs.declared.routine.Formal.{Formal}
@@ -39,7 +40,7 @@ use Rattle.est_kinds.specs.Constants.{constant_value, constant_last}
 use Rattle.est_kinds.specs.TypeTexts.{text_type, text_place, named_type, enumeration}
 use Rattle.est_kinds.specs.Dims.{dims_of, dims_elements}
 use Rattle.est_outline.specs.Entries.{plain, typed, constant, numbered, point}
-use Rattle.est_outline.specs.Entries.{module_variable, header, in_region, in_section}
+use Rattle.est_outline.specs.Entries.{module_variable, state_set, header, in_region, in_section}
 use Rattle.est_outline.specs.Lasts.{names_last, text_last, channel_last, header_last}
 use Rattle.est_outline.specs.Declares.{names_declare, constdef_declares, consts_declare}
 use Rattle.est_outline.specs.Declares.{numbers_declare, kinds_given, enumeration_declares}
@@ -51,8 +52,9 @@ use Rattle.est_outline.specs.Declares.{by_part_declares, by_parts_declare, chann
 use Rattle.est_outline.specs.Declares.{side_of, point_declares, points_declare, modvar_declares}
 use Rattle.est_outline.specs.Declares.{modvars_declare, before, after, sections_declare}
 use Rattle.est_outline.specs.Declares.{has_exports, header_named, header_declares, states_declare}
-use Rattle.est_outline.specs.Declares.{stateset_declares, statesets_declare, formal_section}
-use Rattle.est_outline.specs.Declares.{formal_named, formal_declares, formals_declare}
+use Rattle.est_outline.specs.Declares.{states_named, stateset_declares, statesets_declare}
+use Rattle.est_outline.specs.Declares.{formal_section, formal_named, formal_declares}
+use Rattle.est_outline.specs.Declares.{formals_declare}
 
 -- What a property of declarations has to bear: it holds of each as it is declared, and still where
 -- more of it is known.
@@ -60,10 +62,11 @@ pub record IsOfEach (Q : Entry → Type 0) : Type 0 where
   pub of_typed : (w : Within) (s : Sort) (k : Option Measured) → Q (typed w s k)
   pub of_constant : (w : Within) (v : Option Valued) → Q (constant w v)
   pub of_numbered : (w : Within) (i : ℕ) → Q (numbered w i)
-  pub of_point : (w : Within) (dims : Option (List Kind)) (side : Option Side)
-      → Q (point w dims (dims_elements dims) side)
+  pub of_point : (w : Within) (dims : Option (List Kind)) (side : Option Side) (q : Option Queue)
+      → Q (point w dims (dims_elements dims) side q)
   pub of_variable : (w : Within) (dims : Option (List Kind)) (h : Option ℕ)
       → Q (module_variable w dims h)
+  pub of_state_set : (w : Within) (places : List ℕ) → Q (state_set w places)
   pub of_header : (w : Within) (system exports : Bool) → Q (header w system exports)
   pub given_kind : (k : Option Measured) (e : Entry) → Q e → Q (with_kind k e)
   pub given_closed : (b : Bool) (e : Entry) → Q e → Q (with_closed b e)
@@ -223,8 +226,8 @@ module _ (Q : Entry → Type 0) (P : Outline → Type 0) (each : IsOfEach Q) (ke
       let o1 = lying w q.place o in
       let dims = dims_of o1 q.dims in
       let side = side_of o1 q in
-      names_kept w q.names q.role.place (point w dims (dims_elements dims) side) o1
-      (each.of_point w dims side) (kept.lies o w q.place p)
+      names_kept w q.names q.role.place (point w dims (dims_elements dims) side q.queue) o1
+      (each.of_point w dims side q.queue) (kept.lies o w q.place p)
 
   pub points_kept : (w : Within) (qs : List Point) (o : Outline) → P o → P (points_declare w qs o)
   points_kept w [] o p = p
@@ -272,8 +275,10 @@ module _ (Q : Entry → Type 0) (P : Outline → Type 0) (each : IsOfEach Q) (ke
 
   stateset_kept : (w : Within) (s : StateSet) (o : Outline) → P o → P (stateset_declares w s o)
   stateset_kept w s o p =
-      kept.declares (lying w s.name.place o) w s.name (names_last s.states s.name.place)
-      (plain w sort.StateSet) (each.of_typed w sort.StateSet None) (kept.lies o w s.name.place p)
+      let o1 = lying w s.name.place o in
+      let places = states_named o1 s.states in
+      kept.declares o1 w s.name (names_last s.states s.name.place) (state_set w places)
+      (each.of_state_set w places) (kept.lies o w s.name.place p)
 
   pub statesets_kept : (w : Within) (ss : List StateSet) (o : Outline) → P o
       → P (statesets_declare w ss o)

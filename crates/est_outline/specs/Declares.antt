@@ -39,7 +39,7 @@ use Rattle.est_kinds.specs.Constants.{constant_value, constant_last}
 use Rattle.est_kinds.specs.TypeTexts.{text_type, text_place, named_type, enumeration}
 use Rattle.est_kinds.specs.Dims.{dims_of, dims_elements}
 use Rattle.est_outline.specs.Entries.{plain, constant, numbered, point}
-use Rattle.est_outline.specs.Entries.{module_variable, header, in_region, in_section}
+use Rattle.est_outline.specs.Entries.{module_variable, state_set, header, in_region, in_section}
 use Rattle.est_outline.specs.Lasts.{names_last, text_last, channel_last, header_last}
 
 -- names that are declared together
@@ -197,7 +197,7 @@ side_of o p = side_by o (declaration_of o sort.Channel p.channel) p.role
 abbrev pub point_named : Within → Point → Outline → Outline
 point_named w p o =
     names_declare w p.names p.role.place
-    (point w (dims_of o p.dims) (dims_elements (dims_of o p.dims)) (side_of o p)) o
+    (point w (dims_of o p.dims) (dims_elements (dims_of o p.dims)) (side_of o p) p.queue) o
 
 abbrev pub point_declares : Within → Point → Outline → Outline
 point_declares w p o = point_named w p (lying w p.place o)
@@ -258,11 +258,24 @@ abbrev pub states_declare : Within → List Used → Outline → Outline
 states_declare w [] o = o
 states_declare w (u ∷ us) o = states_declare w us (declared w u u.place (plain w sort.State) o)
 
+-- the places of the states that these names mean, in the order of the text; a name that means none
+-- gives no place
+abbrev pub with_state : Option ℕ → List ℕ → List ℕ
+with_state None places = places
+with_state (Some p) places = p ∷ places
+
+abbrev pub states_named : Outline → List Used → List ℕ
+states_named o [] = []
+states_named o (u ∷ us) = with_state (declaration_of o sort.State u) (states_named o us)
+
 -- state sets
+abbrev pub stateset_named : Within → StateSet → Outline → Outline
+stateset_named w s o =
+    declared w s.name (names_last s.states s.name.place)
+    (state_set w (states_named o s.states)) o
+
 abbrev pub stateset_declares : Within → StateSet → Outline → Outline
-stateset_declares w s o =
-    declared w s.name (names_last s.states s.name.place) (plain w sort.StateSet)
-    (lying w s.name.place o)
+stateset_declares w s o = stateset_named w s (lying w s.name.place o)
 
 abbrev pub statesets_declare : Within → List StateSet → Outline → Outline
 statesets_declare w [] o = o

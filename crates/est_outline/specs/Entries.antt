@@ -2,6 +2,7 @@
 use Rattle.std.specs.Prelude.{ℕ, ℤ, pos, Bool, false, nat_le, List, []}
 use Rattle.std.specs.Prelude.{◌∷◌, ◌++◌, Option, Some, None, if◌then◌else◌}
 use Rattle.est_syntax.specs.Kinds.{maxint}
+use Rattle.est_syntax.specs.declared.header.Queue.{Queue}
 use Rattle.est_syntax.specs.declared.kind.Kind.{Kind}
 use Rattle.est_scope.specs.declared.declaration.Sort.{Sort}
 use Rattle.est_scope.specs.declared.declaration.Sort.TheVariants as sort
@@ -25,6 +26,8 @@ entry w s k z dims side = record {
   dims = dims;
   elements = 0;
   side = side;
+  queue = None;
+  states = None;
   header = None;
   closed = false;
   system = false;
@@ -51,14 +54,19 @@ ordinal_of i = if nat_le i maxint then Some (pos i) else None
 abbrev pub numbered : Within → ℕ → Entry
 numbered w i = entry w sort.Constant None (ordinal_of i) None None
 
--- an interaction point, of so many elements
-abbrev pub point : Within → Option (List Kind) → ℕ → Option Side → Entry
-point w dims n side = record (entry w sort.Point None None dims side) { elements = n }
+-- an interaction point, of so many elements, with the queue that its declaration names, if any
+abbrev pub point : Within → Option (List Kind) → ℕ → Option Side → Option Queue → Entry
+point w dims n side queue =
+    record (entry w sort.Point None None dims side) { elements = n; queue = queue }
 
 -- a module variable, of a header
 abbrev pub module_variable : Within → Option (List Kind) → Option ℕ → Entry
 module_variable w dims header =
     record (plain w sort.ModuleVariable) { dims = dims; header = header }
+
+-- a state set, of the states at these places
+abbrev pub state_set : Within → List ℕ → Entry
+state_set w places = record (plain w sort.StateSet) { states = Some places }
 
 -- a module header, with its attribute, and whether it has exports
 abbrev pub header : Within → Bool → Bool → Entry
@@ -69,7 +77,7 @@ abbrev pub outermost : Within
 outermost = record {
   body = 0;
   region = 0;
-  section = section.Part;
+  section = section.Body;
   header = None;
   own = 0 ∷ [];
   around = [];
@@ -85,7 +93,7 @@ abbrev pub in_body : Within → ℕ → Option ℕ → Within
 in_body w place header = record {
   body = place;
   region = place;
-  section = section.Part;
+  section = section.Body;
   header = header;
   own = body_regions place header;
   around = w.own ++ w.around;
@@ -95,7 +103,7 @@ in_body w place header = record {
 abbrev pub inner : Within → ℕ → Within
 inner w place = record w {
   region = place;
-  section = section.Part;
+  section = section.Block;
   header = None;
   own = place ∷ w.own;
 }

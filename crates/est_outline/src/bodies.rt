@@ -320,7 +320,7 @@ fn part_declares(
         Part::Points(items) => points(alloc, within, items.as_slice(), outline),
         Part::Vars(items) => vars(alloc, within, items.as_slice(), outline),
         Part::States(names) => states(within, names.as_slice(), outline),
-        Part::StateSets(items) => statesets(within, items.as_slice(), outline),
+        Part::StateSets(items) => statesets(alloc, within, items.as_slice(), outline),
         Part::Routine(routine) => routine_declares(alloc, within, routine, outline),
     }
 }

@@ -1,22 +1,24 @@
 //! What the sections of declarations declare.
 
-ghost use Rattle.std.specs.Prelude.{◌≡◌, OnOk};
+ghost use Rattle.std.specs.Prelude.{◌≡◌, OnOk, IfOk};
 ghost use Rattle.est_scope.specs.declared.declaration.Sort.TheVariants as sort;
 ghost use Rattle.est_outline.specs.Entries.{plain};
 ghost use Rattle.est_outline.specs.Declares.{names_declare, constdef_declares, consts_declare};
 ghost use Rattle.est_outline.specs.Declares.{typedef_declares, types_declare};
 ghost use Rattle.est_outline.specs.Declares.{vardef_given, vardef_declares, vars_declare};
-ghost use Rattle.est_outline.specs.Declares.{states_declare, stateset_declares, statesets_declare};
+ghost use Rattle.est_outline.specs.Declares.{states_declare, states_named};
+ghost use Rattle.est_outline.specs.Declares.{stateset_declares, statesets_declare};
 ghost use Rattle.est_outline.specs.Declares.{formal_section, formal_declares, formals_declare};
 
-use crate::entries::{constant, plain};
+use crate::entries::{constant, plain, state_set};
 use crate::lasts::{names_last, text_last};
 use crate::texts::{kinds_given, text_declares};
 use crate::within::in_section;
+use est_items::{Items, Shared};
 use est_kinds::constants::{constant_last, constant_value};
 use est_kinds::names::named_type;
 use est_kinds::texts::{text_place, text_type};
-use est_scope::declaration::{Section, Sort, Within};
+use est_scope::declaration::{Section, SharedPlaces, Sort, Within};
 use est_scope::outline::Outline;
 use est_syntax::body::StateSet;
 use est_syntax::constant::ConstDef;
@@ -155,17 +157,41 @@ pub fn states(within: &Within, names: &[Used], outline: &mut Outline) -> Result<
     Ok(())
 }
 
+// The states that names mean.
+fn states_named(
+    alloc: Global,
+    outline: &Outline,
+    names: &[Used],
+) -> Result<SharedPlaces, AllocError>
+    ensures { IfOk result (λ states. states ≡ states_named outline.now names.now) }
+{
+    let mut places = Items::new(alloc);
+    for used in names {
+        if let Some(place) = outline.declaration_of(Sort::State, used) {
+            places.push(place)?;
+        }
+    }
+    Shared::new(alloc, places)
+}
+
 // A state set.
-fn stateset(within: &Within, item: &StateSet, outline: &mut Outline) -> Result<(), AllocError>
+fn stateset(
+    alloc: Global,
+    within: &Within,
+    item: &StateSet,
+    outline: &mut Outline,
+) -> Result<(), AllocError>
     ensures { OnOk result (outline.new ≡ stateset_declares within.now item.now outline.old) }
 {
     outline.lie(within, item.name.place)?;
     let last = names_last(item.states.as_slice(), item.name.place);
-    outline.declare(within, &item.name, last, plain(within, Sort::StateSet))
+    let states = states_named(alloc, outline, item.states.as_slice())?;
+    outline.declare(within, &item.name, last, state_set(within, states))
 }
 
 /// State sets.
 pub fn statesets(
+    alloc: Global,
     within: &Within,
     items: &[StateSet],
     outline: &mut Outline,
@@ -173,7 +199,7 @@ pub fn statesets(
     ensures { OnOk result (outline.new ≡ statesets_declare within.now items.now outline.old) }
 {
     for item in items {
-        stateset(within, item, outline)?;
+        stateset(alloc, within, item, outline)?;
     }
     Ok(())
 }

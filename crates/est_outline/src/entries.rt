@@ -2,12 +2,14 @@
 
 ghost use Rattle.std.specs.Prelude.{◌≡◌};
 ghost use Rattle.est_outline.specs.Entries.{plain, typed, constant, ordinal_of, numbered, point};
-ghost use Rattle.est_outline.specs.Entries.{module_variable, header};
+ghost use Rattle.est_outline.specs.Entries.{module_variable, state_set, header};
 ghost use Rattle.est_outline.specs.Declares.{has_exports};
 
 use est_kinds::value::Valued;
-use est_scope::declaration::{Declared, Entry, Measured, SharedKinds, Side, Sort, Within};
-use est_syntax::header::Header;
+use est_scope::declaration::{
+    Declared, Entry, Measured, SharedKinds, SharedPlaces, Side, Sort, Within,
+};
+use est_syntax::header::{Header, Queue};
 use est_syntax::kind::MAXINT;
 use est_syntax::type_text::VarDef;
 
@@ -26,6 +28,8 @@ pub fn typed(within: &Within, sort: Sort, kind: Option<Measured>) -> Entry
         dims: None,
         elements: 0,
         side: None,
+        queue: None,
+        states: None,
         header: None,
         closed: false,
         system: false,
@@ -61,6 +65,8 @@ pub fn constant(within: &Within, value: Option<Valued>) -> Entry
             dims: None,
             elements: 0,
             side: None,
+            queue: None,
+            states: None,
             header: None,
             closed: false,
             system: false,
@@ -95,6 +101,8 @@ pub fn numbered(within: &Within, number: usize) -> Entry
         dims: None,
         elements: 0,
         side: None,
+        queue: None,
+        states: None,
         header: None,
         closed: false,
         system: false,
@@ -103,8 +111,14 @@ pub fn numbered(within: &Within, number: usize) -> Entry
 }
 
 /// An interaction point, of so many elements.
-pub fn point(within: &Within, dims: Option<SharedKinds>, elements: u64, side: Option<Side>) -> Entry
-    ensures { result ≡ point within.now dims elements side }
+pub fn point(
+    within: &Within,
+    dims: Option<SharedKinds>,
+    elements: u64,
+    side: Option<Side>,
+    queue: Option<Queue>,
+) -> Entry
+    ensures { result ≡ point within.now dims elements side queue }
 {
     Entry {
         declared: Declared {
@@ -117,6 +131,8 @@ pub fn point(within: &Within, dims: Option<SharedKinds>, elements: u64, side: Op
         dims,
         elements,
         side,
+        queue,
+        states: None,
         header: None,
         closed: false,
         system: false,
@@ -139,7 +155,33 @@ pub fn module_variable(within: &Within, dims: Option<SharedKinds>, header: Optio
         dims,
         elements: 0,
         side: None,
+        queue: None,
+        states: None,
         header,
+        closed: false,
+        system: false,
+        exports: false,
+    }
+}
+
+/// A state set, of these states.
+pub fn state_set(within: &Within, states: SharedPlaces) -> Entry
+    ensures { result ≡ state_set within.now states }
+{
+    Entry {
+        declared: Declared {
+            sort: Sort::StateSet,
+            body: within.body,
+        },
+        section: within.section,
+        kind: None,
+        ordinal: None,
+        dims: None,
+        elements: 0,
+        side: None,
+        queue: None,
+        states: Some(states),
+        header: None,
         closed: false,
         system: false,
         exports: false,
@@ -168,6 +210,8 @@ pub fn header(within: &Within, item: &Header) -> Entry
         dims: None,
         elements: 0,
         side: None,
+        queue: None,
+        states: None,
         header: None,
         closed: false,
         system: item.system,

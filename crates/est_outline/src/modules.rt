@@ -200,17 +200,18 @@ fn side_of(outline: &Outline, item: &Point) -> Option<Side>
 fn one_point(
     within: &Within,
     used: &Used,
-    last: u32,
+    item: &Point,
     dims: &Option<SharedKinds>,
     elements: u64,
     side: Option<Side>,
     outline: &mut Outline,
 ) -> Result<(), AllocError>
-    ensures { OnOk result (outline.new ≡
-        declared within.now used.now last (point within.now dims.now elements side) outline.old) }
+    ensures { OnOk result (outline.new ≡ declared within.now used.now item.now.role.place
+        (point within.now dims.now elements side item.now.queue) outline.old) }
 {
     let dims = share_dims(dims)?;
-    outline.declare(within, used, last, point(within, dims, elements, side))
+    let entry = point(within, dims, elements, side, item.queue);
+    outline.declare(within, used, item.role.place, entry)
 }
 
 // Interaction points with the same subscripts and side.
@@ -223,10 +224,10 @@ fn point_names(
     outline: &mut Outline,
 ) -> Result<(), AllocError>
     ensures { OnOk result (outline.new ≡ names_declare within.now item.now.names
-        item.now.role.place (point within.now dims.now elements side) outline.old) }
+        item.now.role.place (point within.now dims.now elements side item.now.queue) outline.old) }
 {
     for used in item.names.as_slice() {
-        one_point(within, used, item.role.place, dims, elements, side, outline)?;
+        one_point(within, used, item, dims, elements, side, outline)?;
     }
     Ok(())
 }

@@ -28,7 +28,7 @@ pub fn outermost(alloc: Global) -> Result<Within, AllocError>
     Ok(Within {
         body: 0,
         region: 0,
-        section: Section::Part,
+        section: Section::Body,
         header: None,
         own,
         around,
@@ -63,7 +63,7 @@ pub fn in_body(
     Ok(Within {
         body: place,
         region: place,
-        section: Section::Part,
+        section: Section::Body,
         header,
         own,
         around,
@@ -79,7 +79,7 @@ pub fn inner(alloc: Global, within: &Within, place: u32) -> Result<Within, Alloc
     Ok(Within {
         body: within.body,
         region: place,
-        section: Section::Part,
+        section: Section::Block,
         header: None,
         own,
         around,

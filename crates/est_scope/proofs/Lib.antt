@@ -1,3 +1,4 @@
 pub mod Extents
 pub mod Keys
 pub mod LeastLaws
+pub mod NameRows

@@ -6,7 +6,7 @@ use Rattle.std.specs.Prelude.{if◌then◌else◌}
 use Rattle.std.specs.List.{list_any}
 use Rattle.std.specs.Map.{lookup}
 use Rattle.std.specs.Option.{option_or, option_map, option_map_or}
-use Rattle.est_syntax.specs.Names.{is_name, is_predeclared}
+use Rattle.est_syntax.specs.Names.{is_name}
 use Rattle.est_scope.specs.declared.declaration.Sort.{Sort}
 use Rattle.est_scope.specs.declared.declaration.Sort.TheVariants as sort
 use Rattle.est_scope.specs.declared.declaration.Entry.{Entry}
@@ -14,8 +14,9 @@ use Rattle.est_scope.specs.declared.declaration.Member.{Member}
 use Rattle.est_scope.specs.declared.declaration.Standing.{Standing}
 use Rattle.est_scope.specs.declared.declaration.Extent.{Extent}
 use Rattle.est_scope.specs.declared.declaration.Meant.{Meant}
-use Rattle.est_scope.specs.declared.declaration.Meant.TheVariants.{Nothing, Predeclared}
 use Rattle.est_scope.specs.declared.declaration.Meant.TheVariants.{Unseen, Seen}
+use Rattle.est_scope.specs.declared.predeclared.PredeclaredName.{PredeclaredName}
+use Rattle.est_scope.specs.Predeclared.{predeclared_name, undeclared}
 
 -- a region: the names that are declared in it, in the order of the text
 abbrev pub Region : Type 0
@@ -95,16 +96,16 @@ seen_around shared place = if shared then Seen place else Unseen place
 
 -- what a name means, predeclared or not, with these innermost declarations within its body and
 -- around it
-abbrev pub meant_by : Outline → Bool → Option ℕ → Option ℕ → Meant
+abbrev pub meant_by : Outline → Option PredeclaredName → Option ℕ → Option ℕ → Meant
 meant_by o known (Some p) other = Seen p
 meant_by o known None (Some p) = seen_around (is_shared (entry_at o p)) p
-meant_by o known None None = if known then Predeclared else Nothing
+meant_by o known None None = undeclared known
 
 -- the same where the text lies in these regions, if in any
 abbrev pub meant_within : Outline → Option Extent → List ℕ → ℕ → Meant
-meant_within o None name place = meant_by o (is_predeclared name) None None
+meant_within o None name place = meant_by o (predeclared_name name) None None
 meant_within o (Some e) name place =
-    meant_by o (is_predeclared name) (found o e.own name place) (found o e.around name place)
+    meant_by o (predeclared_name name) (found o e.own name place) (found o e.around name place)
 
 -- an extent that begins at a place or before it
 abbrev pub from_or_before : ℕ → Extent → Option Extent

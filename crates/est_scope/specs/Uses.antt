@@ -13,6 +13,7 @@ use Rattle.est_scope.specs.declared.declaration.Entry.{Entry}
 use Rattle.est_scope.specs.declared.declaration.Meant.{Meant}
 use Rattle.est_scope.specs.declared.declaration.Meant.TheVariants.{Nothing, Predeclared}
 use Rattle.est_scope.specs.declared.declaration.Meant.TheVariants.{Unseen, Seen}
+use Rattle.est_scope.specs.declared.predeclared.PredeclaredName.{PredeclaredName}
 use Rattle.est_scope.specs.contracts.declaration.SortPartialEq.TheImpl.{ghosts}
 use Rattle.est_scope.specs.Outline.{Outline, entry_at, member_at, meant}
 
@@ -29,10 +30,11 @@ abbrev pub meaning : Outline → Used → Meant
 meaning o u = meant o (spelled u) u.place
 
 -- What the use of a name of this meaning at a place breaks: it is unknown or not seen, or it breaks
--- what is given for a predeclared name, or for a declaration at a place.
-abbrev pub meaning_faults : Meant → ℕ → List Fault → (ℕ → List Fault) → List Fault
+-- what is given for this predeclared name, or for the declaration at this place.
+abbrev pub meaning_faults :
+    Meant → ℕ → (PredeclaredName → List Fault) → (ℕ → List Fault) → List Fault
 meaning_faults Nothing place known declared = broken place UnknownName
-meaning_faults Predeclared place known declared = known
+meaning_faults (Predeclared n) place known declared = known n
 meaning_faults (Unseen p) place known declared = broken place NotSeenHere
 meaning_faults (Seen p) place known declared = declared p
 
@@ -42,7 +44,8 @@ other_sort_faults o s place p = if is_sort s (entry_at o p) then [] else broken 
 
 -- A name of this meaning where a sort is wanted. What is predeclared is of another sort.
 abbrev pub used_as : Outline → Sort → ℕ → Meant → List Fault
-used_as o s place m = meaning_faults m place (broken place WrongSort) (other_sort_faults o s place)
+used_as o s place m = meaning_faults m place (λ (n : PredeclaredName). broken place WrongSort)
+    (other_sort_faults o s place)
 
 -- the use of a name where a sort is wanted
 abbrev pub use_faults : Outline → Sort → Used → List Fault

@@ -1,7 +1,9 @@
 //! What is declared at a place.
 
+use crate::predeclared::PredeclaredName;
 use est_items::{Items, Shared};
 use est_syntax::channel::Role;
+use est_syntax::header::Queue;
 use est_syntax::kind::{Kind, Kinds};
 
 /// The sort of thing that a declaration makes of a name.
@@ -26,8 +28,10 @@ pub enum Sort {
 /// What declares a name, beside its sort.
 #[derive(Clone, Copy)]
 pub enum Section {
-    /// A declaration of a specification, a body, a routine or a block.
-    Part,
+    /// A declaration part of a specification or a module body.
+    Body,
+    /// A declaration part of the block of a routine, a transition or an initialize part.
+    Block,
     /// The parameters of a header.
     Parameter,
     /// The interaction points and the exports of a header.
@@ -70,12 +74,17 @@ pub struct Side {
 /// The kinds of subscripts, which all names of one declaration share.
 pub type SharedKinds = Shared<Kinds>;
 
+/// Places of declarations, which several owners may have.
+pub type SharedPlaces = Shared<Items<u32>>;
+
 /// What is known of a declaration. `kind` is that of a constant, a type, a variable or the result
 /// of a function, where it has one, and `ordinal` the value of a constant. `dims` are the kinds of
 /// the subscripts of an interaction point or a module variable; an interaction point has so many
-/// `elements`, and the `side`. `header` is the place of the name of the header of a module variable
-/// or a body, where it has one. `closed` says of a routine that nested bodies see it, `system` of a
-/// header that it is a `systemactivity`, and `exports` that it has exported variables.
+/// `elements`, the `side`, and the `queue` that its declaration names, where it names one. `states`
+/// are the places of the states that a state set names, in the order of the text. `header` is the
+/// place of the name of the header of a module variable or a body, where it has one. `closed` says
+/// of a routine that nested bodies see it, `system` of a header that it is a `systemactivity`, and
+/// `exports` that it has exported variables.
 #[derive(Drop)]
 pub struct Entry {
     pub declared: Declared,
@@ -85,6 +94,8 @@ pub struct Entry {
     pub dims: Option<SharedKinds>,
     pub elements: u64,
     pub side: Option<Side>,
+    pub queue: Option<Queue>,
+    pub states: Option<SharedPlaces>,
     pub header: Option<u32>,
     pub closed: bool,
     pub system: bool,
@@ -145,7 +156,7 @@ pub struct Within {
 #[derive(Clone, Copy, PartialEq, Eq)]
 pub enum Meant {
     Nothing,
-    Predeclared,
+    Predeclared(PredeclaredName),
     Unseen(u32),
     Seen(u32),
 }

@@ -8,5 +8,6 @@ pub mod least;
 pub mod meaning;
 pub mod names;
 pub mod outline;
+pub mod predeclared;
 mod regions;
 pub mod uses;

@@ -1,12 +1,13 @@
 //! What a name means at a place.
 
-ghost use Rattle.std.specs.Prelude.{◌≡◌, None};
-ghost use Rattle.est_syntax.specs.Names.{is_predeclared};
+ghost use Rattle.std.specs.Prelude.{◌≡◌};
 ghost use Rattle.est_scope.specs.Outline.{entry_at, in_force, found, is_shared_sort, is_shared};
-ghost use Rattle.est_scope.specs.Outline.{seen_around, meant_by, meant};
+ghost use Rattle.est_scope.specs.Outline.{seen_around, meant};
+ghost use Rattle.est_scope.specs.Predeclared.{predeclared_name, undeclared};
 
 use crate::declaration::{Meant, Sort};
 use crate::outline::Outline;
+use crate::predeclared::predeclared_name;
 use est_syntax::name::Name;
 
 // Whether a nested body sees a declaration of this sort around it.
@@ -26,13 +27,12 @@ fn is_shared_sort(sort: Sort, closed: bool) -> bool
 }
 
 // What a name means that nothing in force declares.
-fn undeclared(outline: &Outline, name: &Name) -> Meant
-    ensures { result ≡ meant_by outline.now (is_predeclared name.now.bytes) None None }
+fn undeclared(name: &Name) -> Meant
+    ensures { result ≡ undeclared (predeclared_name name.now.bytes) }
 {
-    if name.is_predeclared() {
-        Meant::Predeclared
-    } else {
-        Meant::Nothing
+    match predeclared_name(name) {
+        None => Meant::Nothing,
+        Some(known) => Meant::Predeclared(known),
     }
 }
 
@@ -66,13 +66,13 @@ impl Outline {
         ensures { result ≡ meant self.now name.now.bytes place }
     {
         let Some(extent) = self.extent(place) else {
-            return undeclared(self, name);
+            return undeclared(name);
         };
         if let Some(declared) = self.found(extent.own.get().as_slice(), name, place) {
             return Meant::Seen(declared);
         }
         match self.found(extent.around.get().as_slice(), name, place) {
-            None => undeclared(self, name),
+            None => undeclared(name),
             Some(declared) => if self.is_shared(declared) {
                 Meant::Seen(declared)
             } else {

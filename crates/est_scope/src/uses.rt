@@ -52,7 +52,7 @@ impl Outline {
     {
         match self.meaning(used) {
             Meant::Nothing => least.note(used.place, Rule::UnknownName),
-            Meant::Predeclared => least.note(used.place, Rule::WrongSort),
+            Meant::Predeclared(_) => least.note(used.place, Rule::WrongSort),
             Meant::Unseen(_) => least.note(used.place, Rule::NotSeenHere),
             Meant::Seen(place) => if !self.is_sort(sort, place) {
                 least.note(used.place, Rule::WrongSort);

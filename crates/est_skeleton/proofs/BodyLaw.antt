@@ -50,7 +50,8 @@ IsMeant o s m = (p : ℕ) × (meant_as o s m ≡ Some p) × (is_sort s (entry_at
 used_well : (o : Outline) (s : Sort) (place : ℕ) (m : Meant) → NoFault (used_as o s place m)
     → IsMeant o s m
 used_well o s place Nothing h = absurd (h record { place = place; rule = UnknownName } (inl refl))
-used_well o s place Predeclared h = absurd (h record { place = place; rule = WrongSort } (inl refl))
+used_well o s place (Predeclared n) h =
+    absurd (h record { place = place; rule = WrongSort } (inl refl))
 used_well o s place (Unseen p) h = absurd (h record {
   place = place;
   rule = NotSeenHere;

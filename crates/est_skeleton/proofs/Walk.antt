@@ -149,7 +149,7 @@ module _ (body : Used) (P : ℕ → Outline → Type 0) (kept : IsKept body P) w
   point_kept w q n o p =
       let o1 = lying w q.place o in
       names_kept w q.names q.role.place (point w (dims_of o1 q.dims)
-      (dims_elements (dims_of o1 q.dims)) (side_of o1 q)) refl n (n + length q.names) o1
+      (dims_elements (dims_of o1 q.dims)) (side_of o1 q) q.queue) refl n (n + length q.names) o1
       (omega arith) (kept.lies n o w q.place p)
 
   points_kept : (w : Within) (qs : List Point) (n m : ℕ) (o : Outline)

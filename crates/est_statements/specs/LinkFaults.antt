@@ -20,6 +20,7 @@ use Rattle.est_scope.specs.declared.declaration.Side.{Side}
 use Rattle.est_scope.specs.declared.declaration.Sort.{Sort}
 use Rattle.est_scope.specs.declared.declaration.Sort.TheVariants as sort
 use Rattle.est_scope.specs.declared.declaration.Standing.{Standing}
+use Rattle.est_scope.specs.declared.predeclared.PredeclaredName.{PredeclaredName}
 use Rattle.est_scope.specs.Outline.{Outline, entry_at, standing}
 use Rattle.est_scope.specs.Uses.{is_sort, meaning, meaning_faults, declaration_of}
 use Rattle.est_expressions.specs.Expressions.{are_taken_faults}
@@ -48,7 +49,7 @@ end_of o u = end_meant o (meaning o u)
 
 -- what a name of this meaning breaks that stands alone
 abbrev pub end_used : Outline → ℕ → Meant → List Fault
-end_used o place m = meaning_faults m place (broken place WrongSort)
+end_used o place m = meaning_faults m place (λ (n : PredeclaredName). broken place WrongSort)
     (λ (p : ℕ). if is_end_sort (entry_at o p) then [] else broken place WrongSort)
 
 -- what a name with its subscripts breaks that stands alone

@@ -5,7 +5,6 @@ use Rattle.std.specs.Prelude.{◌++◌, Option, Some, None, is_some, unwrap_or, 
 use Rattle.std.specs.Prelude.{length, slice_get}
 use Rattle.std.specs.List.{list_any}
 use Rattle.std.specs.Option.{option_map}
-use Rattle.est_syntax.specs.Names.{spelled}
 use Rattle.est_syntax.specs.Faults.{broken}
 use Rattle.est_syntax.specs.declared.expression.Expr.{Expr, out-Expr}
 use Rattle.est_syntax.specs.declared.expression.Factor.{Factor, out-Factor}
@@ -30,6 +29,7 @@ use Rattle.est_scope.specs.declared.declaration.Section.{Section}
 use Rattle.est_scope.specs.declared.declaration.Section.TheVariants as section
 use Rattle.est_scope.specs.declared.declaration.Sort.{Sort}
 use Rattle.est_scope.specs.declared.declaration.Sort.TheVariants as sort
+use Rattle.est_scope.specs.declared.predeclared.PredeclaredName.{PredeclaredName}
 use Rattle.est_scope.specs.Outline.{Outline, entry_at}
 use Rattle.est_scope.specs.Uses.{meaning, meaning_faults}
 use Rattle.est_kinds.specs.declared.value.Valued.{Valued}
@@ -168,15 +168,15 @@ function_target None place = broken place WrongSort
 function_target (Some f) place = broken place NotWritable
 
 -- what the name of something predeclared breaks as a target
-abbrev pub predeclared_target : Option Valued → List ℕ → ℕ → List Fault
-predeclared_target None name place = function_target (required_function name) place
-predeclared_target (Some v) name place = broken place NotWritable
+abbrev pub predeclared_target : Option Valued → PredeclaredName → ℕ → List Fault
+predeclared_target None n place = function_target (required_function n) place
+predeclared_target (Some v) n place = broken place NotWritable
 
 -- what a name of this meaning breaks as a target
 abbrev pub target_meant_faults :
     Outline → Option ℕ → List ℕ → Used → List Selector → Meant → List Fault
 target_meant_faults o f loops u path m = meaning_faults m u.place
-    (predeclared_target (predeclared_constant (spelled u)) (spelled u) u.place)
+    (λ (n : PredeclaredName). predeclared_target (predeclared_constant n) n u.place)
     (λ (p : ℕ). target_in_faults f loops p (entry_at o p) path u.place)
 
 -- what a name breaks as a target

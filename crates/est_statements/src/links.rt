@@ -65,7 +65,7 @@ fn check_end_name(outline: &Outline, used: &Used, least: &mut Least)
 {
     match outline.meaning(used) {
         Meant::Nothing => least.note(used.place, Rule::UnknownName),
-        Meant::Predeclared => least.note(used.place, Rule::WrongSort),
+        Meant::Predeclared(_) => least.note(used.place, Rule::WrongSort),
         Meant::Unseen(_) => least.note(used.place, Rule::NotSeenHere),
         Meant::Seen(place) => if !is_end(outline, place) {
             least.note(used.place, Rule::WrongSort);

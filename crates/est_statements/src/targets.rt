@@ -29,6 +29,7 @@ use est_expressions::variables::selected_type;
 use est_scope::declaration::{Entry, Meant, Measured, Section, SharedKinds, Sort};
 use est_scope::least::Least;
 use est_scope::outline::Outline;
+use est_scope::predeclared::PredeclaredName;
 use est_syntax::expression::{Expr, Factor, Selector, Simple, Term};
 use est_syntax::kind::Kind;
 use est_syntax::name::Used;
@@ -264,32 +265,27 @@ fn check_declared(
 }
 
 // Notes the name of a function that is predeclared, or of another such thing that has no value.
-fn check_function(used: &Used, least: &mut Least)
+fn check_function(known: PredeclaredName, place: u32, least: &mut Least)
     ensures { least.new.at ≡ least_with least.old.at
-        (function_target (required_function used.now.name.bytes) used.now.place) }
+        (function_target (required_function known) place) }
 {
-    match required_function(&used.name) {
-        None => least.note(used.place, Rule::WrongSort),
-        Some(_) => least.note(used.place, Rule::NotWritable),
+    match required_function(known) {
+        None => least.note(place, Rule::WrongSort),
+        Some(_) => least.note(place, Rule::NotWritable),
     }
 }
 
 // Notes the name of something predeclared.
-fn check_predeclared(used: &Used, least: &mut Least)
-    ensures { least.new.at ≡ least_with least.old.at (predeclared_target
-        (predeclared_constant used.now.name.bytes) used.now.name.bytes used.now.place) }
+fn check_predeclared(known: PredeclaredName, place: u32, least: &mut Least)
+    ensures { least.new.at ≡ least_with least.old.at
+        (predeclared_target (predeclared_constant known) known place) }
 {
-    let bytes = used.name.bytes.as_slice();
-    if bytes == b"false".as_slice() {
-        return least.note(used.place, Rule::NotWritable);
+    match known {
+        PredeclaredName::False => least.note(place, Rule::NotWritable),
+        PredeclaredName::True => least.note(place, Rule::NotWritable),
+        PredeclaredName::Maxint => least.note(place, Rule::NotWritable),
+        _ => check_function(known, place, least),
     }
-    if bytes == b"true".as_slice() {
-        return least.note(used.place, Rule::NotWritable);
-    }
-    if bytes == b"maxint".as_slice() {
-        return least.note(used.place, Rule::NotWritable);
-    }
-    check_function(used, least);
 }
 
 /// Notes a name that is no target.
@@ -306,7 +302,7 @@ pub fn check_target(
 {
     match outline.meaning(used) {
         Meant::Nothing => least.note(used.place, Rule::UnknownName),
-        Meant::Predeclared => check_predeclared(used, least),
+        Meant::Predeclared(known) => check_predeclared(known, used.place, least),
         Meant::Unseen(_) => least.note(used.place, Rule::NotSeenHere),
         Meant::Seen(place) => {
             check_declared(outline, function, loops, place, path, used.place, least)

@@ -34,7 +34,7 @@ is_free_entry (Some e) routine place = is_free_sort e.declared.sort e.closed rou
 -- It may name what a name means.
 abbrev pub is_free_meant : Outline → ℕ → Meant → Bool
 is_free_meant o routine Nothing = true
-is_free_meant o routine Predeclared = true
+is_free_meant o routine (Predeclared n) = true
 is_free_meant o routine (Unseen p) = is_free_entry (entry_at o p) routine p
 is_free_meant o routine (Seen p) = is_free_entry (entry_at o p) routine p
 

@@ -38,7 +38,7 @@ pub fn is_free(outline: &Outline, routine: u32, used: &Used) -> bool
 {
     match outline.meant(&used.name, used.place) {
         Meant::Nothing => true,
-        Meant::Predeclared => true,
+        Meant::Predeclared(_) => true,
         Meant::Unseen(place) => is_free_at(outline, routine, place),
         Meant::Seen(place) => is_free_at(outline, routine, place),
     }
