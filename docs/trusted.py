@@ -16,10 +16,10 @@ import sys
 CRATES = pathlib.Path(__file__).resolve().parent.parent / "crates"
 STARTS = [
     ("est_tool/specs/Result.antt", "IsResult"),
-    ("est_tool/specs/Seen.antt", "seen"),
-    ("est_tool/specs/Seen.antt", "shelved"),
-    ("est_tool/specs/Seen.antt", "sent"),
-    ("est_tool/specs/Statuses.antt", "code_of"),
+    ("est_files/specs/Seen.antt", "seen"),
+    ("est_files/specs/Seen.antt", "shelved"),
+    ("est_files/specs/Seen.antt", "sent"),
+    ("est_words/specs/Statuses.antt", "code_of"),
 ]
 USE = re.compile(r"use Rattle\.(est_\w+)\.specs\.([\w.]+?)(?:\.\{(.*)\}| as (\w+))?$")
 HEAD = re.compile(r"\s*(?:(?:abbrev|unfoldable) pub|pub record|pub data)\s+([\w'-]+)|module\s+(_)")

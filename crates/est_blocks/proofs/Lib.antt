@@ -1,4 +1,2 @@
-pub mod CountRows
-pub mod NameSteps
 pub mod PartRows
 pub mod Turns

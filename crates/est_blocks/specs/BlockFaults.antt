@@ -1,5 +1,5 @@
 -- The rules that the blocks, transitions and bodies of a specification break, beside those of its
--- declarations, and all rules that it breaks (ISO 9074, constraints; ISO 7185, 6.6 to 6.8).
+-- declarations (ISO 9074, constraints; ISO 7185, 6.6 to 6.8).
 use Rattle.std.specs.Prelude.{ℕ, List, [], ◌∷◌, ◌++◌, Option, Some, None}
 use Rattle.est_syntax.specs.declared.name.Used.{Used}
 use Rattle.est_syntax.specs.declared.body.Part.{Part, Row_of-Part, end_of-Part, more_of-Part}
@@ -17,7 +17,7 @@ use Rattle.est_scope.specs.Outline.{Outline}
 use Rattle.est_scope.specs.Uses.{use_faults}
 use Rattle.est_outline.specs.declared.context.Given.{Given}
 use Rattle.est_outline.specs.Bodies.{outline_of}
-use Rattle.est_types.specs.DeclarationFaults.{row_scalars, scalars_faults, declaration_faults}
+use Rattle.est_sizes.specs.Scalars.{row_scalars, scalars_faults}
 use Rattle.est_statements.specs.Statements.{statement_faults, statements_faults}
 use Rattle.est_blocks.specs.Clauses.{clauses_faults, with_clauses, delay_faults, next_faults}
 
@@ -72,7 +72,3 @@ parts_faults o (p ∷ ps) = part_faults o p ++ parts_faults o ps
 abbrev pub bodies_faults : Spec → List Fault
 bodies_faults s =
     parts_faults (outline_of s) s.parts ++ statement_faults (outline_of s) None [] s.first
-
--- all that a specification breaks
-abbrev pub specification_faults : Spec → List Fault
-specification_faults s = declaration_faults s ++ bodies_faults s

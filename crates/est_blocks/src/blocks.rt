@@ -16,13 +16,12 @@ use est_outline::context::Context;
 use est_scope::declaration::Sort;
 use est_scope::least::Least;
 use est_scope::outline::Outline;
+use est_sizes::sizes::{check_scalars, parts_scalars};
 use est_statements::statements::check_statements;
 use est_syntax::body::{Block, Body, FirstPart, Part};
 use est_syntax::name::Used;
 use est_syntax::routine::Routine;
 use est_syntax::transition::{Group, Transition};
-use est_types::parts::check_scalars;
-use est_types::sizes::parts_scalars;
 use std::alloc::{AllocError, Global};
 
 // The block of a transition or of an initialize part.

@@ -18,7 +18,7 @@ use crate::mistake::Mistake;
 use crate::suite::Suite;
 use crate::tally::Tally;
 use est_edge::{FileShelf, OutSink, Shelf, Sink, read_whole, write_whole};
-use est_tool::file::File;
+use est_files::file::File;
 use std::alloc::Global;
 use std::process::ExitCode;
 use std::str;

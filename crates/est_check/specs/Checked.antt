@@ -4,9 +4,9 @@ use Rattle.est_syntax.specs.declared.ports.Port.{Port}
 use Rattle.est_syntax.specs.declared.specification.Spec.{Spec}
 use Rattle.est_outline.specs.Bodies.{outline_of}
 use Rattle.est_types.specs.Table.{Table}
-use Rattle.est_blocks.specs.LeastFault.{IsGood}
-use Rattle.est_blocks.specs.Counts.{counts_of}
-use Rattle.est_blocks.specs.declared.counts.Counts.{Counts}
+use Rattle.est_check.specs.LeastFault.{IsGood}
+use Rattle.est_counts.specs.Counts.{counts_of}
+use Rattle.est_counts.specs.declared.counts.Counts.{Counts}
 use Rattle.est_ports.specs.PortList.{ports_of}
 use Rattle.est_skeleton.specs.Ports as skeletons
 use Rattle.est_skeleton.specs.Ports.{body_started, header_meant}

@@ -1,7 +1,7 @@
 -- What is found of a specification.
 use Rattle.std.specs.Prelude.{◌≡◌, Some}
 use Rattle.est_syntax.specs.declared.specification.Spec.{Spec}
-use Rattle.est_blocks.specs.LeastFault.{IsGood, IsLeastFault}
+use Rattle.est_check.specs.LeastFault.{IsGood, IsLeastFault}
 use Rattle.est_check.specs.declared.error.CheckError.{CheckError}
 use Rattle.est_check.specs.declared.error.CheckError.TheVariants as errors
 

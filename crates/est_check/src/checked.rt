@@ -2,13 +2,13 @@
 
 ghost use Rattle.std.specs.Prelude.{◌≡◌, IfOk};
 ghost use Rattle.est_outline.specs.Bodies.{outline_of};
-ghost use Rattle.est_blocks.specs.LeastFault.{IsGood};
-ghost use Rattle.est_blocks.specs.Counts.{counts_of};
+ghost use Rattle.est_check.specs.LeastFault.{IsGood};
+ghost use Rattle.est_counts.specs.Counts.{counts_of};
 ghost use Rattle.est_ports.specs.PortList.{ports_of};
 ghost use Rattle.est_skeleton.specs.Small.{IsSmall};
 ghost use Rattle.est_check.specs.Checked.{IsChecked};
 
-use est_blocks::counts::Counts;
+use est_counts::counts::Counts;
 use est_items::Boxed;
 use est_ports::ports::Ports;
 use est_syntax::specification::Spec;

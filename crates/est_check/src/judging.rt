@@ -4,8 +4,8 @@
 ghost use Rattle.std.specs.Prelude.{◌≡◌, IfOk, IfErr, None};
 ghost use Rattle.est_scope.specs.LeastSoFar.{least_with};
 ghost use Rattle.est_outline.specs.Bodies.{outline_of};
-ghost use Rattle.est_blocks.specs.LeastFault.{IsGood};
-ghost use Rattle.est_blocks.specs.Counts.{counts_of};
+ghost use Rattle.est_check.specs.LeastFault.{IsGood};
+ghost use Rattle.est_counts.specs.Counts.{counts_of};
 ghost use Rattle.est_types.specs.DeclarationFaults.{declaration_faults};
 ghost use Rattle.est_skeleton.specs.Small.{IsSmall};
 ghost use Rattle.est_check.specs.Found.{IsFound, IsRefused};
@@ -13,8 +13,8 @@ ghost use Rattle.est_check.specs.inside.Kept.{IsKept};
 
 use crate::checked::Checked;
 use crate::error::CheckError;
-use est_blocks::check::{Answer, judge};
-use est_blocks::counts::Counts;
+use crate::rules::judge;
+use est_counts::counts::{Counts, numbers};
 use est_ports::making::ports;
 use est_ports::ports::Ports;
 use est_syntax::rule::Fault;
@@ -31,14 +31,14 @@ pub(crate) struct Kept {
     counts: Counts,
 }
 
-// What is kept of a specification with this table, which breaks no rule and has these numbers.
-fn kept_of(alloc: Global, table: Table, spec: &Spec, counts: Counts) -> Result<Kept, CheckError>
+// What is kept of a specification with this table, which breaks no rule.
+fn kept_of(alloc: Global, table: Table, spec: &Spec) -> Result<Kept, CheckError>
     requires outline { table.outline ≡ outline_of spec.now }
     requires good { IsGood spec.now }
-    requires counts { counts ≡ counts_of spec.now }
     ensures good { IfOk result (IsKept spec.now) }
     ensures fault { IfErr result (IsRefused spec.now) }
 {
+    let counts = numbers(table.outline(), spec);
     match ports(alloc, table.outline(), spec) {
         Err(error) => {
             drop(table);
@@ -64,11 +64,11 @@ fn judged_by(alloc: Global, table: Table, spec: &Spec) -> Result<Kept, CheckErro
             drop(table);
             Err(CheckError::Memory(error))
         }
-        Ok(Answer::Broken(Fault { place, rule })) => {
+        Ok(Some(Fault { place, rule })) => {
             drop(table);
             Err(CheckError::Fault { place, rule })
         }
-        Ok(Answer::Good(counts)) => kept_of(alloc, table, spec, counts),
+        Ok(None) => kept_of(alloc, table, spec),
     }
 }
 

@@ -3,7 +3,7 @@
 
 ghost use Rattle.std.specs.Prelude.{◌≡◌, IfOk};
 ghost use Rattle.est_outline.specs.Bodies.{outline_of};
-ghost use Rattle.est_blocks.specs.LeastFault.{IsGood};
+ghost use Rattle.est_check.specs.LeastFault.{IsGood};
 ghost use Rattle.est_skeleton.specs.Ports.{ports_of, body_started, header_meant};
 ghost use Rattle.est_skeleton.specs.Skeleton.{IsSkeleton};
 ghost use Rattle.est_skeleton.specs.Small.{IsSmall};

@@ -24,18 +24,20 @@ use Rattle.est_explanation.specs.declared.explanation.Explanation.{Explanation}
 use Rattle.est_explanation.specs.CanonicalExplanation.{canonical, IsWritable, IsWritableMove}
 use Rattle.est_replay.specs.declared.verdict.Replayed.TheVariants.{Confirmed}
 use Rattle.est_replay.specs.Replay.{AnswersFrom}
-use Rattle.est_tool.specs.declared.file.File.{File}
-use Rattle.est_tool.specs.declared.file.File.TheVariants as file
-use Rattle.est_tool.specs.declared.status.Status.{Status}
-use Rattle.est_tool.specs.declared.status.Status.TheVariants.{Fine, Refused}
-use Rattle.est_tool.specs.FileTexts.{IsText, Holds, OfSpecification, OfTrace, OfExplanation}
-use Rattle.est_tool.specs.Reports.{replay_line, first_line, all_line}
-use Rattle.est_tool.specs.SearchReports.{accepted_line, refused_line, faulted_line, verdict_report}
-use Rattle.est_tool.specs.Statuses.{verdict_status}
-use Rattle.est_tool.specs.Ends.{reported, HoldsSkeleton, HoldsTrace, HoldsExplanation, task_of}
+use Rattle.est_files.specs.declared.file.File.{File}
+use Rattle.est_files.specs.declared.file.File.TheVariants as file
+use Rattle.est_words.specs.declared.status.Status.{Status}
+use Rattle.est_words.specs.declared.status.Status.TheVariants.{Fine, Refused}
+use Rattle.est_files.specs.FileTexts.{IsText, Holds, OfSpecification, OfTrace, OfExplanation}
+use Rattle.est_tool.specs.ReplayReports.{replay_line, first_line, all_line}
+use Rattle.est_reports.specs.SearchReports.{accepted_line, refused_line, faulted_line}
+use Rattle.est_reports.specs.SearchReports.{verdict_report}
+use Rattle.est_reports.specs.SearchReports.{verdict_status}
+use Rattle.est_files.specs.FileEnds.{reported, HoldsSkeleton, HoldsTrace, HoldsExplanation}
+use Rattle.est_tool.specs.Ends.{task_of}
 use Rattle.est_tool.specs.Ends.{ReplayEnds, replayed}
-use Rattle.est_tool.specs.Requests.{replay}
-use Rattle.est_tool.proofs.OneResult.{result_one}
+use Rattle.est_words.specs.Requests.{replay}
+use Rattle.est_calls.proofs.OneResult.{result_one}
 use Rattle.est_confirmed.specs.Confirmations.{IsFedBack, IsConfirmedWhole, IsConfirmedBefore}
 use Rattle.est_confirmed.specs.Confirmations.{ExplainedIsConfirmed}
 use Rattle.est_confirmed.proofs.Numbers.{run_writable}

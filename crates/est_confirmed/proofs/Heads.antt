@@ -16,8 +16,8 @@ use Rattle.est_explanation.proofs.Comments.{comment_lines_are_comments, clear_ap
 use Rattle.est_explanation.proofs.CanonicalWords.{words_of, words_text, words_apart}
 use Rattle.est_explanation.proofs.ReadBack.{read_back}
 use Rattle.est_explanation.proofs.Words.{tokens_at, text_of, are_tokens, apart_whole}
-use Rattle.est_tool.specs.SearchReports.{accepted_line, refused_line, refused_at_line}
-use Rattle.est_tool.specs.SearchReports.{refused_end_line}
+use Rattle.est_reports.specs.SearchReports.{accepted_line, refused_line, refused_at_line}
+use Rattle.est_reports.specs.SearchReports.{refused_end_line}
 
 -- WHAT THE HEADS SAY
 

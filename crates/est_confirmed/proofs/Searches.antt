@@ -12,18 +12,20 @@ use Rattle.est_specification.specs.declared.error.SpecificationError.{Specificat
 use Rattle.est_specification.specs.declared.error.SpecificationError.TheVariants as specification
 use Rattle.est_trace.specs.declared.error.TraceError.{TraceError}
 use Rattle.est_trace.specs.declared.error.TraceError.TheVariants as trace
-use Rattle.est_tool.specs.declared.file.File.{File}
-use Rattle.est_tool.specs.declared.file.File.TheVariants as file
-use Rattle.est_tool.specs.declared.status.Status.{Status}
-use Rattle.est_tool.specs.declared.status.Status.TheVariants.{Fine, Refused}
-use Rattle.est_tool.specs.declared.status.Status.TheVariants.{OverBudget, NoStart, NotBuilt}
-use Rattle.est_tool.specs.FileTexts.{Holds, Refusals, IsReported, RefusesSpecification}
-use Rattle.est_tool.specs.FileTexts.{RefusesTrace, SaysOfSpecification, SaysOfTrace}
-use Rattle.est_tool.specs.SearchReports.{verdict_report}
-use Rattle.est_tool.specs.Statuses.{verdict_status}
-use Rattle.est_tool.specs.Seen.{Seen}
-use Rattle.est_tool.specs.Ends.{End, reported, EndsAt, longer, refused, failed, task_of}
-use Rattle.est_tool.specs.Ends.{HoldsSkeleton, HoldsTrace, ExplainEnds, ends_at_specification}
+use Rattle.est_files.specs.declared.file.File.{File}
+use Rattle.est_files.specs.declared.file.File.TheVariants as file
+use Rattle.est_words.specs.declared.status.Status.{Status}
+use Rattle.est_words.specs.declared.status.Status.TheVariants.{Fine, Refused}
+use Rattle.est_words.specs.declared.status.Status.TheVariants.{OverBudget, NoStart, NotBuilt}
+use Rattle.est_files.specs.FileTexts.{Holds, Refusals, IsReported, RefusesSpecification}
+use Rattle.est_files.specs.FileTexts.{RefusesTrace, SaysOfSpecification, SaysOfTrace}
+use Rattle.est_reports.specs.SearchReports.{verdict_report}
+use Rattle.est_reports.specs.SearchReports.{verdict_status}
+use Rattle.est_files.specs.Seen.{Seen}
+use Rattle.est_files.specs.FileEnds.{End, reported, EndsAt, longer, refused, failed}
+use Rattle.est_tool.specs.Ends.{task_of}
+use Rattle.est_files.specs.FileEnds.{HoldsSkeleton, HoldsTrace}
+use Rattle.est_tool.specs.Ends.{ExplainEnds, ends_at_specification}
 use Rattle.est_tool.specs.Ends.{not_run, ends_at_trace, not_started, start_over, searched}
 
 -- the status of a trace that is explained or refused

@@ -1,15 +1,16 @@
 -- What `explain` reports, `replay` confirms.
 use Rattle.std.specs.Prelude.{◌≡◌, ℕ, ◌+◌, ◌≤◌, List, ◌++◌, Some, length}
-use Rattle.est_tool.specs.declared.file.File.TheVariants as file
-use Rattle.est_tool.specs.declared.status.Status.{Status}
-use Rattle.est_tool.specs.declared.status.Status.TheVariants.{Fine, Refused}
-use Rattle.est_tool.specs.Files.{limit_of}
-use Rattle.est_tool.specs.Reports.{first_line, all_line}
-use Rattle.est_tool.specs.SearchReports.{accepted_line, refused_line}
-use Rattle.est_tool.specs.Seen.{Seen}
-use Rattle.est_tool.specs.Ends.{reported, Ends}
-use Rattle.est_tool.specs.Requests.{explain, replay}
-use Rattle.est_tool.specs.CallLaws.{TellAlike}
+use Rattle.est_files.specs.declared.file.File.TheVariants as file
+use Rattle.est_words.specs.declared.status.Status.{Status}
+use Rattle.est_words.specs.declared.status.Status.TheVariants.{Fine, Refused}
+use Rattle.est_files.specs.Files.{limit_of}
+use Rattle.est_tool.specs.ReplayReports.{first_line, all_line}
+use Rattle.est_reports.specs.SearchReports.{accepted_line, refused_line}
+use Rattle.est_files.specs.Seen.{Seen}
+use Rattle.est_files.specs.FileEnds.{reported}
+use Rattle.est_tool.specs.Ends.{Ends}
+use Rattle.est_words.specs.Requests.{explain, replay}
+use Rattle.est_calls.specs.CallLaws.{TellAlike}
 
 -- Two calls: a search ends with this status and this report, and a replay of this report as an
 -- explanation, of the same bytes of specification and trace and with the same limits, ends with

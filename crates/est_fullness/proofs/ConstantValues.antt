@@ -25,7 +25,7 @@ use Rattle.est_kinds.specs.Constants.{with_sign, signed_value, value_with, value
 use Rattle.est_kinds.specs.Constants.{value_meant, named_value, constant_value, number_place}
 use Rattle.est_kinds.specs.Constants.{constant_used, sign_faults, constant_faults}
 use Rattle.est_fullness.specs.Full.{IsOfProfile, MayBeNegated, IsFullAt}
-use Rattle.est_fullness.specs.Written.{OfConstant}
+use Rattle.est_fullness.specs.WrittenExpressions.{OfConstant}
 use Rattle.est_fullness.specs.FullDeclarations.{HasValue}
 use Rattle.est_fullness.proofs.NoFaults.{parted, unbroken, unbroken_if}
 use Rattle.est_fullness.proofs.SeenUses.{right_sort, full_constant}

@@ -33,7 +33,7 @@ use Rattle.est_outline.specs.Declares.{side_with, side_by, side_of, member_named
 use Rattle.est_types.specs.DeclarationFaults.{side_faults, role_used, attribute_faults}
 use Rattle.est_types.specs.DeclarationFaults.{word_place, constdef_faults, typedef_faults}
 use Rattle.est_language.specs.Shown.{node, nodes}
-use Rattle.est_order.specs.Order.{Stands, o_none}
+use Rattle.est_order.specs.PlaceOrder.{Stands, o_none}
 use Rattle.est_productions.specs.Nodes.{layer, dimensions, a_type, a_short_type}
 use Rattle.est_fullness.specs.Full.{IsThere, MayBeNegated, HasAll, IsFull, IsFullAt}
 use Rattle.est_fullness.specs.Full.{AreFullBefore}
@@ -47,7 +47,7 @@ use Rattle.est_fullness.specs.FullDeclarations.{PointsAreFull, ModuleVariablesAr
 use Rattle.est_fullness.specs.FullDeclarations.{FormalsAreFull, BodiesAreFull}
 use Rattle.est_fullness.specs.FullDeclarations.{ConstantDefinitionsAreFullInTime}
 use Rattle.est_fullness.specs.FullDeclarations.{TypeDefinitionsAreFullInTime}
-use Rattle.est_fullness.specs.Written.{OfConstant, EachUse, HasConstants}
+use Rattle.est_fullness.specs.WrittenExpressions.{OfConstant, EachUse, HasConstants}
 use Rattle.est_fullness.proofs.NoFaults.{parted}
 use Rattle.est_fullness.proofs.Places.{ascends, in_at, in_pair, in_given, in_node, in_used}
 use Rattle.est_fullness.proofs.SeenUses.{use_seen}

@@ -12,7 +12,7 @@ use Rattle.est_kinds.specs.TypeTexts.{text_type, text_faults, text_place}
 use Rattle.est_kinds.specs.Dims.{with_dim, dims_after, dims_of, ordinal_faults, dim_faults}
 use Rattle.est_kinds.specs.Dims.{each_dim_faults, elements_faults, dims_faults}
 use Rattle.est_language.specs.Shown.{node, nodes}
-use Rattle.est_order.specs.Order.{Stands}
+use Rattle.est_order.specs.PlaceOrder.{Stands}
 use Rattle.est_productions.specs.Nodes.{layer, a_short_type}
 use Rattle.est_fullness.specs.Full.{IsThere, IsFullAt, AreFullBefore}
 use Rattle.est_order.specs.Said.{Each}

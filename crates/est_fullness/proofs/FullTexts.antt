@@ -26,7 +26,7 @@ use Rattle.est_statements.specs.Statements.{over_by, over_faults}
 use Rattle.est_fullness.specs.Full.{IsThere, IsFullAt, AreFull}
 use Rattle.est_fullness.specs.FullDeclarations.{HasValue}
 use Rattle.est_fullness.specs.WholeStatements.{AreChosen, HasOrdinalKind, IsOver}
-use Rattle.est_fullness.specs.Written.{HasConstants}
+use Rattle.est_fullness.specs.WrittenExpressions.{HasConstants}
 use Rattle.est_fullness.proofs.ConstantValues.{constant_fits}
 use Rattle.est_fullness.proofs.FullOperators.{nowhere}
 use Rattle.est_fullness.proofs.InForce.{all_full}

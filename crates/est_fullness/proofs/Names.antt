@@ -53,7 +53,7 @@ use Rattle.est_order.specs.Said.{Each, IsSaid, IsOf, HasKind, IsNoEntry, ConstDe
 use Rattle.est_order.specs.Said.{NumbersSaid, TextSaid, RowSaid, FieldsSaid, TypeDefSaid}
 use Rattle.est_order.specs.Said.{VarDefSaid, InteractionSaid, ByPartSaid, ChannelSaid}
 use Rattle.est_order.specs.Said.{PointSaid, ModvarSaid, HeaderSaid, StateSetSaid, FormalSaid}
-use Rattle.est_fullness.specs.Written.{EachUse, HasConstants, RowHas, FieldsHave}
+use Rattle.est_fullness.specs.WrittenExpressions.{EachUse, HasConstants, RowHas, FieldsHave}
 use Rattle.est_fullness.specs.WrittenParts.{TypeDefWritten, VarDefWritten, InteractionWritten}
 use Rattle.est_fullness.specs.WrittenParts.{ByPartWritten, ChannelWritten, PointWritten}
 use Rattle.est_fullness.specs.WrittenParts.{ModvarWritten, HeaderWritten}

@@ -31,6 +31,7 @@ use Rattle.est_outline.specs.Lasts.{text_last}
 use Rattle.est_outline.specs.Bodies.{over_header, body_header, outline_of}
 use Rattle.est_types.specs.declared.modules.Owner.{Owner}
 use Rattle.est_types.specs.declared.modules.Owner.TheVariants as owners
+use Rattle.est_sizes.specs.Scalars.{row_scalars, scalars_faults}
 use Rattle.est_types.specs.DeclarationFaults as types
 use Rattle.est_types.specs.DeclarationFaults.{declaration_faults}
 use Rattle.est_statements.specs.Statements.{over_by, over_faults, statement_faults}
@@ -45,7 +46,7 @@ use Rattle.est_fullness.specs.FullOutlines.{OutlinesAreFull}
 use Rattle.est_order.specs.Said.{Each, IsSaid, VarDefSaid, RoutineSaid, AllSaid, StatementSaid}
 use Rattle.est_order.specs.Said.{StatementsSaid, SecondSaid, ArmsSaid, ClauseSaid, PartSaid}
 use Rattle.est_order.specs.Said.{PartsSaid, FirstSaid, GroupsSaid, TransitionsSaid}
-use Rattle.est_fullness.specs.Written.{HasConstants}
+use Rattle.est_fullness.specs.WrittenExpressions.{HasConstants}
 use Rattle.est_fullness.specs.WrittenParts.{VarDefWritten, StatementWritten, StatementsWritten}
 use Rattle.est_fullness.specs.WrittenParts.{SecondWritten, ArmsWritten, ClauseWritten}
 use Rattle.est_fullness.specs.WrittenParts.{BlockPartWritten, BlockWritten, FirstWritten}
@@ -210,9 +211,9 @@ module _ (o : Outline) where
       → OfFirst (IsSoAt o) (IsAMember o) f
   first_full first.None' said w h g = tt
   first_full (first.Some' to a parts statements place) said w h g =
-      let n = types.row_scalars o 0 parts in
+      let n = row_scalars o 0 parts in
       let k = parted (next_faults o to) (block_faults o place n statements) g in
-      let l = parted (types.scalars_faults n place)
+      let l = parted (scalars_faults n place)
       (statements_faults o None [] statements) k.1 in (
         block_full owners.Body parts said.0 w.0 h,
         turn_full None statements said.1 w.1 l.1,
@@ -229,13 +230,13 @@ module _ (o : Outline) where
       let k = parted (names ++ declared) (types.row_transitions_faults o rest) h in
       let l = parted names declared k.0 in
       let hs = with_clauses gs cs in
-      let x = types.row_scalars o 0 parts in
+      let x = row_scalars o 0 parts in
       let y = block_faults o place x statements in
       let z = clauses_faults o cs ++ delay_faults hs in
       let m = parted (z ++ y) (blocks.row_transitions_faults o hs rest) g in
       let n = parted z y m.0 in
       let q = parted (clauses_faults o cs) (delay_faults hs) n.0 in
-      let r = parted (types.scalars_faults x place)
+      let r = parted (scalars_faults x place)
       (statements_faults o None [] statements) n.1 in (
         clauses_full cs said.0 w.0 q.0,
         block_full owners.Body parts said.1 w.1 l.1,
@@ -291,7 +292,7 @@ module _ (o : Outline) where
         let t4 = types.row_groups_faults o groups in
         let t5 = types.first_state_faults (types.row_has_states parts) (types.names_first f)
         name.place in
-        let t6 = types.scalars_faults (types.row_scalars o 0 parts) name.place in
+        let t6 = scalars_faults (row_scalars o 0 parts) name.place in
         let k1 = parted (t1 ++ t2 ++ t3 ++ t4 ++ t5) t6 h in
         let k2 = parted (t1 ++ t2 ++ t3 ++ t4) t5 k1.0 in
         let k3 = parted (t1 ++ t2 ++ t3) t4 k2.0 in
@@ -318,7 +319,7 @@ module _ (o : Outline) where
         let t2 = types.formals_faults o result formals in
         let t3 = types.result_faults o result in
         let t4 = types.row_faults o owners.Body parts in
-        let t5 = types.scalars_faults (types.row_scalars o 0 parts) name.place in
+        let t5 = scalars_faults (row_scalars o 0 parts) name.place in
         let k1 = parted (t1 ++ t2 ++ t3 ++ t4) t5 h in
         let k2 = parted (t1 ++ t2 ++ t3) t4 k1.0 in
         let k3 = parted (t1 ++ t2) t3 k2.0 in

@@ -4,8 +4,8 @@ use Rattle.est_syntax.specs.declared.name.Used.{Used}
 use Rattle.est_language.specs.Shown.{kept, at, pair, first, second, given, node, nowhere, nodes}
 use Rattle.est_reader.specs.Going.{used}
 use Rattle.est_reader.specs.Tests.{Kept}
-use Rattle.est_order.specs.Order.{Stands, o_kept, o_at, o_pair, o_first, o_second}
-use Rattle.est_order.specs.Order.{o_given, o_node, o_more}
+use Rattle.est_order.specs.PlaceOrder.{Stands, o_kept, o_at, o_pair, o_first, o_second}
+use Rattle.est_order.specs.PlaceOrder.{o_given, o_node, o_more}
 use Rattle.est_order.proofs.Standing.{goes_on}
 use Rattle.est_productions.specs.Nodes.{Node, View, layer}
 

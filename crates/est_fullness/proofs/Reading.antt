@@ -12,7 +12,7 @@ use Rattle.est_reader.specs.Tests.{Test, language}
 use Rattle.est_reader.specs.Going.{Shape}
 use Rattle.est_productions.specs.Productions.{Production, Rule, production}
 use Rattle.est_productions.specs.Nodes.{Node, View, layer}
-use Rattle.est_order.specs.Order.{Stands}
+use Rattle.est_order.specs.PlaceOrder.{Stands}
 use Rattle.est_order.proofs.Ascending as order
 
 module _ (text : List ℕ) (tokens : List Token) where

@@ -10,7 +10,7 @@ use Rattle.est_productions.specs.Productions as grammar
 use Rattle.est_productions.specs.Nodes.{a_specification}
 use Rattle.est_grammar.specs.Answer.{levels}
 use Rattle.est_order.specs.Said.{Each}
-use Rattle.est_fullness.specs.Sentences.{SentencesAreWritten, SentencesAreFull}
+use Rattle.est_fullness.specs.FullSentences.{SentencesAreWritten, SentencesAreFull}
 use Rattle.est_fullness.specs.WrittenParts.{PartWritten}
 use Rattle.est_fullness.proofs.Parts.{outline_full}
 use Rattle.est_fullness.proofs.Reading.{Reads, in_word, in_rule, in_node, in_seq}

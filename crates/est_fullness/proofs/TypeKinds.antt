@@ -31,8 +31,8 @@ use Rattle.est_kinds.specs.TypeTexts.{known_fields, fields, record_of, record_fa
 use Rattle.est_kinds.specs.TypeTexts.{text_type, row_arrays, row_fields, text_faults}
 use Rattle.est_kinds.specs.TypeTexts.{row_index_faults, row_field_faults}
 use Rattle.est_fullness.specs.Full.{IsThere, IsFullAt}
-use Rattle.est_fullness.specs.Written.{EachUse, RowUse, FieldsUse, HasConstants, RowHas}
-use Rattle.est_fullness.specs.Written.{FieldsHave}
+use Rattle.est_fullness.specs.WrittenExpressions.{EachUse, RowUse, FieldsUse, HasConstants, RowHas}
+use Rattle.est_fullness.specs.WrittenExpressions.{FieldsHave}
 use Rattle.est_fullness.proofs.NoFaults.{parted, unbroken, unbroken_if}
 use Rattle.est_fullness.proofs.SeenUses.{right_sort, full_type, not_none, some_then}
 use Rattle.est_fullness.proofs.ConstantValues.{constant_fits}

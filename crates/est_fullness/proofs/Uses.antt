@@ -7,7 +7,7 @@ use Rattle.est_syntax.specs.declared.type_text.TypeText.{TypeText, Row_of-TypeTe
 use Rattle.est_syntax.specs.declared.type_text.TypeText.{more_of-TypeText, Row_of-VarDef}
 use Rattle.est_syntax.specs.declared.type_text.TypeText.{end_of-VarDef, more_of-VarDef}
 use Rattle.est_syntax.specs.declared.type_text.TypeText.TheVariants as text
-use Rattle.est_fullness.specs.Written.{OfConstant, EachUse, RowUse, FieldsUse}
+use Rattle.est_fullness.specs.WrittenExpressions.{OfConstant, EachUse, RowUse, FieldsUse}
 
 -- the names that a constant and a text use stand before a place
 abbrev pub NameBefore : ℕ → Constant → Type 0

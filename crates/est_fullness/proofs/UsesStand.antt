@@ -10,14 +10,14 @@ use Rattle.est_syntax.specs.declared.type_text.TypeText.TheVariants as text
 use Rattle.est_kinds.specs.Constants.{constant_last}
 use Rattle.est_outline.specs.Lasts.{text_last, row_fields_last}
 use Rattle.est_language.specs.Shown.{node}
-use Rattle.est_order.specs.Order.{Stands}
+use Rattle.est_order.specs.PlaceOrder.{Stands}
 use Rattle.est_order.proofs.FromTexts.{constant_placed, type_placed, short_placed}
 use Rattle.est_order.proofs.FromTexts.{short_text_placed}
 use Rattle.est_order.proofs.Placed.{ConstantPlaced, TextPlaced, RowPlaced, FieldsPlaced}
 use Rattle.est_order.proofs.Placed.{ShortPlaced, constant_on, text_on, row_on, fields_on}
 use Rattle.est_order.proofs.Placed.{constant_from, text_from, fields_from, names_on}
 use Rattle.est_productions.specs.Nodes.{layer, a_constant, a_type, a_short_type}
-use Rattle.est_fullness.specs.Written.{HasConstants}
+use Rattle.est_fullness.specs.WrittenExpressions.{HasConstants}
 use Rattle.est_fullness.proofs.Uses.{NameBefore, UsesBefore, RowBefore, FieldsBefore}
 
 -- before the end of a constant or a text, or a later place

@@ -30,10 +30,11 @@ use Rattle.est_kinds.specs.Constants.{constant_value, constant_faults, constant_
 use Rattle.est_kinds.specs.declared.value.Valued.{Valued}
 use Rattle.est_outline.specs.Bodies.{outline_of}
 use Rattle.est_outline.specs.declared.context.Given.{Given}
-use Rattle.est_order.specs.Order.{Stands, o_node, o_pair}
+use Rattle.est_order.specs.PlaceOrder.{Stands, o_node, o_pair}
 use Rattle.est_order.specs.Said.{Each}
 use Rattle.est_order.proofs.Ascending.{specification_stands}
-use Rattle.est_types.specs.DeclarationFaults.{row_scalars, scalars_faults, declaration_faults}
+use Rattle.est_sizes.specs.Scalars.{row_scalars, scalars_faults}
+use Rattle.est_types.specs.DeclarationFaults.{declaration_faults}
 use Rattle.est_expressions.specs.declared.operators.Wanted.TheVariants as wanted
 use Rattle.est_statements.specs.Statements.{wanted_faults, statement_faults, statements_faults}
 use Rattle.est_blocks.specs.BlockFaults.{function_of, block_faults, part_faults, row_faults}

@@ -27,15 +27,15 @@ use Rattle.est_syntax.specs.declared.statement.Statement.TheBlock.{hidden-the_ro
 use Rattle.est_syntax.specs.declared.statement.Statement.TheBlock.{shown-the_row-Statement-1}
 use Rattle.est_syntax.specs.declared.statement.Statement.TheVariants as statement
 use Rattle.est_language.specs.Shown.{node, nodes, sections}
-use Rattle.est_order.specs.Order.{Stands, o_at, o_pair, o_first, o_second}
-use Rattle.est_order.specs.Order.{o_given, o_node, o_more, o_no_section}
-use Rattle.est_order.specs.Order.{o_first_section, o_second_section}
+use Rattle.est_order.specs.PlaceOrder.{Stands, o_at, o_pair, o_first, o_second}
+use Rattle.est_order.specs.PlaceOrder.{o_given, o_node, o_more, o_no_section}
+use Rattle.est_order.specs.PlaceOrder.{o_first_section, o_second_section}
 use Rattle.est_productions.specs.Nodes as views
 use Rattle.est_productions.specs.Nodes.{Node, View, layer, a_short_type, a_parameter, an_export}
 use Rattle.est_productions.specs.Nodes.{an_interaction, a_by_part, a_channel, a_point, a_header}
 use Rattle.est_productions.specs.Nodes.{a_module_variable, a_clause, a_statement, an_arm}
 use Rattle.est_order.specs.Said.{Each}
-use Rattle.est_fullness.specs.Written.{HasConstants}
+use Rattle.est_fullness.specs.WrittenExpressions.{HasConstants}
 use Rattle.est_fullness.specs.WrittenParts.{VarDefWritten, InteractionWritten, ByPartWritten}
 use Rattle.est_fullness.specs.WrittenParts.{ChannelWritten, PointWritten, ModvarWritten}
 use Rattle.est_fullness.specs.WrittenParts.{HeaderWritten, StatementWritten, StatementsWritten}

@@ -24,14 +24,14 @@ use Rattle.est_outline.specs.Lasts.{text_last}
 use Rattle.est_language.specs.Grammar.{rep, ended, rule}
 use Rattle.est_language.specs.Shown.{node, nodes}
 use Rattle.est_reader.specs.Tests.{kind}
-use Rattle.est_order.specs.Order.{Stands, o_none, o_more, o_node, o_at, o_kept}
+use Rattle.est_order.specs.PlaceOrder.{Stands, o_none, o_more, o_node, o_at, o_kept}
 use Rattle.est_productions.specs.Productions as grammar
 use Rattle.est_productions.specs.Productions.{Rule, idents, several, listed, symbol, field, fields}
 use Rattle.est_productions.specs.Productions.{typetext, typedef, vardef}
 use Rattle.est_productions.specs.Nodes.{Node, layer, a_use, a_type, a_field, a_type_definition}
 use Rattle.est_productions.specs.Nodes.{a_variable}
 use Rattle.est_order.specs.Said.{Each}
-use Rattle.est_fullness.specs.Written.{HasConstants, RowHas, FieldsHave}
+use Rattle.est_fullness.specs.WrittenExpressions.{HasConstants, RowHas, FieldsHave}
 use Rattle.est_fullness.specs.WrittenParts.{TypeDefWritten, VarDefWritten}
 use Rattle.est_fullness.proofs.Places as places
 use Rattle.est_fullness.proofs.Uses.{text_then}

@@ -34,14 +34,14 @@ use Rattle.est_types.specs.DeclarationFaults.{constdef_faults, typedef_faults, v
 use Rattle.est_types.specs.DeclarationFaults.{point_faults, modvar_faults, formal_faults}
 use Rattle.est_types.specs.DeclarationFaults.{result_faults}
 use Rattle.est_language.specs.Shown.{node, nodes}
-use Rattle.est_order.specs.Order.{Stands}
+use Rattle.est_order.specs.PlaceOrder.{Stands}
 use Rattle.est_productions.specs.Nodes.{layer, a_use, a_constant, a_constant_definition}
 use Rattle.est_productions.specs.Nodes.{a_type, a_short_type, a_type_definition, a_variable}
 use Rattle.est_productions.specs.Nodes.{a_parameter, an_export, a_point, a_module_variable}
 use Rattle.est_productions.specs.Nodes.{a_formal}
 use Rattle.est_fullness.specs.Full.{IsThere, MayBeNegated, IsFull, IsFullFor, AreFullTo}
 use Rattle.est_fullness.specs.Full.{AreFullBefore, AreInForceAfter}
-use Rattle.est_fullness.specs.Written.{HasConstants}
+use Rattle.est_fullness.specs.WrittenExpressions.{HasConstants}
 
 -- where the declarations to a place are full, the constants and types in force before it are
 abbrev pub WhatIsInForceIsFull : Type 0

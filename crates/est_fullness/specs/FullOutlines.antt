@@ -2,7 +2,7 @@
 use Rattle.std.specs.Prelude.{◌≡◌, []}
 use Rattle.est_syntax.specs.declared.specification.Spec.{Spec}
 use Rattle.est_outline.specs.Bodies.{outline_of}
-use Rattle.est_blocks.specs.BlockFaults.{specification_faults}
+use Rattle.est_check.specs.LeastFault.{specification_faults}
 use Rattle.est_fullness.specs.Full.{AreFull}
 use Rattle.est_order.specs.Said.{Each, PartSaid}
 use Rattle.est_fullness.specs.WrittenParts.{PartWritten}

@@ -4,10 +4,10 @@ pub mod FullStatements
 pub mod FullProcedures
 pub mod WholeStatements
 pub mod WholeBodies
-pub mod Written
+pub mod WrittenExpressions
 pub mod FullDeclarations
 pub mod WrittenParts
 pub mod FullOutlines
-pub mod Sentences
+pub mod FullSentences
 pub mod ParameterOrder
 pub mod WholeSentences

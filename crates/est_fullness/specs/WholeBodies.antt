@@ -29,7 +29,8 @@ use Rattle.est_kinds.specs.declared.value.Valued.{Valued}
 use Rattle.est_outline.specs.Bodies.{outline_of}
 use Rattle.est_order.specs.Said.{Each}
 use Rattle.est_expressions.specs.declared.operators.Wanted.TheVariants as wanted
-use Rattle.est_blocks.specs.BlockFaults.{function_of, parts_faults, specification_faults}
+use Rattle.est_blocks.specs.BlockFaults.{function_of, parts_faults}
+use Rattle.est_check.specs.LeastFault.{specification_faults}
 use Rattle.est_blocks.specs.Clauses.{is_state_sort, is_priority}
 use Rattle.est_fullness.specs.Full.{IsThere, AreFull}
 use Rattle.est_fullness.specs.FullExpressions.{IsWhole}

@@ -25,7 +25,7 @@ use Rattle.est_syntax.specs.declared.transition.Group.{Group', Row_of-Transition
 use Rattle.est_syntax.specs.declared.transition.Group.{end_of-Transition, more_of-Transition}
 use Rattle.est_outline.specs.Lasts.{text_last}
 use Rattle.est_order.specs.Said.{Each}
-use Rattle.est_fullness.specs.Written.{EachUse, HasConstants}
+use Rattle.est_fullness.specs.WrittenExpressions.{EachUse, HasConstants}
 
 -- no name that the text of a type uses stands after its last place
 abbrev pub TypeDefWritten : TypeDef → Type 0

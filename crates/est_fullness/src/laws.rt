@@ -14,7 +14,7 @@ ghost use Rattle.est_fullness.specs.FullDeclarations.{PointsAreFull, ModuleVaria
 ghost use Rattle.est_fullness.specs.FullDeclarations.{FormalsAreFull, FunctionsAreFull};
 ghost use Rattle.est_fullness.specs.FullDeclarations.{BodiesAreFull};
 ghost use Rattle.est_fullness.specs.FullOutlines.{OutlinesAreFull};
-ghost use Rattle.est_fullness.specs.Sentences.{SentencesAreWritten, SentencesAreFull};
+ghost use Rattle.est_fullness.specs.FullSentences.{SentencesAreWritten, SentencesAreFull};
 
 /// Where the declarations to a place are full, those that are in force before it are.
 pub fn what_is_in_force_is_full()

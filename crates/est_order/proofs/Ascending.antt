@@ -12,9 +12,9 @@ use Rattle.est_language.proofs.Trees.{tree_forward}
 use Rattle.est_reader.specs.Tests.{language}
 use Rattle.est_productions.specs.Productions.{production}
 use Rattle.est_productions.specs.Nodes.{layer}
-use Rattle.est_order.specs.Order.{Stands, o_empty, o_kept, o_at, o_pair, o_first, o_second}
-use Rattle.est_order.specs.Order.{o_given, o_node, o_none, o_more, o_no_section}
-use Rattle.est_order.specs.Order.{o_first_section, o_second_section}
+use Rattle.est_order.specs.PlaceOrder.{Stands, o_empty, o_kept, o_at, o_pair, o_first, o_second}
+use Rattle.est_order.specs.PlaceOrder.{o_given, o_node, o_none, o_more, o_no_section}
+use Rattle.est_order.specs.PlaceOrder.{o_first_section, o_second_section}
 use Rattle.est_order.specs.PlacesAscend.{PlacesAscend}
 
 -- the places of a shape ascend from one place to another

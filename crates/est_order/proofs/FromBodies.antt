@@ -30,8 +30,8 @@ use Rattle.est_productions.specs.Nodes.{a_variable, a_parameter, a_channel, a_po
 use Rattle.est_productions.specs.Nodes.{a_module_variable, a_state_set, a_routine, a_body}
 use Rattle.est_productions.specs.Nodes.{a_common_part, a_body_part, a_block_part, a_block}
 use Rattle.est_productions.specs.Nodes.{a_clause, a_transition, a_group, a_statement, a_use, layer}
-use Rattle.est_order.specs.Order.{o_empty, o_kept, o_at, o_pair, o_first, o_second}
-use Rattle.est_order.specs.Order.{o_given, o_node, o_none, o_more}
+use Rattle.est_order.specs.PlaceOrder.{o_empty, o_kept, o_at, o_pair, o_first, o_second}
+use Rattle.est_order.specs.PlaceOrder.{o_given, o_node, o_none, o_more}
 use Rattle.est_order.proofs.Standing.{goes_on, from_earlier, to_later}
 use Rattle.est_order.proofs.PlacedParts.{InOrder, FormalPlaced}
 use Rattle.est_order.proofs.PlacedBodies.{NamePlaced, StatementPlaced, ClausePlaced, PartPlaced}

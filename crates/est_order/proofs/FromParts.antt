@@ -20,8 +20,8 @@ use Rattle.est_productions.specs.Nodes.{Node, a_constant_definition, a_short_typ
 use Rattle.est_productions.specs.Nodes.{a_type_definition, a_variable, a_parameter, an_export}
 use Rattle.est_productions.specs.Nodes.{an_interaction, a_by_part, a_channel, a_point, a_header}
 use Rattle.est_productions.specs.Nodes.{a_module_variable, a_state_set, a_formal, layer}
-use Rattle.est_order.specs.Order.{o_empty, o_kept, o_at, o_pair}
-use Rattle.est_order.specs.Order.{o_given, o_node, o_none, o_more}
+use Rattle.est_order.specs.PlaceOrder.{o_empty, o_kept, o_at, o_pair}
+use Rattle.est_order.specs.PlaceOrder.{o_given, o_node, o_none, o_more}
 use Rattle.est_order.proofs.Standing.{goes_on, from_earlier, to_later, Mixed, x_none, x_first}
 use Rattle.est_order.proofs.Standing.{x_second, merged}
 use Rattle.est_kinds.specs.TypeTexts.{text_place}

@@ -21,8 +21,8 @@ use Rattle.est_language.specs.Shown.{node, nodes}
 use Rattle.est_outline.specs.Bodies.{expr_place}
 use Rattle.est_productions.specs.Nodes as shown
 use Rattle.est_productions.specs.Nodes.{Node, a_constant, a_statement, an_arm, an_expr, layer}
-use Rattle.est_order.specs.Order.{o_empty, o_kept, o_at, o_pair, o_first, o_second}
-use Rattle.est_order.specs.Order.{o_given, o_node, o_none, o_more}
+use Rattle.est_order.specs.PlaceOrder.{o_empty, o_kept, o_at, o_pair, o_first, o_second}
+use Rattle.est_order.specs.PlaceOrder.{o_given, o_node, o_none, o_more}
 use Rattle.est_order.proofs.Standing.{goes_on, from_earlier, to_later}
 use Rattle.est_order.proofs.Placed.{ConstantPlaced}
 use Rattle.est_order.proofs.PlacedParts.{InOrder}

@@ -19,8 +19,8 @@ use Rattle.est_language.specs.Shown.{node, nodes}
 use Rattle.est_productions.specs.Nodes as shown
 use Rattle.est_productions.specs.Nodes.{Node, View, a_use, a_constant, a_type, a_short_type}
 use Rattle.est_productions.specs.Nodes.{a_field, layer}
-use Rattle.est_order.specs.Order.{Stands, o_kept, o_at, o_pair, o_first, o_second}
-use Rattle.est_order.specs.Order.{o_given, o_node, o_none, o_more}
+use Rattle.est_order.specs.PlaceOrder.{Stands, o_kept, o_at, o_pair, o_first, o_second}
+use Rattle.est_order.specs.PlaceOrder.{o_given, o_node, o_none, o_more}
 use Rattle.est_order.proofs.Standing.{goes_on, from_earlier, to_later}
 use Rattle.est_order.proofs.Placed.{NamesPlaced, ConstantPlaced, TextPlaced, RowPlaced}
 use Rattle.est_order.proofs.Placed.{FieldsPlaced, ShortPlaced, short_text}

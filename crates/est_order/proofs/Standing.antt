@@ -1,9 +1,9 @@
 -- What stands in order: how far it goes, and between which places.
 use Rattle.std.proofs.Common.{ℕ, ◌≤◌, List, [], ◌∷◌, ◌++◌, arith}
 use Rattle.est_language.specs.Shown.{View, node, nodes, sections}
-use Rattle.est_order.specs.Order.{Stands, o_empty, o_kept, o_at, o_pair, o_first, o_second}
-use Rattle.est_order.specs.Order.{o_given, o_node, o_none, o_more, o_no_section}
-use Rattle.est_order.specs.Order.{o_first_section, o_second_section}
+use Rattle.est_order.specs.PlaceOrder.{Stands, o_empty, o_kept, o_at, o_pair, o_first, o_second}
+use Rattle.est_order.specs.PlaceOrder.{o_given, o_node, o_none, o_more, o_no_section}
+use Rattle.est_order.specs.PlaceOrder.{o_first_section, o_second_section}
 
 module _ {V N : Type 0} (layer : N → View V N) where
   -- the second place is not before the first

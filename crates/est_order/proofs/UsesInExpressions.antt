@@ -49,8 +49,8 @@ use Rattle.est_productions.specs.Nodes as shown
 use Rattle.est_productions.specs.Nodes.{an_expr, a_simple, a_sum_step, a_term, a_product_step}
 use Rattle.est_productions.specs.Nodes.{a_factor, a_selector, a_member, an_access, an_end_point}
 use Rattle.est_productions.specs.Nodes.{layer}
-use Rattle.est_order.specs.Order.{o_empty, o_kept, o_at, o_pair, o_first, o_second, o_given, o_node}
-use Rattle.est_order.specs.Order.{o_more}
+use Rattle.est_order.specs.PlaceOrder.{o_empty, o_kept, o_at, o_pair, o_first, o_second, o_given, o_node}
+use Rattle.est_order.specs.PlaceOrder.{o_more}
 use Rattle.est_order.proofs.Standing.{goes_on}
 use Rattle.est_order.proofs.FromTexts.{Stand}
 

@@ -38,8 +38,8 @@ use Rattle.est_uses.specs.NamesInTexts.{texts_row, fields_row, vardef_names, var
 use Rattle.est_uses.specs.Routines.{constdefs_names, typedefs_names}
 use Rattle.est_productions.specs.Nodes as shown
 use Rattle.est_productions.specs.Nodes.{a_constant, a_statement, an_arm, an_expr, a_sending, layer}
-use Rattle.est_order.specs.Order.{o_empty, o_kept, o_at, o_pair, o_first, o_second, o_given, o_node}
-use Rattle.est_order.specs.Order.{o_more}
+use Rattle.est_order.specs.PlaceOrder.{o_empty, o_kept, o_at, o_pair, o_first, o_second, o_given, o_node}
+use Rattle.est_order.specs.PlaceOrder.{o_more}
 use Rattle.est_order.proofs.Standing.{goes_on}
 use Rattle.est_order.proofs.Placed.{ConstantPlaced, TextPlaced, RowPlaced, FieldsPlaced}
 use Rattle.est_order.proofs.Placed.{constant_on, row_on, fields_on, short_text}

@@ -9,7 +9,7 @@ use Rattle.est_outline.specs.Entries.{outermost}
 use Rattle.est_outline.specs.Bodies.{statement_place}
 use Rattle.est_productions.specs.Nodes as shown
 use Rattle.est_productions.specs.Nodes.{a_specification, layer}
-use Rattle.est_order.specs.Order.{o_kept, o_at, o_pair, o_node}
+use Rattle.est_order.specs.PlaceOrder.{o_kept, o_at, o_pair, o_node}
 use Rattle.est_order.specs.Growth.{g_then, g_lying}
 use Rattle.est_order.specs.Grown.{IsOutermost, OutlinesGrow}
 use Rattle.est_order.proofs.Standing.{goes_on, from_earlier}

@@ -16,7 +16,7 @@ use Rattle.est_scope.specs.Outline.{Outline}
 use Rattle.est_uses.specs.Closed.{is_closed}
 use Rattle.est_outline.specs.Bodies.{outline_of}
 use Rattle.est_productions.specs.Nodes.{a_specification, layer}
-use Rattle.est_order.specs.Order.{Stands}
+use Rattle.est_order.specs.PlaceOrder.{Stands}
 use Rattle.est_order.specs.Grown.{most_places}
 use Rattle.est_order.specs.Said.{Each, IsSaid}
 

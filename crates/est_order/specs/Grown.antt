@@ -5,7 +5,7 @@ use Rattle.est_language.specs.Shown.{node}
 use Rattle.est_scope.specs.Declaring.{empty}
 use Rattle.est_outline.specs.Bodies.{outline_of}
 use Rattle.est_productions.specs.Nodes.{a_specification, layer}
-use Rattle.est_order.specs.Order.{Stands}
+use Rattle.est_order.specs.PlaceOrder.{Stands}
 use Rattle.est_order.specs.Growth.{Grows}
 
 -- places are numbers of 32 bits

@@ -5,7 +5,7 @@ use Rattle.est_syntax.specs.declared.specification.Spec.{Spec}
 use Rattle.est_language.specs.Shown.{node}
 use Rattle.est_productions.specs.Nodes.{a_specification, layer}
 use Rattle.est_grammar.specs.Answer.{HasOneTree}
-use Rattle.est_order.specs.Order.{Stands}
+use Rattle.est_order.specs.PlaceOrder.{Stands}
 
 -- what the specification of a sentence shows stands in order
 abbrev pub PlacesAscend : Type 0

@@ -46,7 +46,7 @@ use Rattle.est_outline.specs.Entries.{ordinal_of}
 use Rattle.est_outline.specs.Declares.{side_of, states_named}
 use Rattle.est_outline.specs.Bodies.{over_header, body_header, outline_of}
 use Rattle.est_productions.specs.Nodes.{a_specification, layer}
-use Rattle.est_order.specs.Order.{Stands}
+use Rattle.est_order.specs.PlaceOrder.{Stands}
 use Rattle.est_order.specs.Grown.{most_places}
 
 -- what is declared at the place of a name, if anything is, is so

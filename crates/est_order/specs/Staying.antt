@@ -9,7 +9,7 @@ use Rattle.est_kinds.specs.Constants.{constant_value}
 use Rattle.est_kinds.specs.TypeTexts.{text_type}
 use Rattle.est_kinds.specs.Dims.{dims_of}
 use Rattle.est_productions.specs.Nodes.{a_constant, a_type, a_short_type, layer}
-use Rattle.est_order.specs.Order.{Stands}
+use Rattle.est_order.specs.PlaceOrder.{Stands}
 use Rattle.est_order.specs.Growth.{Anywhere, Grows, IsBefore}
 use Rattle.est_order.specs.Grown.{most_places}
 use Rattle.est_order.specs.Later.{Later}

@@ -14,8 +14,9 @@ use Rattle.est_kinds.specs.Dims.{elements, dims_elements}
 use Rattle.est_outline.specs.Bodies.{outline_of}
 use Rattle.est_outline.specs.OutlineLaws.{HaveElements}
 use Rattle.est_outline.proofs.Elements.{have_elements}
-use Rattle.est_blocks.specs.Counts.{counted, counts_of, started_header, header_elements}
-use Rattle.est_blocks.specs.Counts.{names_elements, declared_elements}
+use Rattle.est_statements.specs.Modules.{started_header}
+use Rattle.est_counts.specs.Counts.{counted, counts_of, header_elements}
+use Rattle.est_counts.specs.Counts.{names_elements, declared_elements}
 use Rattle.est_ports.specs.OrdinalValues.{tuples_of}
 use Rattle.est_ports.specs.PortList.{signals_of, element, elements_with, elements_by, ports_in}
 use Rattle.est_ports.specs.PortList.{header_ports, ports_of}

@@ -21,7 +21,7 @@ use Rattle.est_outline.specs.Bodies.{outline_of}
 use Rattle.est_outline.specs.Differing.{HaveDifferentNames}
 use Rattle.est_outline.proofs.Names.{AreOnce, once_differ}
 use Rattle.est_outline.proofs.Regions.{region_name, region_once}
-use Rattle.est_blocks.specs.Counts.{started_header}
+use Rattle.est_statements.specs.Modules.{started_header}
 use Rattle.est_ports.specs.OrdinalValues.{tuples_of}
 use Rattle.est_ports.specs.PortList.{signal_by, signals_of, element, elements_with}
 use Rattle.est_ports.specs.PortList.{elements_by, header_ports, ports_of}

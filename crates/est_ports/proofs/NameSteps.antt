@@ -2,7 +2,7 @@
 use Rattle.std.proofs.Common.{◌≡◌, ◌+◌, ℕ, suc, arith, List, ◌++◌, drop}
 use Rattle.std.proofs.Common.{slice_get, Some, ap, sym, ◌∙◌, append_assoc}
 use Rattle.std.specs.Prelude.{flat_map}
-use Rattle.est_blocks.proofs.NameSteps.{from_here}
+use Rattle.est_counts.proofs.NameSteps.{from_here}
 
 after : (i : ℕ) → suc i ≡ i + 1
 after i = omega arith

@@ -9,7 +9,7 @@ use Rattle.std.proofs.lemmas.List.{length-map}
 use Rattle.std.proofs.lemmas.Option.{same_Some, slice_get-get_or}
 use Rattle.est_syntax.specs.declared.kind.Kind.{Kind}
 use Rattle.est_kinds.specs.TypeTexts.{count}
-use Rattle.est_blocks.proofs.NameSteps.{from_here}
+use Rattle.est_counts.proofs.NameSteps.{from_here}
 use Rattle.est_ports.specs.OrdinalValues.{first_value, values_of, tuples_of}
 use Rattle.est_ports.specs.PortTable.{capped}
 use Rattle.est_ports.specs.inside.Making.{IsOffset, IsRank}

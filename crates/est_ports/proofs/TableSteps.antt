@@ -23,12 +23,12 @@ use Rattle.est_outline.specs.Bodies.{outline_of}
 use Rattle.est_outline.specs.OutlineLaws.{elements_of, HaveElements, StandOnce}
 use Rattle.est_outline.proofs.Elements.{have_elements}
 use Rattle.est_outline.proofs.Regions.{names_once}
-use Rattle.est_blocks.specs.Counts.{started_header}
+use Rattle.est_statements.specs.Modules.{started_header}
 use Rattle.est_scope.specs.declared.declaration.Standing.{Standing}
 use Rattle.est_scope.specs.Outline.{Outline, Region, names_of, entry_at}
 use Rattle.est_outline.specs.Differing.{HaveDifferentNames}
 use Rattle.est_outline.proofs.Names.{IsNew, once_push, once_differ, differ_once}
-use Rattle.est_blocks.proofs.NameSteps.{from_here}
+use Rattle.est_counts.proofs.NameSteps.{from_here}
 use Rattle.est_ports.specs.declared.known.Sides.{Sides}
 use Rattle.est_ports.specs.declared.table.Elements.{Elements}
 use Rattle.est_ports.specs.OrdinalValues.{tuples_of}

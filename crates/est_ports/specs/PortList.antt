@@ -21,7 +21,7 @@ use Rattle.est_scope.specs.Outline.{Outline, Region, names_of, entry_at, member_
 use Rattle.est_scope.specs.Uses.{same_sort}
 use Rattle.est_outline.specs.Bodies.{outline_of}
 use Rattle.est_statements.specs.Signals.{may_pass}
-use Rattle.est_blocks.specs.Counts.{started_header}
+use Rattle.est_statements.specs.Modules.{started_header}
 use Rattle.est_ports.specs.OrdinalValues.{tuples_of}
 
 -- the kind of a parameter, where one is declared and has a kind

@@ -1,7 +1,7 @@
 -- No replay of a skeleton answers a fault.
 use Rattle.std.proofs.Common.{◌≡◌, ℕ, List, inl, inr, refl, sym, subst}
 use Rattle.est_syntax.specs.declared.specification.Spec.{Spec}
-use Rattle.est_blocks.specs.LeastFault.{IsGood}
+use Rattle.est_check.specs.LeastFault.{IsGood}
 use Rattle.est_skeleton.specs.Skeleton.{IsSkeleton}
 use Rattle.est_meaning.specs.declared.event.Event.{Event}
 use Rattle.est_meaning.specs.declared.firing.BlockFault.{BlockFault}

@@ -9,9 +9,9 @@ use Rattle.est_syntax.specs.declared.body.Body.{Body, out-Body}
 use Rattle.est_syntax.specs.declared.header.ModvarDef.{ModvarDef}
 use Rattle.est_syntax.specs.declared.body.Part.TheVariants as part
 use Rattle.est_syntax.specs.declared.specification.Spec.{Spec}
-use Rattle.est_blocks.specs.LeastFault.{IsGood}
+use Rattle.est_check.specs.LeastFault.{IsGood}
 use Rattle.est_skeleton.specs.Skeleton.{IsSkeleton}
-use Rattle.est_skeleton.proofs.BodyLaw.{body_is}
+use Rattle.est_check.proofs.BodyLaw.{body_is}
 use Rattle.est_meaning.specs.Text.{body_in, body_at, root_of}
 
 -- the one body of a skeleton

@@ -5,7 +5,7 @@
 use Rattle.std.specs.Prelude.{◌≡◌, ◌≢◌, ℕ, ◌+◌, ◌-◌, ◌^◌, ◌<◌, ◌⊎◌, List, []}
 use Rattle.std.specs.Prelude.{◌∷◌, ◌++◌, length, take, reverse}
 use Rattle.est_syntax.specs.declared.specification.Spec.{Spec}
-use Rattle.est_blocks.specs.LeastFault.{IsGood}
+use Rattle.est_check.specs.LeastFault.{IsGood}
 use Rattle.est_skeleton.specs.Skeleton.{IsSkeleton}
 use Rattle.est_meaning.specs.declared.event.Event.{Event}
 use Rattle.est_meaning.specs.declared.firing.BlockFault.{BlockFault}

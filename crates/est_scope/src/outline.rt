@@ -164,11 +164,11 @@ impl Outline {
             place: used.place,
             last,
         };
-        self.regions.add(within.region, &used.name, standing)?;
         match self.entries.insert(used.place, entry) {
             Ok(former) => drop(former),
             Err(_) => return Err(AllocError),
         }
+        self.regions.add(within.region, &used.name, standing)?;
         Ok(())
     }
 

@@ -1,4 +1,3 @@
-pub mod BodyLaw
 pub mod KnownLaws
 pub mod NameSteps
 pub mod Names

@@ -4,7 +4,7 @@ use Rattle.std.proofs.Common.{slice_get, Some, ap, sym, ◌∙◌, append_assoc}
 use Rattle.est_syntax.specs.declared.channel.Role.{Role}
 use Rattle.est_scope.specs.declared.declaration.Standing.{Standing}
 use Rattle.est_scope.specs.Outline.{Outline, Region, entry_at, member_at}
-use Rattle.est_blocks.proofs.NameSteps.{from_here}
+use Rattle.est_counts.proofs.NameSteps.{from_here}
 use Rattle.est_skeleton.specs.Ports.{signal_by, signals_in, port_by, ports_in}
 
 after : (i : ℕ) → suc i ≡ i + 1

@@ -4,7 +4,7 @@ use Rattle.std.proofs.Common.{refl, sym, ap, ◌∙◌, subst, Some, slice_get, 
 use Rattle.std.proofs.lemmas.Option.{same_Some}
 use Rattle.est_scope.specs.declared.declaration.Standing.{Standing}
 use Rattle.est_scope.specs.Outline.{Region}
-use Rattle.est_skeleton.specs.Differing.{HaveDifferentNames}
+use Rattle.est_skeleton.specs.DifferentNames.{HaveDifferentNames}
 
 module _ {A : Type 0} (name : A → List ℕ) where
   -- none of these has this name

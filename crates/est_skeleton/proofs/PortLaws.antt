@@ -15,10 +15,10 @@ use Rattle.est_scope.specs.declared.declaration.Sort.TheVariants as sort
 use Rattle.est_scope.specs.Outline.{Outline, Region, names_of, entry_at, member_at}
 use Rattle.est_scope.specs.Uses.{same_sort}
 use Rattle.est_outline.specs.Bodies.{outline_of}
-use Rattle.est_blocks.specs.Counts.{started_header}
+use Rattle.est_statements.specs.Modules.{started_header}
 use Rattle.est_skeleton.specs.Ports.{signal_by, signals_in, signals_of, bare_port}
 use Rattle.est_skeleton.specs.Ports.{port_by, ports_in, header_ports, ports_of}
-use Rattle.est_skeleton.specs.Differing.{HaveDifferentNames}
+use Rattle.est_skeleton.specs.DifferentNames.{HaveDifferentNames}
 use Rattle.est_skeleton.specs.Skeleton.{IsSkeleton}
 use Rattle.est_skeleton.specs.Small.{most_parts, IsSmall}
 use Rattle.est_skeleton.proofs.Names.{AreOnce, once_differ, IsAtMostOne, made, once_made, few_made}

@@ -1,4 +1,4 @@
-pub mod Differing
+pub mod DifferentNames
 pub mod PortLaws
 pub mod Ports
 pub mod Skeleton

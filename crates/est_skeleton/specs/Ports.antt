@@ -18,7 +18,7 @@ use Rattle.est_scope.specs.Uses.{same_sort, declaration_of}
 use Rattle.est_outline.specs.Bodies.{outline_of}
 use Rattle.est_statements.specs.Modules.{header_at}
 use Rattle.est_statements.specs.Signals.{may_pass}
-use Rattle.est_blocks.specs.Counts.{started_header}
+use Rattle.est_statements.specs.Modules.{started_header}
 
 -- an interaction of a channel at a point in a role; those of skeletons have no parameters
 abbrev pub signal_by : Role → List ℕ → Option Member → List Signal

@@ -1,5 +1,5 @@
-//! What holds of the ports of skeletons, and of the body that they start.
-ghost use Rattle.est_skeleton.specs.PortLaws.{PortsDiffer, PortsAreFew, BodiesAreStarted};
+//! What holds of the ports of skeletons.
+ghost use Rattle.est_skeleton.specs.PortLaws.{PortsDiffer, PortsAreFew};
 
 /// No two ports of a skeleton have one name, and no two signals of a port, whatever rules it
 /// breaks.
@@ -10,9 +10,4 @@ pub fn ports_differ()
 /// A small skeleton has few ports, and each has few signals.
 pub fn ports_are_few()
     ensures { PortsAreFew }
-{}
-
-/// A skeleton that breaks no rule starts the one body that it has.
-pub fn bodies_are_started()
-    ensures { BodiesAreStarted }
 {}

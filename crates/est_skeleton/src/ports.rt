@@ -8,11 +8,11 @@ ghost use Rattle.est_skeleton.specs.Ports.{port_by, ports_in, header_ports, port
 ghost use Rattle.est_skeleton.specs.inside.Known.{IsKnown, AreKnown};
 
 use crate::known::{Known, Sides};
-use est_blocks::counts::started_header;
 use est_items::{Items, Shared};
 use est_scope::declaration::{Member, Side, Sort};
 use est_scope::names::Names;
 use est_scope::outline::Outline;
+use est_statements::modules::started_header;
 use est_statements::signals::may_pass;
 use est_syntax::channel::Role;
 use est_syntax::name::{Bytes, Name};

@@ -2,7 +2,7 @@
 use Rattle.std.specs.Prelude.{ℕ, List, Some, Result, Ok, Err}
 use Rattle.est_lexer.specs.declared.kind.Token.{Token}
 use Rattle.est_syntax.specs.declared.specification.Spec.{Spec}
-use Rattle.est_blocks.specs.LeastFault.{IsGood, IsLeastFault}
+use Rattle.est_check.specs.LeastFault.{IsGood, IsLeastFault}
 use Rattle.est_grammar.specs.Answer.{HasOneTree, IsRefusal}
 use Rattle.est_grammar.specs.declared.error.ParseError.TheVariants as refusals
 use Rattle.est_specification.specs.declared.error.SpecificationError.{SpecificationError}

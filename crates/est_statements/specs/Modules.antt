@@ -8,6 +8,8 @@ use Rattle.est_syntax.specs.declared.expression.Expr.{Expr}
 use Rattle.est_syntax.specs.declared.name.Used.{Used}
 use Rattle.est_syntax.specs.declared.rule.Fault.{Fault}
 use Rattle.est_syntax.specs.declared.rule.Rule.TheVariants.{NotWritable, WrongBody}
+use Rattle.est_syntax.specs.declared.statement.Statement.{Statement}
+use Rattle.est_syntax.specs.declared.statement.Statement.TheVariants as statement
 use Rattle.est_scope.specs.declared.declaration.Entry.{Entry}
 use Rattle.est_scope.specs.declared.declaration.Section.{Section}
 use Rattle.est_scope.specs.declared.declaration.Section.TheVariants as section
@@ -23,6 +25,12 @@ use Rattle.est_expressions.specs.Accesses.{access_faults}
 -- the header of the module variable or body that is declared at a place
 abbrev pub header_at : Outline → Option ℕ → Option ℕ
 header_at o place = header_in (option_and_then (entry_at o) place)
+
+-- the header of the module that a specification starts, by its initialization
+abbrev pub started_header : Outline → Statement → Option ℕ
+started_header o (statement.Init target body arguments place) =
+    header_at o (declaration_of o sort.ModuleVariable target.name)
+started_header o _ = None
 
 -- the name of an `all` gets no module
 abbrev pub section_faults : Section → ℕ → List Fault

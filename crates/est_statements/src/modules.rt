@@ -6,7 +6,7 @@ ghost use Rattle.est_scope.specs.LeastSoFar.{least_with};
 ghost use Rattle.est_scope.specs.Outline.{entry_at};
 ghost use Rattle.est_statements.specs.Modules.{header_at, section_faults, started_by};
 ghost use Rattle.est_statements.specs.Modules.{started_faults, header_faults, body_faults};
-ghost use Rattle.est_statements.specs.Modules.{parameters_of, init_faults};
+ghost use Rattle.est_statements.specs.Modules.{parameters_of, init_faults, started_header};
 
 use est_expressions::accesses::check_access;
 use est_expressions::expressions::check_taken;
@@ -18,6 +18,7 @@ use est_scope::outline::Outline;
 use est_syntax::expression::{Access, Expr};
 use est_syntax::name::Used;
 use est_syntax::rule::Rule;
+use est_syntax::statement::Statement;
 
 /// The header of the module variable or body that is declared at a place.
 pub fn header_at(outline: &Outline, place: Option<u32>) -> Option<u32>
@@ -26,6 +27,21 @@ pub fn header_at(outline: &Outline, place: Option<u32>) -> Option<u32>
     match place {
         None => None,
         Some(place) => header_in(outline, place),
+    }
+}
+
+/// The header of the module that a specification starts, by the place of its name.
+pub fn started_header(outline: &Outline, first: &Statement) -> Option<u32>
+    ensures { result ≡ started_header outline.now first.now }
+{
+    match first {
+        Statement::Init { target, .. } => {
+            header_at(
+                outline,
+                outline.declaration_of(Sort::ModuleVariable, &target.name),
+            )
+        }
+        _ => None,
     }
 }
 

@@ -1,9 +1,3 @@
-pub mod Complete
-pub mod OneRequest
-pub mod OneResult
-pub mod ReadLaws
 pub mod ResultLaws
-pub mod SearchStages
-pub mod Stages
-pub mod WordLaws
+pub mod SearchLaws
 pub mod WorkLaws

@@ -4,7 +4,7 @@ use Rattle.std.proofs.Common.{Some, None, sym, subst, Result, Ok, Err}
 use Rattle.std.specs.Prelude.{String}
 use Rattle.std.specs.Global.{Global}
 use Rattle.est_edge.specs.FaultCounts.{Rose, AllStay}
-use Rattle.est_tool.specs.declared.report.Report.{Report}
+use Rattle.est_files.specs.declared.report.Report.{Report}
 use Rattle.est_lexer.specs.declared.kind.Token.{Token}
 use Rattle.est_edge.specs.Pieces.{appended, IsPrefix}
 use Rattle.est_replay.specs.declared.verdict.Replayed.{Replayed}
@@ -17,27 +17,29 @@ use Rattle.est_explanation.specs.declared.error.ExplanationError.{ExplanationErr
 use Rattle.est_explanation.specs.declared.error.ExplanationError.TheVariants as explanation
 use Rattle.est_search.specs.declared.verdict.Verdict.{Verdict}
 use Rattle.est_search.specs.declared.verdict.Verdict.TheVariants as verdict
-use Rattle.est_tool.specs.declared.stop.Stop.{Stop}
-use Rattle.est_tool.specs.declared.stop.Stop.TheVariants as stop
-use Rattle.est_tool.specs.declared.file.File.{File}
-use Rattle.est_tool.specs.declared.status.Status.{Status}
-use Rattle.est_tool.specs.declared.status.Status.TheVariants.{Fine, Refused, BadSpec, BadTrace}
-use Rattle.est_tool.specs.declared.status.Status.TheVariants.{BadExplanation, OverBudget, TooLong}
-use Rattle.est_tool.specs.declared.status.Status.TheVariants.{Usage, ReadFault, WriteFault}
-use Rattle.est_tool.specs.declared.status.Status.TheVariants.{OutOfMemory, NoStart, NotBuilt}
-use Rattle.est_tool.specs.Statuses.{replay_status, verdict_status}
-use Rattle.est_tool.specs.FileTexts.{Holds, Refusals, RefusesSpecification, RefusesTrace}
-use Rattle.est_tool.specs.FileTexts.{RefusesExplanation, SaysOfSpecification}
-use Rattle.est_tool.specs.FileTexts.{SaysOfTrace, SaysOfExplanation, IsReported}
-use Rattle.est_tool.specs.Requests.{Request, check, explain, replay}
-use Rattle.est_tool.specs.Seen.{Seen, Sent}
-use Rattle.est_tool.specs.Ends.{End, reported, unread, EndsAt, longer, refused}
-use Rattle.est_tool.specs.Ends.{failed, at_its_file, good, at_specification}
+use Rattle.est_files.specs.declared.stop.Stop.{Stop}
+use Rattle.est_files.specs.declared.stop.Stop.TheVariants as stop
+use Rattle.est_files.specs.declared.file.File.{File}
+use Rattle.est_words.specs.declared.status.Status.{Status}
+use Rattle.est_words.specs.declared.status.Status.TheVariants.{Fine, Refused, BadSpec, BadTrace}
+use Rattle.est_words.specs.declared.status.Status.TheVariants.{BadExplanation, OverBudget, TooLong}
+use Rattle.est_words.specs.declared.status.Status.TheVariants.{Usage, ReadFault, WriteFault}
+use Rattle.est_words.specs.declared.status.Status.TheVariants.{OutOfMemory, NoStart, NotBuilt}
+use Rattle.est_tool.specs.ReplayReports.{replay_status}
+use Rattle.est_reports.specs.SearchReports.{verdict_status}
+use Rattle.est_files.specs.FileTexts.{Holds, Refusals, RefusesSpecification, RefusesTrace}
+use Rattle.est_files.specs.FileTexts.{RefusesExplanation, SaysOfSpecification}
+use Rattle.est_files.specs.FileTexts.{SaysOfTrace, SaysOfExplanation, IsReported}
+use Rattle.est_words.specs.Requests.{Request, check, explain, replay}
+use Rattle.est_files.specs.Seen.{Seen, Sent}
+use Rattle.est_files.specs.FileEnds.{End, reported, unread, EndsAt, longer, refused}
+use Rattle.est_files.specs.FileEnds.{failed}
+use Rattle.est_tool.specs.Ends.{at_its_file, good, at_specification}
 use Rattle.est_tool.specs.Ends.{unbuilt, at_trace, at_explanation, replayed, Ends}
 use Rattle.est_tool.specs.Ends.{ends_at_specification, not_run, ends_at_trace, not_started}
 use Rattle.est_tool.specs.Ends.{start_over, searched}
 use Rattle.est_tool.specs.Result.{Reports, Writes, IsResult}
-use Rattle.est_tool.specs.inside.Reads.{IsQuiet}
+use Rattle.est_files.specs.Reads.{IsQuiet}
 use Rattle.est_tool.specs.inside.Work.{IsMade, IsObeyed}
 use Rattle.est_tool.specs.inside.Written.{HasReport, IsReportable, IsSent, whole}
 use Rattle.est_tool.specs.inside.Written.{broken_off, IsDelivered, Delivers, Sends}

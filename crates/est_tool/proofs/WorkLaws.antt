@@ -15,32 +15,33 @@ use Rattle.est_check.specs.Checked.{IsSkeletonOf}
 use Rattle.est_runs.specs.declared.run.Limits.{Limits}
 use Rattle.est_tool.specs.declared.search.Searched.{Searched}
 use Rattle.est_tool.specs.declared.search.Searched.TheVariants as came
-use Rattle.est_tool.specs.declared.report.Report.{Report}
-use Rattle.est_tool.specs.declared.stop.Stop.{Stop}
-use Rattle.est_tool.specs.declared.stop.Stop.TheVariants.{Refused, ReadFault, OutOfMemory}
-use Rattle.est_tool.specs.declared.file.File.{File}
-use Rattle.est_tool.specs.declared.file.File.TheVariants.{Specification}
-use Rattle.est_tool.specs.declared.status.Status.{Status}
-use Rattle.est_tool.specs.declared.status.Status.TheVariants.{Fine, OverBudget, NoStart, NotBuilt}
-use Rattle.est_tool.specs.Files.{limit_of}
-use Rattle.est_tool.specs.Statuses.{replay_status}
-use Rattle.est_tool.specs.Seen.{Shelved, Seen, seen}
-use Rattle.est_tool.specs.FileTexts.{Holds, Refusals, IsReported, OfSpecification}
-use Rattle.est_tool.specs.FileTexts.{OfTrace, OfExplanation}
-use Rattle.est_tool.specs.Requests.{Request, check, explain, replay}
-use Rattle.est_tool.specs.Ends.{End, reported, IsTooLong, EndsAt, longer, refused, failed}
-use Rattle.est_tool.specs.Ends.{HoldsSpecification, HoldsSkeleton, HoldsTrace, HoldsExplanation}
+use Rattle.est_files.specs.declared.report.Report.{Report}
+use Rattle.est_files.specs.declared.stop.Stop.{Stop}
+use Rattle.est_files.specs.declared.stop.Stop.TheVariants.{Refused, ReadFault, OutOfMemory}
+use Rattle.est_files.specs.declared.file.File.{File}
+use Rattle.est_files.specs.declared.file.File.TheVariants.{Specification}
+use Rattle.est_words.specs.declared.status.Status.{Status}
+use Rattle.est_words.specs.declared.status.Status.TheVariants.{Fine, OverBudget, NoStart, NotBuilt}
+use Rattle.est_files.specs.Files.{limit_of}
+use Rattle.est_tool.specs.ReplayReports.{replay_status}
+use Rattle.est_files.specs.Seen.{Shelved, Seen, seen}
+use Rattle.est_files.specs.FileTexts.{Holds, Refusals, IsReported, OfSpecification}
+use Rattle.est_files.specs.FileTexts.{OfTrace, OfExplanation}
+use Rattle.est_words.specs.Requests.{Request, check, explain, replay}
+use Rattle.est_files.specs.FileEnds.{End, reported, IsTooLong, EndsAt, longer, refused, failed}
+use Rattle.est_files.specs.FileEnds.{HoldsSpecification, HoldsSkeleton, HoldsTrace}
+use Rattle.est_files.specs.FileEnds.{HoldsExplanation}
 use Rattle.est_tool.specs.Ends.{CheckEnds, at_its_file, good, ReplayEnds, at_specification}
 use Rattle.est_tool.specs.Ends.{unbuilt, at_trace, at_explanation, replayed, Ends}
 use Rattle.est_tool.specs.Ends.{ExplainEnds, ends_at_specification, not_run, ends_at_trace}
 use Rattle.est_tool.specs.Ends.{not_started, start_over, searched}
 use Rattle.est_tool.specs.Started.{ExplainStarts, first_alone, both}
 use Rattle.est_tool.specs.Started.{ReplayStarts, one, two, three, Starts}
-use Rattle.est_tool.specs.inside.Reads.{IsStop, IsQuiet, ReadsFile}
+use Rattle.est_files.specs.Reads.{IsStop, IsQuiet, ReadsFile}
 use Rattle.est_tool.specs.inside.Work.{IsMade, Gives, IsCounted}
 use Rattle.est_tool.specs.inside.Work.{IsUnbuilt, IsAnswered, Tells, IsExplained, IsWork}
 use Rattle.est_tool.specs.inside.Searching.{IsSearched}
-use Rattle.est_tool.proofs.ReadLaws.{stop_then, stops_for, quiet_any, quiet_stop}
+use Rattle.est_files.proofs.ReadLaws.{stop_then, stops_for, quiet_any, quiet_stop}
 
 -- what is held where a shelf tells the same as before was held before
 pub holds_before : (file : File) {old new : Option (List ℕ)} (Is : List ℕ → List Token → Type 0)

@@ -1,8 +1,7 @@
 -- How a call ends.
-use Rattle.std.specs.Prelude.{◌≡◌, ℕ, ◌+◌, ◌<◌, List, length, IfSome}
-use Rattle.est_edge.specs.FaultCounts.{Rose}
+use Rattle.std.specs.Prelude.{◌≡◌, ℕ, List, length}
 use Rattle.est_syntax.specs.declared.specification.Spec.{Spec}
-use Rattle.est_blocks.specs.Counts.{counts_of}
+use Rattle.est_counts.specs.Counts.{counts_of}
 use Rattle.est_skeleton.specs.Skeleton.{IsSkeleton}
 use Rattle.est_meaning.specs.declared.event.Event.{Event}
 use Rattle.est_meaning.specs.declared.firing.BlockFault.{BlockFault}
@@ -15,68 +14,20 @@ use Rattle.est_search.specs.declared.verdict.Verdict.{Verdict}
 use Rattle.est_replay.specs.Replay.{IsReplay}
 use Rattle.est_explanation.specs.declared.explanation.Explanation.{Explanation}
 use Rattle.est_replay.specs.declared.verdict.Replayed.{Replayed}
-use Rattle.est_tool.specs.declared.file.File.{File}
-use Rattle.est_tool.specs.declared.file.File.TheVariants as file
-use Rattle.est_tool.specs.declared.status.Status.{Status}
-use Rattle.est_tool.specs.declared.status.Status.TheVariants.{Fine, OverBudget, TooLong}
-use Rattle.est_tool.specs.declared.status.Status.TheVariants.{NoStart, NotBuilt}
-use Rattle.est_tool.specs.Files.{limit_of}
-use Rattle.est_tool.specs.Reports.{ok_line, too_long_line, not_built_line, replay_line}
-use Rattle.est_tool.specs.SearchReports.{no_start_line, over_start_line, verdict_report}
-use Rattle.est_tool.specs.Seen.{Seen}
-use Rattle.est_tool.specs.Statuses.{replay_status, verdict_status}
-use Rattle.est_tool.specs.FileTexts.{Holds, OfSpecification, OfTrace}
-use Rattle.est_tool.specs.FileTexts.{OfExplanation, Refusals, RefusesSpecification}
-use Rattle.est_tool.specs.FileTexts.{RefusesTrace, RefusesExplanation, IsReported}
-use Rattle.est_tool.specs.Requests.{Request, check, explain, replay}
-
--- an end of a call: a status with a report, or a file that could not be read
-pub data End : Type 0 where
-  reported : Status → List ℕ → End
-  unread : End
-
--- FILES
-
--- the file is longer than its limit; of one that is untold, a byte more than the limit was taken
-pub record IsTooLong
-    (shelf : Seen) (file : File) (name : List ℕ) (status : Status) (report : List ℕ)
-    : Type 0 where
-  pub longer : IfSome (shelf.before.told name) (λ bytes. limit_of file < length bytes)
-  pub taken : shelf.after.taken ≡ limit_of file + 1
-  pub status_is : status ≡ TooLong
-  pub report_is : report ≡ too_long_line file
-
--- a call ends at a file: it is too long, its text is refused, or its count of faults rose
-pub data EndsAt (shelf : Seen) (file : File) (name : List ℕ) (Refuses : Refusals)
-    : End → Type 0 where
-  longer : (status : Status) (report : List ℕ) → IsTooLong shelf file name status report
-      → EndsAt shelf file name Refuses (reported status report)
-  refused : (status : Status) (report : List ℕ)
-      → Holds file (shelf.before.told name) (IsReported file Refuses status report)
-      → EndsAt shelf file name Refuses (reported status report)
-  failed : Rose (shelf.before.faults name) (shelf.after.faults name)
-      → EndsAt shelf file name Refuses unread
-
--- the file of this name holds the text of this specification, which breaks no rule
-abbrev pub HoldsSpecification : Seen → List ℕ → Spec → Type 0
-HoldsSpecification shelf name spec =
-    Holds file.Specification (shelf.before.told name) (OfSpecification spec)
-
--- it holds the text of this skeleton, which breaks no rule
-abbrev pub HoldsSkeleton : Seen → List ℕ → Spec → Type 0
-HoldsSkeleton shelf name spec = HoldsSpecification shelf name spec × IsSkeleton spec
-
--- the file holds the text of this trace of a specification, and of no other
-abbrev pub HoldsTrace : Seen → List ℕ → Spec → List Event → Type 0
-HoldsTrace shelf name spec events =
-    Holds file.Trace (shelf.before.told name) (OfTrace spec events)
-
--- the file holds the text of this explanation, and of no other
-abbrev pub HoldsExplanation : Seen → List ℕ → Explanation → Type 0
-HoldsExplanation shelf name explanation =
-    Holds file.Explanation (shelf.before.told name) (OfExplanation explanation)
-
--- COMMANDS
+use Rattle.est_files.specs.FileEnds.{End, reported, EndsAt, HoldsSpecification, HoldsSkeleton}
+use Rattle.est_files.specs.FileEnds.{HoldsTrace, HoldsExplanation}
+use Rattle.est_files.specs.declared.file.File.TheVariants as file
+use Rattle.est_words.specs.declared.status.Status.TheVariants.{Fine, OverBudget}
+use Rattle.est_words.specs.declared.status.Status.TheVariants.{NoStart, NotBuilt}
+use Rattle.est_reports.specs.Reports.{ok_line, not_built_line}
+use Rattle.est_tool.specs.ReplayReports.{replay_line}
+use Rattle.est_reports.specs.SearchReports.{no_start_line, over_start_line, verdict_report}
+use Rattle.est_files.specs.Seen.{Seen}
+use Rattle.est_tool.specs.ReplayReports.{replay_status}
+use Rattle.est_reports.specs.SearchReports.{verdict_status}
+use Rattle.est_files.specs.FileTexts.{RefusesSpecification}
+use Rattle.est_files.specs.FileTexts.{RefusesTrace, RefusesExplanation}
+use Rattle.est_words.specs.Requests.{Request, check, explain, replay}
 
 -- `check` ends at its file, or tells the numbers of a good specification
 pub data CheckEnds (shelf : Seen) (name : List ℕ) : End → Type 0 where

@@ -1,13 +1,5 @@
 pub mod Ends
-pub mod Files
-pub mod CallLaws
-pub mod Completeness
-pub mod Reports
+pub mod ReplayReports
 pub mod Result
-pub mod SearchReports
-pub mod Seen
 pub mod Started
-pub mod Statuses
-pub mod FileTexts
-pub mod Requests
 pub mod inside

@@ -3,13 +3,14 @@ use Rattle.std.specs.Prelude.{◌≡◌, ◌≢◌, ◌↔◌, ℕ, List, ◌++�
 use Rattle.std.specs.Global.{Global}
 use Rattle.est_edge.specs.FaultCounts.{Rose, AllStay}
 use Rattle.est_edge.specs.Pieces.{SameTold, appended, IsPrefix}
-use Rattle.est_tool.specs.declared.status.Status.{Status}
-use Rattle.est_tool.specs.declared.status.Status.TheVariants.{Usage, ReadFault}
-use Rattle.est_tool.specs.declared.status.Status.TheVariants.{WriteFault, OutOfMemory}
-use Rattle.est_tool.specs.Seen.{Seen, Sent}
-use Rattle.est_tool.specs.Ends.{End, reported, unread, Ends}
+use Rattle.est_words.specs.declared.status.Status.{Status}
+use Rattle.est_words.specs.declared.status.Status.TheVariants.{Usage, ReadFault}
+use Rattle.est_words.specs.declared.status.Status.TheVariants.{WriteFault, OutOfMemory}
+use Rattle.est_files.specs.Seen.{Seen, Sent}
+use Rattle.est_files.specs.FileEnds.{End, reported, unread}
+use Rattle.est_tool.specs.Ends.{Ends}
 use Rattle.est_tool.specs.Started.{Starts}
-use Rattle.est_tool.specs.Requests.{Request, Asks, AsksNothing, bytes_of}
+use Rattle.est_words.specs.Requests.{Request, Asks, AsksNothing, bytes_of}
 
 -- the words ask for something, and that ends so
 abbrev pub CallEnds : List (String Global) → Seen → End → Type 0

@@ -2,9 +2,9 @@
 use Rattle.std.specs.Prelude.{◌≡◌, ℕ, List, [], ◌∷◌}
 use Rattle.est_syntax.specs.declared.specification.Spec.{Spec}
 use Rattle.est_meaning.specs.declared.event.Event.{Event}
-use Rattle.est_tool.specs.Seen.{Seen}
-use Rattle.est_tool.specs.Ends.{HoldsSkeleton, HoldsTrace}
-use Rattle.est_tool.specs.Requests.{Request, check, explain, replay}
+use Rattle.est_files.specs.Seen.{Seen}
+use Rattle.est_files.specs.FileEnds.{HoldsSkeleton, HoldsTrace}
+use Rattle.est_words.specs.Requests.{Request, check, explain, replay}
 
 -- `check` starts its file, once
 abbrev pub CheckStarts : List ℕ → List (List ℕ) → Type 0

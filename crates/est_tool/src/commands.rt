@@ -3,27 +3,30 @@ ghost use Rattle.std.specs.Prelude.{◌≤◌, [], ◌∷◌, length};
 ghost use Rattle.est_meaning.specs.Allowed.{IsAllowedTrace, most_events};
 ghost use Rattle.est_replay.specs.Replay.{most_moves};
 ghost use Rattle.est_skeleton.specs.Skeleton.{IsSkeleton};
-ghost use Rattle.est_tool.specs.declared.file.File.TheVariants as file;
-ghost use Rattle.est_tool.specs.Seen.{seen, shelved};
-ghost use Rattle.est_tool.specs.FileTexts.{Holds, OfSpecification, OfTrace};
-ghost use Rattle.est_tool.specs.Requests.{check, explain, replay};
+ghost use Rattle.est_files.specs.declared.file.File.TheVariants as file;
+ghost use Rattle.est_files.specs.Seen.{seen, shelved};
+ghost use Rattle.est_files.specs.FileTexts.{Holds, OfSpecification, OfTrace};
+ghost use Rattle.est_words.specs.Requests.{check, explain, replay};
 ghost use Rattle.est_tool.specs.inside.Work.{IsWork, Gives, IsCounted, IsUnbuilt};
 ghost use Rattle.est_tool.specs.inside.Work.{IsAnswered, IsExplained, Tells};
 
-use crate::explanation::explanation_in;
-use crate::report::{Report, line_report, ok_report, replay_report, replay_status};
+use crate::replay_report::{replay_report, replay_status};
 use crate::search::{Searched, search};
-use crate::search_report::{no_start_report, over_start_report, verdict_report, verdict_status};
-use crate::specification::specification_in;
-use crate::status::Status;
-use crate::stop::Stop;
-use crate::trace::trace_in;
 use est_check::{Checked, Skeleton};
 use est_edge::Shelf;
 use est_explanation::explanation::Explanation;
+use est_files::explanation::explanation_in;
+use est_files::specification::specification_in;
+use est_files::trace::trace_in;
+use est_files::{Report, Stop, line_report};
 use est_meaning::event::Trace;
 use est_replay::checked::replay;
+use est_reports::report::ok_report;
+use est_reports::search_report::{
+    no_start_report, over_start_report, verdict_report, verdict_status,
+};
 use est_runs::run::Limits;
+use est_words::status::Status;
 use std::alloc::Global;
 
 /// The names of the files of a search.

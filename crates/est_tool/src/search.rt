@@ -14,7 +14,7 @@ use std::alloc::{AllocError, Global};
 
 /// What came of a search: a verdict, or, of a start that is not ready, a fault or a passed limit.
 #[derive(Drop)]
-pub(crate) enum Searched {
+pub enum Searched {
     Found(Verdict),
     Fault(BlockFault),
     Limit,

@@ -16,7 +16,7 @@ use Rattle.est_reader.specs.Tests.{named, holds, stands}
 use Rattle.est_reader.specs.Moving.{IsNamedAt}
 use Rattle.est_trace.specs.TraceGrammar.{Rule, marks}
 use Rattle.est_trace.specs.TraceText.{traces}
-use Rattle.est_skeleton.specs.Differing.{HaveDifferentNames}
+use Rattle.est_skeleton.specs.DifferentNames.{HaveDifferentNames}
 use Rattle.est_trace.specs.inside.Tables.{IsNumberOf}
 use Rattle.est_trace.specs.inside.Lookups.{IsChosen}
 use Rattle.est_trace.proofs.Lists.{some_same, image_at}

@@ -12,7 +12,7 @@ use Rattle.est_reader.proofs.Apart.{one_name}
 use Rattle.est_syntax.specs.declared.ports.Direction.{Direction}
 use Rattle.est_trace.specs.TraceGrammar.{Rule, passes, some_pass, signal, dot_signal, port, marks}
 use Rattle.est_trace.specs.TraceText.{traces}
-use Rattle.est_skeleton.specs.Differing.{HaveDifferentNames}
+use Rattle.est_skeleton.specs.DifferentNames.{HaveDifferentNames}
 use Rattle.est_trace.specs.inside.Skeletons.{ArePlain}
 use Rattle.est_trace.specs.inside.Directories.{signal_name}
 

@@ -7,7 +7,7 @@ ghost use Rattle.est_skeleton.specs.Small.{most_parts};
 ghost use Rattle.est_reader.specs.Going.{Goes};
 ghost use Rattle.est_trace.specs.TraceGrammar as grammar;
 ghost use Rattle.est_trace.specs.TraceNodes.{an_interaction, tracing};
-ghost use Rattle.est_skeleton.specs.Differing.{HaveDifferentNames};
+ghost use Rattle.est_skeleton.specs.DifferentNames.{HaveDifferentNames};
 ghost use Rattle.est_trace.specs.inside.Directories.{signal_name, IsDirectory};
 ghost use Rattle.est_trace.specs.inside.Lookups.{Chooses};
 

@@ -4,7 +4,7 @@ ghost use Rattle.std.specs.Prelude.{◌≡◌, ◌≤◌, length, slice_get, IfO
 ghost use Rattle.est_reader.specs.Moving.{Still};
 ghost use Rattle.est_skeleton.specs.Small.{most_parts};
 ghost use Rattle.est_trace.specs.TraceGrammar as grammar;
-ghost use Rattle.est_skeleton.specs.Differing.{HaveDifferentNames};
+ghost use Rattle.est_skeleton.specs.DifferentNames.{HaveDifferentNames};
 ghost use Rattle.est_trace.specs.inside.Skeletons.{ArePlain};
 ghost use Rattle.est_trace.specs.inside.Directories.{signal_name, IsDirectory};
 ghost use Rattle.est_trace.specs.inside.Lookups.{Finds, signals_of};

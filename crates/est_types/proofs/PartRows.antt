@@ -23,10 +23,12 @@ use Rattle.est_scope.specs.Uses.{twice_faults}
 use Rattle.est_types.specs.DeclarationFaults.{part_faults, row_faults, parts_faults}
 use Rattle.est_types.specs.DeclarationFaults.{first_faults, row_groups_faults}
 use Rattle.est_types.specs.DeclarationFaults.{row_transitions_faults, clauses_faults}
-use Rattle.est_types.specs.DeclarationFaults.{row_scalars, vars_scalars, row_has_states}
-use Rattle.est_types.specs.DeclarationFaults.{names_first, first_state_faults, scalars_faults}
+use Rattle.est_types.specs.DeclarationFaults.{row_has_states}
+use Rattle.est_sizes.specs.Scalars.{scalars_faults}
+use Rattle.est_types.specs.DeclarationFaults.{names_first, first_state_faults}
 use Rattle.est_types.specs.DeclarationFaults.{formals_faults, result_faults}
-use Rattle.est_types.specs.inside.DeclarationParts.{parts_scalars, have_states, has_first}
+use Rattle.est_sizes.proofs.SizeRows.{scalars_hidden}
+use Rattle.est_types.specs.inside.DeclarationParts.{have_states, has_first}
 use Rattle.est_types.specs.inside.DeclarationParts.{first_part_faults, transitions_faults}
 use Rattle.est_types.specs.inside.DeclarationParts.{groups_faults, body_faults, routine_faults}
 use Rattle.est_types.specs.declared.modules.Owner.{Owner}
@@ -47,32 +49,6 @@ parts_shown : (o : Outline) (owner : Owner) (a : _) (row : Row_of-Part _)
     → row_faults o owner row ≡ parts_faults o owner (shown-the_row-Part-0 a row)
 parts_shown o owner a row = parts_row o owner _ row
     ∙ ap (parts_faults o owner) (sym (items_shown-the_row-Part-0 a row))
-
-pub scalars_row : (o : Outline) (sum : ℕ) (n : _) (row : Row_of-Part n)
-    → row_scalars o sum row ≡ parts_scalars o sum (items-the_row-Part n row)
-scalars_row o sum n end_of-Part = refl
-scalars_row o sum n (more_of-Part (part.Consts x) rest) = scalars_row o sum _ rest
-scalars_row o sum n (more_of-Part (part.Types x) rest) = scalars_row o sum _ rest
-scalars_row o sum n (more_of-Part (part.Channel x) rest) = scalars_row o sum _ rest
-scalars_row o sum n (more_of-Part (part.Header x) rest) = scalars_row o sum _ rest
-scalars_row o sum n (more_of-Part (part.Body x) rest) = scalars_row o sum _ rest
-scalars_row o sum n (more_of-Part (part.Modvars x) rest) = scalars_row o sum _ rest
-scalars_row o sum n (more_of-Part (part.Points x) rest) = scalars_row o sum _ rest
-scalars_row o sum n (more_of-Part (part.Vars vs) rest) = scalars_row o (vars_scalars o sum vs) _
-    rest
-scalars_row o sum n (more_of-Part (part.States x) rest) = scalars_row o sum _ rest
-scalars_row o sum n (more_of-Part (part.StateSets x) rest) = scalars_row o sum _ rest
-scalars_row o sum n (more_of-Part (part.Routine' a b c d e f g) rest) = scalars_row o sum _ rest
-
-pub scalars_hidden : (o : Outline) (ps : List Part) → row_scalars o 0 (hidden-the_row-Part-0 ps)
-    ≡ parts_scalars o 0 ps
-scalars_hidden o ps = scalars_row o 0 _ (hidden-the_row-Part-0 ps)
-    ∙ ap (parts_scalars o 0) (items_hidden-the_row-Part-0 ps)
-
-pub scalars_shown : (o : Outline) (a : _) (row : Row_of-Part _)
-    → row_scalars o 0 row ≡ parts_scalars o 0 (shown-the_row-Part-0 a row)
-scalars_shown o a row = scalars_row o 0 _ row
-    ∙ ap (parts_scalars o 0) (sym (items_shown-the_row-Part-0 a row))
 
 states_row : (n : _) (row : Row_of-Part n)
     → row_has_states row ≡ have_states (items-the_row-Part n row)

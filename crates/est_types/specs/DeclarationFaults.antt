@@ -28,19 +28,19 @@ use Rattle.est_syntax.specs.declared.transition.Group.{end_of-Transition, more_o
 use Rattle.est_syntax.specs.declared.specification.Spec.{Spec}
 use Rattle.est_syntax.specs.declared.rule.Fault.{Fault}
 use Rattle.est_syntax.specs.declared.rule.Rule.TheVariants.{UnknownName, WrongSort}
-use Rattle.est_syntax.specs.declared.rule.Rule.TheVariants.{TooLarge, NotInFunction}
+use Rattle.est_syntax.specs.declared.rule.Rule.TheVariants.{NotInFunction}
 use Rattle.est_syntax.specs.declared.rule.Rule.TheVariants.{NoFirstState, WrongAttribute}
 use Rattle.est_scope.specs.declared.declaration.Sort.TheVariants as sort
 use Rattle.est_scope.specs.declared.declaration.Entry.{Entry}
-use Rattle.est_scope.specs.declared.declaration.Measured.{Measured}
 use Rattle.est_scope.specs.declared.declaration.Member.{Member}
 use Rattle.est_scope.specs.declared.declaration.Member.TheVariants as member
 use Rattle.est_scope.specs.Outline.{Outline, entry_at}
 use Rattle.est_scope.specs.Uses.{use_faults, uses_faults, declaration_of, twice_faults}
 use Rattle.est_scope.specs.Uses.{twices_faults, again_faults, agains_faults}
 use Rattle.est_kinds.specs.Constants.{constant_faults}
-use Rattle.est_kinds.specs.TypeTexts.{text_faults, type_faults, added, most_scalars}
+use Rattle.est_kinds.specs.TypeTexts.{text_faults, type_faults}
 use Rattle.est_kinds.specs.Dims.{dims_faults}
+use Rattle.est_sizes.specs.Scalars.{row_scalars, scalars_faults}
 use Rattle.est_outline.specs.Declares.{member_named}
 use Rattle.est_outline.specs.Bodies.{outline_of}
 use Rattle.est_types.specs.declared.modules.Owner.{Owner}
@@ -191,32 +191,6 @@ clause_faults o _ = []
 abbrev pub clauses_faults : Outline → List Clause → List Fault
 clauses_faults o [] = []
 clauses_faults o (c ∷ cs) = clause_faults o c ++ clauses_faults o cs
-
--- the scalars of variables, of those that have a kind
-abbrev pub scalars_in : Option Measured → ℕ
-scalars_in None = 0
-scalars_in (Some m) = m.scalars
-
-abbrev pub scalars_by : Option Entry → ℕ
-scalars_by None = 0
-scalars_by (Some e) = scalars_in e.kind
-
-abbrev pub names_scalars : Outline → ℕ → List Used → ℕ
-names_scalars o sum [] = sum
-names_scalars o sum (u ∷ us) = names_scalars o (added sum (scalars_by (entry_at o u.place))) us
-
-abbrev pub vars_scalars : Outline → ℕ → List VarDef → ℕ
-vars_scalars o sum [] = sum
-vars_scalars o sum (v ∷ vs) = vars_scalars o (names_scalars o sum v.names) vs
-
--- the scalars of the `var` sections among parts
-abbrev pub row_scalars : Outline → ℕ → {n : _} → Row_of-Part n → ℕ
-row_scalars o sum end_of-Part = sum
-row_scalars o sum (more_of-Part (part.Vars vs) rest) = row_scalars o (vars_scalars o sum vs) rest
-row_scalars o sum (more_of-Part _ rest) = row_scalars o sum rest
-
-abbrev pub scalars_faults : ℕ → ℕ → List Fault
-scalars_faults scalars place = broken_if (nat_lt most_scalars scalars) place TooLarge
 
 -- a body that has states needs a first one
 abbrev pub row_has_states : {n : _} → Row_of-Part n → Bool

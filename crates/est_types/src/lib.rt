@@ -5,5 +5,5 @@
 pub mod modules;
 pub mod parts;
 pub mod sections;
-pub mod sizes;
+mod states;
 pub mod table;

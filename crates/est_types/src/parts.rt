@@ -3,7 +3,6 @@
 
 ghost use Rattle.std.specs.Prelude.{◌≡◌, OnOk};
 ghost use Rattle.est_scope.specs.LeastSoFar.{least_with};
-ghost use Rattle.est_types.specs.DeclarationFaults.{scalars_faults};
 ghost use Rattle.est_types.specs.DeclarationFaults.{first_state_faults};
 ghost use Rattle.est_types.specs.DeclarationFaults.{part_faults, parts_faults};
 ghost use Rattle.est_types.specs.inside.DeclarationParts.{block_faults, first_part_faults};
@@ -16,22 +15,15 @@ use crate::sections::{
     check_clauses, check_constdefs, check_formals, check_result, check_statesets, check_typedefs,
     check_vardefs,
 };
-use crate::sizes::{has_first, have_states, parts_scalars};
-use est_kinds::hosts::MOST_SCALARS;
+use crate::states::{has_first, have_states};
 use est_scope::least::Least;
 use est_scope::outline::Outline;
+use est_sizes::sizes::{check_scalars, parts_scalars};
 use est_syntax::body::{Block, Body, FirstPart, Part};
 use est_syntax::routine::Routine;
 use est_syntax::rule::Rule;
 use est_syntax::transition::{Group, Transition};
 use std::alloc::{AllocError, Global};
-
-/// Variables of a body or a routine that have too many scalars.
-pub fn check_scalars(scalars: u64, place: u32, least: &mut Least)
-    ensures { least.new.at ≡ least_with least.old.at (scalars_faults scalars place) }
-{
-    least.note_if(scalars > MOST_SCALARS, place, Rule::TooLarge);
-}
 
 // A body that has states needs a first one.
 fn check_first_state(parts: &[Part], first: &Option<FirstPart>, place: u32, least: &mut Least)

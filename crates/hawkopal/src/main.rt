@@ -2,7 +2,7 @@
 #![tactic(auto)]
 
 use est_edge::{FileShelf, OutSink};
-use est_tool::status::Status;
+use est_words::status::Status;
 use est_tool::top::run;
 use std::process::ExitCode;
 use std::rt::{Env, Files};

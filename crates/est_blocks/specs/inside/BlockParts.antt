@@ -11,7 +11,7 @@ use Rattle.est_scope.specs.declared.declaration.Sort.TheVariants as sort
 use Rattle.est_scope.specs.Outline.{Outline}
 use Rattle.est_scope.specs.Uses.{use_faults}
 use Rattle.est_outline.specs.declared.context.Given.{Given}
-use Rattle.est_types.specs.inside.DeclarationParts.{parts_scalars}
+use Rattle.est_sizes.specs.Scalars.{parts_scalars}
 use Rattle.est_statements.specs.Statements.{statements_faults}
 use Rattle.est_blocks.specs.Clauses.{clauses_faults, with_clauses, delay_faults, next_faults}
 use Rattle.est_blocks.specs.BlockFaults.{function_of, block_faults, parts_faults}

@@ -13,16 +13,12 @@ use Rattle.est_syntax.specs.declared.transition.Transition.{Transition}
 use Rattle.est_scope.specs.Outline.{Outline}
 use Rattle.est_scope.specs.Uses.{twice_faults}
 use Rattle.est_types.specs.DeclarationFaults.{parts_faults, clauses_faults, formals_faults}
-use Rattle.est_types.specs.DeclarationFaults.{result_faults, vars_scalars, scalars_faults}
+use Rattle.est_sizes.specs.Scalars.{parts_scalars, scalars_faults}
+use Rattle.est_types.specs.DeclarationFaults.{result_faults}
 use Rattle.est_types.specs.DeclarationFaults.{first_state_faults}
 use Rattle.est_types.specs.declared.modules.Owner.TheVariants as owners
 
--- the scalars of the `var` sections among parts
-abbrev pub parts_scalars : Outline → ℕ → List Part → ℕ
-parts_scalars o sum [] = sum
-parts_scalars o sum (part.Vars vs ∷ rest) = parts_scalars o (vars_scalars o sum vs) rest
-parts_scalars o sum (_ ∷ rest) = parts_scalars o sum rest
-
+-- whether there is a `state` section among parts, and whether the first state is named
 abbrev pub have_states : List Part → Bool
 have_states [] = false
 have_states (part.States us ∷ rest) = true

@@ -1,7 +1,7 @@
-use Rattle.est_tool.specs.FileTexts.{OfSpecification, RefusesSpecification}
+use Rattle.est_files.specs.FileTexts.{OfSpecification, RefusesSpecification}
 use Rattle.std.proofs.Common.{ℕ, List, [], Err, refl}
-use Rattle.est_tool.specs.declared.status.Status.{Status}
-use Rattle.est_tool.specs.declared.stop.Stop.TheVariants.{OutOfMemory}
+use Rattle.est_words.specs.declared.status.Status.{Status}
+use Rattle.est_files.specs.declared.stop.Stop.TheVariants.{OutOfMemory}
 use Rattle.est_tool.specs.Ends.{ends_at_specification}
 use Rattle.est_tool.specs.Started.{first_alone}
 use Rattle.est_tool.proofs.WorkLaws.{stops_at, goes_on, ends_work, not_run_reports}

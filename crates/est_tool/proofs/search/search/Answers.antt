@@ -1,4 +1,4 @@
-use Rattle.est_tool.proofs.SearchStages.{found_searched}
+use Rattle.est_tool.proofs.SearchLaws.{found_searched}
 use Rattle.est_tool.proofs.search.search.Goals as goal
 
 pub returns-in_ok-verdict-in-Ready : goal.returns-in_ok-verdict-in-Ready

@@ -4,7 +4,7 @@ use Rattle.est_reader.specs.Going.{Goes}
 use Rattle.est_reader.proofs.Going.{part, take}
 use Rattle.est_trace.specs.TraceGrammar.{dot_signal}
 use Rattle.est_trace.specs.TraceNodes.{numbered, tracing, values_view}
-use Rattle.est_skeleton.specs.Differing.{HaveDifferentNames}
+use Rattle.est_skeleton.specs.DifferentNames.{HaveDifferentNames}
 use Rattle.est_trace.specs.inside.Directories.{signal_name}
 use Rattle.est_trace.proofs.TraceFits.{known}
 use Rattle.est_trace.proofs.Parts.{signal_goes, port_goes, signals_different}

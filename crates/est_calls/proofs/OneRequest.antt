@@ -1,0 +1,76 @@
+-- Words ask for one thing at most.
+use Rattle.std.proofs.Common.{◌≡◌, ◌∙◌, ℕ, List, sym, ap, refl}
+use Rattle.std.specs.Str.Parse.{digits_value}
+use Rattle.est_words.specs.Requests.{check, explain, replay, to_check, to_explain, to_replay}
+use Rattle.est_words.specs.Requests.{AreLimits, left_out, given, AreSearchLimits, usual, told}
+use Rattle.est_words.specs.Requests.{IsNumber, most_silent, most_budget, most_statements}
+use Rattle.est_calls.specs.CallLaws.{OneRequest}
+
+-- a word is of one number
+one_number : (low high : ℕ) (word other : List ℕ) (a b : ℕ) → word ≡ other
+    → IsNumber low high word a → IsNumber low high other b → a ≡ b
+one_number low high word other a b same x y = x.valued ∙ ap (λ w. digits_value 10 w) same
+    ∙ sym y.valued
+
+-- words are of one pair of limits
+one_limits : (words other : List (List ℕ)) (a b c d : ℕ) → words ≡ other → AreLimits words a b
+    → AreLimits other c d → (a ≡ c) × (b ≡ d)
+one_limits words other _ _ _ _ same (left_out e) (left_out f) = (refl, refl)
+one_limits words other _ _ _ _ same (left_out e) (given first second c d f p q) = absurd cc
+one_limits words other _ _ _ _ same (given first second a b e m n) (left_out f) = absurd cc
+one_limits words other _ _ _ _ same (given first second a b e m n) (given first' second' c d f p
+    q) =
+    let one : first ≡ first' = cc in
+    let two : second ≡ second' = cc in (
+      one_number 0 most_silent first first' a c one m p,
+      one_number 1 most_statements second second' b d two n q,
+    )
+
+-- words are of one triple of limits
+one_search_limits : (words other : List (List ℕ)) (a b c d e f : ℕ) → words ≡ other
+    → AreSearchLimits words a b c → AreSearchLimits other d e f → (a ≡ d) × (b ≡ e) × (c ≡ f)
+one_search_limits words other _ _ _ _ _ _ same (usual p) (usual q) = (refl, refl, refl)
+one_search_limits words other _ _ _ _ _ _ same (usual p) (told x y z d e f q k l m) = absurd cc
+one_search_limits words other _ _ _ _ _ _ same (told x y z a b c p k l m) (usual q) = absurd cc
+one_search_limits words other _ _ _ _ _ _ same (told x y z a b c p k l m)
+    (told x' y' z' d e f q k' l' m') =
+    let one : x ≡ x' = cc in
+    let two : y ≡ y' = cc in
+    let three : z ≡ z' = cc in (
+      one_number 0 most_silent x x' a d one k k',
+      one_number 0 most_budget y y' b e two l l',
+      one_number 1 most_statements z z' c f three m m',
+    )
+
+pub request_one : OneRequest
+request_one words _ _ (to_check name e named) (to_check other f named') = let same : name ≡ other =
+    cc in ap check same
+request_one words _ _ (to_check name e named) (to_replay specification trace explanation limits
+    silent statements f p q r l) = absurd cc
+request_one words _ _ (to_replay specification trace explanation limits silent statements e p q r l)
+    (to_check other f named) = absurd cc
+request_one words _ _ (to_replay specification trace explanation limits silent statements e p q r l)
+    (to_replay specification' trace' explanation' limits' silent' statements' f p' q' r' l') =
+    let one : specification ≡ specification' = cc in
+    let two : trace ≡ trace' = cc in
+    let three : explanation ≡ explanation' = cc in
+    let rest : limits ≡ limits' = cc in
+    let same = one_limits limits limits' silent statements silent' statements' rest l l' in
+    λ i. replay (one i) (two i) (three i) (same.0 i) (same.1 i)
+request_one words _ _ (to_check name e named) (to_explain specification trace limits silent budget
+    statements f p q l) = absurd cc
+request_one words _ _ (to_explain specification trace limits silent budget statements e p q l)
+    (to_check other f named) = absurd cc
+request_one words _ _ (to_explain specification trace limits silent budget statements e p q l)
+    (to_replay specification' trace' explanation' limits' silent' statements' f p' q' r' l') =
+    absurd cc
+request_one words _ _ (to_replay specification trace explanation limits silent statements e p q r l)
+    (to_explain specification' trace' limits' silent' budget' statements' f p' q' l') = absurd cc
+request_one words _ _ (to_explain specification trace limits silent budget statements e p q l)
+    (to_explain specification' trace' limits' silent' budget' statements' f p' q' l') =
+    let one : specification ≡ specification' = cc in
+    let two : trace ≡ trace' = cc in
+    let rest : limits ≡ limits' = cc in
+    let same = one_search_limits limits limits' silent budget statements silent' budget' statements'
+    rest l l' in
+    λ i. explain (one i) (two i) (same.0 i) (same.1 i) (same.2 i)

@@ -1,0 +1,65 @@
+-- What a search answers of good texts whose start is ready.
+use Rattle.std.specs.Prelude.{◌≡◌, ◌≢◌, ◌↔◌, ℕ, List, Option, Some, String}
+use Rattle.std.specs.Global.{Global}
+use Rattle.est_edge.specs.FaultCounts.{Rose}
+use Rattle.est_runs.specs.declared.run.Move.{Move}
+use Rattle.est_runs.specs.Order.{Mark}
+use Rattle.est_runs.specs.Run.{Setup, IsBegun, Explains}
+use Rattle.est_runs.specs.Trials.{IsTrial, PassesLimit, HasAtMost}
+use Rattle.est_words.specs.declared.status.Status.{Status}
+use Rattle.est_words.specs.declared.status.Status.TheVariants.{Fine, Refused, OverBudget}
+use Rattle.est_words.specs.declared.status.Status.TheVariants.{OutOfMemory}
+use Rattle.est_files.specs.Seen.{Seen, Sent}
+use Rattle.est_files.specs.FileEnds.{HoldsSkeleton, HoldsTrace}
+use Rattle.est_words.specs.Requests.{Asks, explain, bytes_of}
+use Rattle.est_tool.specs.Result.{IsResult}
+
+-- the file is told, and its count of faults did not rise
+pub record IsToldWell (shelf : Seen) (name : List ℕ) : Type 0 where
+  pub bytes : List ℕ
+  pub told : shelf.before.told name ≡ Some bytes
+  pub quiet : Rose (shelf.before.faults name) (shelf.after.faults name) → ⊥
+
+-- the words ask for a search within this budget for the runs of the setup: both files are told,
+-- they hold the skeleton and the trace, the start is ready, and no count rose
+pub record IsSearchOf (words : List (String Global)) (shelf : Seen) (output : Sent) (budget : ℕ)
+    (c : Setup) : Type 0 where
+  pub specification : List ℕ
+  pub trace : List ℕ
+  pub asked : Asks (bytes_of words) (explain specification trace c.silent budget c.limit)
+  pub specification_told : IsToldWell shelf specification
+  pub trace_told : IsToldWell shelf trace
+  pub written : Rose output.before.faults output.after.faults → ⊥
+  pub good : HoldsSkeleton shelf specification c.spec
+  pub traced : HoldsTrace shelf trace c.spec c.trace
+  pub begun : IsBegun c
+
+-- the trace is explained, refused or over budget, unless memory ran out
+abbrev pub IsJudged : Status → Type 0
+IsJudged Fine = Unit {0}
+IsJudged Refused = Unit {0}
+IsJudged OverBudget = Unit {0}
+IsJudged OutOfMemory = Unit {0}
+IsJudged _ = ⊥
+
+-- all trials are within the budget, and nothing passes its limit
+pub record IsWithinLimits (c : Setup) (budget : ℕ) : Type 0 where
+  pub size : HasAtMost (IsTrial c) budget
+  pub passes : (x : List Mark) → PassesLimit c x → ⊥
+
+-- the status is that of a trace that is explained where a run explains it, and else that of one
+-- that is refused
+pub record Decides (c : Setup) (status : Status) : Type 0 where
+  pub fine : (status ≡ Fine) ↔ ((run : List Move) × Explains c run)
+  pub refused : (status ≡ Refused) ↔ ((run : List Move) → Explains c run → ⊥)
+
+-- A search is complete: of good texts whose start is ready a verdict is told, unless memory runs
+-- out; and where the limits suffice, this is whether a run explains the trace.
+pub record SearchIsComplete : Type 0 where
+  pub judged : (words : List (String Global)) (shelf : Seen) (output : Sent) (status : Status)
+      (budget : ℕ) (c : Setup) → IsSearchOf words shelf output budget c
+      → IsResult words shelf output status → IsJudged status
+  pub decided : (words : List (String Global)) (shelf : Seen) (output : Sent) (status : Status)
+      (budget : ℕ) (c : Setup) → IsSearchOf words shelf output budget c
+      → IsResult words shelf output status → IsWithinLimits c budget → status ≢ OutOfMemory
+      → Decides c status

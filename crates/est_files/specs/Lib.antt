@@ -1,0 +1,6 @@
+pub mod FileEnds
+pub mod FileTexts
+pub mod Files
+pub mod Reads
+pub mod RefusalLines
+pub mod Seen

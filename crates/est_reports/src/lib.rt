@@ -1,0 +1,5 @@
+//! The reports of checks and searches.
+#![tactic(auto)]
+
+pub mod report;
+pub mod search_report;

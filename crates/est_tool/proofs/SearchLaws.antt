@@ -1,0 +1,27 @@
+-- What comes of a search from the start of a specification.
+use Rattle.std.proofs.Common.{◌≡◌, List, subst}
+use Rattle.est_syntax.specs.declared.specification.Spec.{Spec}
+use Rattle.est_meaning.specs.declared.event.Event.{Event}
+use Rattle.est_meaning.specs.Situation.{Situation}
+use Rattle.est_meaning.specs.Blocks.{Done}
+use Rattle.est_meaning.specs.Step.{start_of}
+use Rattle.est_runs.specs.declared.run.Limits.{Limits}
+use Rattle.est_search.specs.declared.verdict.Verdict.{Verdict}
+use Rattle.est_search.specs.Verdict.{IsVerdict}
+use Rattle.est_tool.specs.declared.search.Searched.TheVariants as came
+use Rattle.est_tool.specs.inside.Searching.{IsSearched}
+use Rattle.est_tool.specs.Ends.{task_of}
+
+-- a verdict from the start
+pub found_searched : (limits : Limits) (spec : Spec) (events : List Event) (s : Situation)
+    (outs outs' : List Event) (verdict : Verdict) → outs' ≡ outs
+    → start_of limits.statements spec ≡ Done s outs
+    → IsVerdict (task_of limits.silent limits.statements spec events s outs') limits.budget verdict
+    → IsSearched limits spec events (came.Found verdict)
+found_searched limits spec events s outs outs' verdict same begun is = (
+  s,
+  outs,
+  begun,
+  subst (λ es. IsVerdict (task_of limits.silent limits.statements spec events s es) limits.budget
+      verdict) same is,
+)

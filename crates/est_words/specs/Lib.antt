@@ -1,0 +1,4 @@
+pub mod Requests
+pub mod ReportLines
+pub mod Statuses
+pub mod inside

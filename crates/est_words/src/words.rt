@@ -1,0 +1,163 @@
+//! The words that the program is called with.
+ghost use Rattle.std.specs.Prelude.{◌≡◌, ℕ, IfOk, IfSome, MatchOption, OnErr, codes};
+ghost use Rattle.est_words.specs.Requests.{AreLimits, AreSearchLimits, AsksNothing, IsCommand};
+ghost use Rattle.est_words.specs.Requests.{IsNumber, bytes_of, usual_budget};
+ghost use Rattle.est_words.specs.inside.CommandWords.{BeginWith};
+
+use est_runs::run::Limits;
+
+// The limits where no words say others.
+const USUAL: Limits = Limits {
+    silent: 8,
+    budget: 1_000_000,
+    statements: 10_000,
+};
+
+// The most silent firings in a row that words can ask for.
+const MOST_SILENT: u32 = 1000;
+
+// The most firings to be tried that words can ask for.
+const MOST_BUDGET: u32 = 4_000_000;
+
+// The most statements of a block or guard that words can ask for.
+const MOST_STATEMENTS: u32 = 1_000_000;
+
+/// What the words ask for.
+#[derive(Clone, Copy)]
+pub enum Command {
+    /// To check the specification in the file that the word after `check` names.
+    Check,
+    /// To explain a trace. The words after `explain` name the files of the specification and the
+    /// trace.
+    Explain { limits: Limits },
+    /// To replay an explanation of a trace. The words after `replay` name the files of the
+    /// specification, the trace and the explanation.
+    Replay { limits: Limits },
+}
+
+/// The words ask for nothing that the program does.
+#[derive(Clone, Copy, PartialEq, Eq)]
+pub struct BadUsage;
+
+/// Reads the words after the name of the program.
+pub fn read_words(words: &[String]) -> Result<Command, BadUsage>
+    ensures asked { IfOk result (IsCommand words.now) }
+    ensures refused { OnErr result (AsksNothing words.now) }
+{
+    match words {
+        [command, ..] if command.as_str() == "check" => read_check(words),
+        [command, ..] if command.as_str() == "explain" => read_explain(words),
+        [command, ..] if command.as_str() == "replay" => read_replay(words),
+        _ => Err(BadUsage),
+    }
+}
+
+// Reads the words of a check.
+fn read_check(words: &[String]) -> Result<Command, BadUsage>
+    requires { BeginWith (codes "check") words.now }
+    ensures asked { IfOk result (IsCommand words.now) }
+    ensures refused { OnErr result (AsksNothing words.now) }
+{
+    match words {
+        [_, specification] if !specification.is_empty() => Ok(Command::Check),
+        _ => Err(BadUsage),
+    }
+}
+
+// Reads the words of a search for an explanation.
+fn read_explain(words: &[String]) -> Result<Command, BadUsage>
+    requires { BeginWith (codes "explain") words.now }
+    ensures asked { IfOk result (IsCommand words.now) }
+    ensures refused { OnErr result (AsksNothing words.now) }
+{
+    match words {
+        [_, specification, trace, limits @ ..] if !specification.is_empty() && !trace.is_empty() =>
+            {
+                match read_search_limits(limits) {
+                    Some(limits) => Ok(Command::Explain { limits }),
+                    None => Err(BadUsage),
+                }
+            }
+        _ => Err(BadUsage),
+    }
+}
+
+// Reads the words of a replay.
+fn read_replay(words: &[String]) -> Result<Command, BadUsage>
+    requires { BeginWith (codes "replay") words.now }
+    ensures asked { IfOk result (IsCommand words.now) }
+    ensures refused { OnErr result (AsksNothing words.now) }
+{
+    match words {
+        [_, specification, trace, explanation, limits @ ..]
+            if !specification.is_empty() && !trace.is_empty() && !explanation.is_empty() => {
+            match read_limits(limits) {
+                Some(limits) => Ok(Command::Replay { limits }),
+                None => Err(BadUsage),
+            }
+        }
+        _ => Err(BadUsage),
+    }
+}
+
+// The limits of a search that these words give, and the usual ones where there are no words.
+fn read_search_limits(words: &[String]) -> Option<Limits>
+    ensures { MatchOption result
+        ((silent budget statements : ℕ)
+        → AreSearchLimits (bytes_of words.now) silent budget statements → ⊥)
+        (λ limits. AreSearchLimits (bytes_of words.now)
+        limits.silent limits.budget limits.statements) }
+{
+    match words {
+        [] => Some(USUAL),
+        [silent, budget, statements] => {
+            let silent = number(silent.as_str(), 0, MOST_SILENT)?;
+            let budget = number(budget.as_str(), 0, MOST_BUDGET)?;
+            let statements = number(statements.as_str(), 1, MOST_STATEMENTS)?;
+            Some(Limits {
+                silent,
+                budget,
+                statements,
+            })
+        }
+        _ => None,
+    }
+}
+
+// The limits of a replay that these words give, and the usual ones where there are no words.
+fn read_limits(words: &[String]) -> Option<Limits>
+    ensures limits { MatchOption result
+        ((silent statements : ℕ) → AreLimits (bytes_of words.now) silent statements → ⊥)
+        (λ limits. AreLimits (bytes_of words.now) limits.silent limits.statements) }
+    ensures budget { IfSome result (λ limits. limits.budget ≡ usual_budget) }
+{
+    match words {
+        [] => Some(USUAL),
+        [silent, statements] => {
+            let silent = number(silent.as_str(), 0, MOST_SILENT)?;
+            let statements = number(statements.as_str(), 1, MOST_STATEMENTS)?;
+            Some(Limits {
+                silent,
+                budget: USUAL.budget,
+                statements,
+            })
+        }
+        _ => None,
+    }
+}
+
+// The value of a decimal number of 1 to 20 digits, where it is within these bounds.
+fn number(word: &str, low: u32, high: u32) -> Option<u32>
+    ensures { MatchOption result
+        ((value : ℕ) → IsNumber low high word.now value → ⊥) (IsNumber low high word.now) }
+{
+    if word.len() > 20 || word.starts_with('+') {
+        return None;
+    }
+    let value = word.parse().ok()?;
+    if low <= value && value <= high {
+        Some(value)
+    } else {
+        None
+    }
+}
