@@ -26,6 +26,7 @@ pub mod TypeKinds
 pub mod UsesStand
 pub mod DimKinds
 pub mod Declarations
+pub mod StateSets
 pub mod Walk
 pub mod Tables
 pub mod Names

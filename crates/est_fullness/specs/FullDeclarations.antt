@@ -10,6 +10,7 @@ use Rattle.est_syntax.specs.declared.type_text.VarDef.{VarDef}
 use Rattle.est_syntax.specs.declared.header.Point.{Point}
 use Rattle.est_syntax.specs.declared.header.ModvarDef.{ModvarDef}
 use Rattle.est_syntax.specs.declared.routine.Formal.{Formal}
+use Rattle.est_syntax.specs.declared.body.StateSet.{StateSet}
 use Rattle.est_syntax.specs.declared.rule.Fault.{Fault}
 use Rattle.est_scope.specs.declared.declaration.Entry.{Entry}
 use Rattle.est_scope.specs.declared.declaration.Sort.{Sort}
@@ -26,13 +27,13 @@ use Rattle.est_kinds.specs.Constants.{value_with}
 use Rattle.est_kinds.specs.TypeTexts.{text_type, text_faults, named_type, enumeration}
 use Rattle.est_kinds.specs.Dims.{dims_of, dims_faults}
 use Rattle.est_outline.specs.Entries.{ordinal_of}
-use Rattle.est_outline.specs.Declares.{side_of}
+use Rattle.est_outline.specs.Declares.{side_of, states_named}
 use Rattle.est_outline.specs.Bodies.{body_header}
 use Rattle.est_outline.specs.Lasts.{text_last}
 use Rattle.est_types.specs.declared.modules.Owner.{Owner}
 use Rattle.est_types.specs.DeclarationFaults.{constdef_faults, typedef_faults, vardef_faults}
 use Rattle.est_types.specs.DeclarationFaults.{point_faults, modvar_faults, formal_faults}
-use Rattle.est_types.specs.DeclarationFaults.{result_faults}
+use Rattle.est_types.specs.DeclarationFaults.{result_faults, stateset_faults}
 use Rattle.est_language.specs.Shown.{node, nodes}
 use Rattle.est_order.specs.PlaceOrder.{Stands}
 use Rattle.est_productions.specs.Nodes.{layer, a_use, a_constant, a_constant_definition}
@@ -179,6 +180,11 @@ abbrev pub FunctionsAreFull : Type 0
 FunctionsAreFull = (o : Outline) (u : Used) (e : Entry) (a b : ℕ) → AreFullBefore o b
     → Stands layer (node (a_use u)) a b → result_faults o (Some u) ≡ []
     → e.declared.sort ≡ sort.Function → e.kind ≡ named_type o u → IsFull e
+
+-- of a state set the place of each state that it names is known, in the order of the text
+abbrev pub StateSetsAreFull : Type 0
+StateSetsAreFull = (o : Outline) (s : StateSet) → stateset_faults o s ≡ []
+    → map Some (states_named o s.states) ≡ map (declaration_of o sort.State) s.states
 
 -- a body with the header that the outline gives it is full
 abbrev pub BodiesAreFull : Type 0

@@ -12,7 +12,7 @@ ghost use Rattle.est_fullness.specs.FullDeclarations.{VariableDeclarationsAreFul
 ghost use Rattle.est_fullness.specs.FullDeclarations.{ParametersAreFull, ExportsAreFull};
 ghost use Rattle.est_fullness.specs.FullDeclarations.{PointsAreFull, ModuleVariablesAreFull};
 ghost use Rattle.est_fullness.specs.FullDeclarations.{FormalsAreFull, FunctionsAreFull};
-ghost use Rattle.est_fullness.specs.FullDeclarations.{BodiesAreFull};
+ghost use Rattle.est_fullness.specs.FullDeclarations.{BodiesAreFull, StateSetsAreFull};
 ghost use Rattle.est_fullness.specs.FullOutlines.{OutlinesAreFull};
 ghost use Rattle.est_fullness.specs.FullSentences.{SentencesAreWritten, SentencesAreFull};
 
@@ -129,6 +129,12 @@ pub fn formals_are_full()
 #[tactic(auto, using(crate::proofs::Declarations::function_full))]
 pub fn functions_are_full()
     ensures { FunctionsAreFull }
+{}
+
+/// A state set that breaks no rule has the place of each state that it names.
+#[tactic(auto, using(crate::proofs::StateSets::state_set_full))]
+pub fn state_sets_are_full()
+    ensures { StateSetsAreFull }
 {}
 
 /// A body with the header that the outline gives it is full.

@@ -1,0 +1,13 @@
+pub mod BlindExpressions
+pub mod BlindFunctions
+pub mod ExpressionLayers
+pub mod FirstChanged
+pub mod FittingTaken
+pub mod KeptByBlocks
+pub mod MutualPeers
+pub mod NumbersAscend
+pub mod OrderlyStarts
+pub mod SetMembers
+pub mod StatementLayers
+pub mod UndefinedUnique
+pub mod UndefinedVariables
