@@ -2,8 +2,8 @@
 #![tactic(auto)]
 
 use est_edge::{FileShelf, OutSink};
-use est_words::status::Status;
 use est_tool::top::run;
+use est_words::status::Status;
 use std::process::ExitCode;
 use std::rt::{Env, Files};
 use std::{env, io};
