@@ -1,3 +1,4 @@
+pub mod Answering
 pub mod BlindExpressions
 pub mod BlindFunctions
 pub mod ExpressionLayers

@@ -37,7 +37,7 @@ use Rattle.est_semantics.specs.SetOperators.{set_of}
 use Rattle.est_semantics.specs.HostOrdinals.{host_of}
 use Rattle.est_semantics.specs.NamesInRuns.{head, dims_at, takes_place}
 use Rattle.est_semantics.specs.WorkingState.{View, Counts}
-use Rattle.est_semantics.specs.ValueOperators.{ordinal, joined, signed, negated, spanned}
+use Rattle.est_semantics.specs.ValueOperators.{unsigned_integer, ordinal, joined, signed, negated, spanned}
 use Rattle.est_semantics.specs.ReachedVariables.{Reached, Component, Module, variable_begun}
 use Rattle.est_semantics.specs.ReachedVariables.{with_field, with_component, with_subscript, placed}
 use Rattle.est_semantics.specs.FunctionCalls.{called, valued, required_by}
@@ -87,7 +87,7 @@ abbrev mutual
 
   -- what an operand yields
   pub factor_of : Factor → View → Counts Value
-  factor_of (factor.Number n place) v = give (value.Ordinal (pos n))
+  factor_of (factor.Number n place) v = lift (unsigned_integer n)
   factor_of (factor.Character c place) v = give (value.Ordinal (pos c))
   factor_of (factor.Group' p e place) v = row_first e v
   factor_of (factor.Not' p f place) v = row_factor f v >>= negated

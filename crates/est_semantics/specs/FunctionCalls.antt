@@ -1,12 +1,12 @@
 -- Calls of functions (ISO 7185, 6.6.2, 6.6.6 and 6.7.3).
-use Rattle.std.specs.Prelude.{ℕ, ℤ, pos, ◌+ℤ◌, ◌-ℤ◌, nat_abs, true, List, [], ◌∷◌, ◌++◌}
+use Rattle.std.specs.Prelude.{ℕ, ℤ, pos, ◌+ℤ◌, ◌-ℤ◌, int_lt, true, List, [], ◌∷◌, ◌++◌}
 use Rattle.std.specs.Prelude.{Option, Some, None, Result, Ok, Err, if◌then◌else◌}
 use Rattle.std.specs.Int.{int_rem_euclid}
 use Rattle.std.specs.Option.{option_map_or}
 use Rattle.est_syntax.specs.declared.kind.Kind.{Kind}
 use Rattle.est_values.specs.declared.value.Value.{Value}
 use Rattle.est_values.specs.declared.value.Value.TheVariants as value
-use Rattle.est_values.specs.Integers.{times}
+use Rattle.est_values.specs.Integers.{times, negative}
 use Rattle.est_alike.specs.declared.types.Host.{Host}
 use Rattle.est_alike.specs.declared.types.Host.TheVariants as hosts
 use Rattle.est_expressions.specs.declared.names.Required.{Required}
@@ -97,7 +97,7 @@ required_value required.Ord host z = Ok z
 required_value required.Chr host z = within_host hosts.Char z
 required_value required.Succ host z = within_host host (z +ℤ pos 1)
 required_value required.Pred host z = within_host host (z -ℤ pos 1)
-required_value required.Abs host z = Ok (pos (nat_abs z))
+required_value required.Abs host z = if int_lt z (pos 0) then exact (negative z) else Ok z
 required_value required.Odd host z = Ok (int_rem_euclid z (pos 2))
 required_value required.Sqr host z = exact (times z z)
 

@@ -1,3 +1,4 @@
+pub mod AnswersOfCalls
 pub mod Attachments
 pub mod BlockLevels
 pub mod ExpressionValues

@@ -1,6 +1,7 @@
 -- Operators on values, which are evaluated in the order of the text (ISO 7185, 6.7.2).
-use Rattle.std.specs.Prelude.{ℤ, pos, ◌-ℤ◌, Bool, true, false, List}
+use Rattle.std.specs.Prelude.{ℕ, nat_le, ℤ, pos, Bool, true, false, not, List}
 use Rattle.std.specs.Prelude.{Result, Ok, Err, if◌then◌else◌}
+use Rattle.est_syntax.specs.Kinds.{maxint}
 use Rattle.est_syntax.specs.declared.expression.Operator.{Operator}
 use Rattle.est_syntax.specs.declared.expression.Operator.TheVariants as operator
 use Rattle.est_values.specs.declared.value.Value.{Value}
@@ -10,7 +11,7 @@ use Rattle.est_semantics.specs.declared.fault.BlockFault.{BlockFault}
 use Rattle.est_semantics.specs.declared.fault.BlockFault.TheVariants.{Undefined}
 use Rattle.est_semantics.specs.Outcome.{Outcome, ◌>>=◌, give, lift, on_ok}
 use Rattle.est_semantics.specs.OrdinalOperators as ordinals
-use Rattle.est_semantics.specs.OrdinalOperators.{is_true, exact}
+use Rattle.est_semantics.specs.OrdinalOperators.{truth, is_true, exact}
 use Rattle.est_semantics.specs.SetOperators.{is_member, with_span, combined, decided}
 use Rattle.est_semantics.specs.WorkingState.{Counts}
 
@@ -18,6 +19,10 @@ use Rattle.est_semantics.specs.WorkingState.{Counts}
 abbrev pub ordinal_in : Value → Result ℤ BlockFault
 ordinal_in (value.Ordinal z) = Ok z
 ordinal_in _ = Err Undefined
+
+-- the integer of an unsigned number, which is one of this profile (ISO 7185, 6.1.5)
+abbrev pub unsigned_integer : ℕ → Result Value BlockFault
+unsigned_integer n = if nat_le n maxint then Ok (value.Ordinal (pos n)) else Err Undefined
 
 -- the same in an evaluation
 abbrev pub ordinal : {S : Type 0} → Value → S → Outcome S ℤ
@@ -58,7 +63,7 @@ signed true a = ordinal a >>= λ z. lift (exact (negative z)) >>= λ y. give (va
 
 -- the other boolean (ISO 7185, 6.7.2.3)
 abbrev pub negated : Value → Counts Value
-negated a = ordinal a >>= λ z. give (value.Ordinal (pos 1 -ℤ z))
+negated a = ordinal a >>= λ z. give (value.Ordinal (truth (not (is_true z))))
 
 -- a set with the members from one to another more
 abbrev pub spanned : Value → Value → List ℤ → Counts (List ℤ)

@@ -6,3 +6,5 @@ pub mod fault;
 pub mod frame;
 pub mod laws;
 pub mod situation;
+pub mod stop;
+pub mod twin;
