@@ -77,7 +77,7 @@ second_holds true b h = h
 second_holds false b h = cc
 
 -- an ordinal that is within a kind is one of its ordinals
-ordinal_within : (k : Kind) (z : ℤ) → is_within k z ≡ true → IsOrdinalOf k z
+pub ordinal_within : (k : Kind) (z : ℤ) → is_within k z ≡ true → IsOrdinalOf k z
 ordinal_within k z h = (
   le_holds (first_ordinal k) z
       (first_holds (int_le (first_ordinal k) z) (int_le z (last_ordinal k)) h),

@@ -21,8 +21,8 @@ pub fn first_ordinal(kind: &Kind) -> i32
     }
 }
 
-// The last ordinal of an enumeration of so many constants.
-fn last_constant(count: usize) -> i32
+/// The last ordinal of an enumeration of so many constants.
+pub fn last_constant(count: usize) -> i32
     ensures { result ≡ last_constant count }
 {
     let most = MAXINT as usize;
@@ -51,8 +51,8 @@ pub fn last_ordinal(kind: &Kind) -> i32
     }
 }
 
-// How many ordinals lie from one to another.
-fn counted(first: i32, last: i32) -> u64
+/// How many ordinals lie from one to another.
+pub fn counted(first: i32, last: i32) -> u64
     ensures { result ≡ int_gap first (last +ℤ pos 1) }
 {
     let distance = last as i64 - first as i64;

@@ -1,0 +1,3 @@
+pub mod JoinedOperators
+pub mod MemberCounts
+pub mod MembersInTurn

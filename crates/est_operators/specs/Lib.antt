@@ -1,0 +1,2 @@
+pub mod GatheredMembers
+pub mod JoinedValues
