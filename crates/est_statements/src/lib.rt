@@ -6,4 +6,4 @@ mod links;
 pub mod modules;
 pub mod signals;
 pub mod statements;
-mod targets;
+pub mod targets;

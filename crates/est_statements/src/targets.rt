@@ -400,8 +400,8 @@ fn bare_simple(simple: &Simple) -> Option<VariableAccess<'_>>
     }
 }
 
-// The variable that an expression is, if it is one and nothing else.
-fn bare(expr: &Expr) -> Option<VariableAccess<'_>>
+/// The variable that an expression is, if it is one and nothing else.
+pub fn bare(expr: &Expr) -> Option<VariableAccess<'_>>
     ensures { variable_of result ≡ bare expr.now }
 {
     match &expr.relation {

@@ -1,0 +1,4 @@
+pub mod ConstantHeads
+pub mod IndexLaws
+pub mod PartLaws
+pub mod Places

@@ -1,0 +1,2 @@
+pub mod PartIndices
+pub mod ShownNames
