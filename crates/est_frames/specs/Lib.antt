@@ -1,0 +1,3 @@
+pub mod HeldFrames
+pub mod HeldSystems
+pub mod inside

@@ -1,0 +1,10 @@
+use Rattle.std.proofs.Common.{◌≡◌, drop}
+use Rattle.est_semantics.specs.LinkEffects.{each, disconnected}
+use Rattle.est_frames.specs.HeldSystems.{situation_of}
+use Rattle.est_links.proofs.connections.disconnect_each.Given as goal
+
+-- the points that are left lead to where all lead
+abbrev pub invariant-loop-point : goal.invariant-loop-point
+invariant-loop-point l =
+    each disconnected (drop l.point-index l.points) (situation_of l.system)
+    ≡ each disconnected l.points (situation_of l.fn.system)

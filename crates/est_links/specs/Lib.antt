@@ -1,0 +1,5 @@
+pub mod ChangedLists
+pub mod ChangedSystems
+pub mod PointsOfInstances
+pub mod LostThings
+pub mod NewInstances

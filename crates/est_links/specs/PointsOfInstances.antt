@@ -1,0 +1,25 @@
+-- Interaction points of instances, as lists of them are made.
+use Rattle.std.specs.Prelude.{◌≡◌, ℕ, ℤ, List, map, find, Option, Some, length, take, slice_get}
+use Rattle.std.specs.List.{flat_map}
+use Rattle.est_syntax.specs.declared.kind.Kind.{Kind}
+use Rattle.est_values.specs.OrdinalTuples.{ordinal_tuples}
+use Rattle.est_scope.specs.Outline.{Outline}
+use Rattle.est_semantics.specs.declared.situation.InteractionPoint.{InteractionPoint}
+use Rattle.est_semantics.specs.TextByPlace.{Text}
+use Rattle.est_semantics.specs.GlobalSituation.{Situation}
+use Rattle.est_semantics.specs.InstancePoints.{point, indices_of, external_of}
+use Rattle.est_semantics.specs.Attachments.{leads_to}
+
+-- the interaction points of an instance that are declared at some places
+abbrev pub points_at : Outline → ℕ → List ℕ → List InteractionPoint
+points_at o n places = flat_map (λ p. map (point n p) (indices_of o p)) places
+
+-- the external interaction point of an instance that is attached to one of a child
+abbrev pub above_in : Text → Situation → ℕ → InteractionPoint → Option InteractionPoint
+above_in t s n p = find (λ e. leads_to p (s.down e)) (external_of t.outline s n)
+
+-- So many tuples of ordinals of these kinds were listed, and this is the next one.
+pub record AreListed (ks : List Kind) (tuples : List (List ℤ)) (tuple : List ℤ) : Type 0 where
+  pub so_far : tuples ≡ take (length tuples) (ordinal_tuples ks)
+  pub next : slice_get (ordinal_tuples ks) (length tuples) ≡ Some tuple
+  pub long : length tuple ≡ length ks
