@@ -1,5 +1,5 @@
 -- Statements that change the situation answer as the calls do that change the system.
-use Rattle.std.proofs.Common.{◌≡◌, ap, Result, Ok, Err}
+use Rattle.std.proofs.Common.{ap, Result, Ok, Err}
 use Rattle.est_semantics.specs.declared.fault.BlockFault.{BlockFault}
 use Rattle.est_semantics.specs.declared.stop.Stop.{Stop}
 use Rattle.est_semantics.specs.declared.stop.Stop.TheVariants as stop

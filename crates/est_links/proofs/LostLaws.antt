@@ -1,10 +1,10 @@
 -- What is left where instances are released.
-use Rattle.std.proofs.Common.{◌≡◌, refl, sym, ap, subst, ◌∙◌, ℕ, nat_eq, ◌&&◌, ◌||◌}
+use Rattle.std.proofs.Common.{◌≡◌, refl, sym, ap, ◌∙◌, ℕ, nat_eq, ◌&&◌, ◌||◌}
 use Rattle.std.proofs.Common.{Bool, true, false, cond, not, List, [], ◌∷◌, map}
 use Rattle.std.proofs.Common.{Option, Some, None}
 use Rattle.std.specs.Prelude.{find, if◌then◌else◌, option_and_then}
 use Rattle.std.specs.List.{filter, list_any}
-use Rattle.std.specs.Option.{option_map, option_map_or}
+use Rattle.std.specs.Option.{option_map}
 use Rattle.std.proofs.lemmas.Bool.{eqb-true}
 use Rattle.std.proofs.lemmas.Option.{same_Some}
 use Rattle.est_semantics.specs.declared.situation.InteractionPoint.{InteractionPoint}
@@ -132,6 +132,7 @@ stray_end ns ls x = same_tests (is_end x (strays ns ls)) (is_lost ns (linked ls 
         let r = end_of (is_stray ns ls) x ls h in
         ap (λ y. is_lost ns (linked ls y)) (sym (point_same r.0.from x r.2))
         ∙ second_of (is_among ns r.0.to.instance) (is_lost ns (linked ls r.0.from)) r.1
+
     back : is_lost ns (linked ls x) ≡ true → is_end x (strays ns ls) ≡ true
     back h =
         let r = lost_link ns (find (is_from x) ls) h in

@@ -152,15 +152,15 @@ parted_more p q all rest stay moved left more others x d h l m o =
     let r : rest ≡ x ∷ left = head_and_rest rest x h ∙ ap (λ xs. x ∷ xs) (sym l) in
     record {
       stayed = ap (λ xs. xs ++ stays p q left) m
-        ∙ append_assoc stay (stays p q (x ∷ [])) (stays p q left)
-        ∙ ap (λ xs. stay ++ xs) (sym (filter-append (λ i. not (belongs p i)) (x ∷ []) left)
-        ∙ ap (stays p q) (sym r)) ∙ d.stayed;
+          ∙ append_assoc stay (stays p q (x ∷ [])) (stays p q left)
+          ∙ ap (λ xs. stay ++ xs) (sym (filter-append (λ i. not (belongs p i)) (x ∷ []) left)
+          ∙ ap (stays p q) (sym r)) ∙ d.stayed;
       passed = ap (λ xs. xs ++ moves p q left) o
-        ∙ append_assoc moved (moves p q (x ∷ [])) (moves p q left)
-        ∙ ap (λ xs. moved ++ xs)
-        (sym (map-append (passed_to q) (filter (belongs p) (x ∷ [])) (filter (belongs p) left))
-        ∙ ap (map (passed_to q)) (sym (filter-append (belongs p) (x ∷ []) left))
-        ∙ ap (moves p q) (sym r)) ∙ d.passed;
+          ∙ append_assoc moved (moves p q (x ∷ [])) (moves p q left)
+          ∙ ap (λ xs. moved ++ xs)
+          (sym (map-append (passed_to q) (filter (belongs p) (x ∷ [])) (filter (belongs p) left))
+          ∙ ap (map (passed_to q)) (sym (filter-append (belongs p) (x ∷ []) left))
+          ∙ ap (moves p q) (sym r)) ∙ d.passed;
     }
 
 pub parted_none : (p q : InteractionPoint) (all stay moved : List Item)

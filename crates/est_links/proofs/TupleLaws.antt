@@ -1,7 +1,7 @@
 -- Tuples of ordinals as they are listed.
-use Rattle.std.proofs.Common.{◌≡◌, refl, sym, ap, ◌∙◌, arith, ℕ, zero, suc, ◌+◌, ◌-◌, ◌<◌, ◌≤◌, nat_lt}
+use Rattle.std.proofs.Common.{◌≡◌, refl, sym, ap, ◌∙◌, arith, ℕ, zero, suc, ◌-◌, ◌<◌, ◌≤◌, nat_lt}
 use Rattle.std.proofs.Common.{ℤ, pos, ◌+ℤ◌, ◌&&◌, Bool, true, false, List, [], ◌∷◌, ◌++◌, map}
-use Rattle.std.proofs.Common.{length, take, Option, Some, None, slice_get}
+use Rattle.std.proofs.Common.{length, take, Some, None, slice_get}
 use Rattle.std.specs.Prelude.{flat_map}
 use Rattle.std.specs.List.{list_all, range_with_len}
 use Rattle.std.proofs.lemmas.Bool.{ltb-true, ltb-false}
@@ -129,8 +129,8 @@ pub listed_none : (ks : List Kind) (xs : List (List ℤ)) (t : List ℤ) → xs 
     → t ≡ first_tuple ks → list_all has_ordinal ks ≡ true → AreListed ks xs t
 listed_none ks xs t h e a = record {
   so_far = h ∙ sym (ap (λ (ys : List (List ℤ)). take (length ys) (ordinal_tuples ks)) h
-    ∙ none_taken (ordinal_tuples ks));
+      ∙ none_taken (ordinal_tuples ks));
   next = ap (λ (ys : List (List ℤ)). slice_get (ordinal_tuples ks) (length ys)) h
-    ∙ some_tuples ks a ∙ ap (λ (v : List ℤ). Some v) (sym e);
+      ∙ some_tuples ks a ∙ ap (λ (v : List ℤ). Some v) (sym e);
   long = ap length e ∙ length-map ks first_ordinal;
 }

@@ -109,11 +109,7 @@ pub fn up(
 }
 
 // Along links from an interaction point, at most so many steps.
-fn followed<'l>(
-    links: &'l Links,
-    steps: usize,
-    point: &'l InteractionPoint,
-) -> &'l InteractionPoint
+fn followed<'l>(links: &'l Links, steps: usize, point: &'l InteractionPoint) -> &'l InteractionPoint
     ensures { result.now ≡ follow (linked links.now) steps point.now }
 {
     let mut at = point;

@@ -106,10 +106,11 @@ fn add_next(
 fn element_position(element: &Element, holdings: &Holdings) -> Option<usize>
     ensures { result ≡ position (is_holding element.now) holdings.now }
 {
-    holdings
-        .as_slice()
-        .iter()
-        .position(|holding| is_element(element.declared, &element.index, &holding.element))
+    holdings.as_slice().iter().position(|holding| is_element(
+        element.declared,
+        &element.index,
+        &holding.element,
+    ))
 }
 
 // An element is given an instance, where there is such an element.
@@ -166,12 +167,7 @@ pub fn place(
 }
 
 // An instance is in a state.
-fn reach(
-    alloc: Global,
-    instance: u32,
-    state: u32,
-    system: &mut System,
-) -> Result<(), AllocError>
+fn reach(alloc: Global, instance: u32, state: u32, system: &mut System) -> Result<(), AllocError>
     ensures { OnOk result (situation_of system.new
         ≡ with_row instance (in_state (Some state)) (situation_of system.old)) }
 {

@@ -54,12 +54,7 @@ fn variables_of(alloc: Global, outline: &Outline, body: u32) -> Result<Places, A
 }
 
 // The variables of a new instance, of which the first have these values.
-fn instance_frame(
-    alloc: Global,
-    outline: &Outline,
-    body: u32,
-    slots: Slots,
-) -> Result<Frame, Stop>
+fn instance_frame(alloc: Global, outline: &Outline, body: u32, slots: Slots) -> Result<Frame, Stop>
     ensures { Says (frame_of outline.now (variables_of outline.now body) slots) result }
 {
     let places = variables_of(alloc, outline, body)?;
@@ -85,7 +80,14 @@ pub fn init(
         return Err(Stop::Fault(BlockFault::TooMany));
     }
     let variables = instance_frame(alloc, text.outline(), body, slots)?;
-    place(alloc, text.outline(), parent, element, body, variables, system)?;
+    place(
+        alloc,
+        text.outline(),
+        parent,
+        element,
+        body,
+        variables,
+        system,
+    )?;
     Ok(())
 }
-

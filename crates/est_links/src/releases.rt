@@ -69,7 +69,9 @@ fn keep_queues(alloc: Global, gone: &[u32], queues: &mut Shared<Queues>) -> Resu
         ≡ queues_without gone.now (waiting_in queues.old)) }
 {
     let queues = queues.own(alloc)?;
-    queues.items.retain(|waiting| !is_among(gone, owner(&waiting.queue)));
+    queues
+        .items
+        .retain(|waiting| !is_among(gone, owner(&waiting.queue)));
     Ok(())
 }
 
@@ -131,7 +133,9 @@ fn leave_out(points: &[InteractionPoint], links: &mut Links)
 fn keep_from(gone: &[u32], links: &mut Links)
     ensures { links.new ≡ filter (λ link. not (is_among gone.now link.from.instance)) links.old }
 {
-    links.items.retain(|link| !is_among(gone, link.from.instance));
+    links
+        .items
+        .retain(|link| !is_among(gone, link.from.instance));
 }
 
 // The links of other instances are left.
@@ -190,12 +194,7 @@ fn untie_each(
 }
 
 // The external interaction points of a child are detached and disconnected.
-fn untie_all(
-    alloc: Global,
-    text: &Text,
-    child: u32,
-    system: &mut System,
-) -> Result<(), AllocError>
+fn untie_all(alloc: Global, text: &Text, child: u32, system: &mut System) -> Result<(), AllocError>
     ensures { OnOk result (situation_of system.new
         ≡ all_untied text.now child (situation_of system.old)) }
 {

@@ -1,5 +1,4 @@
-use Rattle.std.proofs.Common.{ap, ◌∙◌, sym}
-use Rattle.est_values.specs.OrdinalTuples.{next_tuple}
+use Rattle.std.proofs.Common.{◌∙◌, sym}
 use Rattle.est_links.proofs.TupleLaws.{no_tuples, listed_none, listed_all, listed_more}
 use Rattle.est_links.proofs.TupleLaws.{listed_less}
 use Rattle.est_links.proofs.instances.ordinal_tuples.Goals as goal

@@ -1,4 +1,4 @@
-use Rattle.std.proofs.Common.{ap, ◌∙◌, sym, List, slice_get, drop, ◌≡◌, [], Some, None}
+use Rattle.std.proofs.Common.{ap, ◌∙◌, sym, List, slice_get, drop, ◌≡◌, [], Some}
 use Rattle.std.specs.List.{position}
 use Rattle.est_semantics.specs.declared.situation.Item.{Item}
 use Rattle.est_frames.specs.declared.system.Waiting.{Waiting}

@@ -5,7 +5,6 @@ use Rattle.est_semantics.specs.GlobalSituation.{QueueName}
 use Rattle.est_semantics.specs.InstanceEffects.{is_among, owner}
 use Rattle.est_frames.specs.declared.system.Waiting.{Waiting}
 use Rattle.est_frames.specs.HeldSystems.{queue_of, waiting_in}
-use Rattle.est_links.specs.LostThings.{queues_without}
 use Rattle.est_links.proofs.QueueLaws.{kept_queues}
 use Rattle.est_links.proofs.releases.keep_queues.Goals as goal
 

@@ -1,4 +1,4 @@
-use Rattle.std.proofs.Common.{rules, ap, ◌∙◌, not, List}
+use Rattle.std.proofs.Common.{rules, ap, ◌∙◌, not}
 use Rattle.std.proofs.lemmas.Fn.{filter_same}
 use Rattle.est_semantics.specs.declared.situation.Row.{Row}
 use Rattle.est_semantics.specs.InstanceEffects.{is_among}
