@@ -38,7 +38,7 @@ index_decides : (xs ys : List ℤ) → (pointwise int_eq xs ys ≡ true → xs �
     × (xs ≡ ys → pointwise int_eq xs ys ≡ true)
 index_decides = pointwise_decides Decides-int_eq
 
-point_same : (a b : InteractionPoint) → is_point a b ≡ true → a ≡ b
+pub point_same : (a b : InteractionPoint) → is_point a b ≡ true → a ≡ b
 point_same a b e =
     let p = both (nat_eq a.instance b.instance)
     (nat_eq a.declared b.declared && pointwise int_eq a.index b.index) e in
@@ -48,10 +48,10 @@ point_same a b e =
     let h = (index_decides a.index b.index).0 q.1 in
     λ i. record { instance = f i; declared = g i; index = h i }
 
-eq_self : (n : ℕ) → nat_eq n n ≡ true
+pub eq_self : (n : ℕ) → nat_eq n n ≡ true
 eq_self n = grind (arith, nat_tests)
 
-point_self : (a : InteractionPoint) → is_point a a ≡ true
+pub point_self : (a : InteractionPoint) → is_point a a ≡ true
 point_self a = rw (eq_self a.instance, eq_self a.declared) ((index_decides a.index a.index).1 refl)
 
 none_some : {A : Type 0} (a : A) → None ≡ Some a → ⊥
@@ -247,7 +247,7 @@ born_peers s (Ok f) go h = same_peers s (go f) (h f)
 born_peers s (Err f) go h = tt
 
 -- each change keeps connections mutual
-peers_kept : (t : Text) → Keeps t KeepsPeers
+pub peers_kept : (t : Text) → Keeps t KeepsPeers
 peers_kept t = record {
   same = λ s h. h;
   after = λ r s u h k g. k (h g);

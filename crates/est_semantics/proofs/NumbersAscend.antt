@@ -199,7 +199,7 @@ born_goes s (Ok f) go h = h f
 born_goes s (Err f) go h = tt
 
 -- each change lets the situation go over
-goes_kept : (t : Text) → Keeps t GoesOver
+pub goes_kept : (t : Text) → Keeps t GoesOver
 goes_kept t = record {
   same = λ s. goes_alike s s (alike s);
   after = goes_after;

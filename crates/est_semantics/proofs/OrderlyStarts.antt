@@ -14,7 +14,7 @@ use Rattle.est_semantics.proofs.NumbersAscend.{situations_go_over}
 use Rattle.est_semantics.proofs.MutualPeers.{peers_stay_mutual}
 
 -- what is left has a situation that a property holds of, where it is done
-abbrev OnSent : (Situation → Type 0) → Outcome Sent (Unit {0}) → Type 0
+abbrev pub OnSent : (Situation → Type 0) → Outcome Sent (Unit {0}) → Type 0
 OnSent P (Done u x) = P x.situation
 OnSent P (Fault f) = Unit {0}
 OnSent P Limit = Unit {0}
@@ -26,7 +26,7 @@ left_kept R s (Fault f) h = tt
 left_kept R s Limit h = tt
 
 -- a block keeps what its statements keep
-block_kept : (R : Situation → Situation → Type 0) → BlocksKeep R → (t : Text) (n : ℕ)
+pub block_kept : (R : Situation → Situation → Type 0) → BlocksKeep R → (t : Text) (n : ℕ)
     (frames : List Frame) (xs : List Statement) (limit : ℕ) (s : Situation)
     → OnSent (R s) (block_meaning t n frames xs limit s)
 block_kept R keep t n frames xs limit s = left_kept R (beginning s frames limit) _
@@ -37,10 +37,10 @@ start_kept : (R : Situation → Situation → Type 0) → BlocksKeep R → (t : 
 start_kept R keep t limit x h = subst (OnSent (R no_instances)) h
     (block_kept R keep t 0 [] (t.spec.first ∷ []) limit no_instances)
 
-numbered_first : AreNumbered no_instances
+pub numbered_first : AreNumbered no_instances
 numbered_first = (omega (arith), tt)
 
-mutual_first : AreMutual no_instances.peer
+pub mutual_first : AreMutual no_instances.peer
 mutual_first p q h = cc
 
 pub starts_are_orderly : (t : Text) (limit : ℕ) (x : Sent) → start_before t limit ≡ Done tt x

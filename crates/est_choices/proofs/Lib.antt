@@ -1,0 +1,11 @@
+pub mod Contexts
+pub mod Examples
+pub mod GuardExamples
+pub mod Guards
+pub mod Options
+pub mod Outside
+pub mod Stamps
+pub mod StampTimes
+pub mod Steps
+pub mod Taken
+pub mod Unsettled
