@@ -3,6 +3,7 @@ ghost use Rattle.std.specs.Prelude.{◌≡◌, IfOk, ◌++◌, Some, option_copi
 ghost use Rattle.est_scope.specs.declared.declaration.Sort.TheVariants as sort;
 ghost use Rattle.est_semantics.specs.AnswersOfCalls.{Says};
 ghost use Rattle.est_semantics.specs.FunctionCalls.{given, frame_of, results_of, routine_frame};
+ghost use Rattle.est_semantics.specs.LoopEffects.{naming};
 ghost use Rattle.est_semantics.specs.NamesInRuns.{places_of};
 ghost use Rattle.est_frames.specs.inside.RoutineFrames.{given_first};
 ghost use Rattle.est_frames.specs.HeldFrames.{result_in};
@@ -104,6 +105,19 @@ pub fn routine_frame(
 {
     let places = places_in(alloc, outline, place)?;
     frame_of(alloc, outline, places.as_slice(), slots)
+}
+
+/// The frame of an `all`, whose name stands for this. Errs where memory runs out.
+pub fn naming(alloc: Global, place: u32, slot: Slot) -> Result<Frame, AllocError>
+    ensures { IfOk result (λ frame. frame ≡ naming place slot) }
+{
+    let binding = Binding {
+        declared: place,
+        slot,
+    };
+    let mut frame = Frame::new(alloc)?;
+    frame.push(alloc, binding)?;
+    Ok(frame)
 }
 
 /// The result of a function, whose frame is the outermost one.

@@ -4,8 +4,13 @@ use Rattle.std.proofs.Common.{Option, Some, None, slice_get, slice_set, get_or, 
 use Rattle.std.specs.Prelude.{find, if◌then◌else◌}
 use Rattle.std.specs.List.{position}
 use Rattle.std.proofs.lemmas.Option.{slice_get_read, slice_get_within}
-use Rattle.est_semantics.specs.GlobalSituation.{first_changed}
+use Rattle.est_semantics.specs.declared.situation.Row.{Row}
+use Rattle.est_semantics.specs.GlobalSituation.{first_changed, Situation}
 use Rattle.est_frames.proofs.FirstFound.{none_found, first_there, changed_at}
+
+-- a situation with other rows
+abbrev pub with_rows : Situation → List Row → Situation
+with_rows s rows = record s { rows = rows }
 
 unchanged_arm : {A : Type 0} (change : A → A) (x : A) (xs ys : List A) (o : Option A) (b : Bool)
     → cond b (Some x) o ≡ None → (o ≡ None → ys ≡ xs)

@@ -52,7 +52,8 @@ other_way p x true e = subst (λ y. is_point y p ≡ true) (point_same p x e) (p
 other_way p x false e = apart (is_point x p) refl
   where
     apart : (d : Bool) → is_point x p ≡ d → d ≡ false
-    apart true h = sym (subst (λ y. is_point p y ≡ true) (sym (point_same x p h)) (point_self p)) ∙ e
+    apart true h =
+        sym (subst (λ y. is_point p y ≡ true) (sym (point_same x p h)) (point_self p)) ∙ e
     apart false h = refl
 
 last_at : (p q x : InteractionPoint) (ls : List Link) (m : Map InteractionPoint InteractionPoint)

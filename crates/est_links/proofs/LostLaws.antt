@@ -97,7 +97,7 @@ found_arm : (s : Link → Bool) (x : InteractionPoint) (l k : Link) (ks : List L
 found_arm s x l k ks true true f e p h later =
     ap (λ b. b || is_end x (ends s ks)) (other_way x k.from true f)
 found_arm s x l k ks true false f e p h later =
-    absurd (let g : s k ≡ true = ap s (same_Some k l h) ∙ p in let n : false ≡ true = sym e ∙ g in cc)
+    let n : false ≡ true = sym e ∙ ap s (same_Some k l h) ∙ p in absurd (cc)
 found_arm s x l k ks false true f e p h later =
     or_right (is_point k.from x) (is_end x (ends s ks)) (later h)
 found_arm s x l k ks false false f e p h later = later h
@@ -173,11 +173,13 @@ none_stays ns true o = refl
 none_stays ns false o = refl
 
 pub lost_links : (ns : List ℕ) (ls : List Link)
-    → linked (filter (not_stray (strays ns (filter (from_others ns) ls))) (filter (from_others ns) ls))
+    → linked (filter (not_stray (strays ns (filter (from_others ns) ls)))
+    (filter (from_others ns) ls))
     ≡ links_without ns (linked ls)
 lost_links ns ls =
     without_strays ns (filter (from_others ns) ls)
-    ∙ ap (λ (m : Map InteractionPoint InteractionPoint). λ x. option_and_then (point_without ns) (m x))
+    ∙ ap (λ (m : Map InteractionPoint InteractionPoint). λ x.
+    option_and_then (point_without ns) (m x))
     (kept_links (λ (p : InteractionPoint). is_among ns p.instance) ls)
     ∙ (λ i x. none_stays ns (is_among ns x.instance) (linked ls x) i)
 

@@ -1,7 +1,7 @@
 -- Lists of queues that are changed.
 use Rattle.std.proofs.Common.{◌≡◌, refl, sym, ap, subst, ◌∙◌, Bool, true, false, cond, not, List}
-use Rattle.std.proofs.Common.{[], ◌∷◌, ◌++◌, Option, Some, None, slice_get, slice_set, ℕ, map, length}
-use Rattle.std.proofs.Common.{get_or}
+use Rattle.std.proofs.Common.{[], ◌∷◌, ◌++◌, Option, Some, None, slice_get, slice_set}
+use Rattle.std.proofs.Common.{ℕ, map, length, get_or}
 use Rattle.std.proofs.Common.{append_assoc, append-nil}
 use Rattle.std.proofs.lemmas.List.{map-append}
 use Rattle.std.proofs.lemmas.List.Elements.{filter-append}
@@ -24,7 +24,7 @@ use Rattle.est_links.proofs.SamePoints.{queue_same, queue_self}
 abbrev Held : Waiting → List Item
 Held w = w.items
 
-abbrev held_or_none : Option Waiting → List Item
+abbrev pub held_or_none : Option Waiting → List Item
 held_or_none o = option_map_or Held o []
 
 -- an empty queue that is put last
@@ -180,8 +180,8 @@ none_transferred p q a b m h =
     ∙ ap (λ xs. with_items b (m b ++ xs) m) e
     ∙ ap (λ xs. with_items b xs m) (append-nil (m b)) ∙ same_queues b m
 
-pub some_transferred : (p q : InteractionPoint) (a b : QueueName) (m n after : QueueName → List Item)
-    (moved : List Item) → after ≡ with_items b (n b ++ moved) n
+pub some_transferred : (p q : InteractionPoint) (a b : QueueName)
+    (m n after : QueueName → List Item) (moved : List Item) → after ≡ with_items b (n b ++ moved) n
     → n ≡ with_items a (stays p q (m a)) m → moved ≡ moves p q (m a)
     → after ≡ transferred p a q b m
 some_transferred p q a b m n after moved o k e =

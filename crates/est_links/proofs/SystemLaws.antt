@@ -1,11 +1,12 @@
 -- Systems of which one list is changed.
-use Rattle.std.proofs.Common.{◌≡◌, ap, ◌∙◌, List, [], ◌∷◌, ◌++◌, Some, None}
+use Rattle.std.proofs.Common.{◌≡◌, ap, ◌∙◌, List, [], ◌∷◌, ◌++◌, Some, None, drop}
 use Rattle.est_semantics.specs.declared.situation.InteractionPoint.{InteractionPoint}
 use Rattle.est_semantics.specs.declared.situation.Item.{Item}
 use Rattle.est_semantics.specs.TextByPlace.{Text}
 use Rattle.est_semantics.specs.GlobalSituation.{Map, QueueName, Situation}
 use Rattle.est_semantics.specs.Attachments.{bottom}
 use Rattle.est_semantics.specs.QueueEffects.{queue_of, appended, passed_to, moved}
+use Rattle.est_semantics.specs.QueueEffects.{without_head}
 use Rattle.est_semantics.specs.OutputEffects.{delivered_at}
 use Rattle.est_semantics.specs.LinkEffects.{with_point}
 use Rattle.est_links.specs.ChangedSystems.{fastened, unfastened}
@@ -23,6 +24,14 @@ delivered_by t s p b i q after e f h =
     ap (λ m. with_queues m s)
     (h ∙ ap (λ k. with_items k (s.queues k ++ passed_to b i ∷ []) s.queues) f)
     ∙ ap (λ c. appended t c (passed_to c i ∷ []) s) e
+
+-- an item is taken from the head of a queue
+pub headless_by : (t : Text) (s : Situation) (p : InteractionPoint) (q : QueueName)
+    (after : QueueName → List Item) → q ≡ queue_of t p
+    → after ≡ with_items q (drop 1 (s.queues q)) s.queues
+    → with_queues after s ≡ without_head t p s
+headless_by t s p q after e h =
+    ap (λ m. with_queues m s) (h ∙ ap (λ k. with_items k (drop 1 (s.queues k)) s.queues) e)
 
 -- items go from one queue to another
 pub moved_by : (t : Text) (s : Situation) (p q : InteractionPoint) (a b : QueueName)

@@ -50,7 +50,7 @@ fn tie(
     Ok(())
 }
 
-/// Two interaction points are connected. A fault leaves the system as it was.
+/// Two interaction points are connected.
 pub fn connect(
     alloc: Global,
     text: &Text,
@@ -109,7 +109,7 @@ fn fasten(
 }
 
 /// An interaction point is attached to one of a child: its items go to the innermost point below
-/// that. A fault leaves the system as it was.
+/// that.
 pub fn attach(
     alloc: Global,
     text: &Text,

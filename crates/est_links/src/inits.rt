@@ -62,7 +62,7 @@ fn instance_frame(alloc: Global, outline: &Outline, body: u32, slots: Slots) -> 
 }
 
 /// The next instance begins, whose parameters have these values, in an element of the instance that
-/// begins it. That there are too many comes first. A fault leaves the system as it was.
+/// begins it. That there are too many comes first.
 pub fn init(
     alloc: Global,
     text: &Text,

@@ -4,6 +4,7 @@
 pub mod attachments;
 pub mod births;
 pub mod connections;
+pub mod heads;
 pub mod inits;
 pub mod instances;
 pub mod links;

@@ -62,7 +62,8 @@ pub fn link(
     to: &InteractionPoint,
     links: &mut Shared<Links>,
 ) -> Result<(), AllocError>
-    ensures { OnOk result (linked links.new ≡ with_point from.now (Some to.now) (linked links.old)) }
+    ensures { OnOk result (linked links.new
+        ≡ with_point from.now (Some to.now) (linked links.old)) }
 {
     let link = link_between(alloc, from, to)?;
     let links = links.own(alloc)?;

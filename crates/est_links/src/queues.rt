@@ -1,5 +1,5 @@
 //! Queues, and items that wait in them.
-ghost use Rattle.std.specs.Prelude.{◌≡◌, ◌∷◌, [], ◌++◌, IfOk, OnOk, Some, option_copied};
+ghost use Rattle.std.specs.Prelude.{◌≡◌, ◌∷◌, [], ◌++◌, IfOk, OnOk, Some};
 ghost use Rattle.std.specs.Prelude.{map, not, drop, slice_get};
 ghost use Rattle.std.specs.List.{filter, position};
 ghost use Rattle.est_semantics.specs.QueueEffects.{belongs, passed_to};
@@ -23,20 +23,11 @@ fn position(key: &QueueKey, queues: &Queues) -> Option<usize>
         .position(|waiting| is_queue(key, &waiting.queue))
 }
 
-/// The first item of a queue, if there is one.
-pub fn head<'q>(key: &QueueKey, queues: &'q Queues) -> Option<&'q Item>
-    ensures { option_copied result ≡ slice_get (waiting_in queues.now (queue_of key.now)) 0 }
-{
-    match position(key, queues) {
-        None => None,
-        Some(at) => queues.items[at].items.head(),
-    }
-}
-
 // Where a queue stands, which is put there if it is not.
 fn room(alloc: Global, key: &QueueKey, queues: &mut Queues) -> Result<usize, AllocError>
     ensures same { OnOk result (waiting_in queues.new ≡ waiting_in queues.old) }
-    ensures there { IfOk result (λ at. position (is_waiting (queue_of key.now)) queues.new ≡ Some at) }
+    ensures there { IfOk result
+        (λ at. position (is_waiting (queue_of key.now)) queues.new ≡ Some at) }
 {
     match position(key, queues) {
         Some(at) => Ok(at),

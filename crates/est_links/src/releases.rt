@@ -6,8 +6,8 @@ ghost use Rattle.est_semantics.specs.LinkEffects.{each};
 ghost use Rattle.est_semantics.specs.InstanceEffects.{is_among, owner, descendants, links_without};
 ghost use Rattle.est_semantics.specs.InstanceEffects.{without, untied, released};
 ghost use Rattle.est_frames.specs.HeldSystems.{queue_of, linked, stamped, waiting_in, situation_of};
-ghost use Rattle.est_links.specs.LostThings.{is_lost, is_stray, strays, rows_without, queues_without};
-ghost use Rattle.est_links.specs.LostThings.{stamps_without, all_untied};
+ghost use Rattle.est_links.specs.LostThings.{is_lost, is_stray, strays, all_untied};
+ghost use Rattle.est_links.specs.LostThings.{rows_without, queues_without, stamps_without};
 
 use crate::connections::{detach_above, disconnect};
 use crate::instances::{Points, external_of};

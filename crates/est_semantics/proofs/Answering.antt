@@ -7,8 +7,8 @@ use Rattle.est_semantics.specs.Outcome.{Outcome, Done, onward, lift}
 use Rattle.est_semantics.specs.AnswersOfCalls.{Answers, Says, IsMemory}
 
 -- where a part stops, the whole stops
-pub answers_stop : {S A B : Type 0} (o : Outcome S A) (go : A → S → Outcome S B) (e : Stop) (s t : S)
-    → Answers o (Err e) s → Answers (onward o go) (Err e) t
+pub answers_stop : {S A B : Type 0} (o : Outcome S A) (go : A → S → Outcome S B) (e : Stop)
+    (s t : S) → Answers o (Err e) s → Answers (onward o go) (Err e) t
 answers_stop o go (stop.Fault f) s t h = ap (λ p. onward p go) h
 answers_stop o go stop.Limit s t h = ap (λ p. onward p go) h
 answers_stop o go (stop.Memory e) s t h = tt

@@ -37,7 +37,8 @@ use Rattle.est_semantics.specs.SetOperators.{set_of}
 use Rattle.est_semantics.specs.HostOrdinals.{host_of}
 use Rattle.est_semantics.specs.NamesInRuns.{head, dims_at, takes_place}
 use Rattle.est_semantics.specs.WorkingState.{View, Counts}
-use Rattle.est_semantics.specs.ValueOperators.{unsigned_integer, ordinal, joined, signed, negated, spanned}
+use Rattle.est_semantics.specs.ValueOperators.{unsigned_integer, ordinal, joined, signed}
+use Rattle.est_semantics.specs.ValueOperators.{negated, spanned}
 use Rattle.est_semantics.specs.ReachedVariables.{Reached, Component, Module, variable_begun}
 use Rattle.est_semantics.specs.ReachedVariables.{with_field, with_component, with_subscript, placed}
 use Rattle.est_semantics.specs.FunctionCalls.{called, valued, required_by}

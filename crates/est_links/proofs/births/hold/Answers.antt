@@ -1,14 +1,11 @@
 use Rattle.std.proofs.Common.{ap, ◌∙◌, sym, List}
 use Rattle.est_semantics.specs.declared.situation.Holding.{Holding}
 use Rattle.est_semantics.specs.declared.situation.Row.{Row}
-use Rattle.est_semantics.specs.GlobalSituation.{is_numbered, holding, Situation}
+use Rattle.est_semantics.specs.GlobalSituation.{is_numbered, holding}
 use Rattle.est_semantics.specs.InstanceEffects.{holds}
 use Rattle.est_frames.specs.HeldSystems.{situation_of}
-use Rattle.est_links.proofs.BirthLaws.{none_changed, changed_there}
+use Rattle.est_links.proofs.BirthLaws.{none_changed, changed_there, with_rows}
 use Rattle.est_links.proofs.births.hold.Goals as goal
-
-abbrev with_rows : Situation → List Row → Situation
-with_rows s rows = record s { rows = rows }
 
 abbrev with_children : Row → List Holding → Row
 with_children r hs = record r { children = hs }

@@ -1,13 +1,9 @@
-use Rattle.std.proofs.Common.{ap, ◌∙◌, sym, List, Some}
-use Rattle.est_semantics.specs.declared.situation.Row.{Row}
-use Rattle.est_semantics.specs.GlobalSituation.{is_numbered, Situation}
+use Rattle.std.proofs.Common.{ap, ◌∙◌, sym, Some}
+use Rattle.est_semantics.specs.GlobalSituation.{is_numbered}
 use Rattle.est_semantics.specs.InstanceEffects.{in_state}
 use Rattle.est_frames.specs.HeldSystems.{situation_of}
-use Rattle.est_links.proofs.BirthLaws.{none_changed, changed_there}
+use Rattle.est_links.proofs.BirthLaws.{none_changed, changed_there, with_rows}
 use Rattle.est_links.proofs.births.reach.Goals as goal
-
-abbrev with_rows : Situation → List Row → Situation
-with_rows s rows = record s { rows = rows }
 
 pub returns-in-None : goal.returns-in-None
 returns-in-None c =

@@ -1,13 +1,9 @@
-use Rattle.std.proofs.Common.{ap, ◌∙◌, sym, refl, List, Option, None, ℕ}
-use Rattle.est_semantics.specs.declared.situation.Row.{Row}
-use Rattle.est_semantics.specs.GlobalSituation.{is_numbered, Situation, with_row}
+use Rattle.std.proofs.Common.{ap, ◌∙◌, sym, refl, Option, None, ℕ}
+use Rattle.est_semantics.specs.GlobalSituation.{is_numbered, with_row}
 use Rattle.est_semantics.specs.InstanceEffects.{in_state}
 use Rattle.est_frames.specs.HeldSystems.{situation_of}
-use Rattle.est_links.proofs.BirthLaws.{same_changed}
+use Rattle.est_links.proofs.BirthLaws.{same_changed, with_rows}
 use Rattle.est_links.proofs.births.set_state.Goals as goal
-
-abbrev with_rows : Situation → List Row → Situation
-with_rows s rows = record s { rows = rows }
 
 pub returns-in-None : goal.returns-in-None
 returns-in-None c =

@@ -11,4 +11,5 @@ returns c =
     ∙ ap (λ (l : Link). linked (c.cut.new.links ++ l ∷ [])) c.in_ok-link.ensures
     ∙ last_link c.args.from.now c.args.to.now c.cut.new.links (linked c.args.links.now)
     (c.cut.ensures
-    ∙ ap (λ (ls : List Link). with_point c.args.from.now None (linked ls)) c.in_ok-links.ensures.value)
+    ∙ ap (λ (ls : List Link). with_point c.args.from.now None (linked ls))
+    c.in_ok-links.ensures.value)

@@ -7,7 +7,8 @@ use Rattle.est_links.proofs.queues.append.Goals as goal
 pub returns : goal.returns
 returns c =
     changed_there (queue_of c.args.key.now) c.room.new.queues c.queues.inside.items.items
-    c.in_ok-at.at c.index_mut.result.now (λ (xs : List Item). xs ++ c.args.items.now) c.put_all.new.queue
+    c.in_ok-at.at c.index_mut.result.now (λ (xs : List Item). xs ++ c.args.items.now)
+    c.put_all.new.queue
     (waiting_in c.args.queues.now) c.queues.view_is c.in_ok-at.ensures.there
     c.index_mut.ensures.value
     (c.in_ok-at.ensures.same ∙ ap waiting_in c.in_ok-queues.ensures.value) c.in_ok-put_all.ensures

@@ -2,7 +2,8 @@ use Rattle.est_names.proofs.PartLaws.{body_noted, noted_more}
 use Rattle.est_names.proofs.indices.+parts.Goals as goal
 
 pub add_part-returns-in_ok-add_parts-in-Body : goal.add_part-returns-in_ok-add_parts-in-Body
-add_part-returns-in_ok-add_parts-in-Body t c = body_noted c.args.part.now c.in-Body.body c.args.index.now
+add_part-returns-in_ok-add_parts-in-Body t c =
+    body_noted c.args.part.now c.in-Body.body c.args.index.now
     c.add_body.new.index c.add_parts.new.index c.as_slice.result.now c.in-Body.is c.as_slice.ensures
     c.in_ok-add_body-in-Body.ensures c.in_ok-add_parts-in-Body.ensures
 

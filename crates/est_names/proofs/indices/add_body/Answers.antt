@@ -21,4 +21,5 @@ returns c =
     (λ p. refl)
     (λ p. put_last c.args.index.now.bodies.entries c.insert.new.self.entries
     (out-Body c.args.body.now).name.place p c.args.body (c.in_ok-insert.ensures.entries
-    ∙ insert_entry-new _ c.args.index.now.bodies (out-Body c.args.body.now).name.place c.args.body none))
+    ∙ insert_entry-new _ c.args.index.now.bodies (out-Body c.args.body.now).name.place c.args.body
+    none))

@@ -18,5 +18,6 @@ returns c =
     (record c.args.index.now { routines = c.insert.new.self })
     (λ p. put_last c.args.index.now.routines.entries c.insert.new.self.entries
     c.args.routine.now.name.place p c.args.routine (c.in_ok-insert.ensures.entries
-    ∙ insert_entry-new _ c.args.index.now.routines c.args.routine.now.name.place c.args.routine none))
+    ∙ insert_entry-new _ c.args.index.now.routines c.args.routine.now.name.place c.args.routine
+    none))
     (λ p. refl)
