@@ -1,0 +1,52 @@
+-- Expressions as the program evaluates them, step by step.
+use Rattle.std.specs.Prelude.{◌≡◌, ℕ, ℤ, List, [], Result, Ok, Err}
+use Rattle.est_syntax.specs.declared.expression.Expr.{Expr}
+use Rattle.est_syntax.specs.declared.expression.Factor.{Factor}
+use Rattle.est_syntax.specs.declared.expression.Member.{Member}
+use Rattle.est_syntax.specs.declared.expression.ProductStep.{ProductStep}
+use Rattle.est_syntax.specs.declared.expression.Selector.{Selector}
+use Rattle.est_syntax.specs.declared.name.Used.{Used}
+use Rattle.est_values.specs.declared.value.Value.{Value}
+use Rattle.est_semantics.specs.declared.stop.Stop.{Stop}
+use Rattle.est_semantics.specs.AnswersOfCalls.{Answers}
+use Rattle.est_semantics.specs.ExpressionValues.{factor_of, members_in, subscripts_in, values_in}
+use Rattle.est_semantics.specs.ExpressionValues.{variable_of}
+use Rattle.est_semantics.specs.FunctionCalls.{called}
+use Rattle.est_semantics.specs.NamesInRuns.{dims_at}
+use Rattle.est_semantics.specs.Outcome.{Outcome, Done, ◌>>=◌, give, lift}
+use Rattle.est_semantics.specs.ReachedVariables.{Reached, Module, loaded}
+use Rattle.est_semantics.specs.SetOperators.{set_of}
+use Rattle.est_semantics.specs.ValueOperators.{joined, negated}
+use Rattle.est_semantics.specs.WorkingState.{View, Counts}
+use Rattle.est_operators.specs.GatheredMembers.{IsGathered}
+use Rattle.est_operators.specs.declared.sets.Gathered.{Gathered}
+
+-- a step of a product
+abbrev pub with_factor : ProductStep → Value → View → Counts Value
+with_factor s a v = joined s.operator a (factor_of s.right v)
+
+-- the other boolean than that of an operand
+abbrev pub opposite : Factor → View → Counts Value
+opposite f v = factor_of f v >>= negated
+
+-- a set of these members
+abbrev pub set_made : List Member → View → Counts Value
+set_made ms v = members_in ms [] v >>= λ zs. lift (set_of zs)
+
+-- the value of a variable
+abbrev pub stored_value : Used → List Selector → View → Counts Value
+stored_value u path v = variable_of u path v >>= loaded v
+
+-- a module variable with more subscripts
+abbrev pub module_at : List Expr → ℕ → List ℤ → View → Counts Reached
+module_at es p zs v =
+    subscripts_in es (dims_at v.site.text.outline p) zs v >>= λ ys. give (Module p ys)
+
+-- the value of a function that is declared at a place
+abbrev pub called_with : ℕ → List Expr → View → Counts Value
+called_with p es v = values_in es [] v >>= called v p
+
+-- the answer of a call that gathers members
+abbrev pub Gathers : Outcome ℕ (List ℤ) → Result Gathered Stop → ℕ → Type 0
+Gathers o (Ok g) n = (zs : List ℤ) × (IsGathered zs g × (o ≡ Done zs n))
+Gathers o (Err e) n = Answers o (Err e) n

@@ -1,0 +1,6 @@
+pub mod ExecutionSites
+pub mod ExpressionSteps
+pub mod HeldVariables
+pub mod RunningCalls
+pub mod SystemSteps
+pub mod TurnsOfLoops

@@ -1,0 +1,663 @@
+//! The evaluation of expressions.
+#![tactic(auto, using(est_semantics::proofs::Answering::answers_stop, est_semantics::proofs::Answering::says_answers, est_semantics::proofs::ExpressionLayers::value_at, est_semantics::proofs::ExpressionLayers::simple_at, est_semantics::proofs::ExpressionLayers::term_at, est_semantics::proofs::ExpressionLayers::member_at))]
+
+ghost use Rattle.std.specs.Prelude.{◌≡◌, ◌+◌, ℤ, true, false, List, [], ◌∷◌, OnOk, option_copied};
+ghost use Rattle.est_frames.specs.HeldSystems.{state_of, LooksSame};
+ghost use Rattle.est_scope.specs.Outline.{entry_at};
+ghost use Rattle.est_semantics.specs.AnswersOfCalls.{Answers};
+ghost use Rattle.est_semantics.specs.ExpressionValues.{value_of, related, simple_of, with_term};
+ghost use Rattle.est_semantics.specs.ExpressionValues.{term_of, factor_of, member_of, selected};
+ghost use Rattle.est_semantics.specs.ExpressionValues.{components_in, subscripts_in, values_in};
+ghost use Rattle.est_semantics.specs.ExpressionValues.{variable_of, variable_value, required_in};
+ghost use Rattle.est_semantics.specs.ExpressionValues.{call_value, variable_place, argument_of};
+ghost use Rattle.est_semantics.specs.ExpressionValues.{arguments_in};
+ghost use Rattle.est_semantics.specs.FunctionCalls.{called};
+ghost use Rattle.est_semantics.specs.LoopEffects.{turn_of, turns, repeats, counts, distance, step};
+ghost use Rattle.est_semantics.specs.LoopEffects.{controlled, turn_for, for_each, for_child};
+ghost use Rattle.est_semantics.specs.LoopEffects.{for_children, over_children, over};
+ghost use Rattle.est_semantics.specs.NamesInRuns.{head_in, header_at};
+ghost use Rattle.est_semantics.specs.StatementEffects.{performed, body_of, statement_of};
+ghost use Rattle.est_semantics.specs.StatementEffects.{statements_in, arms_in};
+ghost use Rattle.est_semantics.specs.WriteEffects.{acts, ordinal_of, framed, assigned};
+ghost use Rattle.est_values.specs.OrdinalTuples.{ordinals_of};
+ghost use Rattle.est_execution.specs.ExecutionSites.{site_of, view_of};
+ghost use Rattle.est_execution.specs.ExpressionSteps.{opposite, set_made, stored_value, module_at};
+ghost use Rattle.est_execution.specs.ExpressionSteps.{called_with, with_factor, Gathers};
+ghost use Rattle.est_execution.specs.HeldVariables.{reached_of, reached_in};
+ghost use Rattle.est_execution.specs.RunningCalls.{ran};
+ghost use Rattle.est_operators.specs.GatheredMembers.{IsGathered};
+ghost use Rattle.est_execution.specs.TurnsOfLoops.{for_turn, counted_turn, ended, branched, chosen};
+
+use crate::calls::{frame_with, open_naming, result_of, routine_of, store};
+use crate::loops::{
+    children_of, distance, head_of_all, header_of, is_chosen, nth_slot, turn_value,
+};
+use crate::operands::{enter, number, span};
+use crate::reached::{Reached, begun, loaded, placed, with_component, with_field, with_subscript};
+use crate::site::{Site, declared_of, dims_of, head_at, host_at, is_given_place, meaning_at};
+use crate::statements::statements_in;
+use est_frames::routines::Slots;
+use est_frames::rows::lives;
+use est_frames::system::{Frames, Outs, Working};
+use est_frames::writing::{close, open};
+use est_items::Boxed;
+use est_names::forms::bare;
+use est_names::heads::Head;
+use est_operators::hosts::required_by;
+use est_operators::ordinals::is_true;
+use est_operators::sets::{Gathered, set_of};
+use est_operators::values::{decides, joined, negated, signed, unsigned_integer};
+use est_scope::declaration::Meant;
+use est_scope::predeclared::PredeclaredName;
+use est_semantics::fault::BlockFault;
+use est_semantics::frame::{Frame, Slot};
+use est_semantics::stop::Stop;
+use est_syntax::expression::{
+    Expr, Factor, Member, ProductStep, Relation, Selector, Simple, SumStep, Term,
+};
+use est_syntax::kind::{Kind, Ordinals};
+use est_syntax::name::Used;
+use est_syntax::statement::{Arm, Statement};
+use est_values::ordinals::ordinal_count;
+use est_values::value::Value;
+use std::alloc::{AllocError, Global};
+use std::mem;
+
+/// The value of an expression.
+#[cycle(run)]
+pub fn value_of(
+    alloc: Global,
+    site: &Site,
+    e: &Expr,
+    working: &mut Working,
+    left: &mut u32,
+) -> Result<Value, Stop>
+    ensures value { Answers (value_of e.now (view_of site.now working.old) left.old)
+        result left.new }
+    ensures world { OnOk result (LooksSame working.old working.new) }
+{
+    let a = simple_of(alloc, site, &e.left, working, left)?;
+    match &e.relation {
+        None => Ok(a),
+        Some(relation) => related(alloc, site, relation, a, working, left),
+    }
+}
+
+// What a relation makes of the value before it.
+#[cycle(run)]
+#[tactic(auto, using(est_semantics::proofs::Answering::answers_stop, est_semantics::proofs::Answering::says_answers, crate::proofs::OperatorSteps::related_step))]
+fn related(
+    alloc: Global,
+    site: &Site,
+    relation: &Relation,
+    a: Value,
+    working: &mut Working,
+    left: &mut u32,
+) -> Result<Value, Stop>
+    ensures value { Answers (related relation.now a (view_of site.now working.old) left.old)
+        result left.new }
+    ensures world { OnOk result (LooksSame working.old working.new) }
+{
+    if decides(relation.operator, &a)? {
+        return Ok(a);
+    }
+    let b = simple_of(alloc, site, &relation.right, working, left)?;
+    joined(alloc, relation.operator, &a, b)
+}
+
+// The value of a sum.
+#[cycle(run)]
+fn simple_of(
+    alloc: Global,
+    site: &Site,
+    simple: &Simple,
+    working: &mut Working,
+    left: &mut u32,
+) -> Result<Value, Stop>
+    ensures value { Answers (simple_of simple.now (view_of site.now working.old) left.old)
+        result left.new }
+    ensures world { OnOk result (LooksSame working.old working.new) }
+{
+    let first = term_of(alloc, site, &simple.first, working, left)?;
+    let mut sum = signed(simple.minus, first)?;
+    for step in simple.rest.as_slice() {
+        sum = with_term(alloc, site, step, sum, working, left)?;
+    }
+    Ok(sum)
+}
+
+// What a step of a sum makes of the value before it.
+#[cycle(run)]
+#[tactic(auto, using(est_semantics::proofs::Answering::answers_stop, est_semantics::proofs::Answering::says_answers, crate::proofs::OperatorSteps::with_term_step))]
+fn with_term(
+    alloc: Global,
+    site: &Site,
+    step: &SumStep,
+    a: Value,
+    working: &mut Working,
+    left: &mut u32,
+) -> Result<Value, Stop>
+    ensures value { Answers (with_term step.now a (view_of site.now working.old) left.old)
+        result left.new }
+    ensures world { OnOk result (LooksSame working.old working.new) }
+{
+    if decides(step.operator, &a)? {
+        return Ok(a);
+    }
+    let b = term_of(alloc, site, &step.right, working, left)?;
+    joined(alloc, step.operator, &a, b)
+}
+
+// The value of a product.
+#[cycle(run)]
+fn term_of(
+    alloc: Global,
+    site: &Site,
+    term: &Term,
+    working: &mut Working,
+    left: &mut u32,
+) -> Result<Value, Stop>
+    ensures value { Answers (term_of term.now (view_of site.now working.old) left.old)
+        result left.new }
+    ensures world { OnOk result (LooksSame working.old working.new) }
+{
+    let mut product = factor_of(alloc, site, &term.first, working, left)?;
+    for step in term.rest.as_slice() {
+        product = with_factor(alloc, site, step, product, working, left)?;
+    }
+    Ok(product)
+}
+
+// What a step of a product makes of the value before it.
+#[cycle(run)]
+fn with_factor(
+    alloc: Global,
+    site: &Site,
+    step: &ProductStep,
+    a: Value,
+    working: &mut Working,
+    left: &mut u32,
+) -> Result<Value, Stop>
+    ensures value { Answers (with_factor step.now a (view_of site.now working.old) left.old)
+        result left.new }
+    ensures world { OnOk result (LooksSame working.old working.new) }
+{
+    if decides(step.operator, &a)? {
+        return Ok(a);
+    }
+    let b = factor_of(alloc, site, &step.right, working, left)?;
+    joined(alloc, step.operator, &a, b)
+}
+
+// The value of an operand.
+#[cycle(run)]
+fn factor_of(
+    alloc: Global,
+    site: &Site,
+    factor: &Factor,
+    working: &mut Working,
+    left: &mut u32,
+) -> Result<Value, Stop>
+    ensures value { Answers (factor_of factor.now (view_of site.now working.old) left.old)
+        result left.new }
+    ensures world { OnOk result (LooksSame working.old working.new) }
+{
+    match factor {
+        Factor::Number { number, .. } => {
+            let value = unsigned_integer(*number)?;
+            Ok(value)
+        }
+        Factor::Character { code, .. } => Ok(Value::Ordinal(i32::from(*code))),
+        Factor::Group { of, .. } => value_of(alloc, site, of.get(), working, left),
+        Factor::Not { of, .. } => opposite(alloc, site, of.get(), working, left),
+        Factor::Set { members, .. } => set_value(alloc, site, members.as_slice(), working, left),
+        Factor::Variable { name, path, .. } => {
+            variable_value(alloc, site, name, path.as_slice(), working, left)
+        }
+        Factor::Call {
+            name,
+            arguments,
+            ..
+        } => call_value(alloc, site, name, arguments.as_slice(), working, left),
+    }
+}
+
+// The other boolean than that of an operand.
+#[cycle(run)]
+fn opposite(
+    alloc: Global,
+    site: &Site,
+    factor: &Factor,
+    working: &mut Working,
+    left: &mut u32,
+) -> Result<Value, Stop>
+    ensures value { Answers (opposite factor.now (view_of site.now working.old) left.old)
+        result left.new }
+    ensures world { OnOk result (LooksSame working.old working.new) }
+{
+    let value = factor_of(alloc, site, factor, working, left)?;
+    let other = negated(&value)?;
+    Ok(other)
+}
+
+// The value of a set.
+#[cycle(run)]
+fn set_value(
+    alloc: Global,
+    site: &Site,
+    members: &[Member],
+    working: &mut Working,
+    left: &mut u32,
+) -> Result<Value, Stop>
+    ensures value { Answers (set_made members.now (view_of site.now working.old) left.old)
+        result left.new }
+    ensures world { OnOk result (LooksSame working.old working.new) }
+{
+    let mut gathered = Gathered::Few(Ordinals::new(alloc));
+    for member in members {
+        gathered = with_member(alloc, site, member, gathered, working, left)?;
+    }
+    set_of(alloc, gathered)
+}
+
+// The members that a designator names, and those that were gathered before.
+#[cycle(run)]
+fn with_member(
+    alloc: Global,
+    site: &Site,
+    member: &Member,
+    gathered: Gathered,
+    working: &mut Working,
+    left: &mut u32,
+) -> Result<Gathered, Stop>
+    ensures value { (zs : List ℤ) → IsGathered zs gathered
+        → Gathers (member_of member.now zs (view_of site.now working.old) left.old) result left.new }
+    ensures world { OnOk result (LooksSame working.old working.new) }
+{
+    let low = value_of(alloc, site, &member.low, working, left)?;
+    match &member.high {
+        None => span(alloc, &low, &low, gathered),
+        Some(high) => {
+            let high = value_of(alloc, site, high, working, left)?;
+            span(alloc, &low, &high, gathered)
+        }
+    }
+}
+
+// The value of a variable, of a constant or of a function without arguments.
+#[cycle(run)]
+fn variable_value(
+    alloc: Global,
+    site: &Site,
+    name: &Used,
+    path: &[Selector],
+    working: &mut Working,
+    left: &mut u32,
+) -> Result<Value, Stop>
+    ensures value { Answers (variable_value name.now path.now (view_of site.now working.old)
+        left.old)
+        result left.new }
+    ensures world { OnOk result (LooksSame working.old working.new) }
+{
+    match head_at(site, name) {
+        Head::Nothing => Err(Stop::Fault(BlockFault::Undefined)),
+        Head::Constant(z) => Ok(Value::Ordinal(z)),
+        Head::Function(place, _) => call(alloc, site, place, Slots::new(alloc), working, left),
+        Head::Variable(_, _) => stored_value(alloc, site, name, path, working, left),
+        Head::Modules(_) => stored_value(alloc, site, name, path, working, left),
+    }
+}
+
+// The value of a variable.
+#[cycle(run)]
+fn stored_value(
+    alloc: Global,
+    site: &Site,
+    name: &Used,
+    path: &[Selector],
+    working: &mut Working,
+    left: &mut u32,
+) -> Result<Value, Stop>
+    ensures value { Answers (stored_value name.now path.now (view_of site.now working.old) left.old)
+        result left.new }
+    ensures world { OnOk result (LooksSame working.old working.new) }
+{
+    let reached = variable_of(alloc, site, name, path, working, left)?;
+    loaded(alloc, site, reached, working)
+}
+
+/// What a variable with its selectors reaches.
+#[cycle(run)]
+pub fn variable_of<'t>(
+    alloc: Global,
+    site: &Site<'_, 't>,
+    name: &Used,
+    path: &[Selector],
+    working: &mut Working,
+    left: &mut u32,
+) -> Result<Reached<'t>, Stop>
+    ensures value { Answers (variable_of name.now path.now (view_of site.now working.old) left.old)
+        (reached_in result) left.new }
+    ensures world { OnOk result (LooksSame working.old working.new) }
+{
+    let mut reached = begun(alloc, site, name, working)?;
+    for selector in path {
+        reached = selected(alloc, site, selector, reached, working, left)?;
+    }
+    Ok(reached)
+}
+
+// What a selector reaches from what stands before it.
+#[cycle(run)]
+fn selected<'t>(
+    alloc: Global,
+    site: &Site<'_, 't>,
+    selector: &Selector,
+    reached: Reached<'t>,
+    working: &mut Working,
+    left: &mut u32,
+) -> Result<Reached<'t>, Stop>
+    ensures value { Answers (selected selector.now (reached_of reached.entry)
+        (view_of site.now working.old)
+        left.old) (reached_in result) left.new }
+    ensures world { OnOk result (LooksSame working.old working.new) }
+{
+    match selector {
+        Selector::Field(name) => with_field(alloc, site, name, reached, working),
+        Selector::Index { exprs, .. } => match reached {
+            Reached::Component(place, kind) => {
+                let whole = Reached::Component(place, kind);
+                components_in(alloc, site, exprs.as_slice(), whole, working, left)
+            }
+            Reached::Module(place, index) => {
+                module_at(alloc, site, exprs.as_slice(), place, index, working, left)
+            }
+        },
+    }
+}
+
+// A component of an array, by its subscripts.
+#[cycle(run)]
+fn components_in<'t>(
+    alloc: Global,
+    site: &Site<'_, 't>,
+    exprs: &[Expr],
+    whole: Reached<'t>,
+    working: &mut Working,
+    left: &mut u32,
+) -> Result<Reached<'t>, Stop>
+    ensures value { Answers (components_in exprs.now (reached_of whole.entry)
+        (view_of site.now working.old)
+        left.old) (reached_in result) left.new }
+    ensures world { OnOk result (LooksSame working.old working.new) }
+{
+    let mut reached = whole;
+    for e in exprs {
+        let value = value_of(alloc, site, e, working, left)?;
+        let z = number(value)?;
+        reached = with_component(reached, z)?;
+    }
+    Ok(reached)
+}
+
+// A module variable with more subscripts.
+#[cycle(run)]
+fn module_at<'t>(
+    alloc: Global,
+    site: &Site<'_, 't>,
+    exprs: &[Expr],
+    place: u32,
+    index: Ordinals,
+    working: &mut Working,
+    left: &mut u32,
+) -> Result<Reached<'t>, Stop>
+    ensures value { Answers (module_at exprs.now place index (view_of site.now working.old)
+        left.old)
+        (reached_in result) left.new }
+    ensures world { OnOk result (LooksSame working.old working.new) }
+{
+    let kinds = dims_of(site, place);
+    let index = subscripts_in(alloc, site, exprs, kinds, index, working, left)?;
+    Ok(Reached::Module(place, index))
+}
+
+/// Subscripts of these index types, after those before them.
+#[cycle(run)]
+pub fn subscripts_in(
+    alloc: Global,
+    site: &Site,
+    exprs: &[Expr],
+    kinds: Option<&[Kind]>,
+    before: Ordinals,
+    working: &mut Working,
+    left: &mut u32,
+) -> Result<Ordinals, Stop>
+    ensures value { Answers (subscripts_in exprs.now (option_copied kinds.entry) before
+        (view_of site.now working.old) left.old)
+        result left.new }
+    ensures world { OnOk result (LooksSame working.old working.new) }
+{
+    let mut index = before;
+    for e in exprs {
+        let value = value_of(alloc, site, e, working, left)?;
+        let z = number(value)?;
+        index = with_subscript(kinds, index, z)?;
+    }
+    Ok(index)
+}
+
+// The value of a call.
+#[cycle(run)]
+fn call_value(
+    alloc: Global,
+    site: &Site,
+    name: &Used,
+    arguments: &[Expr],
+    working: &mut Working,
+    left: &mut u32,
+) -> Result<Value, Stop>
+    ensures value { Answers (call_value name.now arguments.now (view_of site.now working.old)
+        left.old)
+        result left.new }
+    ensures world { OnOk result (LooksSame working.old working.new) }
+{
+    match meaning_at(site, name) {
+        Meant::Seen(place) => called_with(alloc, site, place, arguments, working, left),
+        Meant::Predeclared(known) => required(alloc, site, arguments, known, working, left),
+        _ => Err(Stop::Fault(BlockFault::Undefined)),
+    }
+}
+
+// The value of a function that is declared at a place.
+#[cycle(run)]
+fn called_with(
+    alloc: Global,
+    site: &Site,
+    place: u32,
+    arguments: &[Expr],
+    working: &mut Working,
+    left: &mut u32,
+) -> Result<Value, Stop>
+    ensures value { Answers (called_with place arguments.now (view_of site.now working.old)
+        left.old)
+        result left.new }
+    ensures world { OnOk result (LooksSame working.old working.new) }
+{
+    let slots = values_in(alloc, site, arguments, working, left)?;
+    call(alloc, site, place, slots, working, left)
+}
+
+// The value of a predeclared function.
+#[cycle(run)]
+fn required(
+    alloc: Global,
+    site: &Site,
+    arguments: &[Expr],
+    known: PredeclaredName,
+    working: &mut Working,
+    left: &mut u32,
+) -> Result<Value, Stop>
+    ensures value { Answers (required_in arguments.now (view_of site.now working.old) known
+        left.old)
+        result left.new }
+    ensures world { OnOk result (LooksSame working.old working.new) }
+{
+    let Some((e, _)) = arguments.split_first() else {
+        return Err(Stop::Fault(BlockFault::Undefined));
+    };
+    let value = value_of(alloc, site, e, working, left)?;
+    let z = number(value)?;
+    let Some(host) = host_at(site, e) else {
+        return Err(Stop::Fault(BlockFault::Undefined));
+    };
+    let ordinal = required_by(known, host, z)?;
+    Ok(Value::Ordinal(ordinal))
+}
+
+/// The values of arguments in order.
+#[cycle(run)]
+pub fn values_in(
+    alloc: Global,
+    site: &Site,
+    exprs: &[Expr],
+    working: &mut Working,
+    left: &mut u32,
+) -> Result<Slots, Stop>
+    ensures value { Answers (values_in exprs.now [] (view_of site.now working.old) left.old)
+        result left.new }
+    ensures world { OnOk result (LooksSame working.old working.new) }
+{
+    let mut slots = Slots::new(alloc);
+    for e in exprs {
+        let value = value_of(alloc, site, e, working, left)?;
+        slots.push(Slot::Value(value))?;
+    }
+    Ok(slots)
+}
+
+// A call of a function.
+#[cycle(run)]
+fn call(
+    alloc: Global,
+    site: &Site,
+    place: u32,
+    slots: Slots,
+    working: &mut Working,
+    left: &mut u32,
+) -> Result<Value, Stop>
+    ensures value { Answers (called (view_of site.now working.old) place slots left.old) result
+        left.new }
+    ensures world { OnOk result (LooksSame working.old working.new) }
+{
+    let Some(routine) = routine_of(site, place) else {
+        drop(slots);
+        return Err(Stop::Fault(BlockFault::Undefined));
+    };
+    let frame = frame_with(alloc, site, place, slots)?;
+    if site.levels == 0 {
+        drop(frame);
+        return Err(Stop::Limit);
+    }
+    let deeper = Site {
+        text: site.text,
+        instance: site.instance,
+        function: true,
+        levels: site.levels - 1,
+    };
+    let statements = routine.block.statements.as_slice();
+    run_function(alloc, &deeper, place, statements, frame, working, left)
+}
+
+// The result of the statements of a function over a frame of its own.
+#[cycle(run)]
+fn run_function(
+    alloc: Global,
+    site: &Site,
+    place: u32,
+    statements: &[Statement],
+    frame: Frame,
+    working: &mut Working,
+    left: &mut u32,
+) -> Result<Value, Stop>
+    requires { site.now.function ≡ true }
+    ensures value { Answers (ran place statements.now site.now (frame ∷ []) working.old left.old)
+        result left.new }
+    ensures world { OnOk result (LooksSame working.old working.new) }
+{
+    let mut own = Frames::new(alloc);
+    own.push(frame)?;
+    let frames = mem::replace(&mut working.frames, own);
+    let outs = mem::replace(&mut working.outs, Outs::new(alloc));
+    statements_in(alloc, site, statements, working, left)?;
+    let own = mem::replace(&mut working.frames, frames);
+    let none = mem::replace(&mut working.outs, outs);
+    drop(none);
+    let value = result_of(alloc, place, own)?;
+    Ok(value)
+}
+
+/// The arguments of a procedure in order.
+#[cycle(run)]
+pub fn arguments_in(
+    alloc: Global,
+    site: &Site,
+    exprs: &[Expr],
+    routine: u32,
+    working: &mut Working,
+    left: &mut u32,
+) -> Result<Slots, Stop>
+    ensures value { Answers (arguments_in exprs.now routine [] (view_of site.now working.old)
+        left.old)
+        result left.new }
+    ensures world { OnOk result (LooksSame working.old working.new) }
+{
+    let mut slots = Slots::new(alloc);
+    for e in exprs {
+        let is_place = is_given_place(site, routine, slots.len());
+        let slot = argument_of(alloc, site, e, is_place, working, left)?;
+        slots.push(slot)?;
+    }
+    Ok(slots)
+}
+
+// What stands for a parameter: a place or a value.
+#[cycle(run)]
+fn argument_of(
+    alloc: Global,
+    site: &Site,
+    e: &Expr,
+    is_place: bool,
+    working: &mut Working,
+    left: &mut u32,
+) -> Result<Slot, Stop>
+    ensures value { Answers (argument_of e.now is_place (view_of site.now working.old) left.old)
+        result left.new }
+    ensures world { OnOk result (LooksSame working.old working.new) }
+{
+    if is_place {
+        variable_place(alloc, site, e, working, left)
+    } else {
+        let value = value_of(alloc, site, e, working, left)?;
+        Ok(Slot::Value(value))
+    }
+}
+
+// The place of the variable that an expression is.
+#[cycle(run)]
+fn variable_place(
+    alloc: Global,
+    site: &Site,
+    e: &Expr,
+    working: &mut Working,
+    left: &mut u32,
+) -> Result<Slot, Stop>
+    ensures value { Answers (variable_place e.now (view_of site.now working.old) left.old)
+        result left.new }
+    ensures world { OnOk result (LooksSame working.old working.new) }
+{
+    let Some(variable) = bare(e) else {
+        return Err(Stop::Fault(BlockFault::Undefined));
+    };
+    let reached = variable_of(alloc, site, variable.name, variable.path, working, left)?;
+    placed(reached)
+}

@@ -1,0 +1,242 @@
+//! What variables with their selectors reach.
+ghost use Rattle.std.specs.Prelude.{◌≡◌, ℕ, IfOk, option_copied};
+ghost use Rattle.est_semantics.specs.AnswersOfCalls.{Answers};
+ghost use Rattle.est_semantics.specs.Frames.{component_of, place_of};
+ghost use Rattle.est_semantics.specs.NamesInRuns.{head};
+ghost use Rattle.est_semantics.specs.Outcome.{Done};
+ghost use Rattle.est_semantics.specs.ReachedVariables.{variable_begun, with_field, with_component};
+ghost use Rattle.est_semantics.specs.ReachedVariables.{with_subscript, loaded, placed};
+ghost use Rattle.est_semantics.specs.ReachedVariables.{Component, Module};
+ghost use Rattle.est_semantics.specs.WorkingState.{View};
+ghost use Rattle.est_execution.specs.ExecutionSites.{view_of};
+ghost use Rattle.est_execution.specs.HeldVariables.{reached_of, reached_in, kind_by};
+
+use crate::site::{Site, head_at};
+use est_frames::children::child_of;
+use est_frames::places::{place_of, read_at, whole};
+use est_frames::system::Working;
+use est_items::Twin;
+use est_names::declared::{declared_in_header, kind_at};
+use est_names::heads::Head;
+use est_names::kinds::{array_in, field_in};
+use est_operators::taking::{component_at, within_kind};
+use est_operators::values::defined;
+use est_semantics::fault::BlockFault;
+use est_semantics::frame::{Holder, Place, Slot};
+use est_semantics::stop::Stop;
+use est_syntax::kind::{Kind, Ordinals};
+use est_syntax::name::Used;
+use est_values::value::Value;
+use std::alloc::{AllocError, Global};
+
+/// What a name with some selectors has reached: a variable of a kind, or module variables with
+/// these subscripts.
+#[derive(Drop)]
+pub enum Reached<'t> {
+    Component(Place, &'t Kind),
+    Module(u32, Ordinals),
+}
+
+// A variable of a kind that is declared at a place.
+fn variable<'t>(
+    alloc: Global,
+    site: &Site<'_, 't>,
+    declared: u32,
+    kind: &'t Kind,
+    working: &Working,
+) -> Result<Reached<'t>, AllocError>
+    ensures { IfOk result (λ reached. reached_of reached
+        ≡ Component (place_of site.now.instance working.now.frames declared) kind.now) }
+{
+    let place = place_of(alloc, site.instance, working.frames.as_slice(), declared)?;
+    Ok(Reached::Component(place, kind))
+}
+
+/// Where a variable begins.
+pub fn begun<'t>(
+    alloc: Global,
+    site: &Site<'_, 't>,
+    used: &Used,
+    working: &Working,
+) -> Result<Reached<'t>, Stop>
+    ensures { (n : ℕ) → Answers (variable_begun (view_of site.now working.now)
+        (head site.now.text.now.outline used.now) n) (reached_in result) n }
+{
+    match head_at(site, used) {
+        Head::Variable(declared, kind) => {
+            let reached = variable(alloc, site, declared, kind, working)?;
+            Ok(reached)
+        }
+        Head::Function(declared, kind) => {
+            let reached = variable(alloc, site, declared, kind, working)?;
+            Ok(reached)
+        }
+        Head::Modules(declared) => Ok(Reached::Module(declared, Ordinals::new(alloc))),
+        _ => Err(Stop::Fault(BlockFault::Undefined)),
+    }
+}
+
+// A component of a place, by its number.
+fn component(place: Place, number: u32) -> Result<Place, AllocError>
+    ensures { IfOk result (λ part. part ≡ component_of number place) }
+{
+    let Place {
+        holder,
+        declared,
+        path,
+    } = place;
+    let mut path = path;
+    path.push(number)?;
+    Ok(Place {
+        holder,
+        declared,
+        path,
+    })
+}
+
+// A field of a record. No memory holds a kind with more fields than a number of 32 bits counts.
+fn field<'t>(place: Place, kind: &'t Kind, used: &Used) -> Result<Reached<'t>, Stop>
+    ensures { (v : View) (n : ℕ) → Answers (with_field v used.now (Component place kind.now) n)
+        (reached_in result) n }
+{
+    let Some((number, kind)) = field_in(kind, used) else {
+        drop(place);
+        return Err(Stop::Fault(BlockFault::Undefined));
+    };
+    let Ok(number) = u32::try_from(number) else {
+        drop(place);
+        return Err(Stop::Memory(AllocError));
+    };
+    let place = component(place, number)?;
+    Ok(Reached::Component(place, kind))
+}
+
+// An exported variable of the child that a module variable holds.
+fn exported<'t>(
+    alloc: Global,
+    site: &Site<'_, 't>,
+    used: &Used,
+    declared: u32,
+    index: &Ordinals,
+    working: &Working,
+) -> Result<Reached<'t>, Stop>
+    ensures { (n : ℕ) → Answers (with_field (view_of site.now working.now) used.now
+        (Module declared index.now) n) (reached_in result) n }
+{
+    let frames = working.frames.as_slice();
+    let child = child_of(&working.system, frames, site.instance, declared, index)?;
+    let outline = site.text.outline();
+    let Some(place) = declared_in_header(outline, declared, used) else {
+        return Err(Stop::Fault(BlockFault::Undefined));
+    };
+    let Some(kind) = kind_at(outline, place) else {
+        return Err(Stop::Fault(BlockFault::Undefined));
+    };
+    Ok(Reached::Component(whole(alloc, Holder::Instance(child), place), kind))
+}
+
+/// A field of a record, or an exported variable of a child.
+pub fn with_field<'t>(
+    alloc: Global,
+    site: &Site<'_, 't>,
+    used: &Used,
+    reached: Reached<'t>,
+    working: &Working,
+) -> Result<Reached<'t>, Stop>
+    ensures { (n : ℕ) → Answers (with_field (view_of site.now working.now) used.now
+        (reached_of reached.entry) n) (reached_in result) n }
+{
+    match reached {
+        Reached::Component(place, kind) => field(place, kind, used),
+        Reached::Module(declared, index) => {
+            let variable = exported(alloc, site, used, declared, &index, working);
+            drop(index);
+            variable
+        }
+    }
+}
+
+/// A component of an array.
+pub fn with_component<'t>(reached: Reached<'t>, z: i32) -> Result<Reached<'t>, Stop>
+    ensures { (n : ℕ) → Answers (with_component (reached_of reached.entry) z n)
+        (reached_in result) n }
+{
+    match reached {
+        Reached::Component(place, kind) => {
+            let Some((index, of)) = array_in(kind) else {
+                drop(place);
+                return Err(Stop::Fault(BlockFault::Undefined));
+            };
+            let number = component_at(index, z)?;
+            let place = component(place, number)?;
+            Ok(Reached::Component(place, of))
+        }
+        Reached::Module(_, index) => {
+            drop(index);
+            Err(Stop::Fault(BlockFault::Undefined))
+        }
+    }
+}
+
+// The kind of a subscript, by its number counted from 0.
+fn kind_in<'k>(kinds: Option<&'k [Kind]>, number: usize) -> Option<&'k Kind>
+    ensures { option_copied result ≡ kind_by (option_copied kinds.entry) number }
+{
+    match kinds {
+        None => None,
+        Some(kinds) => kinds.get(number),
+    }
+}
+
+/// A subscript more, of these index types.
+#[tactic(auto, using(crate::proofs::SubscriptSteps::subscript_known))]
+pub fn with_subscript(kinds: Option<&[Kind]>, index: Ordinals, z: i32) -> Result<Ordinals, Stop>
+    ensures { (n : ℕ) → Answers (with_subscript (option_copied kinds.entry) index z n) result n }
+{
+    let Some(kind) = kind_in(kinds, index.len()) else {
+        drop(index);
+        return Err(Stop::Fault(BlockFault::Undefined));
+    };
+    let z = within_kind(kind, z)?;
+    let mut index = index;
+    index.push(z)?;
+    Ok(index)
+}
+
+/// The value of a variable.
+pub fn loaded(
+    alloc: Global,
+    site: &Site,
+    reached: Reached,
+    working: &Working,
+) -> Result<Value, Stop>
+    ensures { (n : ℕ) → Answers (loaded (view_of site.now working.now) (reached_of reached.entry) n)
+        result n }
+{
+    match reached {
+        Reached::Component(place, _) => {
+            let held = read_at(&place, &working.system, working.frames.as_slice());
+            drop(place);
+            let value = held?.twin(alloc)?;
+            let value = defined(value)?;
+            Ok(value)
+        }
+        Reached::Module(_, index) => {
+            drop(index);
+            Err(Stop::Fault(BlockFault::Undefined))
+        }
+    }
+}
+
+/// The place of a variable.
+pub fn placed(reached: Reached) -> Result<Slot, Stop>
+    ensures { (n : ℕ) → Answers (placed (reached_of reached.entry) n) result n }
+{
+    match reached {
+        Reached::Component(place, _) => Ok(Slot::Place(place)),
+        Reached::Module(_, index) => {
+            drop(index);
+            Err(Stop::Fault(BlockFault::Undefined))
+        }
+    }
+}
