@@ -1,5 +1,5 @@
 -- Names with subscripts that statements name, and instances that begin.
-use Rattle.std.proofs.Common.{◌≡◌, sym, ap, ◌∙◌, ℕ, List, [], Some, Result, Err}
+use Rattle.std.proofs.Common.{◌≡◌, sym, ap, ◌∙◌, ℕ, List, [], Some, Err}
 use Rattle.std.specs.Prelude.{ℤ}
 use Rattle.est_syntax.specs.declared.body.Body.{Body, out-Body}
 use Rattle.est_syntax.specs.declared.expression.Access.{Access}
@@ -12,7 +12,7 @@ use Rattle.est_semantics.specs.ExpressionValues.{subscripts_in}
 use Rattle.est_semantics.specs.InstanceEffects.{born}
 use Rattle.est_semantics.specs.InstancePoints.{accessed}
 use Rattle.est_semantics.specs.NamesInRuns.{declared_at, dims_at}
-use Rattle.est_semantics.specs.Outcome.{Outcome, Done, onward, ◌>>=◌, ◌>>◌, known}
+use Rattle.est_semantics.specs.Outcome.{Done, onward, ◌>>=◌, ◌>>◌, known}
 use Rattle.est_semantics.specs.StatementEffects.{initialized}
 use Rattle.est_semantics.specs.TextByPlace.{body_at}
 use Rattle.est_semantics.specs.WorkingState.{State, Site, View, Counts, changes}

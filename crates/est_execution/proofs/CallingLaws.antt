@@ -1,9 +1,8 @@
 -- Calls that open a level, and what the statements of a function leave.
-use Rattle.std.proofs.Common.{◌≡◌, refl, ap, ◌∙◌, subst, ℕ, zero, suc, ◌-◌, arith, List, [], ◌∷◌}
+use Rattle.std.proofs.Common.{◌≡◌, refl, ap, subst, ℕ, zero, suc, ◌-◌, arith, List, [], ◌∷◌}
 use Rattle.std.proofs.Common.{Bool, true, Some, Ok}
 use Rattle.est_syntax.specs.declared.routine.Routine.{Routine}
 use Rattle.est_syntax.specs.declared.statement.Statement.{Statement}
-use Rattle.est_values.specs.declared.value.Value.{Value}
 use Rattle.est_semantics.specs.declared.frame.Slot.{Slot}
 use Rattle.est_semantics.specs.BlockLevels.{within}
 use Rattle.est_semantics.specs.FunctionCalls.{called, routine_frame, result_of}

@@ -1,7 +1,7 @@
 -- Loops over lists, one item further.
-use Rattle.std.proofs.Common.{◌≡◌, refl, sym, ap, ◌∙◌, subst, ℕ, zero, suc, ◌+◌, ◌<◌, ◌≤◌, List, []}
+use Rattle.std.proofs.Common.{◌≡◌, refl, sym, ap, ◌∙◌, subst, ℕ, zero, suc, ◌<◌, ◌≤◌, List, []}
 use Rattle.std.proofs.Common.{◌∷◌}
-use Rattle.std.proofs.Common.{length, get_or, drop, Option, Result, Ok, Err, arith}
+use Rattle.std.proofs.Common.{length, get_or, drop, Option, Ok, Err, arith}
 use Rattle.std.specs.Prelude.{ℤ}
 use Rattle.est_frames.specs.declared.system.Working.{Working}
 use Rattle.est_frames.specs.HeldSystems.{LooksSame}
@@ -13,7 +13,7 @@ use Rattle.est_semantics.specs.declared.stop.Stop.{Stop}
 use Rattle.est_semantics.specs.AnswersOfCalls.{Answers}
 use Rattle.est_semantics.specs.ExpressionValues.{value_of, components_in, subscripts_in, member_of}
 use Rattle.est_semantics.specs.ExpressionValues.{members_in}
-use Rattle.est_semantics.specs.Outcome.{Outcome, Done, onward, ◌>>=◌, lift}
+use Rattle.est_semantics.specs.Outcome.{Done, onward, ◌>>=◌, lift}
 use Rattle.est_semantics.specs.ReachedVariables.{Reached, with_component, with_subscript}
 use Rattle.est_semantics.specs.ValueOperators.{ordinal_in, ordinal}
 use Rattle.est_semantics.specs.WorkingState.{View, Counts}

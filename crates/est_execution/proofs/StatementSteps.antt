@@ -1,7 +1,7 @@
 -- Statements, one step further.
-use Rattle.std.proofs.Common.{◌≡◌, refl, sym, ap, ◌∙◌, subst, ℕ, zero, suc, ◌+◌, ◌<◌, List, [], ◌∷◌}
-use Rattle.std.proofs.Common.{length, get_or, drop, Bool, true, Option, Result, Ok, Err, arith}
-use Rattle.std.specs.Prelude.{ℤ, ◌+ℤ◌, map, if◌then◌else◌}
+use Rattle.std.proofs.Common.{◌≡◌, refl, sym, ap, ◌∙◌, ℕ, suc, ◌+◌, ◌<◌, List, []}
+use Rattle.std.proofs.Common.{length, get_or, drop, Bool, true, Ok, Err}
+use Rattle.std.specs.Prelude.{ℤ, map, if◌then◌else◌}
 use Rattle.std.specs.List.{range_with_len}
 use Rattle.est_frames.specs.declared.system.Working.{Working}
 use Rattle.est_frames.specs.HeldSystems.{state_of, LooksSame}
@@ -19,11 +19,11 @@ use Rattle.est_semantics.specs.ExpressionValues.{value_of, variable_of}
 use Rattle.est_semantics.specs.GlobalSituation.{Frame}
 use Rattle.est_semantics.specs.LoopEffects.{counts, distance, step, controlled, naming, turn_for}
 use Rattle.est_semantics.specs.LoopEffects.{for_each, for_child, for_children}
-use Rattle.est_semantics.specs.Outcome.{Outcome, Done, onward, ◌>>=◌, ◌>>◌, lift, counted}
+use Rattle.est_semantics.specs.Outcome.{Done, onward, ◌>>=◌, ◌>>◌, lift, counted}
 use Rattle.est_semantics.specs.ReachedVariables.{Reached}
 use Rattle.est_semantics.specs.StatementEffects.{statement_of, arms_in, is_chosen}
 use Rattle.est_semantics.specs.ValueOperators.{ordinal_in, ordinal}
-use Rattle.est_semantics.specs.WorkingState.{State, Site, Does, view, counting, enter}
+use Rattle.est_semantics.specs.WorkingState.{State, Site, Does, view, counting}
 use Rattle.est_semantics.specs.WriteEffects.{stored, ordinal_of, opened, closed, framed}
 use Rattle.est_semantics.proofs.Answering.{answers_by, answers_stop}
 use Rattle.est_execution.specs.TurnsOfLoops.{valued_turn, counted_turn}

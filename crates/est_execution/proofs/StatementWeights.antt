@@ -1,5 +1,5 @@
 -- How much text statements have, and the routines and bodies of a specification.
-use Rattle.std.proofs.Common.{◌≡◌, refl, sym, ap, ◌∙◌, ℕ, zero, suc, ◌+◌, ◌-◌, ◌*◌, ◌<◌, ◌≤◌}
+use Rattle.std.proofs.Common.{◌≡◌, refl, ap, ◌∙◌, ℕ, zero, suc, ◌+◌, ◌-◌, ◌*◌, ◌<◌, ◌≤◌}
 use Rattle.std.proofs.Common.{List, [], ◌∷◌, Bool, true, false, cond, Option, Some, None, arith}
 use Rattle.std.specs.Prelude.{nat_eq, find}
 use Rattle.std.specs.List.{filter_map}
@@ -8,7 +8,6 @@ use Rattle.est_syntax.specs.declared.body.FirstPart.{FirstPart}
 use Rattle.est_syntax.specs.declared.expression.Access.{Access}
 use Rattle.est_syntax.specs.declared.expression.EndPoint.{EndPoint}
 use Rattle.est_syntax.specs.declared.expression.Expr.{Expr}
-use Rattle.est_syntax.specs.declared.expression.Selector.{Selector}
 use Rattle.est_syntax.specs.declared.name.Used.{Used}
 use Rattle.est_syntax.specs.declared.routine.Routine.{Routine, out-Routine}
 use Rattle.est_syntax.specs.declared.statement.Arm.{Arm}

@@ -1,5 +1,5 @@
 -- Statements that evaluate and then change the system.
-use Rattle.std.proofs.Common.{◌≡◌, refl, sym, ap, ◌∙◌, subst, ℕ, suc, ◌<◌, List, [], ◌∷◌, length}
+use Rattle.std.proofs.Common.{◌≡◌, refl, sym, ap, ◌∙◌, subst, ℕ, suc, ◌<◌, List, [], length}
 use Rattle.std.proofs.Common.{get_or, drop, Bool, false, Some, Result, Ok, Err}
 use Rattle.est_frames.specs.declared.system.Working.{Working}
 use Rattle.est_frames.specs.HeldSystems.{state_of, LooksSame}

@@ -1,5 +1,4 @@
 -- Whose statements are executed, and what their expressions see.
-use Rattle.std.specs.Prelude.{ℕ}
 use Rattle.est_frames.specs.declared.system.Working.{Working}
 use Rattle.est_frames.specs.HeldSystems.{situation_of}
 use Rattle.est_semantics.specs.BlockLevels.{site}

@@ -6,7 +6,6 @@ use Rattle.std.specs.List.{range_with_len}
 use Rattle.est_values.specs.declared.value.Value.TheVariants as value
 use Rattle.est_values.specs.FittingValues.{first_ordinal}
 use Rattle.est_values.specs.OrdinalTuples.{ordinals_of}
-use Rattle.est_semantics.specs.declared.frame.Slot.TheVariants as slot
 use Rattle.est_semantics.specs.AnswersOfCalls.{Answers}
 use Rattle.est_semantics.specs.BlockLevels.{within}
 use Rattle.est_semantics.specs.ExpressionValues.{components_in, members_in, selected, selected_in}
@@ -62,7 +61,7 @@ use Rattle.est_semantics.specs.ReachedVariables.{child_of}
 use Rattle.est_execution.specs.SystemSteps.{point_by, item_at}
 use Rattle.est_execution.proofs.AccessLaws.{accessed_runs, begun_stops}
 use Rattle.std.proofs.Common.{rules, ◌≡◌, ℕ, suc, ◌+◌, ◌-◌, List, sym, ap, ◌∙◌, arith, true, false}
-use Rattle.std.proofs.Common.{Bool, Ok, Err, Some}
+use Rattle.std.proofs.Common.{Ok, Err}
 use Rattle.est_frames.specs.HeldSystems.{state_of}
 use Rattle.est_scope.specs.Outline.{entry_at}
 use Rattle.est_syntax.specs.declared.expression.Expr.{Expr}

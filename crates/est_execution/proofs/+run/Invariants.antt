@@ -1,5 +1,5 @@
-use Rattle.std.proofs.Common.{◌≡◌, ℕ, ◌+◌, ◌-◌, ◌*◌, List, [], drop}
-use Rattle.std.specs.Prelude.{ℤ, pos, ◌+ℤ◌, ◌*ℤ◌, map, option_copied}
+use Rattle.std.proofs.Common.{◌≡◌, ℕ, ◌+◌, List, [], drop}
+use Rattle.std.specs.Prelude.{ℤ, pos, ◌+ℤ◌, map, option_copied}
 use Rattle.std.specs.List.{range_with_len}
 use Rattle.est_frames.specs.HeldSystems.{state_of, LooksSame}
 use Rattle.est_values.specs.FittingValues.{first_ordinal}

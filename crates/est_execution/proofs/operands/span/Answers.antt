@@ -1,4 +1,4 @@
-use Rattle.std.proofs.Common.{rules, ◌≡◌, sym, ap, ◌∙◌, Ok, to_z, of_z, w32, FitsSigned}
+use Rattle.std.proofs.Common.{rules, sym, ap, ◌∙◌, Ok, to_z, of_z, w32, FitsSigned}
 use Rattle.std.proofs.lemmas.Int.{to_z-of_z}
 use Rattle.est_semantics.specs.Outcome.{◌>>=◌, give, lift}
 use Rattle.est_semantics.specs.SetOperators.{with_span}
