@@ -1,0 +1,10 @@
+pub mod BlocksOfInstances
+pub mod ClimbsEnd
+pub mod FittingFrames
+pub mod GivenThings
+pub mod LivingLinks
+pub mod OrderlyBlocks
+pub mod OrderlyStart
+pub mod ParentsOlder
+pub mod RowLaws
+pub mod SameRows

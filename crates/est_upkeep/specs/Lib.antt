@@ -1,0 +1,4 @@
+pub mod AncestorLaws
+pub mod ClimbLaws
+pub mod OrderLaws
+pub mod UpkeepLaws
