@@ -1,0 +1,3 @@
+pub mod FiringOrder
+pub mod PossibleFirings
+pub mod SituationStacks
