@@ -1,0 +1,5 @@
+pub mod FirstNames
+pub mod NumberSteps
+pub mod OutsideSteps
+pub mod PortNumbers
+pub mod PortPlaces

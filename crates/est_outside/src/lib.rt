@@ -1,0 +1,6 @@
+//! What passes the outside ports (ISO 9074, 5: environment).
+#![tactic(auto)]
+
+mod names;
+pub mod outside;
+mod tuples;
