@@ -1,0 +1,10 @@
+pub mod BodyLaws
+pub mod ContextLaws
+pub mod FrameLaws
+pub mod KeyLaws
+pub mod ListLaws
+pub mod NumberLaws
+pub mod StateLaws
+pub mod TableLaws
+pub mod TupleLaws
+pub mod WritingLaws

@@ -1,0 +1,3 @@
+pub mod WrittenTransitions
+pub mod FittingTransitions
+pub mod inside
