@@ -1,0 +1,4 @@
+pub mod PartLaws
+pub mod ConditionLaws
+pub mod ArrivalLaws
+pub mod JudgedLaws

@@ -1,0 +1,24 @@
+use Rattle.std.proofs.Common.{◌≡◌, true, sym, subst, ◌∙◌, rules, arith}
+use Rattle.std.specs.Option.{option_map}
+use Rattle.est_frames.specs.declared.system.System.{System}
+use Rattle.est_frames.specs.HeldSystems.{situation_of}
+use Rattle.est_transitions.specs.WrittenTransitions.{awaited_of}
+use Rattle.est_guards.specs.inside.JudgedClauses.{IsArrival}
+use Rattle.est_guards.proofs.JudgedLaws.{before, from_holds}
+use Rattle.est_guards.proofs.sight.look.Goals as goal
+
+pub returns-clause-sight : goal.returns-clause-sight
+returns-clause-sight c = λ ch of.
+    let limit = c.args.limit in
+    let t = c.args.text.now in
+    let s = situation_of c.args.working.now.system in
+    let x = c.args.candidate.now in
+    let f : c.fits.result ≡ true = first_of (search rules, grind arith) in
+    from_holds limit t s x c.args.chosen ch of c.await_one.new.working.frames
+    c.in_ok-sight.sight (sym c.fits.ensures ∙ f)
+    (subst (λ (y : System). IsArrival limit t (situation_of y) ch
+    (option_map awaited_of x.transition.now.awaits) c.await_one.new.working.frames
+    c.in_ok-sight.sight) c.in_ok-begin.ensures.system
+    (c.in_ok-sight.ensures.sight ch
+    (before limit t s x c.args.chosen ch of c.begin.new.working.frames
+    c.in_ok-begin.ensures.frames)))

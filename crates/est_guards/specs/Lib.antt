@@ -1,0 +1,2 @@
+pub mod JudgedGuards
+pub mod inside

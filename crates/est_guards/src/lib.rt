@@ -1,0 +1,12 @@
+//! What the guards of transitions say (ISO 9074, 7: clauses).
+#![tactic(auto)]
+
+mod arrivals;
+pub mod candidate;
+mod conditions;
+mod delays;
+pub mod judging;
+mod parts;
+pub mod sight;
+mod subscripts;
+pub mod verdict;
