@@ -1,0 +1,4 @@
+pub mod FiredSteps
+pub mod StampSteps
+pub mod StampedRows
+pub mod TimedChoices

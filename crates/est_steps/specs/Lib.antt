@@ -1,0 +1,2 @@
+pub mod SteppedSystems
+pub mod inside
