@@ -5,9 +5,7 @@ use Rattle.std.proofs.Common.{None}
 use Rattle.std.specs.Prelude.{ℤ, option_and_then, if◌then◌else◌, find}
 use Rattle.std.specs.Option.{option_map, option_map_or, option_or}
 use Rattle.std.proofs.lemmas.Bool.{ltb-true, ltb-false, ne_eqb}
-use Rattle.std.proofs.lemmas.List.{append-nil}
 use Rattle.std.proofs.lemmas.List.Folds.{find-append}
-use Rattle.std.proofs.lemmas.Option.{none-some}
 use Rattle.est_semantics.specs.declared.situation.Row.{Row}
 use Rattle.est_semantics.specs.TextByPlace.{Text}
 use Rattle.est_semantics.specs.GlobalSituation.{Map, Situation, Clocked, row_of}
@@ -184,28 +182,12 @@ pub timed_in : (limit : ℕ) (t u : Text) (s : Situation) (l : Living) (m : ℕ)
     → b ≡ is_timed limit t s (clocked l.number m)
 timed_in limit t u s l m x w b same h e written g =
     let go : (r : Row) (y : FullTransition) → r.number ≡ l.number → r.state ≡ l.state
-        → IsWritten t.outline y w
-        → b ≡ option_map_or (is_waiting limit t s) (choice_by t r m 1 y) false =
+    → IsWritten t.outline y w
+    → b ≡ option_map_or (is_waiting limit t s) (choice_by t r m 1 y) false =
     subst (λ (v : Text). (r : Row) (y : FullTransition) → r.number ≡ l.number → r.state ≡ l.state
     → IsWritten v.outline y w
     → b ≡ option_map_or (is_waiting limit v s) (choice_by v r m 1 y) false) same g in
     timed_by limit t s l m x b h e (λ r n q. go r x n q written)
-
--- a transition that has none
-pub one_without : (limit : ℕ) (t : Text) (fired : Option Firing) (s : Situation) (k : Clocked)
-    (xs : List Stamp) → stamp_after limit t fired s k ≡ None
-    → xs ≡ xs ++ stamp_list k (stamp_after limit t fired s k)
-one_without limit t fired s k xs h =
-    sym (ap (λ o. xs ++ stamp_list k o) h ∙ append-nil xs)
-
--- a number that no transition of the body has
-pub one_missing : (limit : ℕ) (t : Text) (fired : Option Firing) (s : Situation) (l : Living)
-    (m : ℕ) (xs : List Stamp) → IsLiving s l → numbered (transitions_of t l.body) m ≡ None
-    → xs ≡ xs ++ stamp_list (clocked l.number m)
-    (stamp_after limit t fired s (clocked l.number m))
-one_missing limit t fired s l m xs h e = one_without limit t fired s (clocked l.number m) xs
-    (unfit limit t fired s l (clocked l.number m) h refl
-    (λ f. none-some f.transition (sym e ∙ f.is)))
 
 -- a transition that has one
 pub one_with : (limit : ℕ) (t : Text) (fired : Option Firing) (s u : Situation) (l : Living)
@@ -226,23 +208,6 @@ pub record AreUpTo (n last : ℕ) (after old new : Map Clocked ℕ) : Type 0 whe
   pub own : (k : Clocked) → k.instance ≡ n → k.transition ≤ last → new k ≡ after k
   pub later : (k : Clocked) → k.instance ≡ n → last < k.transition → new k ≡ None
   pub others : (k : Clocked) → (k.instance ≡ n → ⊥) → new k ≡ old k
-
--- no transition has the number 0
-unfit_zero : (t : Text) (body : ℕ) (state : Option ℕ) (m : ℕ) → m ≤ 0
-    → IsFitting t body state m → ⊥
-unfit_zero t body state m h f =
-    let e : m ≡ 0 = omega (arith, h) in
-    none-some f.transition (sym (ap (numbered (transitions_of t body)) e) ∙ f.is)
-
-pub up_to_none : (limit : ℕ) (t : Text) (fired : Option Firing) (s : Situation) (l : Living)
-    (old : Map Clocked ℕ) → IsLiving s l → ((k : Clocked) → k.instance ≡ l.number → old k ≡ None)
-    → AreUpTo l.number 0 (stamp_after limit t fired s) old old
-up_to_none limit t fired s l old h g = record {
-  own = λ k e m. g k e ∙ sym (unfit limit t fired s l k h e
-      (unfit_zero t l.body l.state k.transition m));
-  later = λ k e m. g k e;
-  others = λ k e. refl;
-}
 
 -- whether one number is below another
 by_order : {A : Type 0} (m n : ℕ) → (m < n → A) → (n ≤ m → A) → A

@@ -1,5 +1,5 @@
 -- How stamps are made, instance by instance.
-use Rattle.std.proofs.Common.{◌≡◌, refl, sym, ap, subst, ◌∙◌, arith, ℕ, zero, suc, ◌+◌, ◌<◌, ◌≤◌}
+use Rattle.std.proofs.Common.{◌≡◌, refl, sym, ap, subst, ◌∙◌, arith, ℕ, zero, suc, ◌+◌, ◌≤◌}
 use Rattle.std.proofs.Common.{nat_eq, Bool, true, false, is_some, List, [], ◌∷◌, ◌++◌, length, take}
 use Rattle.std.proofs.Common.{Option, Some, None, slice_get, Result, Ok, Err}
 use Rattle.std.specs.Result.{OnOk}
@@ -13,12 +13,9 @@ use Rattle.est_semantics.specs.TextByPlace.{Text}
 use Rattle.est_semantics.specs.GlobalSituation.{Map, Situation, Clocked, is_numbered, row_of}
 use Rattle.est_semantics.specs.KeepingLaws.{AscendBelow, AreNumbered}
 use Rattle.est_semantics.proofs.MutualPeers.{eq_self}
-use Rattle.est_frames.specs.declared.system.Stamp.{Stamp}
-use Rattle.est_frames.specs.declared.system.System.{System}
-use Rattle.est_frames.specs.HeldSystems.{situation_of, stamped}
 use Rattle.est_choices.specs.declared.firing.Firing.{Firing}
 use Rattle.est_choices.specs.TransitionChoices.{choice_in}
-use Rattle.est_choices.specs.DelayStamps.{first_choice, is_waiting, stamp_after, restamped}
+use Rattle.est_choices.specs.DelayStamps.{first_choice, is_waiting, stamp_after}
 use Rattle.est_choices.proofs.Options.{map_some}
 use Rattle.est_steps.specs.declared.living.Living.{Living}
 use Rattle.est_steps.specs.inside.StampLists.{living, IsLiving, AreOfInstance, stamps_until}
@@ -207,12 +204,3 @@ module _ (limit : ℕ) (t : Text) (fired : Option Firing) (s : Situation) where
       → ((k : Clocked) → old k ≡ stamps_until limit t fired u i k)
       → (k : Clocked) → old k ≡ stamps_until limit t fired s i k
   same_until u i old e g k = g k ∙ ap (λ v. stamps_until limit t fired v i k) e
-
-  abbrev with_stamps : Situation → Map Clocked ℕ → Situation
-  with_stamps u m = record u { stamps = m }
-
-  -- a system that looks so gets the stamps
-  pub restamped_by : (w : System) (xs : List Stamp) → situation_of w ≡ s
-      → ((k : Clocked) → stamped xs k ≡ stamp_after limit t fired s k)
-      → situation_of (record w { stamps = xs }) ≡ restamped limit t fired s
-  restamped_by w xs e h = λ i. with_stamps (e i) (λ k. h k i)

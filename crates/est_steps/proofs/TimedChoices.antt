@@ -1,7 +1,6 @@
 -- Whether the first choice of a transition waits.
-use Rattle.std.proofs.Common.{◌≡◌, refl, sym, ap, subst, ◌∙◌, ℕ, Bool, true, false, ◌&&◌, is_some}
+use Rattle.std.proofs.Common.{◌≡◌, refl, sym, ap, ◌∙◌, ℕ, true, false, ◌&&◌, is_some}
 use Rattle.std.proofs.Common.{Option, Some, None}
-use Rattle.std.proofs.lemmas.Option.{none-some}
 use Rattle.std.specs.Prelude.{ℤ, List}
 use Rattle.std.specs.Option.{option_map, option_map_or}
 use Rattle.est_semantics.specs.declared.situation.Row.{Row}
@@ -21,10 +20,6 @@ some_mapped : {A B : Type 0} (go : A → B) (o : Option A) → is_some (option_m
 some_mapped go None = refl
 some_mapped go (Some a) = refl
 
-map_none : {A B : Type 0} (go : A → B) (o : Option A) → None ≡ option_map go o → o ≡ None
-map_none go None e = refl
-map_none go (Some a) e = absurd (none-some (go a) e)
-
 module _ (limit : ℕ) (t : Text) (s : Situation) (r : Row) (x : FullTransition) (y : Candidate)
     (h : IsWritten t.outline x y.transition.now) where
   -- whether it has a delay
@@ -38,23 +33,6 @@ module _ (limit : ℕ) (t : Text) (s : Situation) (r : Row) (x : FullTransition)
     transition = x;
     chosen = any_frame t.outline x zs;
   }
-
-  undelayed : (o : Option (List ℤ)) → is_some (delay_of x) ≡ false
-      → option_map_or (is_waiting limit t s) (option_map chosen_by o) false ≡ false
-  undelayed None e = refl
-  undelayed (Some zs) e = ap (λ b. b && is_enabled_choice limit t s (chosen_by zs)) e
-
-  -- without a delay
-  pub no_delay : is_some y.transition.now.delay ≡ false
-      → false ≡ option_map_or (is_waiting limit t s) (choice_by t r y.number 1 x) false
-  no_delay e = sym (undelayed (numbered (any_tuples t.outline x) 1) (delayed ∙ e))
-
-  -- without a first choice
-  pub no_choice : None ≡ option_map (any_frame t.outline x) (numbered (any_tuples t.outline x) 1)
-      → false ≡ option_map_or (is_waiting limit t s) (choice_by t r y.number 1 x) false
-  no_choice e = sym (ap
-      (λ o. option_map_or (is_waiting limit t s) (option_map chosen_by o) false)
-      (map_none (any_frame t.outline x) (numbered (any_tuples t.outline x) 1) e))
 
   -- with both
   pub waits_by : (chosen : Frame) (v : Verdict) → r.number ≡ y.instance → r.state ≡ y.state

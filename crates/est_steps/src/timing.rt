@@ -31,10 +31,8 @@ fn is_fired(fired: Option<Firing>, instance: u32, transition: u32) -> bool
 fn stamp_of(stamps: &Stamps, instance: u32, transition: u32) -> Option<u64>
     ensures { result ≡ stamped stamps.now (clocked instance transition) }
 {
-    match stamps
-        .as_slice()
-        .iter()
-        .find(|stamp| instance == stamp.instance && transition == stamp.transition)
+    match stamps.as_slice().iter().find(|stamp| instance == stamp.instance
+        && transition == stamp.transition)
     {
         None => None,
         Some(stamp) => Some(stamp.since),

@@ -9,14 +9,16 @@ use Rattle.est_steps.proofs.stamping.stamp_instance.Goals as goal
 pub loop-number-preserved : goal.loop-number-preserved
 loop-number-preserved c =
     let k = clocked c.args.living.number c.in-Some.number in
-    let same = c.loop-number.invariant.1 in
-    (up_to_next c.args.limit c.args.behaviour.now c.args.fired
-    (situation_of c.args.working.now.system) c.args.living c.loop-number.last c.in-Some.number
-    (stamped c.args.stamps.now) c.loop-number.stamps c.requires.living c.loop-number.invariant.0
-    c.in-Some.ensures.0 c.in-Some.ensures.2 c.stamp_transition.new.stamps
-    (c.in_ok-stamp_transition.ensures.stamps ∙ ap (λ u. c.loop-number.stamps
-    ++ stamp_list k (stamp_after c.args.limit c.args.behaviour.now c.args.fired u k)) same),
-    c.in_ok-stamp_transition.ensures.system ∙ same)
+    let same = c.loop-number.invariant.1 in (
+      up_to_next c.args.limit c.args.behaviour.now c.args.fired
+          (situation_of c.args.working.now.system) c.args.living c.loop-number.last c.in-Some.number
+          (stamped c.args.stamps.now) c.loop-number.stamps c.requires.living
+          c.loop-number.invariant.0 c.in-Some.ensures.0 c.in-Some.ensures.2
+          c.stamp_transition.new.stamps
+          (c.in_ok-stamp_transition.ensures.stamps ∙ ap (λ u. c.loop-number.stamps
+          ++ stamp_list k (stamp_after c.args.limit c.args.behaviour.now c.args.fired u k)) same),
+      c.in_ok-stamp_transition.ensures.system ∙ same,
+    )
 
 -- after the last one that fits
 pub returns-clause-stamps : goal.returns-clause-stamps

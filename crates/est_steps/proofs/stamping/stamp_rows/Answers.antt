@@ -1,4 +1,4 @@
-use Rattle.std.proofs.Common.{sym, ap, refl, subst, arith, ◌∙◌, ◌+◌, ◌≤◌, length}
+use Rattle.std.proofs.Common.{sym, subst, arith, ◌∙◌, ◌+◌, ◌≤◌, length}
 use Rattle.est_semantics.specs.KeepingLaws.{AreNumbered}
 use Rattle.est_frames.specs.HeldSystems.{situation_of, stamped}
 use Rattle.est_steps.proofs.StampedRows.{until_same, same_until, until_all}
@@ -17,10 +17,13 @@ stamp_row-requires-clause-before c = until_same c.args.limit c.args.behaviour.no
 
 -- with those of the row
 pub loop-at-preserved : goal.loop-at-preserved
-loop-at-preserved c = (same_until c.args.limit c.args.behaviour.now c.args.fired
-    (situation_of c.args.working.now.system) (situation_of c.loop-at.working.system)
-    (c.loop-at.at + 1) (stamped c.stamp_row.new.stamps) c.loop-at.invariant.1
-    c.in_ok-stamp_row.ensures.stamps, c.in_ok-stamp_row.ensures.system ∙ c.loop-at.invariant.1)
+loop-at-preserved c = (
+  same_until c.args.limit c.args.behaviour.now c.args.fired
+      (situation_of c.args.working.now.system) (situation_of c.loop-at.working.system)
+      (c.loop-at.at + 1) (stamped c.stamp_row.new.stamps) c.loop-at.invariant.1
+      c.in_ok-stamp_row.ensures.stamps,
+  c.in_ok-stamp_row.ensures.system ∙ c.loop-at.invariant.1,
+)
 
 -- after the last row
 pub returns-clause-stamps : goal.returns-clause-stamps
