@@ -1,0 +1,3 @@
+-- What only the private functions say.
+pub mod NumberedSystems
+pub mod HeldStacks
