@@ -1,43 +1,36 @@
 -- How what comes of a firing follows from its parts.
 use Rattle.std.proofs.Common.{◌≡◌, refl, sym, ap, subst, ◌∙◌, ℕ, nat_eq, Bool, true, false}
-use Rattle.std.proofs.Common.{List, [], ◌∷◌, ◌++◌, map, Option, Some, None, Result, Ok, Err}
+use Rattle.std.proofs.Common.{List, [], ◌∷◌, map, Option, Some, None, Result, Ok, Err}
 use Rattle.std.proofs.lemmas.Bool.{eqb-true}
 use Rattle.std.proofs.lemmas.Option.{none-some, same_Some}
 use Rattle.std.specs.Prelude.{option_and_then, if◌then◌else◌, find}
 use Rattle.std.specs.Option.{option_map, option_map_or}
-use Rattle.est_syntax.specs.declared.body.Block.{out-Block}
 use Rattle.est_scope.specs.Outline.{Outline}
 use Rattle.est_semantics.specs.declared.fault.BlockFault.TheVariants.{Undefined}
 use Rattle.est_semantics.specs.declared.frame.Slot.{Slot}
 use Rattle.est_semantics.specs.declared.situation.Row.{Row}
 use Rattle.est_semantics.specs.declared.stop.Stop.{Stop}
 use Rattle.est_semantics.specs.declared.stop.Stop.TheVariants as stop
-use Rattle.est_semantics.specs.Outcome.{Outcome, Done, Fault, on_ok}
-use Rattle.est_semantics.specs.AnswersOfCalls.{Answers, Says}
+use Rattle.est_semantics.specs.Outcome.{Done, Fault, on_ok}
+use Rattle.est_semantics.specs.AnswersOfCalls.{Says}
 use Rattle.est_semantics.specs.TextByPlace.{Text}
-use Rattle.est_semantics.specs.GlobalSituation.{Frame, Situation, is_numbered, row_of, with_row}
-use Rattle.est_semantics.specs.WorkingState.{State}
-use Rattle.est_semantics.specs.NamesInRuns.{declared_at}
+use Rattle.est_semantics.specs.GlobalSituation.{Frame, Situation, is_numbered, row_of}
 use Rattle.est_semantics.specs.FunctionCalls.{unset, frame_of}
 use Rattle.est_semantics.specs.QueueEffects.{without_head}
-use Rattle.est_semantics.specs.OutputEffects.{Sent}
-use Rattle.est_semantics.specs.InstanceEffects.{in_state}
-use Rattle.est_semantics.specs.BlockLevels.{block_meaning, left_by}
 use Rattle.est_semantics.specs.KeepingLaws.{AreNumbered}
 use Rattle.est_semantics.specs.StartMeaning.{start_before}
 use Rattle.est_semantics.proofs.OrderlyStarts.{starts_are_orderly}
 use Rattle.est_frames.specs.declared.system.Working.{Working}
-use Rattle.est_frames.specs.HeldSystems.{situation_of, state_of}
-use Rattle.est_choices.specs.declared.event.Event.{Event}
+use Rattle.est_frames.specs.HeldSystems.{situation_of}
 use Rattle.est_choices.specs.declared.firing.Firing.{Firing}
-use Rattle.est_choices.specs.ClauseContexts.{FullTransition, transitions_of, to_of}
+use Rattle.est_choices.specs.ClauseContexts.{FullTransition, transitions_of}
 use Rattle.est_choices.specs.TransitionChoices.{Choice, numbered, any_tuples, any_frame, choice_by}
 use Rattle.est_choices.specs.TransitionChoices.{choice_in}
 use Rattle.est_choices.specs.GuardParts.{seen_by, view_of}
 use Rattle.est_choices.specs.DelayStamps.{restamped}
 use Rattle.est_choices.specs.OutsideEvents.{departures}
-use Rattle.est_choices.specs.FiringSteps.{taking_point, without_awaited, performed_in, completed}
-use Rattle.est_choices.specs.FiringSteps.{finished, fired_in, fired_by, outcome, start_of}
+use Rattle.est_choices.specs.FiringSteps.{taking_point}
+use Rattle.est_choices.specs.FiringSteps.{finished, fired_by, outcome, start_of}
 use Rattle.est_choices.proofs.Options.{map_some}
 use Rattle.est_choices.proofs.Steps.{firings_are_orderly}
 use Rattle.est_transitions.specs.declared.written.Written.{Written}
@@ -49,7 +42,7 @@ use Rattle.est_starts.specs.declared.starting.Started.{Started}
 use Rattle.est_starts.specs.StartedSystems.{Starts}
 use Rattle.est_steps.specs.declared.step.Stepped.{Stepped}
 use Rattle.est_steps.specs.SteppedSystems.{Steps}
-use Rattle.est_steps.specs.inside.FiredChoices.{own_frame, Ends, Begins, Leads}
+use Rattle.est_steps.specs.inside.FiredChoices.{Begins, Leads}
 
 -- BLOCKS
 
@@ -64,25 +57,7 @@ pub says_unset : (o : Outline) (ps qs : List ℕ) (xs : List Slot) (r : Result F
 says_unset o ps qs xs r e g h = subst (λ x. Says x r)
     ((λ i. frame_of o (e i) (g i)) ∙ unset_frame o qs) h
 
--- a thing that has no fault
-pub said_ends : (f : Frame) (e : Stop) (o : Outcome Sent (Unit {0})) (w : Working)
-    → Says (Ok f) (Err e) → Ends o (Err e) w
-said_ends f (stop.Fault x) o w h = absurd (cc)
-said_ends f stop.Limit o w h = absurd h
-said_ends f (stop.Memory m) o w h = tt
-
-pub answers_end : (o : Outcome State (Unit {0})) (r : Result (Unit {0}) Stop) (w : Working) (n : ℕ)
-    → Answers o r (state_of w n) → Ends (left_by o) r w
-answers_end o (Ok u) w n h = ap left_by h
-answers_end o (Err (stop.Fault f)) w n h = ap left_by h
-answers_end o (Err stop.Limit) w n h = ap left_by h
-answers_end o (Err (stop.Memory e)) w n h = tt
-
 -- WHAT A CHOICE SEES AND TAKES
-
-pub view_fails : (limit : ℕ) (t : Text) (s : Situation) (c : Choice) (frames : List Frame)
-    (x : Sight) → IsSight limit t s c frames x → x.holds ≡ false → view_of limit t s c ≡ None
-view_fails limit t s c frames x h e = subst (IsView limit t s c frames) e h.view
 
 view_holds : (limit : ℕ) (t : Text) (s : Situation) (c : Choice) (frames : List Frame)
     (x : Sight) → IsSight limit t s c frames x → x.holds ≡ true
@@ -104,76 +79,6 @@ begins_there limit t s u c x w h e f g = (
       ∙ ap (λ o. option_map_or (λ p. without_head t p s) o s)
       (taken_there limit t s c w.frames x h e),
 )
-
--- WHAT COMES OF A CHOICE
-
-module _ (limit : ℕ) (t : Text) (s : Situation) (f : Firing) (c : Choice) where
-  -- where it does not begin
-  pub begins_not : (e : Stop) (w u : Working) → Begins limit t s c (Err e) w
-      → Leads t (restamped limit t (Some f)) (fired_by limit t s f c) (Err e) u
-  begins_not (stop.Fault x) w u h =
-      ap (λ o. option_map_or (fired_in limit t s f c) o (Fault Undefined)) h.0
-      ∙ ap Fault (sym h.1)
-  begins_not stop.Limit w u h = absurd h
-  begins_not (stop.Memory e) w u h = tt
-
-  -- what comes of its block
-  block_is : (x : Candidate) (chosen : Frame) (frames : List Frame) (u : Situation)
-      → IsOf t x chosen c → u ≡ without_awaited limit t s c
-      → block_meaning t x.instance
-      (frames ++ own_frame t.outline x.transition.now.block.now ∷ [])
-      (out-Block x.transition.now.block.now).statements limit u
-      ≡ performed_in limit t s c (seen_by t s c frames)
-  block_is x chosen frames u h e = λ i. block_meaning t (sym h.instance i)
-      (frames ++ own_frame t.outline (h.transition.block i) ∷ [])
-      (out-Block (h.transition.block i)).statements limit (e i)
-
-  -- what comes of it where it begins
-  fired_is : (x : Candidate) (chosen : Frame) (w : Working) → IsOf t x chosen c
-      → Begins limit t s c (Ok tt) w → fired_by limit t s f c
-      ≡ finished t (completed limit t f c) (block_meaning t x.instance
-      (w.frames ++ own_frame t.outline x.transition.now.block.now ∷ [])
-      (out-Block x.transition.now.block.now).statements limit (situation_of w.system))
-  fired_is x chosen w h b =
-      ap (λ o. option_map_or (fired_in limit t s f c) o (Fault Undefined)) b.0
-      ∙ sym (ap (finished t (completed limit t f c))
-      (block_is x chosen w.frames (situation_of w.system) h b.1))
-
-  block_stops : (o : Outcome Sent (Unit {0})) (e : Stop) (w u : Working) → Ends o (Err e) w
-      → Leads t (restamped limit t (Some f)) (finished t (completed limit t f c) o) (Err e) u
-  block_stops o (stop.Fault x) w u h = ap (finished t (completed limit t f c)) h
-  block_stops o stop.Limit w u h = ap (finished t (completed limit t f c)) h
-  block_stops o (stop.Memory m) w u h = tt
-
-  -- where the block stops
-  pub fired_stops : (x : Candidate) (chosen : Frame) (w v u : Working) (e : Stop)
-      → IsOf t x chosen c → Begins limit t s c (Ok tt) w
-      → Ends (block_meaning t x.instance
-      (w.frames ++ own_frame t.outline x.transition.now.block.now ∷ [])
-      (out-Block x.transition.now.block.now).statements limit (situation_of w.system)) (Err e) v
-      → Leads t (restamped limit t (Some f)) (fired_by limit t s f c) (Err e) u
-  fired_stops x chosen w v u e h b k = subst
-      (λ o. Leads t (restamped limit t (Some f)) o (Err e) u) (sym (fired_is x chosen w h b))
-      (block_stops _ e v u k)
-
-  -- where the block is done, and the next state is set
-  pub fired_done : (x : Candidate) (chosen : Frame) (w v u : Working) → IsOf t x chosen c
-      → Begins limit t s c (Ok tt) w
-      → Ends (block_meaning t x.instance
-      (w.frames ++ own_frame t.outline x.transition.now.block.now ∷ [])
-      (out-Block x.transition.now.block.now).statements limit (situation_of w.system)) (Ok tt) v
-      → u.outs ≡ v.outs → situation_of u.system
-      ≡ with_row x.instance (in_state x.transition.now.next_state) (situation_of v.system)
-      → Leads t (restamped limit t (Some f)) (fired_by limit t s f c) (Ok tt) u
-  fired_done x chosen w v u h b k o g = fired_is x chosen w h b
-      ∙ ap (finished t (completed limit t f c)) k
-      ∙ λ i. Done (departures t (sym o i)) (restamped limit t (Some f) (sym set i))
-    where
-      set : situation_of u.system ≡ with_row c.row.number
-          (in_state (option_and_then (declared_at t.outline) (to_of c.transition)))
-          (situation_of v.system)
-      set = g ∙ λ i. with_row (sym h.instance i) (in_state (h.transition.next_state i))
-          (situation_of v.system)
 
 -- CHOICES OF A TRANSITION
 
@@ -283,21 +188,6 @@ module _ (limit : ℕ) (t : Text) (s : Situation) (f : Firing) where
       → Leads t (restamped limit t (Some f)) (outcome limit t s f) (Ok tt) w
       → AreNumbered (situation_of w.system)
   numbered_after w h k = (firings_are_orderly.goes_over limit t s _ f _ k).numbers h
-
--- ENDS
-
-pub leads_stops : (t : Text) (finish : Situation → Situation)
-    (o : Outcome Situation (List Event)) (e : Stop) (w : Working) → Leads t finish o (Err e) w
-    → Steps o (Err e)
-leads_stops t finish o (stop.Fault f) w h = h
-leads_stops t finish o stop.Limit w h = h
-leads_stops t finish o (stop.Memory e) w h = tt
-
-pub leads_done : (t : Text) (finish : Situation → Situation)
-    (o : Outcome Situation (List Event)) (w : Working) (x : Stepped)
-    → Leads t finish o (Ok tt) w → x.outs ≡ departures t w.outs
-    → situation_of x.system ≡ finish (situation_of w.system) → Steps o (Ok x)
-leads_done t finish o w x h e g = h ∙ λ i. Done (sym e i) (sym g i)
 
 -- STARTS
 
