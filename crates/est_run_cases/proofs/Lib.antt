@@ -1,0 +1,3 @@
+pub mod FitEach
+pub mod TimeKept
+pub mod StartedRuns
