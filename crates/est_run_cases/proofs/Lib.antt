@@ -1,3 +1,0 @@
-pub mod FitEach
-pub mod TimeKept
-pub mod StartedRuns
