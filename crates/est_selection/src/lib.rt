@@ -1,7 +1,7 @@
 //! Which firings are possible (ISO 9074, 5: selection of transitions).
 #![tactic(auto)]
 
-pub mod ancestors;
-pub mod found;
-pub mod offers;
+mod ancestors;
+mod found;
+mod offers;
 pub mod options;

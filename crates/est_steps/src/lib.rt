@@ -5,7 +5,7 @@ mod choice;
 mod ending;
 pub mod firing;
 mod living;
-pub mod stamping;
+mod stamping;
 pub mod start;
 pub mod step;
 mod timing;
