@@ -1,7 +1,8 @@
 //! What happens at the outside ports.
+ghost use Rattle.std.specs.Prelude.{◌≡◌, ◌↔◌, IsTrue};
 
 use est_items::{Items, Twin};
-use est_values::value::Values;
+use est_values::value::{Values, are_same};
 use std::alloc::{AllocError, Global};
 
 /// An interaction at an outside port. The port has its number among those of the specification,
@@ -23,6 +24,34 @@ pub enum Event {
 
 /// Events in order.
 pub type Events = Items<Event>;
+
+/// A recorded list of events.
+pub type Trace = Items<Event>;
+
+impl Interaction {
+    /// Whether two interactions are one.
+    pub fn is(&self, other: &Interaction) -> bool
+        ensures { IsTrue result ↔ (self.now ≡ other.now) }
+    {
+        self.port == other.port
+            && self.signal == other.signal
+            && are_same(&self.values, &other.values)
+    }
+}
+
+impl Event {
+    /// Whether two events are one.
+    pub fn is(&self, other: &Event) -> bool
+        ensures { IsTrue result ↔ (self.now ≡ other.now) }
+    {
+        match (self, other) {
+            (Event::Arrives(a), Event::Arrives(b)) => a.is(b),
+            (Event::Leaves(a), Event::Leaves(b)) => a.is(b),
+            (Event::Passes(a), Event::Passes(b)) => a == b,
+            _ => false,
+        }
+    }
+}
 
 impl Twin for Interaction {
     fn twin(&self, alloc: Global) -> Result<Interaction, AllocError> {

@@ -14,8 +14,8 @@ use Rattle.est_language.specs.Grammar.{Grammar, meets}
 use Rattle.est_language.specs.Marks.{disjoint, covered, Within}
 use Rattle.est_language.specs.Marks as marks
 use Rattle.est_language.proofs.Members.{and_left, and_right, clear, cover}
-use Rattle.est_reader.specs.Tests.{Test, kind, spelled, named, number, is_spelled}
-use Rattle.est_reader.specs.Tests.{lowered, holds, value_in, apart, implies, language}
+use Rattle.est_reader.specs.Tests.{Test, kind, spelled, named, number, character, is_spelled}
+use Rattle.est_reader.specs.Tests.{lowered, holds, value_in, code_in, apart, implies, language}
 
 not_true : (a : Bool) → not a ≡ true → a ≡ true → ⊥
 not_true true h q = cc
@@ -35,6 +35,15 @@ spelled_or_number (LeftOut token) h q = cc
 spelled_or_number Number h q = cc
 spelled_or_number Character h q = cc
 spelled_or_number Bad h q = cc
+
+spelled_or_character : (k : TokenKind) → is_spelled k ≡ true → is_same k Character ≡ true → ⊥
+spelled_or_character Identifier h q = cc
+spelled_or_character (Reserved word) h q = cc
+spelled_or_character (Symbol symbol) h q = cc
+spelled_or_character (LeftOut token) h q = cc
+spelled_or_character Number h q = cc
+spelled_or_character Character h q = cc
+spelled_or_character Bad h q = cc
 
 -- nor is an identifier a number
 named_or_number : (k : TokenKind) → is_same k Identifier ≡ true → is_same k Number ≡ true → ⊥
@@ -74,6 +83,17 @@ within low high text token h =
           (value_in text token) high (and_right (nat_le low (value_in text token)) _ p),
     )
 
+-- a character constant within bounds
+pub coded : (low high : ℕ) (text : List ℕ) (token : Token)
+    → holds text (character low high) token ≡ true → (low ≤ code_in text token)
+    × (code_in text token ≤ high)
+coded low high text token h =
+    let p = and_right (is_same token.kind Character) _ h in (
+      leb-true low (code_in text token) (and_left (nat_le low (code_in text token)) _ p),
+      leb-true
+          (code_in text token) high (and_right (nat_le low (code_in text token)) _ p),
+    )
+
 -- no token meets two tests that are apart
 pub apart-holds : (text : List ℕ) (x y : Test) (token : Token) → apart x y ≡ true
     → holds text x token ≡ true → holds text y token ≡ true → ⊥
@@ -104,11 +124,40 @@ apart-holds text (number low high) (number from to) token e h k =
     let r = (within from to text token k).0 in
     omega arith
 apart-holds text (kind a) (spelled word) token e h k = cc
-apart-holds text (kind a) (named name) token e h k = cc
-apart-holds text (kind a) (number low high) token e h k = cc
 apart-holds text (spelled word) (kind b) token e h k = cc
-apart-holds text (named name) (kind b) token e h k = cc
-apart-holds text (number low high) (kind b) token e h k = cc
+apart-holds text (kind a) (named name) token e h k = is_same-apart a Identifier token.kind e h
+    (and_left (is_same token.kind Identifier) _ k)
+apart-holds text (kind a) (number low high) token e h k = is_same-apart a Number token.kind e h
+    (and_left (is_same token.kind Number) _ k)
+apart-holds text (kind a) (character low high) token e h k = is_same-apart a Character token.kind e
+    h (and_left (is_same token.kind Character) _ k)
+apart-holds text (named name) (kind b) token e h k = is_same-apart b Identifier token.kind e k
+    (and_left (is_same token.kind Identifier) _ h)
+apart-holds text (number low high) (kind b) token e h k = is_same-apart b Number token.kind e k
+    (and_left (is_same token.kind Number) _ h)
+apart-holds text (character low high) (kind b) token e h k = is_same-apart b Character token.kind e
+    k (and_left (is_same token.kind Character) _ h)
+apart-holds text (spelled word) (character low high) token e h k = spelled_or_character token.kind
+    (and_left (is_spelled token.kind) _ h) (and_left (is_same token.kind Character) _ k)
+apart-holds text (character low high) (spelled word) token e h k = spelled_or_character token.kind
+    (and_left (is_spelled token.kind) _ k) (and_left (is_same token.kind Character) _ h)
+apart-holds text (named name) (character low high) token e h k =
+    is_same-apart Identifier Character token.kind refl
+    (and_left (is_same token.kind Identifier) _ h) (and_left (is_same token.kind Character) _ k)
+apart-holds text (character low high) (named name) token e h k =
+    is_same-apart Identifier Character token.kind refl
+    (and_left (is_same token.kind Identifier) _ k) (and_left (is_same token.kind Character) _ h)
+apart-holds text (number low high) (character from to) token e h k =
+    is_same-apart Number Character token.kind refl
+    (and_left (is_same token.kind Number) _ h) (and_left (is_same token.kind Character) _ k)
+apart-holds text (character low high) (number from to) token e h k =
+    is_same-apart Number Character token.kind refl
+    (and_left (is_same token.kind Number) _ k) (and_left (is_same token.kind Character) _ h)
+apart-holds text (character low high) (character from to) token e h k =
+    let p = ltb-true high from e in
+    let q = (coded low high text token h).1 in
+    let r = (coded from to text token k).0 in
+    omega arith
 
 -- a token that meets a test meets what the test implies
 pub implies-holds : (text : List ℕ) (x y : Test) (token : Token) → implies x y ≡ true
@@ -130,6 +179,13 @@ implies-holds text (number low high) (number from to) token e h =
     both_true _ _ (and_left (is_same token.kind Number) _ h)
     (both_true _ _ (le-leb from (value_in text token) (omega (arith, w.0, p)))
     (le-leb (value_in text token) to (omega (arith, w.1, q))))
+implies-holds text (character low high) (character from to) token e h =
+    let w = coded low high text token h in
+    let p = leb-true from low (and_left (nat_le from low) _ e) in
+    let q = leb-true high to (and_right (nat_le from low) _ e) in
+    both_true _ _ (and_left (is_same token.kind Character) _ h)
+    (both_true _ _ (le-leb from (code_in text token) (omega (arith, w.0, p)))
+    (le-leb (code_in text token) to (omega (arith, w.1, q))))
 implies-holds text (kind a) (spelled word) token e h = cc
 implies-holds text (kind a) (named name) token e h = cc
 implies-holds text (kind a) (number low high) token e h = cc
@@ -141,6 +197,14 @@ implies-holds text (named name) (number low high) token e h = cc
 implies-holds text (number low high) (kind b) token e h = cc
 implies-holds text (number low high) (spelled word) token e h = cc
 implies-holds text (number low high) (named name) token e h = cc
+implies-holds text (kind a) (character low high) token e h = cc
+implies-holds text (spelled word) (character low high) token e h = cc
+implies-holds text (named name) (character low high) token e h = cc
+implies-holds text (number low high) (character from to) token e h = cc
+implies-holds text (character low high) (kind b) token e h = cc
+implies-holds text (character low high) (spelled word) token e h = cc
+implies-holds text (character low high) (named name) token e h = cc
+implies-holds text (character low high) (number from to) token e h = cc
 
 -- lists of tests that are apart by computation, and those that imply others
 module _ {P : Type 0} (production : P → Grammar Test P) (text : List ℕ) where

@@ -77,3 +77,11 @@ character_bytes {A} {B} bytes x w s =
     (subst (λ ts. stands ts A.at (kind Character) ≡ true) (sym x.same.tokens)
     (taken_at A.tokens.now (kind Character) A.at B.at A.outcome B.outcome x.takes
     (tested_well B.outcome w))) s)
+
+-- the same of a character constant that stands at a place
+pub character_there : (tokens : Tokens) (at : ℕ) (bytes : List ℕ)
+    → stands tokens at (kind Character) ≡ true
+    → IfSome (slice_get (tokens_of tokens) at) (λ token. bytes ≡ spelling (text_of tokens) token)
+    → 1 < length bytes
+character_there tokens at bytes m s = character_long bytes
+    (character_at tokens at bytes (slice_get (tokens_of tokens) at) refl m s)

@@ -11,8 +11,9 @@ use Rattle.est_lexer.specs.TokenKinds.{is_same}
 use Rattle.est_lexer.specs.Spans.{spelling}
 use Rattle.est_language.specs.Grammar.{Grammar, meets, KeptOf}
 use Rattle.est_language.specs.SeenAlike.{AreSeenAlike}
-use Rattle.est_reader.specs.Tests.{Test, kind, spelled, named, number, is_spelled, value_of}
-use Rattle.est_reader.specs.Tests.{holds, Kept, name, value, kept_as, language}
+use Rattle.est_reader.specs.Tests.{Test, kind, spelled, named, number, character, is_spelled}
+use Rattle.est_reader.specs.Tests.{value_of, code_of, holds, Kept, name, value, code, kept_as}
+use Rattle.est_reader.specs.Tests.{language}
 use Rattle.est_reader.specs.SameTokens.{IsSameToken, AreSameTokens}
 
 abbrev name_in : Kept → List ℕ
@@ -22,6 +23,10 @@ name_in _ = []
 abbrev value_in : Kept → ℕ
 value_in (value n) = n
 value_in _ = 0
+
+abbrev code_in : Kept → ℕ
+code_in (code n) = n
+code_in _ = 0
 
 -- what tests ask of a token, by its kind and its spelling
 spelled_same : (k : TokenKind) (b c : List ℕ) (w : List ℕ) → kept_as k b ≡ kept_as k c
@@ -60,18 +65,31 @@ number_same Number b c low high e = ap (λ x. within low high (value_in x)) e
 number_same Character b c low high e = refl
 number_same Bad b c low high e = refl
 
+character_same : (k : TokenKind) (b c : List ℕ) (low high : ℕ) → kept_as k b ≡ kept_as k c
+    → (is_same k Character && within low high (code_of b))
+    ≡ (is_same k Character && within low high (code_of c))
+character_same Identifier b c low high e = refl
+character_same (Reserved word) b c low high e = refl
+character_same (Symbol symbol) b c low high e = refl
+character_same (LeftOut token) b c low high e = refl
+character_same Number b c low high e = refl
+character_same Character b c low high e = ap (λ x. within low high (code_in x)) e
+character_same Bad b c low high e = refl
+
 -- a test of a token of this kind and this spelling
 abbrev by : TokenKind → List ℕ → Test → Bool
 by k bytes (kind x) = is_same k x
 by k bytes (spelled word) = is_spelled k && bytes_eq word (str_to_ascii_lowercase bytes)
 by k bytes (named word) = is_same k Identifier && bytes_eq word (str_to_ascii_lowercase bytes)
 by k bytes (number low high) = is_same k Number && within low high (value_of bytes)
+by k bytes (character low high) = is_same k Character && within low high (code_of bytes)
 
 holds_by : (text : List ℕ) (t : Token) (x : Test) → holds text x t ≡ by t.kind (spelling text t) x
 holds_by text t (kind x) = refl
 holds_by text t (spelled word) = refl
 holds_by text t (named word) = refl
 holds_by text t (number low high) = refl
+holds_by text t (character low high) = refl
 
 by_same : (k : TokenKind) (b c : List ℕ) (x : Test) → kept_as k b ≡ kept_as k c
     → by k b x ≡ by k c x
@@ -79,6 +97,7 @@ by_same k b c (kind x) e = refl
 by_same k b c (spelled word) e = spelled_same k b c word e
 by_same k b c (named word) e = named_same k b c word e
 by_same k b c (number low high) e = number_same k b c low high e
+by_same k b c (character low high) e = character_same k b c low high e
 
 holds_same : (text other : List ℕ) (t u : Token) (x : Test) → IsSameToken text other t u
     → holds text x t ≡ holds other x u

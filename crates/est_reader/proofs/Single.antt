@@ -17,10 +17,10 @@ use Rattle.est_language.proofs.Laws as laws
 use Rattle.est_language.proofs.Members.{and_left}
 use Rattle.est_syntax.specs.declared.name.Used.{Used}
 use Rattle.est_reader.specs.declared.reader.Reader.{Reader}
-use Rattle.est_reader.specs.Tests.{Test, kind, number, Kept, name, value, code, kept_as, value_of}
-use Rattle.est_reader.specs.Tests.{value_in, code_of, code_in, lowered, holds, language}
+use Rattle.est_reader.specs.Tests.{Test, kind, number, character, Kept, name, value, code, kept_as}
+use Rattle.est_reader.specs.Tests.{value_of, value_in, code_of, code_in, lowered, holds, language}
 use Rattle.est_reader.specs.Moving.{Does, Taken, NotThere, Takes, TakesName}
-use Rattle.est_reader.specs.Moving.{TakesNumber, TakesValue, TakesCharacter}
+use Rattle.est_reader.specs.Moving.{TakesNumber, TakesValue, TakesCharacter, TakesCode}
 use Rattle.est_reader.specs.Going.{Rule, Finds, Fails, Goes, identifier, used}
 use Rattle.est_reader.proofs.Steps.{onto}
 use Rattle.est_reader.proofs.Going.{Known, not_there, here_goes}
@@ -77,6 +77,13 @@ module _ {P : Type 0} (production : P → Rule P) (text : List ℕ) where
       → IsSomeAnd o (λ t. code_in text t ≡ c) → KeptOf (language production text) o (code c)
   code_kept c None m h = absurd h
   code_kept c (Some t) m h = kept_character t.kind (spelling text t) m ∙ ap code h
+
+  code_within : (low high c : ℕ) (o : Option Token)
+      → meets (holds text) (character low high) o ≡ true
+      → IsSomeAnd o (λ t. code_in text t ≡ c) → KeptOf (language production text) o (code c)
+  code_within low high c None m h = absurd h
+  code_within low high c (Some t) m h = kept_character t.kind (spelling text t)
+      (and_left (is_same t.kind Character) _ m) ∙ ap code h
 
 module _ {P N : Type 0} (K : Known P N) where
   -- a token that is taken and kept
@@ -146,6 +153,17 @@ module _ {P N : Type 0} (K : Known P N) where
         (kind Character) (code c)
         (code_kept K.syntax.production (text_of A.tokens.now) c (slice_get (tokens_of A.tokens.now)
         A.at)) x.takes;
+    same = x.same;
+  }
+
+  -- a character within bounds that is kept
+  pub code_goes : {A B : Reader} {low high c : ℕ} → TakesCode low high A c B
+      → Goes K.syntax (token (character low high)) A (kept (code c)) B
+  code_goes {A} {B} {low} {high} {c} x = record {
+    moves = kept_goes A B (λ o. IsSomeAnd o (λ t. code_in (text_of A.tokens.now) t ≡ c))
+        (character low high) (code c)
+        (code_within K.syntax.production (text_of A.tokens.now) low high c
+        (slice_get (tokens_of A.tokens.now) A.at)) x.takes;
     same = x.same;
   }
 

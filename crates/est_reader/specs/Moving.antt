@@ -9,7 +9,8 @@ use Rattle.est_syntax.specs.declared.name.Used.{Used}
 use Rattle.est_reader.specs.declared.reader.Reader.{Reader}
 use Rattle.est_reader.specs.declared.outcome.Outcome.{Outcome}
 use Rattle.est_reader.specs.declared.outcome.Outcome.TheVariants.{Well, Wrong, TooDeep, NoMemory}
-use Rattle.est_reader.specs.Tests.{Test, kind, named, number, lowered, value_in, code_in, stands}
+use Rattle.est_reader.specs.Tests.{Test, kind, named, number, character, lowered, value_in}
+use Rattle.est_reader.specs.Tests.{code_in, stands}
 
 -- 1 where all goes well, else 0
 abbrev pub bit : Outcome → ℕ
@@ -140,6 +141,17 @@ pub record TakesCharacter (old : Reader) (code : ℕ) (new : Reader) : Type 0 wh
   pub unspent : NoneSpent old.outcome new.outcome
   pub same : Same old new
 
+-- a character constant within bounds is taken, and this is the code of its character
+pub record TakesCode (low high : ℕ) (old : Reader) (code : ℕ) (new : Reader) : Type 0 where
+  pub takes : Does
+      (λ b. Taken old.tokens.now (character low high) old.at b
+      × IsSomeAnd (slice_get (tokens_of old.tokens.now) old.at)
+      (λ token. code_in (text_of old.tokens.now) token ≡ code))
+      (NotThere old.tokens.now (character low high) old.at) old.at old.outcome new.at new.outcome
+  pub bounded : code ≤ high
+  pub unspent : NoneSpent old.outcome new.outcome
+  pub same : Same old new
+
 -- the identifier at the place is this in lower case, or none stands there
 abbrev pub IsNamedAt : Tokens → ℕ → Option (List ℕ) → Type 0
 IsNamedAt tokens at (Some bytes) =
@@ -153,6 +165,14 @@ FindsNumber low high tokens at (Some value) =
     × IsSomeAnd (slice_get (tokens_of tokens) at)
     (λ token. value_in (text_of tokens) token ≡ value) × (value ≤ high)
 FindsNumber low high tokens at None = stands tokens at (number low high) ≡ false
+
+-- the code of the character at the place, where one within these bounds stands there
+abbrev pub FindsCode : ℕ → ℕ → Tokens → ℕ → Option ℕ → Type 0
+FindsCode low high tokens at (Some code) =
+    (stands tokens at (character low high) ≡ true)
+    × IsSomeAnd (slice_get (tokens_of tokens) at)
+    (λ token. code_in (text_of tokens) token ≡ code) × (code ≤ high)
+FindsCode low high tokens at None = stands tokens at (character low high) ≡ false
 
 -- how many levels there are, and whether all goes well, as a number that gets smaller with each
 -- level

@@ -14,12 +14,14 @@ use Rattle.est_lexer.specs.Spans.{spelling}
 use Rattle.est_language.specs.Grammar.{Grammar, Language, meets}
 
 -- A test of one token: it is of a kind; it is a word or a symbol, or an identifier, which is
--- spelled so in lower case and may be written in any letter case; or it is a number within bounds.
+-- spelled so in lower case and may be written in any letter case; it is a number within bounds; or
+-- it is a character constant whose code lies within bounds.
 pub data Test : Type 0 where
   kind : TokenKind → Test
   spelled : List ℕ → Test
   named : List ℕ → Test
   number : (low high : ℕ) → Test
+  character : (low high : ℕ) → Test
 
 -- this word
 abbrev pub said : String → Test
@@ -66,6 +68,8 @@ holds text (spelled word) token = is_spelled token.kind && bytes_eq word (lowere
 holds text (named name) token = is_same token.kind Identifier && bytes_eq name (lowered text token)
 holds text (number low high) token = is_same token.kind Number &&
     (nat_le low (value_in text token) && nat_le (value_in text token) high)
+holds text (character low high) token = is_same token.kind Character &&
+    (nat_le low (code_in text token) && nat_le (code_in text token) high)
 
 -- whether a token that meets the test stands at the place
 abbrev pub stands : Tokens → ℕ → Test → Bool
@@ -74,6 +78,12 @@ stands tokens at test = meets (holds (text_of tokens)) test (slice_get (tokens_o
 -- no token meets both tests, as far as can be seen from the tests alone
 abbrev pub apart : Test → Test → Bool
 apart (kind a) (kind b) = not (is_same a b)
+apart (kind a) (named name) = not (is_same a Identifier)
+apart (kind a) (number low high) = not (is_same a Number)
+apart (kind a) (character low high) = not (is_same a Character)
+apart (named name) (kind a) = not (is_same a Identifier)
+apart (number low high) (kind a) = not (is_same a Number)
+apart (character low high) (kind a) = not (is_same a Character)
 apart (spelled word) (spelled other) = not (bytes_eq word other)
 apart (spelled word) (named name) = not (bytes_eq word name)
 apart (spelled word) (number low high) = true
@@ -83,6 +93,13 @@ apart (named name) (number low high) = true
 apart (number low high) (spelled word) = true
 apart (number low high) (named name) = true
 apart (number low high) (number from to) = nat_lt high from
+apart (spelled word) (character low high) = true
+apart (named name) (character low high) = true
+apart (number low high) (character from to) = true
+apart (character low high) (spelled word) = true
+apart (character low high) (named name) = true
+apart (character low high) (number from to) = true
+apart (character low high) (character from to) = nat_lt high from
 apart _ _ = false
 
 -- a token that meets the first test meets the second, as far as can be seen from the tests alone
@@ -92,6 +109,7 @@ implies (spelled word) (spelled other) = bytes_eq word other
 implies (named name) (named other) = bytes_eq name other
 implies (named name) (spelled word) = bytes_eq name word
 implies (number low high) (number from to) = nat_le from low && nat_le high to
+implies (character low high) (character from to) = nat_le from low && nat_le high to
 implies _ _ = false
 
 -- What a tree keeps of a token: the value of a number, the code of a character, and of any other

@@ -46,7 +46,8 @@ impl<'t> Reader<'t> {
 impl Reader<'_> {
     ghost use Rattle.est_reader.specs.Tests.{kind, spelled, stands, lowered};
     ghost use Rattle.est_reader.specs.Moving.{IsTest, Sees, Steps, Takes, TakesName, TakesNumber};
-    ghost use Rattle.est_reader.specs.Moving.{TakesValue, TakesCharacter, IsNamedAt, FindsNumber};
+    ghost use Rattle.est_reader.specs.Moving.{TakesValue, TakesCharacter, TakesCode, IsNamedAt};
+    ghost use Rattle.est_reader.specs.Moving.{FindsNumber, FindsCode};
     ghost use Rattle.est_reader.specs.Moving.{Opens, Enters, Closes, Still, Kept, KeptSome};
     ghost use Rattle.est_reader.specs.Moving.{NoneSpent};
     ghost use Rattle.est_reader.specs.Whole.{Finishes};
@@ -297,6 +298,32 @@ impl Reader<'_> {
         } else {
             0
         }
+    }
+
+    // The code of the character constant at the place, where one stands there within these bounds.
+    fn code_here(&self, low: u32, high: u32) -> Option<u32>
+        ensures found { FindsCode low high self.now.tokens.now self.now.at result }
+        ensures inside { is_some result ≡ true
+            → self.now.at < length (tokens_of self.now.tokens.now) }
+    {
+        if !self.stands(TokenKind::Character) {
+            return None;
+        }
+        let code = u32::from(self.tokens.spelled(self.at)[1]);
+        if low <= code && code <= high {
+            Some(code)
+        } else {
+            None
+        }
+    }
+
+    /// Takes a character constant whose code lies within these bounds, and tells the code.
+    pub fn code(&mut self, low: u32, high: u32) -> u32
+        ensures { TakesCode low high self.old result self.new }
+    {
+        let found = self.code_here(low, high);
+        self.step(found.is_some());
+        found.unwrap_or(0)
     }
 
     /// The value in a box.
