@@ -1,0 +1,4 @@
+pub mod TraceGrammar
+pub mod ValueReading
+pub mod ValueShapes
+pub mod inside

@@ -1,0 +1,4 @@
+-- What only the private functions say.
+pub mod Gathering
+pub mod Looking
+pub mod Scalars
