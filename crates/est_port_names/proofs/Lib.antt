@@ -1,0 +1,9 @@
+pub mod Blocks
+pub mod Elements
+pub mod Firsts
+pub mod GoodPorts
+pub mod Listed
+pub mod Lists
+pub mod Lookups
+pub mod Ordinals
+pub mod Tuples

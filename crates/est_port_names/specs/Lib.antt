@@ -1,0 +1,4 @@
+pub mod PortNames
+pub mod PortNameLaws
+pub mod Directories
+pub mod inside
