@@ -3,46 +3,48 @@ use Rattle.std.proofs.Common.{◌≡◌, ℕ, ◌≤◌, true, List, length, ref
 use Rattle.std.specs.Result.{IsErr, IsErrAnd}
 use Rattle.est_lexer.specs.declared.tokens.Tokens.{Tokens}
 use Rattle.est_lexer.specs.Offsets.{text_of, tokens_of}
-use Rattle.est_language.specs.Shown.{Shows, node}
 use Rattle.est_syntax.specs.declared.ports.Port.{Port}
-use Rattle.est_meaning.specs.declared.event.Event.{Event}
-use Rattle.est_meaning.specs.Allowed.{most_events}
+use Rattle.est_choices.specs.declared.event.Event.{Event}
+use Rattle.est_choices.specs.AllowedEvents.{most_events}
 use Rattle.est_reader.specs.declared.reader.Reader.{Reader}
 use Rattle.est_reader.specs.declared.outcome.Outcome.TheVariants.{Well}
 use Rattle.est_reader.specs.declared.refusal.Refusal.{Refusal}
 use Rattle.est_reader.specs.declared.refusal.Refusal.TheVariants.{BadToken, TooDeep, Memory}
 use Rattle.est_reader.specs.Moving.{Does}
-use Rattle.est_reader.specs.Going.{Goes}
 use Rattle.est_reader.specs.Whole.{Starts, Finishes}
 use Rattle.est_reader.proofs.Whole.{whole_read, whole_refused, got_deep}
 use Rattle.est_trace.specs.declared.error.TraceError.{TraceError}
 use Rattle.est_trace.specs.TraceErrors.{of_refusal}
-use Rattle.est_trace.specs.TraceGrammar.{trace}
-use Rattle.est_trace.specs.TraceNodes.{layer, a_trace, tracing}
-use Rattle.est_trace.specs.inside.Skeletons.{ArePlain}
+use Rattle.est_value_texts.specs.TraceGrammar.{trace}
+use Rattle.est_value_texts.specs.ValueReading.{Reads}
+use Rattle.est_value_texts.proofs.Known.{known}
+use Rattle.est_port_names.specs.PortNames.{GoodPorts}
+use Rattle.est_trace.specs.TraceShapes.{ShowsTrace}
 use Rattle.est_trace.specs.inside.AtPorts.{AreAtPorts}
 use Rattle.est_trace.specs.inside.Counting.{CountsTrace}
 use Rattle.est_trace.specs.TraceText.{IsFull, IsOnlyTraceText, IsTraceRefusal, ReadsTrace}
-use Rattle.est_trace.proofs.TraceFits.{known}
+use Rattle.est_trace.proofs.Readings.{shows_only}
 use Rattle.est_trace.proofs.Shown.{one_trace, text_at_ports}
 use Rattle.est_trace.proofs.Fullness.{not_full}
 
-module _ {tokens : Tokens} {ports : List Port} {A B : Reader} {x : List Event}
-    (g : Goes tracing (trace ports) A (node (a_trace x)) B) (s : Starts tokens most_events A) where
+module _ {tokens : Tokens} {ports : List Port} {A B : Reader} (x : List Event)
+    (good : GoodPorts ports) (g : Reads (trace ports) (ShowsTrace ports x) A B)
+    (s : Starts tokens most_events A) where
   pub read : {y : List Event} → Finishes B x (Ok y)
       → ReadsTrace ports (text_of tokens) (tokens_of tokens) (Ok y)
   read h =
-      let r = whole_read known g s h in
+      let r = whole_read known g.goes s h in
+      let shown = subst (ShowsTrace ports x) (sym (shows_only g.shape r.2)) (g.is h.1) in
       subst (IsOnlyTraceText ports (text_of tokens) (tokens_of tokens)) (sym h.0) (
-        (r.0, r.1, r.2),
-        λ z q. one_trace z x (subst (λ t. Shows layer (node (a_trace z)) t)
-            (r.3 q.0 q.1) q.2) r.2,
+        (r.0, r.1, shown),
+        λ z q. one_trace ports good z x r.0
+            (subst (ShowsTrace ports z) (r.3 q.0 q.1) q.2) shown,
       )
 
-  pub read_at_ports : {y : List Event} → Finishes B x (Ok y) → ArePlain ports
+  pub read_at_ports : {y : List Event} → Finishes B x (Ok y)
       → AreAtPorts ports y × (length y ≤ most_events)
-  read_at_ports {y} h plain = text_at_ports most_events ports (text_of tokens) (tokens_of tokens) y
-      plain (read h).0
+  read_at_ports {y} h = text_at_ports most_events ports (text_of tokens) (tokens_of tokens) y
+      good (read h).0
 
   -- as many events as a trace may have are complete before one too many
   full_before : CountsTrace ports A B → (place : ℕ) → Finishes B x (Err (TooDeep place))
@@ -64,10 +66,10 @@ module _ {tokens : Tokens} {ports : List Port} {A B : Reader} {x : List Event}
   refused : CountsTrace ports A B → (error : Refusal) → Finishes B x (Err error)
       → IsTraceRefusal ports (text_of tokens) (tokens_of tokens) (of_refusal error)
   refused c (BadToken place) h =
-      let r = whole_refused known g s (BadToken place) h in
+      let r = whole_refused known g.goes s (BadToken place) h in
       (r.0, not_full tokens ports most_events place r)
   refused c (TooDeep place) h =
-      ((whole_refused known g s (TooDeep place) h).0, full_before c place h)
+      ((whole_refused known g.goes s (TooDeep place) h).0, full_before c place h)
   refused c (Memory error) h = tt
 
   -- the answer has this error

@@ -3,11 +3,11 @@ use Rattle.std.proofs.Common.{◌≡◌, ◌≤◌, List, length, get_or, subst}
 use Rattle.std.specs.Prelude.{Result, Ok, Err, IfOk}
 use Rattle.est_syntax.specs.declared.ports.Port.{Port}
 use Rattle.est_syntax.specs.declared.specification.Spec.{Spec}
-use Rattle.est_skeleton.specs.Ports.{ports_of}
-use Rattle.est_meaning.specs.declared.event.Event.{Event}
-use Rattle.est_meaning.specs.declared.event.Event.TheVariants.{Arrives, Leaves, Passes}
-use Rattle.est_meaning.specs.Allowed.{IsReceivable, IsSendable, IsAllowed}
-use Rattle.est_meaning.specs.Allowed.{most_events, IsAllowedTrace}
+use Rattle.est_ports.specs.PortList.{ports_of}
+use Rattle.est_choices.specs.declared.event.Event.{Event}
+use Rattle.est_choices.specs.declared.event.Event.TheVariants.{Arrives, Leaves, Passes}
+use Rattle.est_choices.specs.AllowedEvents.{IsReceivable, IsSendable, IsAllowed}
+use Rattle.est_choices.specs.AllowedEvents.{most_events, IsAllowedTrace}
 use Rattle.est_trace.specs.declared.error.TraceError.{TraceError}
 use Rattle.est_trace.specs.inside.AtPorts.{IsAtPorts, AreAtPorts}
 
@@ -19,7 +19,7 @@ allowed s (Arrives i) h = (
   record {
     port_is = h.port_is;
     signal_is = h.signal_is;
-    fits = (h.no_parameters, h.no_values);
+    fits = h.fits;
   },
   h.direction_is,
 )
@@ -29,7 +29,7 @@ allowed s (Leaves i) h = (
   record {
     port_is = h.port_is;
     signal_is = h.signal_is;
-    fits = (h.no_parameters, h.no_values);
+    fits = h.fits;
   },
   h.direction_is,
 )

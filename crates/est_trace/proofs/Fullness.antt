@@ -10,31 +10,32 @@ use Rattle.est_language.specs.Sentences.{HasPartial}
 use Rattle.est_language.specs.Refusals.{SaysWhy, wrong_at}
 use Rattle.est_language.proofs.Laws as laws
 use Rattle.est_language.proofs.Trees as trees
-use Rattle.est_language.proofs.Flat.{tree_any, partial_any}
 use Rattle.est_syntax.specs.declared.ports.Port.{Port}
 use Rattle.est_reader.specs.declared.reader.Reader.{Reader}
 use Rattle.est_reader.specs.Tests.{Test, said, number, stands}
 use Rattle.est_reader.specs.Moving.{Does, Taken, NotThere, Takes, Same}
 use Rattle.est_reader.specs.Going.{Shape}
 use Rattle.est_reader.proofs.Steps.{onto, after}
-use Rattle.est_trace.specs.TraceGrammar.{trace, event_starts}
+use Rattle.est_value_texts.specs.TraceGrammar.{trace, event_starts, events_at}
+use Rattle.est_value_texts.proofs.Level.{tree_any, partial_any, event_free}
 use Rattle.est_trace.specs.inside.Counting.{CountsEvents, CountsTrace}
 use Rattle.est_trace.specs.TraceText.{traces, nested, IsFullAfter, IsFull}
-use Rattle.est_trace.proofs.Events.{event_flat, event_partial, BeginsEvent}
+use Rattle.est_trace.proofs.Events.{event_partial, BeginsEvent}
 
 module _ (tokens : Tokens) (ports : List Port) where
   -- the tokens up to a full place and one more have a partial tree with one more level
   full_goes_on : (d a i : ℕ) (ts : List Shape)
-      → Tree (traces (text_of tokens)) (tokens_of tokens) (length (tokens_of tokens)) (rule ports) d
-      a i (nested ts nothing)
+      → Tree (traces (text_of tokens)) (tokens_of tokens) (length (tokens_of tokens))
+      (rule (events_at ports)) d a i (nested ts nothing)
       → length ts ≡ d → i < length (tokens_of tokens) → BeginsEvent tokens ports i
-      → Partial (traces (text_of tokens)) (tokens_of tokens) (suc i) (rule ports) (suc d) a
+      → Partial (traces (text_of tokens)) (tokens_of tokens) (suc i) (rule (events_at ports))
+      (suc d) a
   full_goes_on d a _ [] (t_rule t_opt_out) e l m =
-      p_rule (p_opt (p_deeper (p_first (partial_any (traces (text_of tokens)) (tokens_of tokens)
-      (suc a) d (event_flat ports) (event_partial tokens a ports m)))))
+      p_rule (p_opt (p_deeper (p_first (partial_any (text_of tokens) (tokens_of tokens)
+      (suc a) d (event_free ports) (event_partial tokens a ports m)))))
   full_goes_on _ a i (t ∷ ts) (t_rule (t_opt_in (t_deeper {d = d} (t_seq x y)))) e l m =
-      p_rule (p_opt (p_deeper (p_second (tree_any (traces (text_of tokens)) (tokens_of tokens)
-      (suc i) (suc d) (event_flat ports) (trees.tree_of_fewer (traces (text_of tokens))
+      p_rule (p_opt (p_deeper (p_second (tree_any (text_of tokens) (tokens_of tokens)
+      (suc i) (suc d) (event_free ports) (trees.tree_of_fewer (traces (text_of tokens))
       (tokens_of tokens) (length (tokens_of tokens)) (suc i) x
       (omega (
         arith,

@@ -1,5 +1,4 @@
 pub mod TraceErrors
-pub mod TraceGrammar
-pub mod TraceNodes
+pub mod TraceShapes
 pub mod TraceText
 pub mod inside

@@ -4,27 +4,27 @@ use Rattle.est_lexer.specs.declared.kind.Token.{Token}
 use Rattle.est_language.specs.Grammar.{Language, Tree, At, rule, nothing, some, both}
 use Rattle.est_language.specs.Marks.{MeetsOne}
 use Rattle.est_language.specs.Sentences.{HasTree, IsFirstBadPlace}
-use Rattle.est_language.specs.Shown.{Shows, node}
 use Rattle.est_syntax.specs.declared.ports.Port.{Port}
-use Rattle.est_meaning.specs.declared.event.Event.{Event}
-use Rattle.est_meaning.specs.Allowed.{most_events}
+use Rattle.est_choices.specs.declared.event.Event.{Event}
+use Rattle.est_choices.specs.AllowedEvents.{most_events}
 use Rattle.est_reader.specs.Tests.{Test, Kept, said, number, holds, language}
 use Rattle.est_reader.specs.Going.{Shape}
+use Rattle.est_value_texts.specs.TraceGrammar.{Production, events_at, production, trace}
+use Rattle.est_value_texts.specs.TraceGrammar.{event_starts}
 use Rattle.est_trace.specs.declared.error.TraceError.{TraceError}
 use Rattle.est_trace.specs.declared.error.TraceError.TheVariants.{BadToken, TooMany, Memory}
-use Rattle.est_trace.specs.TraceGrammar.{events, trace, event_starts}
-use Rattle.est_trace.specs.TraceNodes.{a_trace, layer}
+use Rattle.est_trace.specs.TraceShapes.{ShowsTrace}
 
 -- traces over the tokens of a text
-abbrev pub traces : List ℕ → Language Token Kept Test (List Port)
-traces text = language events text
+abbrev pub traces : List ℕ → Language Token Kept Test Production
+traces text = language production text
 
 -- the tokens of the text are a text of the trace, which has at most so many events: they have a
 -- tree of a shape that it shows
 abbrev pub IsTraceOfAtMost : ℕ → List Port → List ℕ → List Token → List Event → Type 0
 IsTraceOfAtMost most ports text tokens events =
     (t : Shape) × HasTree (traces text) (trace ports) most tokens t
-    × Shows layer (node (a_trace events)) t
+    × ShowsTrace ports events t
 
 -- the tokens of the text are a text of the trace
 abbrev pub IsTraceText : List Port → List ℕ → List Token → List Event → Type 0
@@ -46,7 +46,8 @@ nested (t ∷ ts) u = some (both t (nested ts u))
 abbrev pub IsFullAfter : List Port → ℕ → List ℕ → List Token → ℕ → ℕ → Type 0
 IsFullAfter ports most text tokens a place =
     (ts : List Shape) × (length ts ≡ most)
-    × Tree (traces text) tokens (length tokens) (rule ports) most a place (nested ts nothing)
+    × Tree (traces text) tokens (length tokens) (rule (events_at ports)) most a place
+    (nested ts nothing)
     × MeetsOne (holds text) (slice_get tokens place) (event_starts ports)
 
 -- the trace begins, so many events are complete before a place, and the token there would begin

@@ -1,7 +1,5 @@
 -- What only the private functions say.
-pub mod Skeletons
+pub mod Parts
 pub mod Lookups
 pub mod Counting
-pub mod Tables
-pub mod Directories
 pub mod AtPorts

@@ -2,8 +2,6 @@
 #![tactic(auto)]
 
 pub mod error;
-mod hints;
 mod interaction;
 mod lookup;
-mod table;
 pub mod trace;

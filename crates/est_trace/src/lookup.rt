@@ -1,56 +1,45 @@
-//! Ports and signals by their names.
+//! Heads of ports and signals, by the names that stand in a text.
 
-ghost use Rattle.std.specs.Prelude.{◌≡◌, ◌≤◌, length, slice_get, IfOk};
+ghost use Rattle.std.specs.Prelude.{◌≡◌, false, slice_get};
+ghost use Rattle.std.specs.Option.{option_map_or};
+ghost use Rattle.est_outline.specs.Differing.{HaveDifferentNames};
 ghost use Rattle.est_reader.specs.Moving.{Still};
-ghost use Rattle.est_skeleton.specs.Small.{most_parts};
-ghost use Rattle.est_trace.specs.TraceGrammar as grammar;
-ghost use Rattle.est_skeleton.specs.DifferentNames.{HaveDifferentNames};
-ghost use Rattle.est_trace.specs.inside.Skeletons.{ArePlain};
-ghost use Rattle.est_trace.specs.inside.Directories.{signal_name, IsDirectory};
-ghost use Rattle.est_trace.specs.inside.Lookups.{Finds, signals_of};
+ghost use Rattle.est_value_texts.specs.TraceGrammar as grammar;
+ghost use Rattle.est_port_names.specs.PortNames.{signal_name};
+ghost use Rattle.est_port_names.specs.PortNames as names;
+ghost use Rattle.est_port_names.specs.Directories.{IsDirectory};
+ghost use Rattle.est_trace.specs.inside.Parts.{parameters_of};
+ghost use Rattle.est_trace.specs.inside.Lookups.{Finds};
 
-use crate::hints::{Hints, passes};
-use crate::table::NameTable;
+use est_port_names::directory::Directory;
+use est_port_names::hints::{Hints, passes};
 use est_reader::Reader;
-use est_syntax::ports::{Direction, Port, Ports, Signal};
-use std::alloc::{AllocError, Global};
+use est_syntax::kind::Kind;
+use est_syntax::ports::{Direction, Signal};
 
-/// The ports of a specification, to be found by their names.
-#[derive(Drop)]
-pub struct Directory<'p> {
-    pub ports: &'p [Port],
-    names: NameTable,
-}
-
-/// The directory of these ports.
-pub fn directory_of<'p>(alloc: Global, ports: &'p Ports) -> Result<Directory<'p>, AllocError>
-    requires { ArePlain ports.now }
-    ensures ports { IfOk result (λ directory. directory.ports.now ≡ ports.now) }
-    ensures directory { IfOk result IsDirectory }
+/// The kinds of the parameters of the signal of this number; none where there is no such signal.
+pub fn parameters_at(signals: &[Signal], signal: u32) -> &[Kind]
+    ensures { result.now ≡ parameters_of (slice_get signals.now signal) }
 {
-    let listed = ports.as_slice();
-    let mut names = NameTable::new(alloc);
-    for port in listed.iter() {
-        names.add(alloc, port.name.bytes.as_slice())?;
-    }
-    Ok(Directory {
-        ports: listed,
-        names,
-    })
-}
-
-/// The signals of the port of this number; none where there is no such port.
-pub fn signals_at<'p>(directory: &Directory<'p>, port: u32) -> &'p [Signal]
-    ensures { result.now ≡ signals_of (slice_get directory.now.ports.now port) }
-{
-    match directory.ports.get(port as usize) {
-        Some(port) => port.signals.get().as_slice(),
+    match signals.get(signal as usize) {
+        Some(signal) => signal.kinds.as_slice(),
         None => &[],
     }
 }
 
-/// The number of the port that stands at the place and that some signal passes in this direction.
-pub fn find_port(
+// Whether the signal of this number passes its port in this direction.
+fn passes_at(signals: &[Signal], signal: u32, direction: Direction) -> bool
+    ensures { result
+        ≡ option_map_or (names.passes direction) (slice_get signals.now signal) false }
+{
+    match signals.get(signal as usize) {
+        Some(signal) => passes(signal, direction),
+        None => false,
+    }
+}
+
+/// The number of the head that stands at the place, where some signal passes it in this direction.
+pub fn find_head(
     reader: &mut Reader,
     directory: &Directory,
     hints: &mut Hints,
@@ -64,12 +53,11 @@ pub fn find_port(
     let Some(name) = reader.name_here() else {
         return None;
     };
-    let Some(number) = directory.names.number_of(&name) else {
+    let Some(head) = directory.head_of(&name) else {
         return None;
     };
-    let signals = directory.ports[number].signals.get().as_slice();
-    match hints.some_pass(signals, direction) {
-        Ok(true) => Some(number as u32),
+    match hints.some_pass(directory.signals(head), direction) {
+        Ok(true) => Some(head),
         Ok(false) => None,
         Err(_) => {
             reader.spend();
@@ -85,8 +73,7 @@ pub fn find_signal(
     hints: &mut Hints,
     direction: Direction,
 ) -> Option<u32>
-    requires different { HaveDifferentNames signal_name signals.now }
-    requires few { length signals.now ≤ most_parts }
+    requires { HaveDifferentNames signal_name signals.now }
     ensures still { Still reader.old reader.new }
     ensures found { Finds (grammar.signal direction) signals.now reader.old result reader.new }
 {
@@ -95,8 +82,8 @@ pub fn find_signal(
     };
     match hints.number_of(signals, &name) {
         Ok(Some(number)) => {
-            if passes(&signals[number], direction) {
-                Some(number as u32)
+            if passes_at(signals, number, direction) {
+                Some(number)
             } else {
                 None
             }

@@ -1,48 +1,52 @@
 //! Trace texts.
 
 ghost use Rattle.std.specs.Prelude.{◌≡◌, ◌≤◌, [], length, IfOk};
+ghost use Rattle.std.specs.Option.{IsSomeAnd, option_map};
 ghost use Rattle.est_lexer.specs.Offsets.{text_of, tokens_of};
 ghost use Rattle.est_language.specs.Grammar.{rule};
-ghost use Rattle.est_language.specs.Shown.{node};
-ghost use Rattle.est_skeleton.specs.Ports.{ports_of};
-ghost use Rattle.est_meaning.specs.Allowed.{IsAllowedTrace, most_events};
+ghost use Rattle.est_ports.specs.PortList.{ports_of};
+ghost use Rattle.est_choices.specs.declared.event.Event.TheVariants as events;
+ghost use Rattle.est_choices.specs.AllowedEvents.{IsAllowedTrace, most_events};
 ghost use Rattle.est_reader.specs.Moving.{SeesOne};
-ghost use Rattle.est_reader.specs.Going.{Goes};
-ghost use Rattle.est_trace.specs.TraceGrammar as grammar;
-ghost use Rattle.est_trace.specs.TraceNodes.{an_event, some_events, a_trace, tracing};
-ghost use Rattle.est_trace.specs.inside.Skeletons.{ArePlain};
-ghost use Rattle.est_trace.specs.inside.Directories.{IsDirectory};
+ghost use Rattle.est_value_texts.specs.TraceGrammar as grammar;
+ghost use Rattle.est_value_texts.specs.TraceGrammar.{events_at};
+ghost use Rattle.est_value_texts.specs.ValueReading.{Reads};
+ghost use Rattle.est_port_names.specs.PortNames.{GoodPorts};
+ghost use Rattle.est_port_names.specs.Directories.{IsDirectory};
+ghost use Rattle.est_trace.specs.TraceShapes.{ShowsEvent, ShowsEvents, ShowsTrace};
 ghost use Rattle.est_trace.specs.inside.AtPorts.{AreAtPorts};
 ghost use Rattle.est_trace.specs.inside.Counting.{CountsEvents, CountsTrace};
 ghost use Rattle.est_trace.specs.TraceText.{ReadsTrace};
 
 use crate::error::TraceError;
-use crate::hints::Hints;
 use crate::interaction::port_signal;
-use crate::lookup::{Directory, directory_of};
-use est_check::Skeleton;
+use est_check::Checked;
+use est_choices::event::{Event, Interaction, Trace};
 use est_lexer::tokens::Tokens;
-use est_meaning::event::{Event, MOST_EVENTS, Trace};
+use est_port_names::directory::{Directory, directory_of};
+use est_port_names::hints::Hints;
+use est_ports::ports::Ports;
 use est_reader::Reader;
 use est_syntax::kind::MAXINT;
-use est_syntax::ports::{Direction, Ports};
+use est_syntax::ports::Direction;
 use std::alloc::Global;
 
+/// A trace has at most so many events.
+pub const MOST_EVENTS: u32 = 200_000;
+
 /// The trace of a specification that the tokens are, or the first token that is refused.
-pub fn read_trace(alloc: Global, checked: &Skeleton, tokens: &Tokens) -> Result<Trace, TraceError>
+pub fn read_trace(alloc: Global, checked: &Checked, tokens: &Tokens) -> Result<Trace, TraceError>
     ensures reads { ReadsTrace (ports_of checked.now) (text_of tokens.now)
         (tokens_of tokens.now) result }
     ensures allowed { IfOk result (λ x. IsAllowedTrace checked.now x) }
 {
-    let _spec = checked.spec();
-    let ports = checked.ports();
-    read_events(alloc, ports, tokens)
+    read_events(alloc, checked.ports(), tokens)
 }
 
 // The trace that the tokens are, for a specification with these ports, or the first token that is
 // refused.
 fn read_events(alloc: Global, ports: &Ports, tokens: &Tokens) -> Result<Trace, TraceError>
-    requires { ArePlain ports.now }
+    requires { GoodPorts ports.now }
     ensures reads { ReadsTrace ports.now (text_of tokens.now) (tokens_of tokens.now) result }
     ensures at_ports { IfOk result (λ x. AreAtPorts ports.now x) }
     ensures few { IfOk result (λ x. length x ≤ most_events) }
@@ -54,9 +58,9 @@ fn read_events(alloc: Global, ports: &Ports, tokens: &Tokens) -> Result<Trace, T
 
 // The trace that comes next, for a specification with these ports.
 fn trace_of(reader: &mut Reader, ports: &Ports) -> Trace
-    requires { ArePlain ports.now }
-    ensures reads { Goes tracing (grammar.trace ports.now) reader.old
-        (node (a_trace result)) reader.new }
+    requires { GoodPorts ports.now }
+    ensures reads { Reads (grammar.trace ports.now) (ShowsTrace ports.now result)
+        reader.old reader.new }
     ensures counts { CountsTrace ports.now reader.old reader.new }
 {
     match directory_of(reader.alloc, ports) {
@@ -77,8 +81,8 @@ fn trace_of(reader: &mut Reader, ports: &Ports) -> Trace
 // trace = "trace" "1" { event } "end" .
 fn whole_trace(reader: &mut Reader, directory: &Directory, hints: &mut Hints) -> Trace
     requires { IsDirectory directory.now }
-    ensures reads { Goes tracing (grammar.trace directory.now.ports.now) reader.old
-        (node (a_trace result)) reader.new }
+    ensures reads { Reads (grammar.trace directory.now.ports.now)
+        (ShowsTrace directory.now.ports.now result) reader.old reader.new }
     ensures counts { CountsTrace directory.now.ports.now reader.old reader.new }
 {
     reader.take_word(b"trace");
@@ -91,8 +95,8 @@ fn whole_trace(reader: &mut Reader, directory: &Directory, hints: &mut Hints) ->
 // { event }, each event within a level of its own: the levels count the events.
 fn events(reader: &mut Reader, directory: &Directory, hints: &mut Hints) -> Trace
     requires { IsDirectory directory.now }
-    ensures reads { Goes tracing (rule directory.now.ports.now) reader.old
-        (node (some_events result)) reader.new }
+    ensures reads { Reads (rule (events_at directory.now.ports.now))
+        (ShowsEvents directory.now.ports.now result) reader.old reader.new }
     ensures counts { CountsEvents directory.now.ports.now reader.old reader.new }
 {
     let levels = reader.levels;
@@ -100,7 +104,7 @@ fn events(reader: &mut Reader, directory: &Directory, hints: &mut Hints) -> Trac
     while begins_event(reader) {
         reader.enter();
         let next = event(reader, directory, hints);
-        reader.keep(&mut found, next);
+        reader.keep_some(&mut found, next);
     }
     reader.close(levels);
     found
@@ -114,19 +118,41 @@ fn begins_event(reader: &Reader) -> bool
 }
 
 // event = "time" number | "in" port "." signal | "out" port "." signal .
-fn event(reader: &mut Reader, directory: &Directory, hints: &mut Hints) -> Event
+// None where it is not there, or memory ran out.
+fn event(reader: &mut Reader, directory: &Directory, hints: &mut Hints) -> Option<Event>
     requires { IsDirectory directory.now }
-    ensures { Goes tracing (grammar.event directory.now.ports.now) reader.old
-        (node (an_event result)) reader.new }
+    ensures { Reads (grammar.event directory.now.ports.now)
+        (λ t. IsSomeAnd result (λ e. ShowsEvent directory.now.ports.now e t))
+        reader.old reader.new }
 {
     if reader.sees_word(b"in") {
         reader.take_word(b"in");
-        return Event::Arrives(port_signal(reader, directory, hints, Direction::Receives));
+        return arrival(port_signal(reader, directory, hints, Direction::Receives));
     }
     if reader.sees_word(b"out") {
         reader.take_word(b"out");
-        return Event::Leaves(port_signal(reader, directory, hints, Direction::Sends));
+        return departure(port_signal(reader, directory, hints, Direction::Sends));
     }
     reader.take_word(b"time");
-    Event::Passes(reader.number(0, MAXINT))
+    Some(Event::Passes(reader.number(0, MAXINT)))
+}
+
+// The arrival of an interaction, if there is one.
+fn arrival(interaction: Option<Interaction>) -> Option<Event>
+    ensures { result ≡ option_map events.Arrives interaction }
+{
+    match interaction {
+        Some(interaction) => Some(Event::Arrives(interaction)),
+        None => None,
+    }
+}
+
+// The departure of an interaction, if there is one.
+fn departure(interaction: Option<Interaction>) -> Option<Event>
+    ensures { result ≡ option_map events.Leaves interaction }
+{
+    match interaction {
+        Some(interaction) => Some(Event::Leaves(interaction)),
+        None => None,
+    }
 }

@@ -1,16 +1,14 @@
 -- What the look-up of a name answers.
-use Rattle.std.specs.Prelude.{◌≡◌, ℕ, ◌+◌, false, Option, Some, None, List, [], slice_get}
+use Rattle.std.specs.Prelude.{◌≡◌, ℕ, ◌+◌, false, Option, Some, None, List, slice_get}
 use Rattle.est_lexer.specs.declared.tokens.Tokens.{Tokens}
 use Rattle.est_lexer.specs.Offsets.{text_of, tokens_of}
 use Rattle.est_language.specs.Grammar.{one_of}
 use Rattle.est_language.specs.Marks.{MeetsOne, can_begin}
-use Rattle.est_syntax.specs.declared.ports.Signal.{Signal}
-use Rattle.est_syntax.specs.declared.ports.Port.{Port}
 use Rattle.est_reader.specs.declared.reader.Reader.{Reader}
 use Rattle.est_reader.specs.declared.outcome.Outcome.TheVariants.{Well}
 use Rattle.est_reader.specs.Tests.{holds}
 use Rattle.est_reader.specs.Moving.{Does, Same}
-use Rattle.est_trace.specs.TraceGrammar.{Rule, marks}
+use Rattle.est_value_texts.specs.TraceGrammar.{Rule, marks}
 
 -- the token at the place begins g
 abbrev pub Begins : Tokens → ℕ → Rule → Type 0
@@ -36,8 +34,3 @@ pub record Chooses {A : Type 0} (f : A → Rule) (xs : List A) (old : Reader) (n
       (λ b z. IsChosen f xs old.tokens.now old.at None × (b ≡ old.at) × (z ≡ false))
       old.at old.outcome new.at new.outcome
   pub same : Same old new
-
--- the signals of a port, if there is one
-abbrev pub signals_of : Option Port → List Signal
-signals_of None = []
-signals_of (Some port) = port.signals

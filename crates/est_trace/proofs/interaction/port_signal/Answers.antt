@@ -1,26 +1,34 @@
-use Rattle.std.proofs.Common.{refl, sym, ap, subst, slice_get}
-use Rattle.est_language.specs.Shown.{empty}
-use Rattle.est_reader.specs.Going.{Goes}
-use Rattle.est_reader.proofs.Going.{part, take}
-use Rattle.est_trace.specs.TraceGrammar.{dot_signal}
-use Rattle.est_trace.specs.TraceNodes.{numbered, tracing, values_view}
-use Rattle.est_skeleton.specs.DifferentNames.{HaveDifferentNames}
-use Rattle.est_trace.specs.inside.Directories.{signal_name}
-use Rattle.est_trace.proofs.TraceFits.{known}
-use Rattle.est_trace.proofs.Parts.{signal_goes, port_goes, signals_different}
+use Rattle.std.proofs.Common.{sym, ap, subst, Some, None}
+use Rattle.std.specs.Option.{option_map, IsSomeAnd}
+use Rattle.est_value_texts.specs.TraceGrammar as grammar
+use Rattle.est_value_texts.specs.ValueReading.{Reads}
+use Rattle.est_value_texts.specs.ValueShapes.{AreBracketed, ShowsValue}
+use Rattle.est_trace.specs.inside.Parts.{interaction_of}
+use Rattle.est_trace.proofs.Interactions.{interaction_reads_of}
 use Rattle.est_trace.proofs.interaction.port_signal.Goals as goal
 
-pub returns : goal.returns
-returns c =
-    let ports = c.args.directory.now.ports.now in
-    let different = subst (HaveDifferentNames signal_name) (sym c.signals_at-signals.ensures)
-    (signals_different c.args.direction ports c.requires.plain
-    (slice_get ports c.port-port.result) c.port-port.result refl) in
-    let read = take known c.take_word.ensures (signal_goes c.args.direction
-    c.signals_at-signals.result.now different c.signal-signal.ensures) in
-    part (ap (λ xs. numbered c.port-port.result (numbered c.signal-signal.result (values_view xs)))
-    c.new-values.ensures)
-    (port_goes c.args.direction ports c.requires.plain c.port-port.ensures
-    (subst (λ xs. Goes tracing (dot_signal c.args.direction xs) c.port-port.new.reader
-    (numbered c.signal-signal.result empty) c.signal-signal.new.reader)
-    c.signals_at-signals.ensures read))
+pub returns-in-Some : goal.returns-in-Some
+returns-in-Some c =
+    let k = c.element-port.result in
+    let m = c.signal-signal.result in
+    let values = subst (λ ks. Reads (grammar.parameters ks)
+    (λ t. IsSomeAnd c.values.result (λ vs. AreBracketed ShowsValue ks vs t))
+    c.signal-signal.new.reader c.values.new.reader) c.parameters_at.ensures c.values.ensures in
+    interaction_reads_of c.args.direction c.args.directory.now.ports.now c.requires.good k m
+    c.head-head.result c.values.result (Some (interaction_of k m c.in-Some.values))
+    c.signals-signals.result.now (sym (ap (option_map (interaction_of k m)) c.in-Some.is))
+    c.signals-signals.ensures c.head-head.ensures c.element-port.ensures c.symbol.ensures
+    c.signal-signal.ensures values
+
+pub returns-in-None : goal.returns-in-None
+returns-in-None c =
+    let k = c.element-port.result in
+    let m = c.signal-signal.result in
+    let values = subst (λ ks. Reads (grammar.parameters ks)
+    (λ t. IsSomeAnd c.values.result (λ vs. AreBracketed ShowsValue ks vs t))
+    c.signal-signal.new.reader c.values.new.reader) c.parameters_at.ensures c.values.ensures in
+    interaction_reads_of c.args.direction c.args.directory.now.ports.now c.requires.good k m
+    c.head-head.result c.values.result None
+    c.signals-signals.result.now (sym (ap (option_map (interaction_of k m)) c.in-None.is))
+    c.signals-signals.ensures c.head-head.ensures c.element-port.ensures c.symbol.ensures
+    c.signal-signal.ensures values

@@ -1,0 +1,93 @@
+-- From what is found of a name to the alternative that its token begins.
+use Rattle.std.proofs.Common.{◌≡◌, ℕ, Bool, true, false, ◌&&◌, List, map, sym, ap, ◌∙◌}
+use Rattle.std.proofs.Common.{Some, None, slice_get}
+use Rattle.std.specs.Option.{option_map_or}
+use Rattle.est_lexer.specs.declared.tokens.Tokens.{Tokens}
+use Rattle.est_language.specs.Grammar.{seq}
+use Rattle.est_language.proofs.Exits.{not_met}
+use Rattle.est_language.proofs.Members.{and_right}
+use Rattle.est_syntax.specs.declared.ports.Direction.{Direction}
+use Rattle.est_syntax.specs.declared.ports.Port.{Port}
+use Rattle.est_syntax.specs.declared.ports.Signal.{Signal}
+use Rattle.est_outline.specs.Differing.{HaveDifferentNames}
+use Rattle.est_reader.specs.Moving.{IsNamedAt}
+use Rattle.est_value_texts.specs.TraceGrammar.{Rule, subscripts, parameters, passes, some_pass}
+use Rattle.est_value_texts.specs.TraceGrammar.{signal, dot_signal, is_head, port}
+use Rattle.est_port_names.specs.PortNames as names
+use Rattle.est_port_names.specs.PortNames.{GoodPorts, IsHeadOf, IsNumberOf, port_name, signal_name}
+use Rattle.est_port_names.specs.PortNames.{signals_of}
+use Rattle.est_trace.specs.inside.Lookups.{IsChosen}
+use Rattle.est_port_names.proofs.Lists.{some_same, mapped_at, image_at}
+use Rattle.est_trace.proofs.SameTests.{same_passes, same_some, same_head}
+use Rattle.est_trace.proofs.Choices.{chosen, no_word, none_named}
+
+pub both_true : (a b : Bool) → a ≡ true → b ≡ true → (a && b) ≡ true
+both_true true b h k = k
+both_true false b h k = cc
+
+-- whether a port has an alternative, and what stands after its name there
+abbrev pub is_open : Direction → Port → Bool
+is_open d p = is_head p && some_pass d p.signals
+
+abbrev pub after_name : Direction → Port → Rule
+after_name d p = seq (subscripts p.index_kinds) (dot_signal d p.signals)
+
+-- the same of a signal
+abbrev pub after_signal : Signal → Rule
+after_signal x = parameters x.kinds
+
+module _ (d : Direction) (ports : List Port) (tk : Tokens) (at : ℕ) where
+  pub no_port_word : IsNamedAt tk at None → IsChosen (port d) ports tk at None
+  no_port_word s = no_word port_name (is_open d) (after_name d) ports tk at s
+
+  module _ (bytes : List ℕ) (s : IsNamedAt tk at (Some bytes)) where
+    pub no_head : IsHeadOf bytes ports None → IsChosen (port d) ports tk at None
+    no_head h = none_named port_name (is_open d) (after_name d) ports tk at bytes s
+        (λ j y e w k. h j y e k)
+
+    module _ (n : ℕ) (h : IsHeadOf bytes ports (Some n)) (found : Bool)
+        (f : found ≡ names.some_pass d (signals_of (slice_get ports n))) where
+      found_is : found ≡ some_pass d h.0.signals
+      found_is = f ∙ (ap (λ o. names.some_pass d (signals_of o)) h.1 ∙ same_some d h.0.signals)
+
+      pub head_open : found ≡ true → IsChosen (port d) ports tk at (Some n)
+      head_open e = chosen port_name (is_open d) (after_name d) ports tk at bytes n h.0 s h.1 h.2
+          (both_true (is_head h.0) (some_pass d h.0.signals) (sym (same_head h.0) ∙ h.3)
+          (sym found_is ∙ e))
+
+      pub head_closed : GoodPorts ports → found ≡ false → IsChosen (port d) ports tk at None
+      head_closed good e = none_named port_name (is_open d) (after_name d) ports tk at bytes s
+          (λ j y q w k.
+          let same : h.0.signals ≡ y.signals = (good.alike n j h.0 y h.1 q (h.2 ∙ sym k)).1 in
+          not_met (ap (some_pass d) (sym same) ∙ (sym found_is ∙ e))
+          (and_right (is_head y) (some_pass d y.signals) w))
+
+module _ (d : Direction) (xs : List Signal) (tk : Tokens) (at : ℕ) where
+  pub no_signal_word : IsNamedAt tk at None → IsChosen (signal d) xs tk at None
+  no_signal_word s = no_word signal_name (passes d) after_signal xs tk at s
+
+  module _ (bytes : List ℕ) (s : IsNamedAt tk at (Some bytes)) where
+    pub no_signal : IsNumberOf bytes (map signal_name xs) None → IsChosen (signal d) xs tk at None
+    no_signal h = none_named signal_name (passes d) after_signal xs tk at bytes s
+        (λ j y e w k. h j (image_at signal_name xs j y e ∙ ap Some k))
+
+    module _ (n : ℕ) (h : IsNumberOf bytes (map signal_name xs) (Some n)) (found : Bool)
+        (f : found ≡ option_map_or (names.passes d) (slice_get xs n) false) where
+      abbrev it : (x : Signal) × (slice_get xs n ≡ Some x) × (signal_name x ≡ bytes)
+      it = mapped_at signal_name xs n bytes h
+
+      signal_is : found ≡ passes d it.0
+      signal_is = f ∙ (ap (λ o. option_map_or (names.passes d) o false) it.1
+          ∙ same_passes d it.0)
+
+      pub signal_open : found ≡ true → IsChosen (signal d) xs tk at (Some n)
+      signal_open e = chosen signal_name (passes d) after_signal xs tk at bytes n it.0 s it.1 it.2
+          (sym signal_is ∙ e)
+
+      pub signal_closed : HaveDifferentNames signal_name xs → found ≡ false
+          → IsChosen (signal d) xs tk at None
+      signal_closed different e = none_named signal_name (passes d) after_signal xs tk at bytes s
+          (λ j y q w k.
+          let p : n ≡ j = different n j it.0 y it.1 q (it.2 ∙ sym k) in
+          let same : it.0 ≡ y = some_same (sym it.1 ∙ (ap (slice_get xs) p ∙ q)) in
+          not_met (ap (passes d) (sym same) ∙ (sym signal_is ∙ e)) w)

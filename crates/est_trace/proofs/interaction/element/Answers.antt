@@ -1,0 +1,18 @@
+use Rattle.std.proofs.Common.{subst}
+use Rattle.est_value_texts.specs.TraceGrammar as grammar
+use Rattle.est_value_texts.specs.ValueReading.{Reads}
+use Rattle.est_value_texts.specs.ValueShapes.{AreBracketed, ShowsOrdinal}
+use Rattle.est_port_names.specs.PortNames.{IsElementOf}
+use Rattle.est_trace.proofs.Interactions.{element_reads}
+use Rattle.est_trace.proofs.interaction.element.Goals as goal
+
+pub returns : goal.returns
+returns c =
+    let ports = c.args.directory.now.ports.now in
+    let n = c.args.head in
+    let x = subst (λ ks. Reads (grammar.subscripts ks)
+    (λ t. AreBracketed ShowsOrdinal ks c.subscripts-index.result t) c.args.reader.now
+    c.subscripts-index.new.reader) c.kinds.ensures c.subscripts-index.ensures in
+    element_reads ports n c.subscripts-index.result c.element.result
+    c.unwrap_or.result c.unwrap_or.ensures c.requires.head
+    (subst (λ zs. IsElementOf ports n zs c.element.result) c.as_slice.ensures c.element.ensures) x
