@@ -1,4 +1,4 @@
-"""Draws skeletons, the specifications that can be run, in which some names are others than they should be."""
+"""Draws skeletons, small specifications of one module, in which some names are others than they should be."""
 
 from .tokens import WORDS
 

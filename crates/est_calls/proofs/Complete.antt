@@ -1,15 +1,10 @@
 -- What a search answers of good texts whose start is ready.
-use Rattle.std.proofs.Common.{◌≡◌, ◌≢◌, ◌∙◌, ◌⊎◌, inl, inr, ℕ, List, Option, sym, subst, refl}
+use Rattle.std.proofs.Common.{◌≡◌, ◌≢◌, ◌∙◌, ℕ, List, sym, subst, refl}
 use Rattle.std.specs.Prelude.{String}
 use Rattle.std.specs.Global.{Global}
 use Rattle.est_edge.specs.FaultCounts.{Rose}
-use Rattle.est_syntax.specs.declared.specification.Spec.{Spec}
-use Rattle.est_skeleton.specs.Skeleton.{IsSkeleton}
-use Rattle.est_meaning.specs.Blocks.{Outcome, Done, Fault, Limit}
-use Rattle.est_meaning.specs.Step.{start_of}
-use Rattle.est_runs.specs.declared.run.Limits.{Limits}
-use Rattle.est_runs.specs.declared.run.Move.{Move}
-use Rattle.est_runs.specs.Run.{Setup, Explains}
+use Rattle.est_semantics.specs.Outcome.{Done, Fault, Limit}
+use Rattle.est_runs.specs.Run.{Setup}
 use Rattle.est_runs.specs.Trials.{IsTrial}
 use Rattle.est_search.specs.declared.verdict.Verdict.{Verdict}
 use Rattle.est_search.specs.declared.verdict.Verdict.TheVariants as verdict
@@ -17,28 +12,27 @@ use Rattle.est_search.specs.Verdict.{IsVerdict}
 use Rattle.est_search.proofs.OneVerdict.{too_many}
 use Rattle.est_files.specs.declared.file.File.{File}
 use Rattle.est_files.specs.declared.file.File.TheVariants.{Specification, Trace}
-use Rattle.est_tool.specs.declared.search.Searched.{Searched}
 use Rattle.est_tool.specs.declared.search.Searched.TheVariants as came
 use Rattle.est_words.specs.declared.status.Status.{Status}
 use Rattle.est_words.specs.declared.status.Status.TheVariants.{Fine, Refused, BadSpec, BadTrace}
 use Rattle.est_words.specs.declared.status.Status.TheVariants.{BadExplanation, OverBudget, TooLong}
 use Rattle.est_words.specs.declared.status.Status.TheVariants.{Usage, ReadFault, WriteFault}
-use Rattle.est_words.specs.declared.status.Status.TheVariants.{OutOfMemory, NoStart, NotBuilt}
+use Rattle.est_words.specs.declared.status.Status.TheVariants.{OutOfMemory, NoStart}
 use Rattle.est_calls.specs.Completeness.{IsSearchOf, IsJudged, IsWithinLimits, Decides}
 use Rattle.est_calls.specs.Completeness.{SearchIsComplete}
 use Rattle.est_files.specs.FileEnds.{End, reported, unread, EndsAt, longer, refused, failed}
 use Rattle.est_tool.specs.Ends.{Ends}
-use Rattle.est_tool.specs.Ends.{ExplainEnds, ends_at_specification, not_run, ends_at_trace}
+use Rattle.est_tool.specs.Ends.{ExplainEnds, ends_at_specification, ends_at_trace}
 use Rattle.est_tool.specs.Ends.{not_started, start_over, searched}
 use Rattle.est_files.specs.FileTexts.{Refusals, OfSpecification, OfTrace}
 use Rattle.est_files.specs.FileTexts.{RefusesSpecification, RefusesTrace}
-use Rattle.est_words.specs.Requests.{Request, Asks, explain, bytes_of}
+use Rattle.est_words.specs.Requests.{bytes_of}
 use Rattle.est_tool.specs.Result.{CallEnds, Reports, IsResult}
 use Rattle.est_files.specs.Seen.{Seen, Sent}
 use Rattle.est_reports.specs.SearchReports.{verdict_status}
 use Rattle.est_tool.specs.inside.Work.{IsExplained}
 use Rattle.est_calls.proofs.OneRequest.{request_one}
-use Rattle.est_calls.proofs.Stages.{specifications_decided, traces_decided, stage_next, AtTrace}
+use Rattle.est_calls.proofs.Stages.{specifications_decided, traces_decided, stage_next}
 use Rattle.est_calls.proofs.SearchStages.{limits_of, Explains as Stages, Searches, explain_stages}
 use Rattle.est_calls.proofs.SearchStages.{verdict_at}
 
@@ -56,13 +50,6 @@ record IsTold (c : Setup) (budget : ℕ) (status : Status) : Type 0 where
   is : IsVerdict c budget told
   status_is : status ≡ verdict_status told
 
--- after a skeleton a search comes to its trace
-at_trace_of : (shelf : Seen) (trace : List ℕ) (limits : Limits) (spec : Spec) (status : Status)
-    (report : List ℕ) → IsSkeleton spec → Searches shelf trace limits spec status report
-    → AtTrace shelf trace spec (IsExplained limits spec) status report
-at_trace_of shelf trace limits spec status report is (inl x) = x.1
-at_trace_of shelf trace limits spec status report is (inr x) = absurd (x.0 is)
-
 module _ (words : List (String Global)) (shelf : Seen) (output : Sent) (budget : ℕ) (c : Setup)
     (search_of : IsSearchOf words shelf output budget c) where
   -- how the call ends is how the search does
@@ -76,12 +63,11 @@ module _ (words : List (String Global)) (shelf : Seen) (output : Sent) (budget :
       → ExplainEnds shelf search_of.specification search_of.trace c.silent budget c.limit end → ⊥
   not_unread _ is (ends_at_specification end at) =
       search_of.specification_told.quiet (unread_rose shelf Specification _ _ end is at)
-  not_unread _ is (not_run spec holds none) = cc
   not_unread _ is (ends_at_trace spec end holds at) =
       search_of.trace_told.quiet (unread_rose shelf Trace _ _ end is at)
   not_unread _ is (not_started spec events fault holds traced comes) = cc
   not_unread _ is (start_over spec events holds traced comes) = cc
-  not_unread _ is (searched spec events s outs verdict holds traced begun comes) = cc
+  not_unread _ is (searched spec events s outs verdict holds traced begun comes fits) = cc
 
   -- what came of the search is a verdict
   is_verdict : (status : Status) (report : List ℕ)
@@ -94,9 +80,9 @@ module _ (words : List (String Global)) (shelf : Seen) (output : Sent) (budget :
     status_is = tells.0;
   }
   is_verdict status report (came.Fault fault, is, tells) =
-      let e : Done c.start c.start_outs ≡ Fault fault = sym search_of.begun ∙ is in absurd cc
+      let e : Done c.start_outs c.start ≡ Fault fault = sym search_of.begun ∙ is in absurd cc
   is_verdict status report (came.Limit, is, tells) =
-      let e : Done c.start c.start_outs ≡ Limit = sym search_of.begun ∙ is in absurd cc
+      let e : Done c.start_outs c.start ≡ Limit = sym search_of.begun ∙ is in absurd cc
 
   -- a report tells a verdict
   report_told : (status : Status) (report : List ℕ) → Reports words shelf status report
@@ -110,13 +96,11 @@ module _ (words : List (String Global)) (shelf : Seen) (output : Sent) (budget :
       report =
       stage_next Specification search_of.specification search_of.specification_told.bytes
       RefusesSpecification OfSpecification specifications_decided shelf
-      search_of.specification_told.told _ c.spec search_of.good.0 status report stages in
+      search_of.specification_told.told _ c.spec search_of.good status report stages in
       is_verdict status report
       (stage_next Trace search_of.trace search_of.trace_told.bytes (RefusesTrace c.spec)
       (OfTrace c.spec) (traces_decided c.spec) shelf search_of.trace_told.told _ c.trace
-      search_of.traced status report
-      (at_trace_of shelf search_of.trace (limits_of c.silent budget c.limit) c.spec status report
-      search_of.good.1 after))
+      search_of.traced status report after)
 
 -- a verdict has such a status
 verdict_judged : (v : Verdict) → IsJudged (verdict_status v)
@@ -147,7 +131,6 @@ module _ (words : List (String Global)) (shelf : Seen) (output : Sent) (budget :
       told_judged c budget BadExplanation (by_report BadExplanation _ result.written)
   judged TooLong result = told_judged c budget TooLong (by_report TooLong _ result.written)
   judged NoStart result = told_judged c budget NoStart (by_report NoStart _ result.written)
-  judged NotBuilt result = told_judged c budget NotBuilt (by_report NotBuilt _ result.written)
   judged Usage result = result.usage.0 refl _ search_of.asked
   judged ReadFault result =
       not_unread words shelf output budget c search_of unread refl
@@ -166,7 +149,6 @@ module _ (words : List (String Global)) (shelf : Seen) (output : Sent) (budget :
   told_of BadExplanation result kept = by_report BadExplanation _ result.written
   told_of TooLong result kept = by_report TooLong _ result.written
   told_of NoStart result kept = by_report NoStart _ result.written
-  told_of NotBuilt result kept = by_report NotBuilt _ result.written
   told_of Usage result kept = absurd (judged Usage result)
   told_of ReadFault result kept = absurd (judged ReadFault result)
   told_of WriteFault result kept = absurd (judged WriteFault result)

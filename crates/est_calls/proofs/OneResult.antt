@@ -1,8 +1,7 @@
 -- What is told of its files determines what a call reports.
-use Rattle.std.proofs.Common.{◌≡◌, ◌∙◌, ◌⊎◌, inl, inr, ℕ, List, length, sym, subst, ap, refl}
+use Rattle.std.proofs.Common.{◌≡◌, ◌∙◌, ℕ, List, length, sym, ap, refl}
 use Rattle.est_syntax.specs.declared.specification.Spec.{Spec}
-use Rattle.est_skeleton.specs.Skeleton.{IsSkeleton}
-use Rattle.est_meaning.specs.declared.event.Event.{Event}
+use Rattle.est_choices.specs.declared.event.Event.{Event}
 use Rattle.est_explanation.specs.declared.explanation.Explanation.{Explanation}
 use Rattle.est_replay.proofs.Checks.{answer_one}
 use Rattle.est_runs.specs.declared.run.Limits.{Limits}
@@ -15,15 +14,15 @@ use Rattle.est_files.specs.FileTexts.{OfSpecification, OfTrace, OfExplanation}
 use Rattle.est_files.specs.FileTexts.{RefusesSpecification, RefusesTrace, RefusesExplanation}
 use Rattle.est_words.specs.Requests.{check, explain, replay}
 use Rattle.est_files.specs.Seen.{Seen}
-use Rattle.est_tool.specs.inside.Work.{IsCounted, IsUnbuilt, IsAnswered, IsExplained}
+use Rattle.est_tool.specs.inside.Work.{IsCounted, IsAnswered, IsExplained}
 use Rattle.est_files.specs.FileEnds.{End, reported, unread}
 use Rattle.est_tool.specs.Ends.{CheckEnds, at_its_file, good, ReplayEnds}
-use Rattle.est_tool.specs.Ends.{at_specification, unbuilt, at_trace, at_explanation, replayed}
+use Rattle.est_tool.specs.Ends.{at_specification, at_trace, at_explanation, replayed}
 use Rattle.est_calls.specs.CallLaws.{TellAlike, OneResult}
-use Rattle.est_calls.proofs.Stages.{AreSame, OfReport, stopped, Stage, stops, goes_on, one_stage}
+use Rattle.est_calls.proofs.Stages.{AreSame, OfReport, stopped, stops, goes_on, one_stage}
 use Rattle.est_calls.proofs.Stages.{AtSpecification, AtTrace, AtExplanation}
 use Rattle.est_calls.proofs.Stages.{specifications_decided, traces_decided, explanations_decided}
-use Rattle.est_calls.proofs.SearchStages.{Explains, Searches, explain_stages, one_explained}
+use Rattle.est_calls.proofs.SearchStages.{Explains, explain_stages, one_explained}
 
 one_counted : (spec : Spec) (s s' : Status) (r r' : List ℕ) → IsCounted spec s r
     → IsCounted spec s' r' → AreSame s s' r r'
@@ -47,12 +46,11 @@ check_stages shelf name _ (at_its_file (reported s r) x) =
 check_stages shelf name _ (at_its_file unread x) = tt
 check_stages shelf name _ (good read holds) = goes_on read holds (refl, refl)
 
--- the stages of a replay: one that is no skeleton ends it
+-- the stages of a replay
 abbrev Runs : Seen → List ℕ → List ℕ → ℕ → ℕ → Spec → Status → List ℕ → Type 0
-Runs shelf trace explanation silent statements spec s r =
-    (IsSkeleton spec × AtTrace shelf trace spec (λ events. AtExplanation shelf explanation
-    (IsAnswered silent statements spec events)) s r)
-    ⊎ ((IsSkeleton spec → ⊥) × IsUnbuilt s r)
+Runs shelf trace explanation silent statements spec =
+    AtTrace shelf trace spec (λ events. AtExplanation shelf explanation
+    (IsAnswered silent statements spec events))
 
 abbrev Replays : Seen → List ℕ → List ℕ → List ℕ → ℕ → ℕ → Status → List ℕ → Type 0
 Replays shelf specification trace explanation silent statements =
@@ -64,19 +62,14 @@ replay_stages : (shelf : Seen) (specification trace explanation : List ℕ) (sil
 replay_stages shelf specification trace explanation silent statements _
     (at_specification (reported s r) x) = stops (stopped shelf Specification specification
     RefusesSpecification (reported s r) x)
-replay_stages shelf specification trace explanation silent statements _ (unbuilt spec holds none) =
-    goes_on spec holds (inr (none, (refl, refl)))
 replay_stages shelf specification trace explanation silent statements _
-    (at_trace spec (reported s r) holds x) = goes_on spec holds.0
-    (inl (holds.1, stops (stopped shelf Trace trace (RefusesTrace spec) (reported s r) x)))
+    (at_trace spec (reported s r) holds x) = goes_on spec holds
+    (stops (stopped shelf Trace trace (RefusesTrace spec) (reported s r) x))
 replay_stages shelf specification trace explanation silent statements _
     (at_explanation spec events (reported s r) holds traced x) =
-    goes_on spec holds.0
-    (inl (
-      holds.1,
-      goes_on events traced (stops (stopped shelf Explaining explanation
-          RefusesExplanation (reported s r) x)),
-    ))
+    goes_on spec holds
+    (goes_on events traced (stops (stopped shelf Explaining explanation RefusesExplanation
+    (reported s r) x)))
 replay_stages shelf specification trace explanation silent statements _
     (at_specification unread x) = tt
 replay_stages shelf specification trace explanation silent statements _
@@ -85,8 +78,8 @@ replay_stages shelf specification trace explanation silent statements _
     (at_explanation spec events unread holds traced x) = tt
 replay_stages shelf specification trace explanation silent statements _
     (replayed spec events read answer holds traced explained is) =
-    goes_on spec holds.0
-    (inl (holds.1, goes_on events traced (goes_on read explained (answer, is, refl, refl))))
+    goes_on spec holds
+    (goes_on events traced (goes_on read explained (answer, is, refl, refl)))
 
 one_check : (shelf shelf' : Seen) (name : List ℕ) (s s' : Status) (r r' : List ℕ)
     → TellAlike shelf shelf' name
@@ -105,7 +98,7 @@ one_replay : (shelf shelf' : Seen) (specification trace explanation : List ℕ)
 one_replay shelf shelf' specification trace explanation silent statements s s' r r' told traced
     explained x y =
     one_stage Specification specification told.0 RefusesSpecification OfSpecification
-    specifications_decided shelf shelf' told.1 told.2 _ _ runs_one s s' r r' x y
+    specifications_decided shelf shelf' told.1 told.2 _ _ at_trace_one s s' r r' x y
   where
     at_explanation_one : (spec : Spec) (events : List Event) (s s' : Status) (r r' : List ℕ)
         → AtExplanation shelf explanation (IsAnswered silent statements spec events) s r
@@ -126,14 +119,6 @@ one_replay shelf shelf' specification trace explanation silent statements s s' r
         shelf shelf' traced.1 traced.2 _ _
         (at_explanation_one spec) s s' r r' x y
 
-    runs_one : (spec : Spec) (s s' : Status) (r r' : List ℕ)
-        → Runs shelf trace explanation silent statements spec s r
-        → Runs shelf' trace explanation silent statements spec s' r' → AreSame s s' r r'
-    runs_one spec s s' r r' (inl x) (inl y) = at_trace_one spec s s' r r' x.1 y.1
-    runs_one spec s s' r r' (inl x) (inr y) = absurd (y.0 x.0)
-    runs_one spec s s' r r' (inr x) (inl y) = absurd (x.0 y.0)
-    runs_one spec s s' r r' (inr x) (inr y) = (x.1.0 ∙ sym y.1.0, x.1.1 ∙ sym y.1.1)
-
 one_explain : (shelf shelf' : Seen) (specification trace : List ℕ) (limits : Limits)
     (s s' : Status) (r r' : List ℕ) → TellAlike shelf shelf' specification
     → TellAlike shelf shelf' trace
@@ -141,7 +126,7 @@ one_explain : (shelf shelf' : Seen) (specification trace : List ℕ) (limits : L
     → Explains shelf' specification trace limits s' r' → AreSame s s' r r'
 one_explain shelf shelf' specification trace limits s s' r r' told traced x y =
     one_stage Specification specification told.0 RefusesSpecification OfSpecification
-    specifications_decided shelf shelf' told.1 told.2 _ _ searches_one s s' r r' x y
+    specifications_decided shelf shelf' told.1 told.2 _ _ at_trace_one s s' r r' x y
   where
     at_trace_one : (spec : Spec) (s s' : Status) (r r' : List ℕ)
         → AtTrace shelf trace spec (IsExplained limits spec) s r
@@ -150,14 +135,6 @@ one_explain shelf shelf' specification trace limits s s' r r' told traced x y =
         one_stage Trace trace traced.0 (RefusesTrace spec) (OfTrace spec) (traces_decided spec)
         shelf shelf' traced.1 traced.2 _ _
         (one_explained limits spec) s s' r r' x y
-
-    searches_one : (spec : Spec) (s s' : Status) (r r' : List ℕ)
-        → Searches shelf trace limits spec s r → Searches shelf' trace limits spec s' r'
-        → AreSame s s' r r'
-    searches_one spec s s' r r' (inl x) (inl y) = at_trace_one spec s s' r r' x.1 y.1
-    searches_one spec s s' r r' (inl x) (inr y) = absurd (y.0 x.0)
-    searches_one spec s s' r r' (inr x) (inl y) = absurd (x.0 y.0)
-    searches_one spec s s' r r' (inr x) (inr y) = (x.1.0 ∙ sym y.1.0, x.1.1 ∙ sym y.1.1)
 
 pub result_one : OneResult
 result_one shelf shelf' (check specification) s s' r r' told x y =

@@ -1,13 +1,12 @@
 -- What the specification and the trace of a search determine.
-use Rattle.std.proofs.Common.{◌≡◌, ◌∙◌, ◌⊎◌, inl, inr, ℕ, List, length, sym, subst, ap, refl}
+use Rattle.std.proofs.Common.{◌≡◌, ◌∙◌, ℕ, List, length, sym, subst, ap, refl}
 use Rattle.est_syntax.specs.declared.specification.Spec.{Spec}
-use Rattle.est_skeleton.specs.Skeleton.{IsSkeleton}
-use Rattle.est_meaning.specs.declared.event.Event.{Event}
-use Rattle.est_meaning.specs.Situation.{Situation}
-use Rattle.est_meaning.specs.Blocks.{Outcome, Done, Fault, Limit}
-use Rattle.est_meaning.specs.Step.{start_of}
+use Rattle.est_semantics.specs.GlobalSituation.{Situation}
+use Rattle.est_semantics.specs.Outcome.{Outcome, Done, Fault, Limit}
+use Rattle.est_semantics.specs.TextByPlace.{text_of}
+use Rattle.est_choices.specs.declared.event.Event.{Event}
+use Rattle.est_choices.specs.FiringSteps.{start_of}
 use Rattle.est_runs.specs.declared.run.Limits.{Limits}
-use Rattle.est_runs.specs.Run.{Setup}
 use Rattle.est_search.specs.declared.verdict.Verdict.{Verdict}
 use Rattle.est_search.specs.Verdict.{IsVerdict}
 use Rattle.est_search.proofs.OneVerdict.{verdict_unique}
@@ -17,11 +16,11 @@ use Rattle.est_tool.specs.declared.search.Searched.TheVariants as came
 use Rattle.est_words.specs.declared.status.Status.{Status}
 use Rattle.est_files.specs.FileTexts.{RefusesSpecification, RefusesTrace}
 use Rattle.est_files.specs.Seen.{Seen}
-use Rattle.est_tool.specs.inside.Work.{IsUnbuilt, Tells, IsExplained}
+use Rattle.est_tool.specs.inside.Work.{Tells, IsExplained}
 use Rattle.est_tool.specs.inside.Searching.{IsSearched}
 use Rattle.est_files.specs.FileEnds.{End, reported, unread}
 use Rattle.est_tool.specs.Ends.{task_of, ExplainEnds}
-use Rattle.est_tool.specs.Ends.{ends_at_specification, not_run, ends_at_trace, not_started}
+use Rattle.est_tool.specs.Ends.{ends_at_specification, ends_at_trace, not_started}
 use Rattle.est_tool.specs.Ends.{start_over, searched}
 use Rattle.est_calls.proofs.Stages.{AreSame, OfReport, stopped, stops, goes_on}
 use Rattle.est_calls.proofs.Stages.{AtSpecification, AtTrace}
@@ -31,11 +30,9 @@ abbrev pub limits_of : ℕ → ℕ → ℕ → Limits
 limits_of silent budget statements =
     record { silent = silent; budget = budget; statements = statements }
 
--- the stages of a search: a specification that is no skeleton ends it
+-- the stages of a search
 abbrev pub Searches : Seen → List ℕ → Limits → Spec → Status → List ℕ → Type 0
-Searches shelf trace limits spec s r =
-    (IsSkeleton spec × AtTrace shelf trace spec (IsExplained limits spec) s r)
-    ⊎ ((IsSkeleton spec → ⊥) × IsUnbuilt s r)
+Searches shelf trace limits spec = AtTrace shelf trace spec (IsExplained limits spec)
 
 abbrev pub Explains : Seen → List ℕ → List ℕ → Limits → Status → List ℕ → Type 0
 Explains shelf specification trace limits =
@@ -49,42 +46,36 @@ explain_stages shelf specification trace silent budget statements _
     RefusesSpecification (reported s r) x)
 explain_stages shelf specification trace silent budget statements _
     (ends_at_specification unread x) = tt
-explain_stages shelf specification trace silent budget statements _ (not_run spec holds none) =
-    goes_on spec holds (inr (none, (refl, refl)))
 explain_stages shelf specification trace silent budget statements _
-    (ends_at_trace spec (reported s r) holds x) = goes_on spec holds.0
-    (inl (holds.1, stops (stopped shelf Trace trace (RefusesTrace spec) (reported s r) x)))
+    (ends_at_trace spec (reported s r) holds x) = goes_on spec holds
+    (stops (stopped shelf Trace trace (RefusesTrace spec) (reported s r) x))
 explain_stages shelf specification trace silent budget statements _
     (ends_at_trace spec unread holds x) = tt
 explain_stages shelf specification trace silent budget statements _
     (not_started spec events fault holds traced is) =
-    goes_on spec holds.0
-    (inl (holds.1, goes_on events traced (came.Fault fault, is, (refl, refl))))
+    goes_on spec holds (goes_on events traced (came.Fault fault, is, (refl, refl)))
 explain_stages shelf specification trace silent budget statements _
     (start_over spec events holds traced is) =
-    goes_on spec holds.0 (inl (holds.1, goes_on events traced (came.Limit, is, (refl, refl))))
+    goes_on spec holds (goes_on events traced (came.Limit, is, (refl, refl)))
 explain_stages shelf specification trace silent budget statements _
-    (searched spec events s outs verdict holds traced begun is) =
-    goes_on spec holds.0
-    (inl (
-      holds.1,
-      goes_on events traced
-          (came.Found verdict, (s, outs, begun, is), (refl, refl)),
-    ))
+    (searched spec events s outs verdict holds traced begun is fits) =
+    goes_on spec holds
+    (goes_on events traced (came.Found verdict, (s, outs, begun, is), (refl, refl, fits)))
 
 -- a start that is ready is so in one way
-one_start : (o : Outcome) (s t : Situation) (outs outs' : List Event) → o ≡ Done s outs
-    → o ≡ Done t outs' → (s ≡ t) × (outs ≡ outs')
-one_start o s t outs outs' x y = let same : Done s outs ≡ Done t outs' = sym x ∙ y in (cc, cc)
+one_start : (o : Outcome Situation (List Event)) (s t : Situation) (outs outs' : List Event)
+    → o ≡ Done outs s → o ≡ Done outs' t → (s ≡ t) × (outs ≡ outs')
+one_start o s t outs outs' x y = let same : Done outs s ≡ Done outs' t = sym x ∙ y in (cc, cc)
 
 -- from one start one verdict comes
 pub verdict_at : (limits : Limits) (spec : Spec) (events : List Event) (s t : Situation)
-    (outs outs' : List Event) (verdict : Verdict) → start_of limits.statements spec ≡ Done s outs
-    → start_of limits.statements spec ≡ Done t outs'
+    (outs outs' : List Event) (verdict : Verdict)
+    → start_of limits.statements (text_of spec) ≡ Done outs s
+    → start_of limits.statements (text_of spec) ≡ Done outs' t
     → IsVerdict (task_of limits.silent limits.statements spec events s outs) limits.budget verdict
     → IsVerdict (task_of limits.silent limits.statements spec events t outs') limits.budget verdict
 verdict_at limits spec events s t outs outs' verdict x y is =
-    let same = one_start (start_of limits.statements spec) s t outs outs' x y in
+    let same = one_start (start_of limits.statements (text_of spec)) s t outs outs' x y in
     subst (λ z. IsVerdict (task_of limits.silent limits.statements spec events t z) limits.budget
     verdict) same.1
     (subst (λ z. IsVerdict (task_of limits.silent limits.statements spec events z outs)
@@ -98,18 +89,18 @@ one_found limits spec events (came.Found v) (came.Found w) x y =
     (verdict_unique (task_of limits.silent limits.statements spec events y.0 y.1)
     limits.budget v w (verdict_at limits spec events x.0 y.0 x.1 y.1 v x.2 y.2 x.3) y.3)
 one_found limits spec events (came.Found v) (came.Fault fault) x y =
-    let e : Done x.0 x.1 ≡ Fault fault = sym x.2 ∙ y in absurd cc
+    let e : Done x.1 x.0 ≡ Fault fault = sym x.2 ∙ y in absurd cc
 one_found limits spec events (came.Found v) came.Limit x y =
-    let e : Done x.0 x.1 ≡ Limit = sym x.2 ∙ y in absurd cc
+    let e : Done x.1 x.0 ≡ Limit = sym x.2 ∙ y in absurd cc
 one_found limits spec events (came.Fault fault) (came.Found w) x y =
-    let e : Done y.0 y.1 ≡ Fault fault = sym y.2 ∙ x in absurd cc
+    let e : Done y.1 y.0 ≡ Fault fault = sym y.2 ∙ x in absurd cc
 one_found limits spec events (came.Fault fault) (came.Fault other) x y =
     let e : Fault fault ≡ Fault other = sym x ∙ y in
     let same : fault ≡ other = cc in ap (λ z. came.Fault z) same
 one_found limits spec events (came.Fault fault) came.Limit x y =
     let e : Fault fault ≡ Limit = sym x ∙ y in absurd cc
 one_found limits spec events came.Limit (came.Found w) x y =
-    let e : Done y.0 y.1 ≡ Limit = sym y.2 ∙ x in absurd cc
+    let e : Done y.1 y.0 ≡ Limit = sym y.2 ∙ x in absurd cc
 one_found limits spec events came.Limit (came.Fault fault) x y =
     let e : Fault fault ≡ Limit = sym y ∙ x in absurd cc
 one_found limits spec events came.Limit came.Limit x y = refl

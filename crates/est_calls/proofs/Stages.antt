@@ -22,10 +22,10 @@ use Rattle.est_language.specs.Refusals.{wrong_at, too_deep_at}
 use Rattle.est_language.specs.Grammar.{rule}
 use Rattle.est_language.specs.Sentences.{HasPartial, IsFirstBadPlace}
 use Rattle.est_productions.specs.Productions.{specification as specification_rule}
-use Rattle.est_skeleton.specs.Ports.{ports_of}
-use Rattle.est_meaning.specs.declared.event.Event.{Event}
-use Rattle.est_meaning.specs.Allowed.{most_events}
-use Rattle.est_specification.specs.SpecificationText.{IsSpecification, IsNoSpecification}
+use Rattle.est_ports.specs.PortList.{ports_of}
+use Rattle.est_choices.specs.declared.event.Event.{Event}
+use Rattle.est_choices.specs.AllowedEvents.{most_events}
+use Rattle.est_specification.specs.SpecificationText.{IsNoSpecification}
 use Rattle.est_check.specs.LeastFault.{IsGood, IsLeastFault}
 use Rattle.est_specification.specs.declared.error.SpecificationError.{SpecificationError}
 use Rattle.est_specification.specs.declared.error.SpecificationError.TheVariants as specification

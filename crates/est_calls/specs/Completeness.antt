@@ -1,5 +1,5 @@
 -- What a search answers of good texts whose start is ready.
-use Rattle.std.specs.Prelude.{◌≡◌, ◌≢◌, ◌↔◌, ℕ, List, Option, Some, String}
+use Rattle.std.specs.Prelude.{◌≡◌, ◌≢◌, ◌↔◌, ℕ, List, Some, String}
 use Rattle.std.specs.Global.{Global}
 use Rattle.est_edge.specs.FaultCounts.{Rose}
 use Rattle.est_runs.specs.declared.run.Move.{Move}
@@ -10,7 +10,7 @@ use Rattle.est_words.specs.declared.status.Status.{Status}
 use Rattle.est_words.specs.declared.status.Status.TheVariants.{Fine, Refused, OverBudget}
 use Rattle.est_words.specs.declared.status.Status.TheVariants.{OutOfMemory}
 use Rattle.est_files.specs.Seen.{Seen, Sent}
-use Rattle.est_files.specs.FileEnds.{HoldsSkeleton, HoldsTrace}
+use Rattle.est_files.specs.FileEnds.{HoldsSpecification, HoldsTrace}
 use Rattle.est_words.specs.Requests.{Asks, explain, bytes_of}
 use Rattle.est_tool.specs.Result.{IsResult}
 
@@ -21,7 +21,7 @@ pub record IsToldWell (shelf : Seen) (name : List ℕ) : Type 0 where
   pub quiet : Rose (shelf.before.faults name) (shelf.after.faults name) → ⊥
 
 -- the words ask for a search within this budget for the runs of the setup: both files are told,
--- they hold the skeleton and the trace, the start is ready, and no count rose
+-- they hold the specification and the trace, the start is ready, and no count rose
 pub record IsSearchOf (words : List (String Global)) (shelf : Seen) (output : Sent) (budget : ℕ)
     (c : Setup) : Type 0 where
   pub specification : List ℕ
@@ -30,7 +30,7 @@ pub record IsSearchOf (words : List (String Global)) (shelf : Seen) (output : Se
   pub specification_told : IsToldWell shelf specification
   pub trace_told : IsToldWell shelf trace
   pub written : Rose output.before.faults output.after.faults → ⊥
-  pub good : HoldsSkeleton shelf specification c.spec
+  pub good : HoldsSpecification shelf specification c.spec
   pub traced : HoldsTrace shelf trace c.spec c.trace
   pub begun : IsBegun c
 

@@ -1,5 +1,5 @@
 pub mod LeastFault
+pub mod Small
 pub mod Found
 pub mod Checked
-pub mod StartedBodies
 pub mod inside

@@ -5,7 +5,7 @@ ghost use Rattle.est_outline.specs.Bodies.{outline_of};
 ghost use Rattle.est_check.specs.LeastFault.{IsGood};
 ghost use Rattle.est_counts.specs.Counts.{counts_of};
 ghost use Rattle.est_ports.specs.PortList.{ports_of};
-ghost use Rattle.est_skeleton.specs.Small.{IsSmall};
+ghost use Rattle.est_check.specs.Small.{IsSmall};
 ghost use Rattle.est_check.specs.Checked.{IsChecked};
 
 use est_counts::counts::Counts;

@@ -7,7 +7,7 @@ ghost use Rattle.est_outline.specs.Bodies.{outline_of};
 ghost use Rattle.est_check.specs.LeastFault.{IsGood};
 ghost use Rattle.est_counts.specs.Counts.{counts_of};
 ghost use Rattle.est_types.specs.DeclarationFaults.{declaration_faults};
-ghost use Rattle.est_skeleton.specs.Small.{IsSmall};
+ghost use Rattle.est_check.specs.Small.{IsSmall};
 ghost use Rattle.est_check.specs.Found.{IsFound, IsRefused};
 ghost use Rattle.est_check.specs.inside.Kept.{IsKept};
 

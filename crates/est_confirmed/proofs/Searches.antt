@@ -1,11 +1,12 @@
--- A search that accepts or refuses a trace tells the verdict on a skeleton and a trace.
+-- A search that accepts or refuses a trace tells the verdict on a specification and a trace.
 use Rattle.std.proofs.Common.{◌≡◌, ◌∙◌, ℕ, List, length, Option, Some, None, refl, subst}
 use Rattle.est_lexer.specs.declared.kind.Token.{Token}
 use Rattle.est_syntax.specs.declared.specification.Spec.{Spec}
-use Rattle.est_meaning.specs.declared.event.Event.{Event}
-use Rattle.est_meaning.specs.Situation.{Situation}
-use Rattle.est_meaning.specs.Blocks.{Done}
-use Rattle.est_meaning.specs.Step.{start_of}
+use Rattle.est_semantics.specs.GlobalSituation.{Situation}
+use Rattle.est_semantics.specs.Outcome.{Done}
+use Rattle.est_semantics.specs.TextByPlace.{text_of}
+use Rattle.est_choices.specs.declared.event.Event.{Event}
+use Rattle.est_choices.specs.FiringSteps.{start_of}
 use Rattle.est_search.specs.declared.verdict.Verdict.{Verdict}
 use Rattle.est_search.specs.Verdict.{IsVerdict}
 use Rattle.est_specification.specs.declared.error.SpecificationError.{SpecificationError}
@@ -16,22 +17,24 @@ use Rattle.est_files.specs.declared.file.File.{File}
 use Rattle.est_files.specs.declared.file.File.TheVariants as file
 use Rattle.est_words.specs.declared.status.Status.{Status}
 use Rattle.est_words.specs.declared.status.Status.TheVariants.{Fine, Refused}
-use Rattle.est_words.specs.declared.status.Status.TheVariants.{OverBudget, NoStart, NotBuilt}
+use Rattle.est_words.specs.declared.status.Status.TheVariants.{OverBudget, NoStart}
 use Rattle.est_files.specs.FileTexts.{Holds, Refusals, IsReported, RefusesSpecification}
 use Rattle.est_files.specs.FileTexts.{RefusesTrace, SaysOfSpecification, SaysOfTrace}
-use Rattle.est_reports.specs.SearchReports.{verdict_report}
+use Rattle.est_reports.specs.ReadableReports.{IsReadable}
+use Rattle.est_reports.specs.SearchReports.{over_start_line, verdict_report}
 use Rattle.est_reports.specs.SearchReports.{verdict_status}
 use Rattle.est_files.specs.Seen.{Seen}
 use Rattle.est_files.specs.FileEnds.{End, reported, EndsAt, longer, refused, failed}
 use Rattle.est_tool.specs.Ends.{task_of}
-use Rattle.est_files.specs.FileEnds.{HoldsSkeleton, HoldsTrace}
+use Rattle.est_files.specs.FileEnds.{HoldsSpecification, HoldsTrace}
 use Rattle.est_tool.specs.Ends.{ExplainEnds, ends_at_specification}
-use Rattle.est_tool.specs.Ends.{not_run, ends_at_trace, not_started, start_over, searched}
+use Rattle.est_tool.specs.Ends.{ends_at_trace, not_started, start_over, searched}
 
--- the status of a trace that is explained or refused
+-- the status of a search that is explained, refused or over budget
 abbrev pub IsDecision : Status → Type 0
 IsDecision Fine = Unit {0}
 IsDecision Refused = Unit {0}
+IsDecision OverBudget = Unit {0}
 IsDecision _ = ⊥
 
 -- where a text is held, there is one
@@ -81,7 +84,7 @@ ends_not shelf file name Refuses so _ status report e (refused s r x) d =
     so h.0 h.1 s h.2.place h.2.why h.2.refused (subst IsDecision (status_of s status r report e) d)
 ends_not shelf file name Refuses so _ status report e (failed x) d = cc
 
--- what such a search found
+-- such a search found this
 pub record IsFound (shelf : Seen) (specification trace : List ℕ) (silent budget statements : ℕ)
     (status : Status) (report : List ℕ) : Type 0 where
   pub spec : Spec
@@ -89,31 +92,39 @@ pub record IsFound (shelf : Seen) (specification trace : List ℕ) (silent budge
   pub start : Situation
   pub outs : List Event
   pub verdict : Verdict
-  pub holds : HoldsSkeleton shelf specification spec
+  pub holds : HoldsSpecification shelf specification spec
   pub traced : HoldsTrace shelf trace spec events
-  pub begun : start_of statements spec ≡ Done start outs
+  pub begun : start_of statements (text_of spec) ≡ Done outs start
   pub is : IsVerdict (task_of silent statements spec events start outs) budget verdict
+  pub fits : IsReadable statements (length events) verdict
   pub status_is : status ≡ verdict_status verdict
   pub report_is : report ≡ verdict_report statements (length events) verdict
+
+-- such a search found something, or the start passed the limit
+pub data Found (shelf : Seen) (specification trace : List ℕ) (silent budget statements : ℕ)
+    (status : Status) (report : List ℕ) : Type 0 where
+  found_so : IsFound shelf specification trace silent budget statements status report
+      → Found shelf specification trace silent budget statements status report
+  start_passed : status ≡ OverBudget → report ≡ over_start_line statements
+      → Found shelf specification trace silent budget statements status report
 
 module _ (shelf : Seen) (specification trace : List ℕ) (silent budget statements : ℕ)
     (status : Status) (report : List ℕ) (d : IsDecision status) where
   found_at : (end : End) → end ≡ reported status report
       → ExplainEnds shelf specification trace silent budget statements end
-      → IsFound shelf specification trace silent budget statements status report
+      → Found shelf specification trace silent budget statements status report
   found_at _ e (ends_at_specification end at) =
       absurd (ends_not shelf file.Specification specification RefusesSpecification
       refuses_specification end status report e at d)
-  found_at _ e (not_run spec holds none) =
-      let same : status ≡ NotBuilt = cc in absurd (subst IsDecision same d)
   found_at _ e (ends_at_trace spec end holds at) =
       absurd (ends_not shelf file.Trace trace (RefusesTrace spec) (refuses_trace spec) end status
       report e at d)
   found_at _ e (not_started spec events fault holds traced is) =
       let same : status ≡ NoStart = cc in absurd (subst IsDecision same d)
   found_at _ e (start_over spec events holds traced is) =
-      let same : status ≡ OverBudget = cc in absurd (subst IsDecision same d)
-  found_at _ e (searched spec events s outs verdict holds traced begun is) = record {
+      let same : status ≡ OverBudget = cc in
+      let line : report ≡ over_start_line statements = cc in start_passed same line
+  found_at _ e (searched spec events s outs verdict holds traced begun is fits) = found_so (record {
     spec = spec;
     events = events;
     start = s;
@@ -123,11 +134,12 @@ module _ (shelf : Seen) (specification trace : List ℕ) (silent budget statemen
     traced = traced;
     begun = begun;
     is = is;
+    fits = fits;
     status_is = cc;
     report_is = cc;
-  }
+  })
 
   pub found : ExplainEnds shelf specification trace silent budget statements
       (reported status report)
-      → IsFound shelf specification trace silent budget statements status report
+      → Found shelf specification trace silent budget statements status report
   found ends = found_at (reported status report) refl ends

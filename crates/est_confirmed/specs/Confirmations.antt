@@ -1,11 +1,13 @@
 -- What `explain` reports, `replay` confirms.
-use Rattle.std.specs.Prelude.{◌≡◌, ℕ, ◌+◌, ◌≤◌, List, ◌++◌, Some, length}
+use Rattle.std.specs.Prelude.{◌≡◌, ℕ, ◌+◌, ◌≤◌, List, ◌++◌, Option, Some, length}
 use Rattle.est_files.specs.declared.file.File.TheVariants as file
 use Rattle.est_words.specs.declared.status.Status.{Status}
-use Rattle.est_words.specs.declared.status.Status.TheVariants.{Fine, Refused}
+use Rattle.est_words.specs.declared.status.Status.TheVariants.{Fine, Refused, OverBudget}
+use Rattle.est_choices.specs.declared.firing.Firing.{Firing}
 use Rattle.est_files.specs.Files.{limit_of}
 use Rattle.est_tool.specs.ReplayReports.{first_line, all_line}
-use Rattle.est_reports.specs.SearchReports.{accepted_line, refused_line}
+use Rattle.est_reports.specs.SearchReports.{accepted_line, refused_line, over_action_line}
+use Rattle.est_reports.specs.SearchReports.{over_firings_line, over_start_line}
 use Rattle.est_files.specs.Seen.{Seen}
 use Rattle.est_files.specs.FileEnds.{reported}
 use Rattle.est_tool.specs.Ends.{Ends}
@@ -55,10 +57,23 @@ pub record IsConfirmedBefore (report : List ℕ) (status' : Status) (report' : L
   pub fine : status' ≡ Fine
   pub confirmed : report' ≡ first_line claim events
 
+-- A block or a guard passed the limit of statements after some moves, and the events that these
+-- yield are confirmed. Else the report is one line that is no explanation: so many firings were
+-- tried, or the start passed the limit.
+pub data IsConfirmedSoFar (report : List ℕ) (status' : Status) (report' : List ℕ) : Type 0 where
+  action : (limit events claim : ℕ) (firing : Option Firing)
+      → BeginsWith (over_action_line limit firing) report → status' ≡ Fine
+      → report' ≡ first_line claim events → IsConfirmedSoFar report status' report'
+  firings : (tried : ℕ) → report ≡ over_firings_line tried
+      → IsConfirmedSoFar report status' report'
+  start : (limit : ℕ) → report ≡ over_start_line limit → IsConfirmedSoFar report status' report'
+
 -- What a search reports of a trace that it accepts or refuses is confirmed: all events, or all
--- before the refused one.
+-- before the refused one. So is what it reports where something passes the limit of statements.
 pub record ExplainedIsConfirmed : Type 0 where
   pub accepted : (report : List ℕ) (status' : Status) (report' : List ℕ)
       → IsFedBack Fine report status' report' → IsConfirmedWhole report status' report'
   pub refused : (report : List ℕ) (status' : Status) (report' : List ℕ)
       → IsFedBack Refused report status' report' → IsConfirmedBefore report status' report'
+  pub over : (report : List ℕ) (status' : Status) (report' : List ℕ)
+      → IsFedBack OverBudget report status' report' → IsConfirmedSoFar report status' report'

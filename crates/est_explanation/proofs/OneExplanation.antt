@@ -6,7 +6,7 @@ use Rattle.est_language.specs.Grammar.{t_right, t_rep_out, t_rep_in}
 use Rattle.est_language.specs.Shown.{Shows, node, nodes, s_kept, s_pair}
 use Rattle.est_language.specs.Shown.{s_first, s_second, s_node, s_none, s_more}
 use Rattle.est_language.proofs.Trees.{tree_forward}
-use Rattle.est_meaning.specs.declared.firing.Firing.{Firing}
+use Rattle.est_choices.specs.declared.firing.Firing.{Firing}
 use Rattle.est_runs.specs.declared.run.Move.{Move}
 use Rattle.est_runs.specs.declared.run.Move.TheVariants.{Take, Fire}
 use Rattle.est_reader.specs.Going.{Shape}

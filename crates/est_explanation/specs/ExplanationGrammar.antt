@@ -2,7 +2,7 @@
 use Rattle.std.specs.Prelude.{ℕ, ◌+◌, true, List, [], ◌∷◌}
 use Rattle.est_language.specs.Grammar.{done, word, token, seq, alt, rep}
 use Rattle.est_language.specs.Marks.{Marks}
-use Rattle.est_meaning.specs.Allowed.{most_events}
+use Rattle.est_choices.specs.AllowedEvents.{most_events}
 use Rattle.est_reader.specs.Tests.{Test, said, number}
 use Rattle.est_reader.specs.Going as going
 

@@ -1,7 +1,7 @@
 -- What explanations show of their texts, a layer at a time.
 use Rattle.std.specs.Prelude.{ℕ, map}
 use Rattle.est_language.specs.Shown.{empty, kept, pair, first, second, nodes}
-use Rattle.est_meaning.specs.declared.firing.Firing.{Firing}
+use Rattle.est_choices.specs.declared.firing.Firing.{Firing}
 use Rattle.est_runs.specs.declared.run.Move.{Move}
 use Rattle.est_runs.specs.declared.run.Move.TheVariants.{Take, Fire}
 use Rattle.est_reader.specs.Tests.{value}

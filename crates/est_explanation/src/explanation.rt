@@ -13,15 +13,17 @@ ghost use Rattle.est_explanation.specs.ExplanationNodes.{firing_view, explaining
 ghost use Rattle.est_explanation.specs.ExplanationText.{ReadsExplanation};
 
 use crate::error::ExplanationError;
+use est_choices::firing::Firing;
 use est_lexer::tokens::Tokens;
-use est_meaning::event::MOST_EVENTS;
-use est_meaning::firing::Firing;
 use est_reader::Reader;
 use est_runs::run::{Move, Run};
 use std::alloc::Global;
 
 // The greatest number of an instance, a transition or a choice that can be written.
 const MOST_ORDINAL: u32 = 999_999_999;
+
+// The greatest claim that can be written, one more than the most events of a trace.
+const MOST_CLAIM: u32 = 200_001;
 
 /// How a trace is said to come about: the moves, and how many of its events they are said to
 /// yield, plus one for all with nothing after them.
@@ -50,7 +52,7 @@ fn whole_explanation(reader: &mut Reader) -> Explanation
     let _version = reader.number(1, 1);
     let moves = moves(reader);
     reader.take_word(b"yields");
-    let claim = reader.number(0, MOST_EVENTS + 1);
+    let claim = reader.number(0, MOST_CLAIM);
     Explanation { moves, claim }
 }
 

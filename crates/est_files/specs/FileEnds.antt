@@ -2,8 +2,7 @@
 use Rattle.std.specs.Prelude.{◌≡◌, ℕ, ◌+◌, ◌<◌, List, length, IfSome}
 use Rattle.est_edge.specs.FaultCounts.{Rose}
 use Rattle.est_syntax.specs.declared.specification.Spec.{Spec}
-use Rattle.est_skeleton.specs.Skeleton.{IsSkeleton}
-use Rattle.est_meaning.specs.declared.event.Event.{Event}
+use Rattle.est_choices.specs.declared.event.Event.{Event}
 use Rattle.est_explanation.specs.declared.explanation.Explanation.{Explanation}
 use Rattle.est_files.specs.declared.file.File.{File}
 use Rattle.est_files.specs.declared.file.File.TheVariants as file
@@ -44,10 +43,6 @@ pub data EndsAt (shelf : Seen) (file : File) (name : List ℕ) (Refuses : Refusa
 abbrev pub HoldsSpecification : Seen → List ℕ → Spec → Type 0
 HoldsSpecification shelf name spec =
     Holds file.Specification (shelf.before.told name) (OfSpecification spec)
-
--- it holds the text of this skeleton, which breaks no rule
-abbrev pub HoldsSkeleton : Seen → List ℕ → Spec → Type 0
-HoldsSkeleton shelf name spec = HoldsSpecification shelf name spec × IsSkeleton spec
 
 -- the file holds the text of this trace of a specification, and of no other
 abbrev pub HoldsTrace : Seen → List ℕ → Spec → List Event → Type 0

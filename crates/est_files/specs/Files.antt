@@ -1,7 +1,7 @@
 -- The files that a call reads.
 use Rattle.std.specs.Prelude.{ℕ, List, codes}
 use Rattle.est_lexer.specs.declared.tokens.TheConstants.{MOST_BYTES}
-use Rattle.est_skeleton.specs.Small.{most_parts}
+use Rattle.est_check.specs.Small.{most_parts}
 use Rattle.est_files.specs.declared.file.File.{File}
 use Rattle.est_files.specs.declared.file.File.TheVariants.{Specification, Trace, Explanation}
 

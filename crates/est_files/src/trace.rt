@@ -1,6 +1,6 @@
 //! The text of a trace.
 ghost use Rattle.std.specs.Prelude.{◌≤◌, IfSome, length, IfOk};
-ghost use Rattle.est_meaning.specs.Allowed.{IsAllowedTrace};
+ghost use Rattle.est_choices.specs.AllowedEvents.{IsAllowedTrace};
 ghost use Rattle.est_files.specs.Files.{limit_of};
 ghost use Rattle.est_files.specs.Seen.{seen, shelved};
 ghost use Rattle.est_files.specs.FileTexts.{OfTrace, RefusesTrace, SaysOfTrace};
@@ -10,10 +10,10 @@ use crate::diagnostic::{Diagnostic, refuse};
 use crate::file::File;
 use crate::reading::read_text;
 use crate::stop::Stop;
-use est_check::Skeleton;
+use est_check::Checked;
+use est_choices::event::Trace;
 use est_edge::Shelf;
 use est_lexer::lex::lex;
-use est_meaning::event::Trace;
 use est_trace::error::TraceError;
 use est_trace::trace::read_trace;
 use est_words::status::Status;
@@ -24,7 +24,7 @@ pub fn trace_in<S: Shelf>(
     alloc: Global,
     shelf: &mut S,
     name: &str,
-    checked: &Skeleton,
+    checked: &Checked,
 ) -> Result<Trace, Stop>
     ensures allowed { IfOk result (IsAllowedTrace checked.now) }
     ensures reads { ReadsFile File.Trace name.now
@@ -38,7 +38,7 @@ pub fn trace_in<S: Shelf>(
 }
 
 // The trace of a specification that a text within its limit is.
-fn trace_of(alloc: Global, text: &[u8], checked: &Skeleton) -> Result<Trace, Stop>
+fn trace_of(alloc: Global, text: &[u8], checked: &Checked) -> Result<Trace, Stop>
     requires { length text.now ≤ limit_of File.Trace }
     ensures allowed { IfOk result (IsAllowedTrace checked.now) }
     ensures reads { ReadsText File.Trace

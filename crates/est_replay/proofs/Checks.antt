@@ -4,16 +4,18 @@ use Rattle.std.proofs.Common.{reverse, refl, sym, ap, subst, ◌∙◌, inl, inr
 use Rattle.std.proofs.lemmas.List.{append-nil, take-append-drop, reverse-append}
 use Rattle.std.proofs.lemmas.List.{reverse-reverse, length-reverse}
 use Rattle.est_syntax.specs.declared.specification.Spec.{Spec}
-use Rattle.est_meaning.specs.declared.event.Event.{Event}
-use Rattle.est_meaning.specs.declared.firing.Firing.{Firing}
+use Rattle.est_semantics.specs.Outcome.{Done, Fault, Limit}
+use Rattle.est_semantics.specs.TextByPlace.{text_of}
+use Rattle.est_choices.specs.declared.event.Event.{Event}
+use Rattle.est_choices.specs.declared.firing.Firing.{Firing}
+use Rattle.est_choices.specs.TransitionSelection.{IsSettled, IsPossible}
+use Rattle.est_choices.specs.FiringSteps.{outcome, start_of}
+use Rattle.est_choices.proofs.Steps.{possible_settled}
 use Rattle.est_runs.specs.declared.run.Move.{Move}
 use Rattle.est_runs.specs.declared.run.Move.TheVariants.{Take, Fire}
-use Rattle.est_meaning.specs.Choices.{IsSettled, IsPossible}
-use Rattle.est_meaning.specs.Blocks.{Outcome, Done, Fault, Limit}
-use Rattle.est_meaning.specs.Step.{outcome, start_of}
 use Rattle.est_runs.specs.Run.{AgreeFirst, Setup, Place, first_place, after_firing, Fires}
 use Rattle.est_runs.specs.Run.{Moves, IsBoundedRun, Follows, FollowsBefore, Yields}
-use Rattle.est_meaning.proofs.StepLaws.{possible_settled, limit_done, fault_done}
+use Rattle.est_runs.proofs.StackLaws.{FiringOutcome, done, limit_done, fault_done}
 use Rattle.est_runs.proofs.RunLaws.{Grows, follows_grows, moves_one, one_place, explains_follows}
 use Rattle.est_replay.specs.declared.verdict.Why.{Why}
 use Rattle.est_replay.specs.declared.verdict.Why.TheVariants as why
@@ -47,8 +49,9 @@ pub record Passes (c : Setup) (agrees : Place → Type 0) (p : Place) (m : Move)
     pub bounded : q.silent_in_row ≤ c.silent
     pub agreed : agrees q
 
-fires_done : (c : Setup) (p : Place) (f : Firing) (q : Place) (t : Fires c p f q) (o : Outcome)
-    → outcome c.limit c.spec p.situation f ≡ o → Done t.situation t.outs ≡ o
+fires_done : (c : Setup) (p : Place) (f : Firing) (q : Place) (t : Fires c p f q)
+    (o : FiringOutcome) → outcome c.limit (text_of c.spec) p.situation f ≡ o
+    → done t.outs t.situation ≡ o
 fires_done c p f q t o e = sym t.step.done ∙ e
 
 -- a firing that leads somewhere fails by its events or its silence alone
@@ -56,7 +59,7 @@ firing_passes : (c : Setup) (agrees : Place → Type 0) (p : Place) (f : Firing)
     → Passes c agrees p (Fire f) q → FiringFails c agrees p f w → ⊥
 firing_passes c agrees p f q why.Limit t fails =
     elim fails [
-      | inl unsettled ↦ unsettled (possible_settled c.limit c.spec p.situation f
+      | inl unsettled ↦ unsettled (possible_settled c.limit (text_of c.spec) p.situation f
           t.moves.step.possible)
       | inr passed ↦ limit_done t.moves.situation t.moves.outs
           (sym (fires_done c p f q t.moves Limit passed.1))
@@ -86,8 +89,8 @@ passes_not_fails c agrees p (Fire f) q w t fails = firing_passes c agrees p f q 
 -- ONE CHECK FAILS FIRST
 
 -- what fails after a block's outcome
-abbrev pub FailsBehind : (Place → Type 0) → Place → Why → Outcome → Type 0
-FailsBehind agrees p w (Done s outs) = ((w ≡ why.WrongOutput) × (agrees (after_firing p s outs)
+abbrev pub FailsBehind : (Place → Type 0) → Place → Why → FiringOutcome → Type 0
+FailsBehind agrees p w (Done outs s) = ((w ≡ why.WrongOutput) × (agrees (after_firing p s outs)
     → ⊥)) ⊎ ((w ≡ why.TooSilent) × agrees (after_firing p s outs))
 FailsBehind agrees p w (Fault g) = w ≡ why.Fault g
 FailsBehind agrees p w Limit = w ≡ why.Limit
@@ -95,16 +98,19 @@ FailsBehind agrees p w Limit = w ≡ why.Limit
 -- how far a firing comes before it fails
 pub data Stage (c : Setup) (agrees : Place → Type 0) (p : Place) (f : Firing) (w : Why) : Type 0
   where
-    unsettled : (IsSettled c.limit c.spec p.situation → ⊥) → w ≡ why.Limit → Stage c agrees p f w
-    impossible : IsSettled c.limit c.spec p.situation → (IsPossible c.limit c.spec p.situation f
-        → ⊥)
-        → w ≡ why.NotOffered → Stage c agrees p f w
-    tried : IsPossible c.limit c.spec p.situation f
-        → FailsBehind agrees p w (outcome c.limit c.spec p.situation f) → Stage c agrees p f w
+    unsettled : (IsSettled c.limit (text_of c.spec) p.situation → ⊥) → w ≡ why.Limit
+        → Stage c agrees p f w
+    impossible : IsSettled c.limit (text_of c.spec) p.situation
+        → (IsPossible c.limit (text_of c.spec) p.situation f → ⊥) → w ≡ why.NotOffered
+        → Stage c agrees p f w
+    tried : IsPossible c.limit (text_of c.spec) p.situation f
+        → FailsBehind agrees p w (outcome c.limit (text_of c.spec) p.situation f)
+        → Stage c agrees p f w
 
-tried_with : (c : Setup) (agrees : Place → Type 0) (p : Place) (f : Firing) (w : Why) (o : Outcome)
-    → IsPossible c.limit c.spec p.situation f → outcome c.limit c.spec p.situation f ≡ o
-    → FailsBehind agrees p w o → Stage c agrees p f w
+tried_with : (c : Setup) (agrees : Place → Type 0) (p : Place) (f : Firing) (w : Why)
+    (o : FiringOutcome) → IsPossible c.limit (text_of c.spec) p.situation f
+    → outcome c.limit (text_of c.spec) p.situation f ≡ o → FailsBehind agrees p w o
+    → Stage c agrees p f w
 tried_with c agrees p f w o possible e h = tried possible (subst (FailsBehind agrees p w) (sym e) h)
 
 stage_of : (c : Setup) (agrees : Place → Type 0) (p : Place) (f : Firing) (w : Why)
@@ -119,19 +125,19 @@ stage_of c agrees p f (why.Fault g) fails = tried_with c agrees p f (why.Fault g
     fails.1 refl
 stage_of c agrees p f why.WrongOutput fails =
     let t = fails.1 in
-    tried_with c agrees p f why.WrongOutput (Done t.situation t.outs) t.step.possible t.step.done
+    tried_with c agrees p f why.WrongOutput (Done t.outs t.situation) t.step.possible t.step.done
     (inl (refl, λ a. fails.2 (subst agrees (sym t.leads) a)))
 stage_of c agrees p f why.TooSilent fails =
     let t = fails.1 in
-    tried_with c agrees p f why.TooSilent (Done t.situation t.outs) t.step.possible t.step.done
+    tried_with c agrees p f why.TooSilent (Done t.outs t.situation) t.step.possible t.step.done
     (inr (refl, subst agrees t.leads fails.2))
 stage_of c agrees p f (why.NoStart g) fails = absurd fails
 stage_of c agrees p f why.NoEvent fails = absurd fails
 stage_of c agrees p f why.NotAll fails = absurd fails
 
-behind_one : (agrees : Place → Type 0) (p : Place) (v w : Why) (o : Outcome)
+behind_one : (agrees : Place → Type 0) (p : Place) (v w : Why) (o : FiringOutcome)
     → FailsBehind agrees p v o → FailsBehind agrees p w o → v ≡ w
-behind_one agrees p v w (Done s outs) a b =
+behind_one agrees p v w (Done outs s) a b =
     elim a [
       | inl x ↦ elim b [ inl y ↦ x.0 ∙ sym y.0 | inr y ↦ absurd (x.1 y.1) ]
       | inr x ↦ elim b [ inl y ↦ absurd (y.1 x.1) | inr y ↦ x.0 ∙ sym y.0 ]
@@ -144,15 +150,15 @@ stages_one : (c : Setup) (agrees : Place → Type 0) (p : Place) (f : Firing) (v
 stages_one c agrees p f v w (unsettled x e) (unsettled y d) = e ∙ sym d
 stages_one c agrees p f v w (unsettled x e) (impossible s y d) = absurd (x s)
 stages_one c agrees p f v w (unsettled x e) (tried y h) =
-    absurd (x (possible_settled c.limit c.spec p.situation f y))
+    absurd (x (possible_settled c.limit (text_of c.spec) p.situation f y))
 stages_one c agrees p f v w (impossible s x e) (unsettled y d) = absurd (y s)
 stages_one c agrees p f v w (impossible s x e) (impossible t y d) = e ∙ sym d
 stages_one c agrees p f v w (impossible s x e) (tried y h) = absurd (x y)
 stages_one c agrees p f v w (tried x g) (unsettled y d) =
-    absurd (y (possible_settled c.limit c.spec p.situation f x))
+    absurd (y (possible_settled c.limit (text_of c.spec) p.situation f x))
 stages_one c agrees p f v w (tried x g) (impossible t y d) = absurd (y x)
 stages_one c agrees p f v w (tried x g) (tried y h) = behind_one agrees p v w
-    (outcome c.limit c.spec p.situation f) g h
+    (outcome c.limit (text_of c.spec) p.situation f) g h
 
 -- one check of a move fails first
 pub fails_one : (c : Setup) (agrees : Place → Type 0) (p : Place) (m : Move) (v w : Why)
@@ -346,9 +352,9 @@ walked_one c moves claim a b x y =
     ]
 
 from_one : (limit silent : ℕ) (spec : Spec) (trace : List Event) (moves : List Move) (claim : ℕ)
-    (a b : Replayed) (o : Outcome) → AnswersFrom limit silent spec trace moves claim a o
+    (a b : Replayed) (o : FiringOutcome) → AnswersFrom limit silent spec trace moves claim a o
     → AnswersFrom limit silent spec trace moves claim b o → a ≡ b
-from_one limit silent spec trace moves claim a b (Done s outs) x y =
+from_one limit silent spec trace moves claim a b (Done outs s) x y =
     let c : Setup = record {
       spec = spec;
       limit = limit;
@@ -363,4 +369,4 @@ from_one limit silent spec trace moves claim a b Limit x y = x ∙ sym y
 
 pub answer_one : OneAnswer
 answer_one limit silent spec trace moves claim a b x y = from_one limit silent spec trace moves
-    claim a b (start_of limit spec) x y
+    claim a b (start_of limit (text_of spec)) x y

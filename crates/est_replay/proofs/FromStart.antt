@@ -1,11 +1,12 @@
 -- From the answer of a replay on a world to that of a replay.
 use Rattle.std.proofs.Common.{◌≡◌, ℕ, List, Result, Ok, Err, IfOk, sym, ap, subst, ◌∙◌}
 use Rattle.est_syntax.specs.declared.specification.Spec.{Spec}
-use Rattle.est_meaning.specs.declared.event.Event.{Event}
+use Rattle.est_semantics.specs.GlobalSituation.{Situation}
+use Rattle.est_semantics.specs.Outcome.{Done}
+use Rattle.est_semantics.specs.TextByPlace.{text_of}
+use Rattle.est_choices.specs.declared.event.Event.{Event}
+use Rattle.est_choices.specs.FiringSteps.{start_of}
 use Rattle.est_runs.specs.declared.run.Move.{Move}
-use Rattle.est_meaning.specs.Situation.{Situation}
-use Rattle.est_meaning.specs.Blocks.{Done}
-use Rattle.est_meaning.specs.Step.{start_of}
 use Rattle.est_runs.specs.Run.{Setup}
 use Rattle.est_replay.specs.declared.verdict.Replayed.{Replayed}
 use Rattle.est_replay.specs.Replay.{IsAnswer, AnswersFrom, IsReplay}
@@ -21,14 +22,14 @@ setup_at limit silent trace t outs spec = record {
 }
 
 pub starts_so : (limit limit' : ℕ) (spec : Spec) (t : Situation) (outs outs' : List Event)
-    → limit' ≡ limit → outs' ≡ outs → start_of limit spec ≡ Done t outs
-    → start_of limit' spec ≡ Done t outs'
-starts_so limit limit' spec t outs outs' l o e = ap (λ n. start_of n spec) l ∙ e
-    ∙ ap (Done t) (sym o)
+    → limit' ≡ limit → outs' ≡ outs → start_of limit (text_of spec) ≡ Done outs t
+    → start_of limit' (text_of spec) ≡ Done outs' t
+starts_so limit limit' spec t outs outs' l o e = ap (λ n. start_of n (text_of spec)) l ∙ e
+    ∙ ap (λ es. Done es t) (sym o)
 
 pub answers_from : (limit limit' silent : ℕ) (spec : Spec) (trace : List Event) (t : Situation)
     (outs outs' : List Event) (moves : List Move) (claim : ℕ) (a : Replayed)
-    → limit' ≡ limit → outs' ≡ outs → start_of limit spec ≡ Done t outs
+    → limit' ≡ limit → outs' ≡ outs → start_of limit (text_of spec) ≡ Done outs t
     → IsAnswer (setup_at limit' silent trace t outs' spec) moves claim a
     → IsReplay limit silent spec trace moves claim a
 answers_from limit limit' silent spec trace t outs outs' moves claim a l o e h =

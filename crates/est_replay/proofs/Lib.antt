@@ -3,5 +3,3 @@ pub mod Events
 pub mod Moving
 pub mod Replaying
 pub mod FromStart
-pub mod Roots
-pub mod Faultless

@@ -5,25 +5,28 @@ use Rattle.std.proofs.Common.{◌∙◌, inl, inr, append_assoc, zero-le, arith}
 use Rattle.std.proofs.lemmas.List.{take_all, length-append, length-take-le}
 use Rattle.std.proofs.lemmas.List.{length_push, append_cancel_left}
 use Rattle.est_syntax.specs.declared.specification.Spec.{Spec}
-use Rattle.est_meaning.specs.declared.event.Interaction.{Interaction}
-use Rattle.est_meaning.specs.declared.event.Event.{Event}
-use Rattle.est_meaning.specs.declared.event.Event.TheVariants.{Arrives, Passes}
-use Rattle.est_meaning.specs.declared.firing.BlockFault.{BlockFault}
-use Rattle.est_meaning.specs.declared.firing.Firing.{Firing}
-use Rattle.est_runs.specs.declared.run.Fired.TheVariants as fired
-use Rattle.est_runs.specs.declared.run.Move.TheVariants.{Take, Fire}
-use Rattle.est_runs.specs.declared.run.Offers.{Offers}
-use Rattle.est_runs.specs.declared.run.Offers.TheVariants.{Settled, Unsettled}
-use Rattle.est_meaning.specs.Situation.{Situation}
-use Rattle.est_meaning.specs.Choices.{IsPossible}
-use Rattle.est_meaning.specs.Blocks.{Outcome, Done, Fault, Limit}
-use Rattle.est_meaning.specs.Step.{outcome, after_event}
-use Rattle.est_runs.specs.Stack.{Stack, pushed, OffersAre, FiredAs}
-use Rattle.est_meaning.specs.Allowed.{IsAllowed, IsArrival, units_of}
 use Rattle.est_syntax.specs.Least.{IsIn}
+use Rattle.est_semantics.specs.declared.fault.BlockFault.{BlockFault}
+use Rattle.est_semantics.specs.GlobalSituation.{Situation}
+use Rattle.est_semantics.specs.Outcome.{Done, Fault, Limit}
+use Rattle.est_semantics.specs.TextByPlace.{text_of}
+use Rattle.est_choices.specs.declared.event.Interaction.{Interaction}
+use Rattle.est_choices.specs.declared.event.Event.{Event}
+use Rattle.est_choices.specs.declared.event.Event.TheVariants.{Arrives, Passes}
+use Rattle.est_choices.specs.declared.firing.Firing.{Firing}
+use Rattle.est_choices.specs.TransitionSelection.{IsPossible}
+use Rattle.est_choices.specs.FiringSteps.{outcome}
+use Rattle.est_choices.specs.OutsideEvents.{after_event, units_of}
+use Rattle.est_choices.specs.AllowedEvents.{IsAllowed, IsArrival}
+use Rattle.est_worlds.specs.declared.answers.Fired.TheVariants as fired
+use Rattle.est_worlds.specs.declared.answers.Offers.{Offers}
+use Rattle.est_worlds.specs.declared.answers.Offers.TheVariants.{Settled, Unsettled}
+use Rattle.est_worlds.specs.SituationStacks.{Stack, pushed, FiredAs}
+use Rattle.est_worlds.specs.PossibleFirings.{OffersAre}
+use Rattle.est_runs.specs.declared.run.Move.TheVariants.{Take, Fire}
 use Rattle.est_runs.specs.Run.{AgreeFirst, Setup, IsFromOutside}
 use Rattle.est_runs.specs.Run.{after_taking, after_firing, Takes, Follows}
-use Rattle.est_runs.proofs.StackLaws.{fired_done, fired_fault, fired_limit}
+use Rattle.est_runs.proofs.StackLaws.{FiringOutcome, fired_done, fired_fault, fired_limit}
 use Rattle.est_runs.proofs.RunLaws.{bounded_is_run}
 use Rattle.est_runs.proofs.ClockLaws.{clock_bounded}
 use Rattle.est_replay.specs.declared.verdict.Why.TheVariants as why
@@ -74,7 +77,8 @@ module _ (c : Setup) (spec : Spec) (limit silent : ℕ) (trace : List Event) (st
   }
 
   pub next_taken : (asked : ℕ) (e : Event) (s : Situation) → at.events < length trace
-      → get_or trace at.events e ≡ e → IsFromOutside e → after_event spec stack.now e ≡ s
+      → get_or trace at.events e ≡ e → IsFromOutside e
+      → after_event (text_of spec) stack.now e ≡ s
       → HasMoved c asked (place_of stack trace at) Take s
       (Passed (record { events = at.events + 1; silent_in_row = 0 }))
   unfolding next_takes
@@ -91,7 +95,7 @@ module _ (c : Setup) (spec : Spec) (limit silent : ℕ) (trace : List Event) (st
         zero-le,
         follows_agrees c asked [] q follows,
         record {
-          situation_is = ap (λ x. after_event x stack.now e) r.suits.spec_is ∙ after;
+          situation_is = ap (λ x. after_event (text_of x) stack.now e) r.suits.spec_is ∙ after;
           many = length_push (take at.events trace) e ∙ ap (λ n. n + 1) many;
           silent_in_row_is = refl;
         },
@@ -127,55 +131,58 @@ module _ (c : Setup) (spec : Spec) (limit silent : ℕ) (trace : List Event) (st
 
   -- FIRING
 
-  offered : (o : Offers) (fs : List Firing) → OffersAre limit spec stack.now o fs
-      → OffersAre c.limit c.spec stack.now o fs
-  offered o fs h = subst (λ x. OffersAre c.limit x stack.now o fs) (sym r.suits.spec_is)
-      (subst (λ l. OffersAre l spec stack.now o fs) (sym r.suits.limit_is) h)
+  offered : (o : Offers) (fs : List Firing) → OffersAre limit (text_of spec) stack.now o fs
+      → OffersAre c.limit (text_of c.spec) stack.now o fs
+  offered o fs h = subst (λ x. OffersAre c.limit (text_of x) stack.now o fs) (sym r.suits.spec_is)
+      (subst (λ l. OffersAre l (text_of spec) stack.now o fs) (sym r.suits.limit_is) h)
 
   module _ (asked : ℕ) (f : Firing) (fs : List Firing) where
-    pub fails_unsettled : OffersAre limit spec stack.now Unsettled fs
+    pub fails_unsettled : OffersAre limit (text_of spec) stack.now Unsettled fs
         → MoveFails c (AgreesUpTo c asked) (place_of stack trace at) (Fire f) why.Limit
     fails_unsettled h = inl (offered Unsettled fs h).0
 
-    pub fails_not_offered : OffersAre limit spec stack.now Settled fs → (IsIn f fs → ⊥)
+    pub fails_not_offered : OffersAre limit (text_of spec) stack.now Settled fs → (IsIn f fs → ⊥)
         → MoveFails c (AgreesUpTo c asked) (place_of stack trace at) (Fire f) why.NotOffered
     fails_not_offered h away =
         (let o = offered Settled fs h in (o.0, λ possible. away (o.1.complete f possible)))
 
-    pub possible_of : OffersAre limit spec stack.now Settled fs → IsIn f fs
-        → IsPossible c.limit c.spec stack.now f
+    pub possible_of : OffersAre limit (text_of spec) stack.now Settled fs → IsIn f fs
+        → IsPossible c.limit (text_of c.spec) stack.now f
     possible_of h among = (offered Settled fs h).1.sound f among
 
-    outcome_is : (o : Outcome) (limit' : ℕ) (mid : Stack) → limit' ≡ limit → mid ≡ stack
-        → outcome limit' spec mid.now f ≡ o → outcome c.limit c.spec stack.now f ≡ o
+    outcome_is : (o : FiringOutcome) (limit' : ℕ) (mid : Stack) → limit' ≡ limit → mid ≡ stack
+        → outcome limit' (text_of spec) mid.now f ≡ o
+        → outcome c.limit (text_of c.spec) stack.now f ≡ o
     outcome_is o limit' mid l m e =
-        ap (λ x. outcome c.limit x stack.now f) r.suits.spec_is
-        ∙ ap (λ n. outcome n spec stack.now f) (r.suits.limit_is ∙ sym l)
-        ∙ ap (λ (x : Stack). outcome limit' spec x.now f) (sym m) ∙ e
+        ap (λ x. outcome c.limit (text_of x) stack.now f) r.suits.spec_is
+        ∙ ap (λ n. outcome n (text_of spec) stack.now f) (r.suits.limit_is ∙ sym l)
+        ∙ ap (λ (x : Stack). outcome limit' (text_of spec) x.now f) (sym m) ∙ e
 
     module _ (limit' : ℕ) (mid new : Stack) (outs : List Event) (limit_same : limit' ≡ limit)
-        (stack_same : mid ≡ stack) (h : OffersAre limit spec stack.now Settled fs)
+        (stack_same : mid ≡ stack) (h : OffersAre limit (text_of spec) stack.now Settled fs)
         (among : IsIn f fs) where
-      pub fails_fault : (g : BlockFault) → FiredAs (outcome limit' spec mid.now f) (fired.Fault g)
-          outs mid new → MoveFails c (AgreesUpTo c asked) (place_of stack trace at) (Fire f)
+      pub fails_fault : (g : BlockFault)
+          → FiredAs (outcome limit' (text_of spec) mid.now f) (fired.Fault g) outs mid new
+          → MoveFails c (AgreesUpTo c asked) (place_of stack trace at) (Fire f)
           (why.Fault g)
       fails_fault g a = (
         possible_of h among,
         outcome_is (Fault g) limit' mid limit_same stack_same
-            (fired_fault (outcome limit' spec mid.now f) g outs mid new a).0,
+            (fired_fault (outcome limit' (text_of spec) mid.now f) g outs mid new a).0,
       )
 
-      pub fails_limit : FiredAs (outcome limit' spec mid.now f) fired.Limit outs mid new
+      pub fails_limit : FiredAs (outcome limit' (text_of spec) mid.now f) fired.Limit outs mid new
           → MoveFails c (AgreesUpTo c asked) (place_of stack trace at) (Fire f) why.Limit
       fails_limit a =
           inr (
             possible_of h among,
             outcome_is Limit limit' mid limit_same stack_same
-                (fired_limit (outcome limit' spec mid.now f) outs mid new a).0,
+                (fired_limit (outcome limit' (text_of spec) mid.now f) outs mid new a).0,
           )
 
-      landed : (s : Situation) → outcome limit' spec mid.now f ≡ Done s outs → new ≡ pushed s mid
-          → at.events ≤ length trace → (moved : Moved) → HasLanded trace silent asked at outs moved
+      landed : (s : Situation) → outcome limit' (text_of spec) mid.now f ≡ Done outs s
+          → new ≡ pushed s mid → at.events ≤ length trace → (moved : Moved)
+          → HasLanded trace silent asked at outs moved
           → HasMoved c asked (place_of stack trace at) (Fire f) new.now moved
       landed s done new_is within (Passed next) l =
           let p = place_of stack trace at in
@@ -189,7 +196,7 @@ module _ (c : Setup) (spec : Spec) (limit silent : ℕ) (trace : List Event) (st
               outs = outs;
               step = record {
                 possible = possible_of h among;
-                done = outcome_is (Done s outs) limit' mid limit_same stack_same done;
+                done = outcome_is (Done outs s) limit' mid limit_same stack_same done;
               };
               leads = refl;
             },
@@ -211,7 +218,7 @@ module _ (c : Setup) (spec : Spec) (limit silent : ℕ) (trace : List Event) (st
               outs = outs;
               step = record {
                 possible = possible_of h among;
-                done = outcome_is (Done s outs) limit' mid limit_same stack_same done;
+                done = outcome_is (Done outs s) limit' mid limit_same stack_same done;
               };
               leads = refl;
             },
@@ -225,7 +232,7 @@ module _ (c : Setup) (spec : Spec) (limit silent : ℕ) (trace : List Event) (st
               outs = outs;
               step = record {
                 possible = possible_of h among;
-                done = outcome_is (Done s outs) limit' mid limit_same stack_same done;
+                done = outcome_is (Done outs s) limit' mid limit_same stack_same done;
               };
               leads = refl;
             },
@@ -239,8 +246,9 @@ module _ (c : Setup) (spec : Spec) (limit silent : ℕ) (trace : List Event) (st
       landed s done new_is within (Failed (why.Fault g)) l = absurd l
       landed s done new_is within (Failed why.NotAll) l = absurd l
 
-      pub fired_lands : FiredAs (outcome limit' spec mid.now f) fired.Done outs mid new
+      pub fired_lands : FiredAs (outcome limit' (text_of spec) mid.now f) fired.Done outs mid new
           → at.events ≤ length trace → (moved : Moved) → HasLanded trace silent asked at outs moved
           → HasMoved c asked (place_of stack trace at) (Fire f) new.now moved
-      fired_lands a within moved l = (let d = fired_done (outcome limit' spec mid.now f) outs mid
-          new a in landed d.0 d.1 d.2 within moved l)
+      fired_lands a within moved l =
+          let d = fired_done (outcome limit' (text_of spec) mid.now f) outs mid new a in
+          landed d.0 d.1 d.2 within moved l

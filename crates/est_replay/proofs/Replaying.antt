@@ -5,13 +5,13 @@ use Rattle.std.proofs.lemmas.List.{take_all, take_at, take_rest, get_or_default,
 use Rattle.std.proofs.lemmas.List.{take_more, take-append-drop, drop_more, drop_all}
 use Rattle.std.proofs.lemmas.List.{length-append, length-take, length-take-le, reverse-append}
 use Rattle.est_syntax.specs.declared.specification.Spec.{Spec}
-use Rattle.est_meaning.specs.declared.event.Event.{Event}
-use Rattle.est_meaning.specs.declared.firing.Firing.{Firing}
-use Rattle.est_runs.specs.Task.{IsSetup, Suits}
+use Rattle.est_semantics.specs.GlobalSituation.{Situation}
+use Rattle.est_choices.specs.declared.event.Event.{Event}
+use Rattle.est_choices.specs.declared.firing.Firing.{Firing}
+use Rattle.est_worlds.specs.SituationStacks.{Stack, Keeps}
 use Rattle.est_runs.specs.declared.run.Move.{Move}
 use Rattle.est_runs.specs.declared.run.Move.TheVariants.{Take, Fire}
-use Rattle.est_meaning.specs.Situation.{Situation}
-use Rattle.est_runs.specs.Stack.{Stack, Keeps}
+use Rattle.est_runs.specs.Task.{IsSetup, Suits}
 use Rattle.est_runs.specs.Run.{AgreeFirst, Setup, Place, first_place}
 use Rattle.est_runs.specs.Run.{IsBoundedRun, Follows, Yields}
 use Rattle.est_runs.proofs.RunLaws.{one_place}

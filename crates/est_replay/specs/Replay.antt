@@ -2,19 +2,18 @@
 --
 -- Moves stand in the order in which they are made. Runs are read from their last move back, so that
 -- `reverse moves` is the run of these moves.
-use Rattle.std.specs.Prelude.{◌≡◌, ◌≢◌, ℕ, ◌+◌, ◌-◌, ◌^◌, ◌<◌, ◌⊎◌, List, []}
+use Rattle.std.specs.Prelude.{◌≡◌, ℕ, ◌+◌, ◌-◌, ◌^◌, ◌<◌, ◌⊎◌, List, []}
 use Rattle.std.specs.Prelude.{◌∷◌, ◌++◌, length, take, reverse}
 use Rattle.est_syntax.specs.declared.specification.Spec.{Spec}
-use Rattle.est_check.specs.LeastFault.{IsGood}
-use Rattle.est_skeleton.specs.Skeleton.{IsSkeleton}
-use Rattle.est_meaning.specs.declared.event.Event.{Event}
-use Rattle.est_meaning.specs.declared.firing.BlockFault.{BlockFault}
-use Rattle.est_meaning.specs.declared.firing.Firing.{Firing}
+use Rattle.est_semantics.specs.GlobalSituation.{Situation}
+use Rattle.est_semantics.specs.Outcome.{Outcome, Done, Fault, Limit}
+use Rattle.est_semantics.specs.TextByPlace.{text_of}
+use Rattle.est_choices.specs.declared.event.Event.{Event}
+use Rattle.est_choices.specs.declared.firing.Firing.{Firing}
+use Rattle.est_choices.specs.TransitionSelection.{IsSettled, IsPossible}
+use Rattle.est_choices.specs.FiringSteps.{outcome, start_of}
 use Rattle.est_runs.specs.declared.run.Move.{Move}
 use Rattle.est_runs.specs.declared.run.Move.TheVariants.{Take, Fire}
-use Rattle.est_meaning.specs.Choices.{IsSettled, IsPossible}
-use Rattle.est_meaning.specs.Blocks.{Outcome, Done, Fault, Limit}
-use Rattle.est_meaning.specs.Step.{outcome, start_of}
 use Rattle.est_runs.specs.Run.{AgreeFirst, Setup, Place, first_place, Takes, Fires}
 use Rattle.est_runs.specs.Run.{IsBoundedRun, Follows, FollowsBefore, Yields}
 use Rattle.est_replay.specs.declared.verdict.Why.{Why}
@@ -43,12 +42,13 @@ HasNoEvent c p = (q : Place) → Takes c p q → ⊥
 -- the first check of a firing that fails: settled, possible, the block's outcome, the outside
 -- events, the silent firings in a row
 abbrev pub FiringFails : Setup → (Place → Type 0) → Place → Firing → Why → Type 0
-FiringFails c agrees p f why.Limit = (IsSettled c.limit c.spec p.situation → ⊥)
-    ⊎ (IsPossible c.limit c.spec p.situation f × (outcome c.limit c.spec p.situation f ≡ Limit))
-FiringFails c agrees p f why.NotOffered =
-    IsSettled c.limit c.spec p.situation × (IsPossible c.limit c.spec p.situation f → ⊥)
-FiringFails c agrees p f (why.Fault fault) =
-    IsPossible c.limit c.spec p.situation f × (outcome c.limit c.spec p.situation f ≡ Fault fault)
+FiringFails c agrees p f why.Limit = (IsSettled c.limit (text_of c.spec) p.situation → ⊥)
+    ⊎ (IsPossible c.limit (text_of c.spec) p.situation f
+    × (outcome c.limit (text_of c.spec) p.situation f ≡ Limit))
+FiringFails c agrees p f why.NotOffered = IsSettled c.limit (text_of c.spec) p.situation
+    × (IsPossible c.limit (text_of c.spec) p.situation f → ⊥)
+FiringFails c agrees p f (why.Fault fault) = IsPossible c.limit (text_of c.spec) p.situation f
+    × (outcome c.limit (text_of c.spec) p.situation f ≡ Fault fault)
 FiringFails c agrees p f why.WrongOutput = (q : Place) × Fires c p f q × (agrees q → ⊥)
 FiringFails c agrees p f why.TooSilent =
     (q : Place) × Fires c p f q × agrees q × (c.silent < q.silent_in_row)
@@ -108,8 +108,9 @@ IsAnswer c moves claim (Confirmed events) = (events ≡ claim) × Yields c (reve
 IsAnswer c moves claim (Rejected at w) = IsRejected c moves claim at w
 
 -- the answer from what comes of the start
-abbrev pub AnswersFrom : ℕ → ℕ → Spec → List Event → List Move → ℕ → Replayed → Outcome → Type 0
-AnswersFrom limit silent spec trace moves claim answer (Done s outs) = IsAnswer
+abbrev pub AnswersFrom : ℕ → ℕ → Spec → List Event → List Move → ℕ → Replayed
+    → Outcome Situation (List Event) → Type 0
+AnswersFrom limit silent spec trace moves claim answer (Done outs s) = IsAnswer
     (record {
       spec = spec;
       limit = limit;
@@ -126,7 +127,7 @@ AnswersFrom limit silent spec trace moves claim answer Limit = answer ≡ Reject
 -- the answer of a replay
 abbrev pub IsReplay : ℕ → ℕ → Spec → List Event → List Move → ℕ → Replayed → Type 0
 IsReplay limit silent spec trace moves claim answer =
-    AnswersFrom limit silent spec trace moves claim answer (start_of limit spec)
+    AnswersFrom limit silent spec trace moves claim answer (start_of limit (text_of spec))
 
 -- no two answers fit one explanation
 abbrev pub OneAnswer : Type 0
@@ -140,11 +141,3 @@ abbrev pub ClaimsBeyondAskAll : Type 0
 ClaimsBeyondAskAll =
     (c : Setup) (claim : ℕ) (p : Place) → length c.trace < claim → AgreesSoFar c claim [] p
     → Follows c p
-
--- no answer for a skeleton that breaks no rule speaks of a fault, of the start or of a block
-abbrev pub SkeletonsDoNotFault : Type 0
-SkeletonsDoNotFault = (limit silent : ℕ) (spec : Spec) (trace : List Event) (moves : List Move)
-    (claim : ℕ) (answer : Replayed)
-    → IsSkeleton spec → IsGood spec → IsReplay limit silent spec trace moves claim answer
-    → (at : ℕ) (fault : BlockFault) → (answer ≢ Rejected at (why.NoStart fault))
-    × (answer ≢ Rejected at (why.Fault fault))

@@ -1,22 +1,23 @@
 //! Replays of explanations of checked specifications.
 ghost use Rattle.std.specs.Prelude.{◌≤◌, length, IfOk};
-ghost use Rattle.est_meaning.specs.Allowed.{IsAllowedTrace};
+ghost use Rattle.est_choices.specs.AllowedEvents.{IsAllowedTrace};
 ghost use Rattle.est_replay.specs.Replay.{IsReplay, most_moves};
 
 use crate::replay::{Replaying, replay_in};
 use crate::verdict::{Replayed, Why};
-use est_check::Skeleton;
+use est_check::Checked;
+use est_choices::event::Trace;
 use est_explanation::explanation::Explanation;
-use est_meaning::event::Trace;
-use est_plain::world::PlainWorld;
-use est_runs::run::{Limits, Started};
+use est_running::world::PlainWorld;
+use est_runs::run::Limits;
+use est_worlds::answers::Started;
 use std::alloc::{AllocError, Global};
 
 /// Replays an explanation of a trace from the start of a specification. The answer is the only one
 /// that fits (`laws::one_answer`).
 pub fn replay(
     alloc: Global,
-    checked: &Skeleton,
+    checked: &Checked,
     trace: &Trace,
     explanation: &Explanation,
     limits: &Limits,

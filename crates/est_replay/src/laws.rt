@@ -1,5 +1,5 @@
 //! Laws of replays. Each function does nothing; its clause is the law.
-ghost use Rattle.est_replay.specs.Replay.{OneAnswer, ClaimsBeyondAskAll, SkeletonsDoNotFault};
+ghost use Rattle.est_replay.specs.Replay.{OneAnswer, ClaimsBeyondAskAll};
 
 /// An explanation has one answer at most.
 pub fn one_answer()
@@ -9,9 +9,4 @@ pub fn one_answer()
 /// A claim above the number of the trace's events asks for all events after the last move.
 pub fn claims_beyond_ask_all()
     ensures { ClaimsBeyondAskAll }
-{}
-
-/// The start and the blocks of a skeleton that breaks no rule do not fault.
-pub fn skeletons_do_not_fault()
-    ensures { SkeletonsDoNotFault }
 {}

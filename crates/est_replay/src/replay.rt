@@ -3,21 +3,23 @@ ghost use Rattle.std.specs.Prelude.{◌≡◌, ℕ, ◌+◌, ◌-◌, ◌<◌, �
 ghost use Rattle.std.specs.Prelude.{◌++◌, List, length, take, IsTrue, IfOk};
 ghost use Rattle.est_syntax.specs.declared.specification.Spec.{Spec};
 ghost use Rattle.est_syntax.specs.Least.{IsIn};
-ghost use Rattle.est_meaning.specs.Allowed.{IsAllowedTrace, most_events};
-ghost use Rattle.est_meaning.specs.Blocks.{Done};
+ghost use Rattle.est_semantics.specs.Outcome.{Done};
+ghost use Rattle.est_semantics.specs.TextByPlace.{text_of};
+ghost use Rattle.est_choices.specs.AllowedEvents.{IsAllowedTrace, most_events};
+ghost use Rattle.est_choices.specs.FiringSteps.{start_of};
+ghost use Rattle.est_worlds.specs.SituationStacks.{Keeps};
 ghost use Rattle.est_runs.specs.Task.{IsSetup, setup_of};
 ghost use Rattle.est_runs.specs.Run.{AgreeFirst, Setup};
-ghost use Rattle.est_runs.specs.Stack.{Keeps};
-ghost use Rattle.est_meaning.specs.Step.{start_of};
 ghost use Rattle.est_replay.specs.Replay.{IsAnswer, most_moves};
 ghost use Rattle.est_replay.specs.inside.Standing.{IsReady, HasMoved, HasLanded};
 ghost use Rattle.est_replay.specs.inside.Standing.{IsMet, IsEnding, asked_of, place_of};
 
 use crate::verdict::{Replayed, Why};
-use est_meaning::event::Event;
-use est_meaning::firing::Firing;
-use est_runs::run::{Fired, Move, Offers};
-use est_runs::world::World;
+use est_choices::event::Event;
+use est_choices::firing::Firing;
+use est_runs::run::Move;
+use est_worlds::answers::{Fired, Offers};
+use est_worlds::world::World;
 use std::alloc::{AllocError, Global};
 
 /// What is replayed: moves along a trace and their claim, where so many silent firings may stand in
@@ -61,7 +63,7 @@ fn begins_with(trace: &[Event], events: &[Event]) -> bool
         return false;
     }
     for (index, event) in events.iter().enumerate() {
-        if !event.same(&trace[index]) {
+        if !event.is(&trace[index]) {
             return false;
         }
     }
@@ -327,7 +329,8 @@ pub fn replay_in<W: World>(
     replaying: &Replaying<'_>,
 ) -> Result<Replayed, AllocError>
     requires start { (spec : Spec) → W.speaks world.old spec
-        → start_of (W.limit world.old) spec ≡ Done (W.stack world.old spec).now start_outs.now }
+        → start_of (W.limit world.old) (text_of spec)
+        ≡ Done start_outs.now (W.stack world.old spec).now }
     requires room { W.fired world.old ≤ 2 ^ 63 }
     requires allowed { (spec : Spec) → W.speaks world.old spec
         → IsAllowedTrace spec replaying.now.trace.now }

@@ -1,6 +1,6 @@
 //! What a replay answers.
 
-use est_meaning::firing::BlockFault;
+use est_semantics::fault::BlockFault;
 
 /// Why an explanation is rejected.
 #[derive(Clone, Copy, PartialEq, Eq)]

@@ -1,2 +1,3 @@
+pub mod ReadableReports
 pub mod Reports
 pub mod SearchReports

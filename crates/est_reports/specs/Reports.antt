@@ -2,11 +2,11 @@
 use Rattle.std.specs.Prelude.{ℕ, List, ◌++◌, codes}
 use Rattle.std.specs.Fmt.{decimal}
 use Rattle.est_counts.specs.declared.counts.Counts.{Counts}
-use Rattle.est_meaning.specs.declared.firing.BlockFault.{BlockFault}
-use Rattle.est_meaning.specs.declared.firing.BlockFault.TheVariants.{Range, Divide, Undefined}
-use Rattle.est_meaning.specs.declared.firing.BlockFault.TheVariants.{NoCase, NoModule, LinkTaken}
-use Rattle.est_meaning.specs.declared.firing.BlockFault.TheVariants.{SelfLink, TooMany}
-use Rattle.est_words.specs.ReportLines.{line_feed, line_of}
+use Rattle.est_semantics.specs.declared.fault.BlockFault.{BlockFault}
+use Rattle.est_semantics.specs.declared.fault.BlockFault.TheVariants.{Range, Divide, Undefined}
+use Rattle.est_semantics.specs.declared.fault.BlockFault.TheVariants.{NoCase, NoModule, LinkTaken}
+use Rattle.est_semantics.specs.declared.fault.BlockFault.TheVariants.{SelfLink, TooMany}
+use Rattle.est_words.specs.ReportLines.{line_feed}
 
 -- a good specification, with the numbers of its bodies, transitions and ports
 abbrev pub ok_line : Counts → List ℕ
@@ -14,10 +14,6 @@ ok_line counts =
     codes "ok: " ++ decimal counts.bodies ++ codes " bodies, "
     ++ decimal counts.transitions ++ codes " transitions, "
     ++ decimal counts.ports ++ codes " ports" ++ line_feed
-
--- a good specification that cannot be run yet
-abbrev pub not_built_line : List ℕ
-not_built_line = line_of (codes "not built yet")
 
 -- what goes wrong in a block
 abbrev pub fault_text : BlockFault → List ℕ

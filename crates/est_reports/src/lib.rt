@@ -1,5 +1,6 @@
 //! The reports of checks and searches.
 #![tactic(auto)]
 
+mod readable;
 pub mod report;
 pub mod search_report;

@@ -3,7 +3,7 @@ ghost use Rattle.std.specs.Prelude.{◌≡◌, IfOk, string_bytes};
 ghost use Rattle.est_reports.specs.Reports.{fault_text, ok_line};
 
 use est_check::Counts;
-use est_meaning::firing::BlockFault;
+use est_semantics::fault::BlockFault;
 use std::alloc::{AllocError, Global};
 
 /// The report of a good specification.

@@ -1,6 +1,8 @@
 //! The reports of searches.
-ghost use Rattle.std.specs.Prelude.{◌≡◌, ◌≤◌, ◌++◌, IfOk, codes, string_bytes};
-ghost use Rattle.est_meaning.specs.Allowed.{most_events};
+ghost use Rattle.std.specs.Prelude.{◌≡◌, ◌≤◌, ◌++◌, IfOk, IfSome, codes, string_bytes};
+ghost use Rattle.est_choices.specs.AllowedEvents.{most_events};
+ghost use Rattle.est_explanation.specs.CanonicalExplanation.{IsWritable, IsWritableFiring};
+ghost use Rattle.est_reports.specs.ReadableReports.{IsReadable, IsReadableFault};
 ghost use Rattle.est_reports.specs.SearchReports.{accepted_line, explanation_text, fault_end};
 ghost use Rattle.est_reports.specs.SearchReports.{fault_line, faulted_line, no_start_line};
 ghost use Rattle.est_reports.specs.SearchReports.{over_action_line, over_firings_line};
@@ -9,15 +11,18 @@ ghost use Rattle.est_reports.specs.SearchReports.{refused_at_line, refused_end_l
 ghost use Rattle.est_reports.specs.SearchReports.{verdict_report};
 ghost use Rattle.est_reports.specs.SearchReports.{verdict_status};
 
+use crate::readable::{is_readable, is_readable_firing};
 use crate::report::fault_text;
+use est_choices::firing::Firing;
 use est_explanation::write::append_explanation;
-use est_meaning::firing::{BlockFault, Firing};
 use est_runs::run::Move;
 use est_search::verdict::{Faulted, Verdict};
+use est_semantics::fault::BlockFault;
 use est_words::status::Status;
 use std::alloc::{AllocError, Global};
 
-/// The report of a verdict on a trace of so many events, within this limit of statements.
+/// The report of a verdict on a trace of so many events, within this limit of statements. There is
+/// none where an explanation may not have its numbers, as none where memory runs out.
 pub fn verdict_report(
     alloc: Global,
     verdict: &Verdict,
@@ -25,7 +30,8 @@ pub fn verdict_report(
     limit: u32,
 ) -> Result<Vec<u8>, AllocError>
     requires { events ≤ most_events }
-    ensures { IfOk result (λ text. text.items ≡ verdict_report limit events verdict.now) }
+    ensures text { IfOk result (λ text. text.items ≡ verdict_report limit events verdict.now) }
+    ensures readable { IfOk result (λ _. IsReadable limit events verdict.now) }
 {
     match verdict {
         Verdict::Accepted { run } => {
@@ -65,9 +71,14 @@ pub fn verdict_status(verdict: &Verdict) -> Status
 
 // These lines, and after them the text of an explanation.
 fn explained(head: String, moves: &[Move], claim: u32) -> Result<Vec<u8>, AllocError>
-    ensures { IfOk result
+    ensures text { IfOk result
         (λ text. text.items ≡ string_bytes head ++ explanation_text moves.now claim) }
+    ensures readable { IfOk result
+        (λ _. IsWritable (record { moves = moves.now; claim = claim })) }
 {
+    if !is_readable(moves, claim) {
+        return Err(AllocError);
+    }
     let mut text = head.into_bytes();
     append_explanation(&mut text, moves, claim)?;
     Ok(text)
@@ -87,8 +98,9 @@ fn refused_report(
     events: u32,
     faulted: &Option<Faulted>,
 ) -> Result<String, AllocError>
-    ensures { IfOk result
+    ensures lines { IfOk result
         (λ lines. string_bytes lines ≡ refused_line at events ++ faulted_line faulted.now) }
+    ensures readable { IfOk result (λ _. IsReadableFault faulted.now) }
 {
     let mut line = refused_at(alloc, at, events)?;
     if let Some(faulted) = faulted {
@@ -125,8 +137,12 @@ fn refused_end(alloc: Global, events: u32) -> Result<String, AllocError>
 
 // The line of a block that faults.
 fn fault_report(alloc: Global, why: &str, firing: Firing) -> Result<String, AllocError>
-    ensures { IfOk result (λ line. string_bytes line ≡ fault_line why.now firing) }
+    ensures line { IfOk result (λ line. string_bytes line ≡ fault_line why.now firing) }
+    ensures readable { IfOk result (λ _. IsWritableFiring firing) }
 {
+    if !is_readable_firing(firing) {
+        return Err(AllocError);
+    }
     let mut line = fault_head(alloc, why)?;
     let tail = fault_tail(alloc, firing)?;
     line.push_str(tail.as_str())?;
@@ -165,11 +181,12 @@ fn over_action_report(
     limit: u32,
     firing: &Option<Firing>,
 ) -> Result<String, AllocError>
-    ensures { IfOk result (λ line. string_bytes line ≡ over_action_line limit firing.now) }
+    ensures line { IfOk result (λ line. string_bytes line ≡ over_action_line limit firing.now) }
+    ensures readable { IfOk result (λ _. IfSome firing.now IsWritableFiring) }
 {
     match firing {
         None => over_guard(alloc, limit),
-        Some(firing) => over_block(alloc, limit, *firing),
+        Some(firing) => over_readable(alloc, limit, *firing),
     }
 }
 
@@ -178,6 +195,17 @@ fn over_guard(alloc: Global, limit: u32) -> Result<String, AllocError>
     ensures { IfOk result (λ line. string_bytes line ≡ over_action_line limit None) }
 {
     format!(in alloc; "{{ over budget: a guard passed the limit {limit} after these moves }}\n")
+}
+
+// The line of a block that passes the limit of statements, where its numbers may be read.
+fn over_readable(alloc: Global, limit: u32, firing: Firing) -> Result<String, AllocError>
+    ensures line { IfOk result (λ line. string_bytes line ≡ over_action_line limit (Some firing)) }
+    ensures readable { IfOk result (λ _. IsWritableFiring firing) }
+{
+    if !is_readable_firing(firing) {
+        return Err(AllocError);
+    }
+    over_block(alloc, limit, firing)
 }
 
 // The line of a block that passes the limit of statements.

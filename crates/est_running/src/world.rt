@@ -27,7 +27,6 @@ use est_worlds::world::World;
 use std::alloc::{AllocError, Global};
 
 /// A specification that is run over its transitions and outside ports, and undone step by step.
-#[derive(Drop)]
 pub struct PlainWorld<'c> {
     behaviour: Behaviour<'c>,
     outside: Outside<'c>,
@@ -36,6 +35,22 @@ pub struct PlainWorld<'c> {
     history: History,
     ghost behaviour_is: { behaviour ≡ text_of behaviour.spec },
     ghost outside_is: { outside ≡ behaviour },
+}
+
+// In words, so that no crate above follows its systems down to their last list.
+impl<'c> Drop for PlainWorld<'c> {
+    fn drop(self) {
+        let PlainWorld {
+            behaviour,
+            outside,
+            limit: _,
+            fired: _,
+            history,
+        } = self;
+        drop(behaviour);
+        drop(outside);
+        drop(history);
+    }
 }
 
 impl<'c> World for PlainWorld<'c> {

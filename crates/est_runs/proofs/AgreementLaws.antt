@@ -1,6 +1,6 @@
 -- Laws of agreement.
 use Rattle.std.proofs.Common.{List, [], ◌∷◌, ◌++◌, refl, sym, ap, subst, ◌∙◌}
-use Rattle.est_meaning.specs.declared.event.Event.{Event}
+use Rattle.est_choices.specs.declared.event.Event.{Event}
 use Rattle.est_runs.specs.Run.{AgreeAll}
 use Rattle.est_runs.specs.RunLaws.{EachAgrees, AgreementIsOneByOne}
 

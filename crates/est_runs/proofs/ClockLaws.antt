@@ -1,16 +1,26 @@
 -- The clock of a run.
 use Rattle.std.proofs.Common.{◌≡◌, ◌≤◌, ◌+◌, ◌*◌, ◌^◌, ℕ, suc, List, []}
-use Rattle.std.proofs.Common.{◌∷◌, ◌++◌, All, length, ap, ◌∙◌, arith}
+use Rattle.std.proofs.Common.{◌∷◌, ◌++◌, All, length, refl, ap, ◌∙◌, arith}
 use Rattle.est_syntax.specs.declared.specification.Spec.{Spec}
 use Rattle.est_syntax.specs.Kinds.{maxint}
-use Rattle.est_meaning.specs.declared.event.Event.{Event}
-use Rattle.est_meaning.specs.declared.event.Event.TheVariants as event
+use Rattle.est_semantics.specs.GlobalSituation.{Situation}
+use Rattle.est_semantics.specs.TextByPlace.{Text, text_of}
+use Rattle.est_choices.specs.declared.event.Event.{Event}
+use Rattle.est_choices.specs.declared.event.Event.TheVariants as event
+use Rattle.est_choices.specs.AllowedEvents.{IsAllowed, IsAllowedTrace}
+use Rattle.est_choices.specs.OutsideEvents.{after_event, later, units_of}
+use Rattle.est_choices.proofs.Outside.{events_are_outside}
+use Rattle.est_choices.proofs.Steps.{firings_are_orderly, starts_begin_in_order}
 use Rattle.est_runs.specs.declared.run.Move.{Move}
 use Rattle.est_runs.specs.declared.run.Move.TheVariants.{Take, Fire}
-use Rattle.est_meaning.specs.Allowed.{IsAllowed, IsAllowedTrace, units_of}
 use Rattle.est_runs.specs.Run.{Setup, Place, IsRun, Takes}
 use Rattle.est_runs.specs.RunLaws.{ClockStaysBounded}
-use Rattle.est_meaning.proofs.StepLaws.{fire_keeps_clock, event_adds_clock, start_clock}
+
+-- passing time is the event of that name
+pub after_passing : (t : Text) (s : Situation) (units : ℕ)
+    → after_event t s (event.Passes units) ≡ later s units
+unfolding after_event
+after_passing t s units = refl
 
 -- the time that passes in these events
 abbrev pub time_of : List Event → ℕ
@@ -34,7 +44,8 @@ clock_of_run c (Take ∷ h) p r =
     let t = r.2 in
     let before = clock_of_run c h q r.1 in
     let now : p.situation.clock ≡ q.situation.clock + units_of t.event =
-    ap (λ (w : Place). w.situation.clock) t.leads ∙ event_adds_clock c.spec q.situation t.event
+    ap (λ (w : Place). w.situation.clock) t.leads
+    ∙ events_are_outside.clock (text_of c.spec) q.situation t.event
     in
     let events : time_of p.events ≡ time_of q.events + time_of (t.event ∷ []) =
     ap (λ (w : Place). time_of w.events) t.leads ∙ time_of-append q.events (t.event ∷ []) in
@@ -43,8 +54,10 @@ clock_of_run c (Fire f ∷ h) p r =
     let q = r.0 in
     let t = r.2 in
     let before = clock_of_run c h q r.1 in
-    let now : p.situation.clock ≡ q.situation.clock = ap (λ (w : Place). w.situation.clock) t.leads
-    ∙ fire_keeps_clock c.limit c.spec q.situation t.situation f t.outs t.step.done in
+    let over = firings_are_orderly.goes_over c.limit (text_of c.spec) q.situation t.situation f
+    t.outs t.step.done in
+    let now : p.situation.clock ≡ q.situation.clock =
+    ap (λ (w : Place). w.situation.clock) t.leads ∙ over.clock in
     let events : time_of p.events ≡ time_of q.events + time_of t.outs =
     ap (λ (w : Place). time_of w.events) t.leads ∙ time_of-append q.events t.outs in
     omega arith
@@ -67,7 +80,8 @@ clock_within c (Take ∷ h) p r =
     let q = r.0 in
     let t = r.2 in
     let now : p.situation.clock ≡ q.situation.clock + units_of t.event =
-    ap (λ (w : Place). w.situation.clock) t.leads ∙ event_adds_clock c.spec q.situation t.event
+    ap (λ (w : Place). w.situation.clock) t.leads
+    ∙ events_are_outside.clock (text_of c.spec) q.situation t.event
     in
     let fits = clock_to_come c h q p r.1 t in
     omega arith
@@ -75,8 +89,10 @@ clock_within c (Fire f ∷ h) p r =
     let q = r.0 in
     let t = r.2 in
     let before = clock_within c h q r.1 in
-    let now : p.situation.clock ≡ q.situation.clock = ap (λ (w : Place). w.situation.clock) t.leads
-    ∙ fire_keeps_clock c.limit c.spec q.situation t.situation f t.outs t.step.done in
+    let over = firings_are_orderly.goes_over c.limit (text_of c.spec) q.situation t.situation f
+    t.outs t.step.done in
+    let now : p.situation.clock ≡ q.situation.clock =
+    ap (λ (w : Place). w.situation.clock) t.leads ∙ over.clock in
     omega arith
 
 units_allowed : (spec : Spec) (e : Event) → IsAllowed spec e → units_of e ≤ maxint
@@ -102,7 +118,8 @@ time_of_trace spec trace a =
 
 pub clock_bounded : ClockStaysBounded
 clock_bounded c run p begun allowed r =
-    let zero_start = start_clock c.limit c.spec c.start c.start_outs begun in
+    let zero_start =
+    (starts_begin_in_order c.limit (text_of c.spec) c.start c.start_outs begun).clock in
     let time = time_of_trace c.spec c.trace allowed in
     let within = clock_within c run p r in
     (omega arith, λ q t. (let fits = clock_to_come c run p q r t in omega arith))

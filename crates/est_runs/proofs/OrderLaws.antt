@@ -4,12 +4,12 @@ use Rattle.std.proofs.Common.{sym, ap, subst, ◌∙◌, inl, inr, append_assoc,
 use Rattle.std.proofs.lemmas.Bool.{cases_lt}
 use Rattle.std.proofs.lemmas.List.{append-nil, reverse-append, reverse-reverse}
 use Rattle.std.proofs.Math.Seq.{append_snoc}
-use Rattle.est_meaning.specs.declared.firing.Firing.{Firing}
+use Rattle.est_choices.specs.declared.firing.Firing.{Firing}
+use Rattle.est_worlds.specs.FiringOrder.{FiringBefore}
 use Rattle.est_runs.specs.declared.run.Move.{Move}
 use Rattle.est_runs.specs.declared.run.Move.TheVariants.{Take, Fire}
-use Rattle.est_runs.specs.Order.{FiringBefore, Mark, Taking, Guarding, Trying}
-use Rattle.est_runs.specs.Order.{MarkBefore, mark_of, marks_of, StartsWith}
-use Rattle.est_runs.specs.Order.{Before, longer, differs, RunBefore, NotAfter}
+use Rattle.est_runs.specs.Order.{Mark, Taking, Guarding, Trying, MarkBefore, mark_of, marks_of}
+use Rattle.est_runs.specs.Order.{StartsWith, Before, longer, differs, RunBefore, NotAfter}
 use Rattle.est_runs.specs.RunLaws.{RunOrderIsStrictTotal}
 
 -- STARTS

@@ -3,16 +3,17 @@ use Rattle.std.proofs.Common.{◌≡◌, ◌≤◌, ◌+◌, ◌⊎◌, ℕ, Lis
 use Rattle.std.proofs.Common.{refl, sym, ap, subst, ◌∙◌, inl, inr, append_assoc, arith}
 use Rattle.std.proofs.lemmas.Bool.{cases_lt}
 use Rattle.std.proofs.lemmas.List.{append-nil, append_cancel_left, take-take}
-use Rattle.est_meaning.specs.declared.event.Event.{Event}
-use Rattle.est_meaning.specs.declared.firing.Firing.{Firing}
+use Rattle.est_semantics.specs.TextByPlace.{text_of}
+use Rattle.est_choices.specs.declared.event.Event.{Event}
+use Rattle.est_choices.specs.declared.firing.Firing.{Firing}
+use Rattle.est_choices.proofs.Steps.{steps_unique}
 use Rattle.est_runs.specs.declared.run.Move.{Move}
 use Rattle.est_runs.specs.declared.run.Move.TheVariants.{Take, Fire}
 use Rattle.est_runs.specs.Order.{StartsWith}
-use Rattle.est_runs.specs.Run.{Setup, Place, first_place, after_taking, after_firing}
-use Rattle.est_runs.specs.Run.{Takes, Fires, Moves, IsRun, IsBoundedRun, Follows}
-use Rattle.est_runs.specs.Run.{FollowsBefore, Explains, YieldsFirst, Yields}
+use Rattle.est_runs.specs.Run.{Setup, Place, first_place, after_taking, after_firing, Takes, Fires}
+use Rattle.est_runs.specs.Run.{Moves, IsRun, IsBoundedRun, Follows, FollowsBefore, Explains}
+use Rattle.est_runs.specs.Run.{YieldsFirst, Yields}
 use Rattle.est_runs.specs.RunLaws.{RunsAreUnique, BoundedRunsBeginBounded, YieldsAllBelow}
-use Rattle.est_meaning.proofs.StepLaws.{steps_unique}
 
 -- a bounded run is a run
 pub bounded_is_run : (c : Setup) (run : List Move) (p : Place) → IsBoundedRun c run p
@@ -32,8 +33,8 @@ takes_one c p q r a b =
 fires_one : (c : Setup) (p : Place) (f : Firing) (q r : Place) → Fires c p f q → Fires c p f r
     → q ≡ r
 fires_one c p f q r a b =
-    let e = steps_unique c.limit c.spec p.situation f a.situation b.situation a.outs b.outs a.step
-    b.step in
+    let e = steps_unique c.limit (text_of c.spec) p.situation f a.situation b.situation a.outs
+    b.outs a.step b.step in
     a.leads ∙ ap (λ x. after_firing p x a.outs) e.0 ∙ ap (λ x. after_firing p b.situation x) e.1
     ∙ sym b.leads
 

@@ -1,22 +1,34 @@
--- The rows of the situations of a run.
+-- The instances and connections of the situations of a run.
 use Rattle.std.proofs.Common.{sym, subst, [], ◌∷◌}
+use Rattle.est_semantics.specs.TextByPlace.{text_of}
+use Rattle.est_choices.proofs.Outside.{events_are_outside}
+use Rattle.est_choices.proofs.Steps.{firings_are_orderly, starts_begin_in_order}
 use Rattle.est_runs.specs.declared.run.Move.TheVariants.{Take, Fire}
-use Rattle.est_meaning.specs.StepLaws.{HasRowsInOrder}
-use Rattle.est_meaning.proofs.RowLaws.{rows_stay}
 use Rattle.est_runs.specs.Run.{Place}
-use Rattle.est_runs.specs.RunLaws.{RowsAreInOrder}
+use Rattle.est_runs.specs.RunLaws.{IsInOrder, RowsAreInOrder}
 
 pub rows_in_order : RowsAreInOrder
-rows_in_order c [] p begun r = subst (λ (w : Place). HasRowsInOrder w.situation) (sym r)
-    (rows_stay.start c.limit c.spec c.start c.start_outs begun)
+rows_in_order c [] p begun r =
+    let start = starts_begin_in_order c.limit (text_of c.spec) c.start c.start_outs begun in
+    subst (λ (w : Place). IsInOrder w.situation) (sym r)
+    (record { numbers = start.numbers; connections = start.connections })
 rows_in_order c (Take ∷ h) p begun r =
     let q = r.0 in
     let t = r.2 in
-    subst (λ (w : Place). HasRowsInOrder w.situation) (sym t.leads) (rows_stay.event c.spec
-    q.situation
-    t.event (rows_in_order c h q begun r.1))
+    let before = rows_in_order c h q begun r.1 in
+    subst (λ (w : Place). IsInOrder w.situation) (sym t.leads) (record {
+      numbers = events_are_outside.numbers (text_of c.spec) q.situation t.event before.numbers;
+      connections =
+          events_are_outside.connections (text_of c.spec) q.situation t.event before.connections;
+    })
 rows_in_order c (Fire f ∷ h) p begun r =
     let q = r.0 in
     let t = r.2 in
-    subst (λ (w : Place). HasRowsInOrder w.situation) (sym t.leads) (rows_stay.firing c.limit c.spec
-    q.situation t.situation f t.outs (rows_in_order c h q begun r.1) t.step.done)
+    let before = rows_in_order c h q begun r.1 in
+    let over = firings_are_orderly.goes_over c.limit (text_of c.spec) q.situation t.situation f
+    t.outs t.step.done in
+    subst (λ (w : Place). IsInOrder w.situation) (sym t.leads) (record {
+      numbers = over.numbers before.numbers;
+      connections = firings_are_orderly.connections c.limit (text_of c.spec) q.situation
+          t.situation f t.outs t.step.done before.connections;
+    })

@@ -2,15 +2,15 @@
 use Rattle.std.proofs.Common.{◌≡◌, ◌≤◌, ◌+◌, ℕ, List, [], ◌∷◌, ◌++◌, length}
 use Rattle.std.proofs.Common.{refl, sym, ap, subst, ◌∙◌, inl, inr, arith}
 use Rattle.std.proofs.lemmas.Bool.{cases_lt}
-use Rattle.est_meaning.specs.declared.event.Event.{Event}
-use Rattle.est_meaning.specs.declared.firing.Firing.{Firing}
+use Rattle.est_semantics.specs.TextByPlace.{text_of}
+use Rattle.est_choices.specs.declared.event.Event.{Event}
+use Rattle.est_choices.specs.declared.firing.Firing.{Firing}
+use Rattle.est_choices.specs.FiringSteps.{IsStep}
+use Rattle.est_choices.proofs.Steps.{steps_unique}
 use Rattle.est_runs.specs.declared.run.Move.{Move}
 use Rattle.est_runs.specs.declared.run.Move.TheVariants.{Take, Fire}
 use Rattle.est_runs.specs.Run.{Setup, Place, silent_after, Fires, Moves, IsRun, IsBoundedRun}
-use Rattle.est_meaning.specs.Step.{IsStep}
-use Rattle.est_runs.specs.RunLaws.{IsSilentFiring, AreSilent}
-use Rattle.est_runs.specs.RunLaws.{HasFewInARow, BoundedMeansFewInARow}
-use Rattle.est_meaning.proofs.StepLaws.{steps_unique}
+use Rattle.est_runs.specs.RunLaws.{IsSilentFiring, AreSilent, HasFewInARow, BoundedMeansFewInARow}
 use Rattle.est_runs.proofs.RunLaws.{bounded_is_run, runs_unique, run_prefix}
 
 -- a firing with these outside events leaves so many silent firings
@@ -52,7 +52,7 @@ last_fired c h f q p r t last [] e =
           place = q;
           is_run = subst (λ w. IsRun c w q) last.parts r;
           next = t.situation;
-          step = subst (λ es. IsStep c.limit c.spec q.situation f t.situation es) e t.step;
+          step = subst (IsStep c.limit (text_of c.spec) q.situation f t.situation) e t.step;
         },
         last.silent,
       );
@@ -75,9 +75,10 @@ silent_adds : (c : Setup) (h : List Move) (f : Firing) (q p : Place) → IsRun c
     → IsSilentFiring c h f → p.silent_in_row ≡ q.silent_in_row + 1
 silent_adds c h f q p r t s =
     let here : s.place ≡ q = runs_unique c h s.place q s.is_run r in
-    let step : IsStep c.limit c.spec q.situation f s.next [] =
-    subst (λ (w : Place). IsStep c.limit c.spec w.situation f s.next []) here s.step in
-    let e = steps_unique c.limit c.spec q.situation f t.situation s.next t.outs [] t.step step in
+    let step : IsStep c.limit (text_of c.spec) q.situation f s.next [] =
+    subst (λ (w : Place). IsStep c.limit (text_of c.spec) w.situation f s.next []) here s.step in
+    let e = steps_unique c.limit (text_of c.spec) q.situation f t.situation s.next t.outs [] t.step
+    step in
     fired_row c q f p t [] e.1
 
 -- a place counts at least as many as stand last

@@ -1,11 +1,12 @@
 -- The tree: what the runs, trials and guards that a search may meet begin with.
 use Rattle.std.proofs.Common.{◌≡◌, ◌⊎◌, ℕ, List, [], ◌∷◌, ◌++◌, sym, ap, subst, inl, inr}
+use Rattle.est_semantics.specs.TextByPlace.{text_of}
+use Rattle.est_choices.specs.TransitionSelection.{IsPossible}
 use Rattle.est_runs.specs.declared.run.Move.{Move}
 use Rattle.est_runs.specs.declared.run.Move.TheVariants.{Take, Fire}
-use Rattle.est_meaning.specs.Choices.{IsPossible}
 use Rattle.est_runs.specs.Order.{Mark, Taking, Guarding, Trying, mark_of, marks_of, StartsWith}
-use Rattle.est_runs.specs.Run.{Setup, Place, Takes, Moves, IsBoundedRun, Follows}
-use Rattle.est_runs.specs.Run.{Explains, YieldsFirst}
+use Rattle.est_runs.specs.Run.{Setup, Place, Takes, Moves, IsBoundedRun, Follows, Explains}
+use Rattle.est_runs.specs.Run.{YieldsFirst}
 use Rattle.est_runs.specs.Trials.{IsTrial, PassesLimit, guards, block, Faults}
 use Rattle.est_runs.proofs.OrderLaws.{marks_same}
 use Rattle.est_runs.proofs.RunLaws.{one_place, run_starts, follows_grows, explains_follows}
@@ -14,7 +15,7 @@ use Rattle.est_runs.proofs.RunLaws.{one_place, run_starts, follows_grows, explai
 abbrev pub IsDefined : Setup → Place → Mark → Type 0
 IsDefined c p Taking = (q : Place) × Takes c p q
 IsDefined c p Guarding = Unit {0}
-IsDefined c p (Trying f) = IsPossible c.limit c.spec p.situation f
+IsDefined c p (Trying f) = IsPossible c.limit (text_of c.spec) p.situation f
 
 -- after the bounded run this can be done
 pub record CanGoOn (c : Setup) (h : List Move) (m : Mark) : Type 0 where

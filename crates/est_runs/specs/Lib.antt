@@ -1,5 +1,4 @@
 pub mod Order
-pub mod Stack
 pub mod Run
 pub mod Task
 pub mod Trials

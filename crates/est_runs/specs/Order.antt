@@ -1,29 +1,12 @@
--- The order of firings and of runs.
+-- The order of runs.
 --
 -- Runs are read from their last move back to the first, so that `m ∷ earlier` is the run `earlier`
 -- with one more move m.
-use Rattle.std.specs.Prelude.{◌≡◌, ◌<◌, ◌⊎◌, List, [], ◌∷◌, ◌++◌, map}
-use Rattle.est_meaning.specs.declared.firing.Firing.{Firing}
+use Rattle.std.specs.Prelude.{◌≡◌, ◌⊎◌, List, ◌∷◌, ◌++◌, map}
+use Rattle.est_choices.specs.declared.firing.Firing.{Firing}
+use Rattle.est_worlds.specs.FiringOrder.{FiringBefore}
 use Rattle.est_runs.specs.declared.run.Move.{Move}
 use Rattle.est_runs.specs.declared.run.Move.TheVariants.{Take, Fire}
-
--- FIRINGS
-
--- by instance, transition and choice
-unfoldable pub FiringBefore : Firing → Firing → Type 0
-FiringBefore f g = (f.instance < g.instance)
-    ⊎ ((f.instance ≡ g.instance)
-    × ((f.transition < g.transition) ⊎ ((f.transition ≡ g.transition) × (f.choice < g.choice))))
-
--- a firing comes before each of these
-abbrev pub IsBeforeAll : Firing → List Firing → Type 0
-IsBeforeAll f [] = Unit {0}
-IsBeforeAll f (g ∷ gs) = FiringBefore f g × IsBeforeAll f gs
-
--- each firing comes before those after it
-abbrev pub IsAscending : List Firing → Type 0
-IsAscending [] = Unit {0}
-IsAscending (f ∷ fs) = IsBeforeAll f fs × IsAscending fs
 
 -- MARKS
 

@@ -4,14 +4,16 @@
 -- run `earlier` with one more move m.
 use Rattle.std.specs.Prelude.{◌≡◌, ℕ, ◌+◌, ◌≤◌, ◌⊎◌, List, [], ◌∷◌, ◌++◌, length, take}
 use Rattle.est_syntax.specs.declared.specification.Spec.{Spec}
-use Rattle.est_meaning.specs.declared.event.Event.{Event}
-use Rattle.est_meaning.specs.declared.event.Event.TheVariants as event
-use Rattle.est_meaning.specs.declared.firing.Firing.{Firing}
+use Rattle.est_semantics.specs.GlobalSituation.{Situation}
+use Rattle.est_semantics.specs.Outcome.{Done}
+use Rattle.est_semantics.specs.TextByPlace.{text_of}
+use Rattle.est_choices.specs.declared.event.Event.{Event}
+use Rattle.est_choices.specs.declared.event.Event.TheVariants as event
+use Rattle.est_choices.specs.declared.firing.Firing.{Firing}
+use Rattle.est_choices.specs.FiringSteps.{IsStep, start_of}
+use Rattle.est_choices.specs.OutsideEvents.{after_event}
 use Rattle.est_runs.specs.declared.run.Move.{Move}
 use Rattle.est_runs.specs.declared.run.Move.TheVariants.{Take, Fire}
-use Rattle.est_meaning.specs.Situation.{Situation}
-use Rattle.est_meaning.specs.Blocks.{Done}
-use Rattle.est_meaning.specs.Step.{IsStep, after_event, start_of}
 
 -- what a run is a run of; it is one of the specification where the setup is begun (`IsBegun`)
 pub record Setup : Type 0 where
@@ -27,7 +29,7 @@ pub record Setup : Type 0 where
 
 -- the start is that of the specification, and it is ready
 abbrev pub IsBegun : Setup → Type 0
-IsBegun c = start_of c.limit c.spec ≡ Done c.start c.start_outs
+IsBegun c = start_of c.limit (text_of c.spec) ≡ Done c.start_outs c.start
 
 -- where a run stands
 pub record Place : Type 0 where
@@ -51,8 +53,11 @@ IsFromOutside (event.Passes units) = Unit {0}
 
 -- where a run stands after a taken event
 abbrev pub after_taking : Setup → Place → Event → Place
-after_taking c p e = record
-    { situation = after_event c.spec p.situation e; events = p.events ++ e ∷ []; silent_in_row = 0 }
+after_taking c p e = record {
+  situation = after_event (text_of c.spec) p.situation e;
+  events = p.events ++ e ∷ [];
+  silent_in_row = 0;
+}
 
 -- the trace goes on after the events so far with an arrival or a passing of time, and this event
 -- happens
@@ -78,7 +83,7 @@ after_firing p s outs = record
 pub record Fires (c : Setup) (p : Place) (f : Firing) (q : Place) : Type 0 where
   pub situation : Situation
   pub outs : List Event
-  pub step : IsStep c.limit c.spec p.situation f situation outs
+  pub step : IsStep c.limit (text_of c.spec) p.situation f situation outs
   pub leads : q ≡ after_firing p situation outs
 
 -- a move leads from one place to another

@@ -1,16 +1,18 @@
 -- What holds of runs and their order.
 use Rattle.std.specs.Prelude.{◌≡◌, ◌≤◌, ◌+◌, ◌^◌, ◌↔◌, ◌⊎◌, ℕ, List, [], ◌∷◌, ◌++◌, length}
-use Rattle.est_meaning.specs.Situation.{Situation}
-use Rattle.est_meaning.specs.declared.event.Event.{Event}
-use Rattle.est_meaning.specs.declared.firing.Firing.{Firing}
+use Rattle.est_semantics.specs.GlobalSituation.{Situation}
+use Rattle.est_semantics.specs.KeepingLaws.{AreNumbered, AreMutual}
+use Rattle.est_semantics.specs.TextByPlace.{text_of}
+use Rattle.est_choices.specs.declared.event.Event.{Event}
+use Rattle.est_choices.specs.declared.firing.Firing.{Firing}
+use Rattle.est_choices.specs.FiringSteps.{IsStep}
+use Rattle.est_choices.specs.AllowedEvents.{IsAllowedTrace}
+use Rattle.est_choices.specs.OutsideEvents.{units_of}
 use Rattle.est_runs.specs.declared.run.Move.{Move}
 use Rattle.est_runs.specs.declared.run.Move.TheVariants.{Take, Fire}
-use Rattle.est_meaning.specs.Step.{IsStep}
-use Rattle.est_meaning.specs.StepLaws.{HasRowsInOrder}
-use Rattle.est_meaning.specs.Allowed.{IsAllowedTrace, units_of}
 use Rattle.est_runs.specs.Order.{RunBefore}
-use Rattle.est_runs.specs.Run.{Setup, Place, IsBegun, IsRun, IsBoundedRun}
-use Rattle.est_runs.specs.Run.{Takes, Agrees, AgreeAll, AgreeFirst, Yields}
+use Rattle.est_runs.specs.Run.{Setup, Place, IsBegun, IsRun, IsBoundedRun, Takes, Agrees, AgreeAll}
+use Rattle.est_runs.specs.Run.{AgreeFirst, Yields}
 
 -- a run leads to one situation and one list of events
 abbrev pub RunsAreUnique : Type 0
@@ -26,7 +28,7 @@ pub record IsSilentFiring (c : Setup) (earlier : List Move) (f : Firing) : Type 
   pub place : Place
   pub is_run : IsRun c earlier place
   pub next : Situation
-  pub step : IsStep c.limit c.spec place.situation f next []
+  pub step : IsStep c.limit (text_of c.spec) place.situation f next []
 
 -- after a run a move is a silent firing: to take an event is none
 abbrev pub IsSilent : Setup → List Move → Move → Type 0
@@ -81,8 +83,12 @@ ClockStaysBounded = (c : Setup) (run : List Move) (p : Place) → IsBegun c
     → (p.situation.clock ≤ 10 ^ 15)
     × ((q : Place) (taken : Takes c p q) → p.situation.clock + units_of taken.event ≤ 10 ^ 15)
 
--- in each situation of a run the rows begin with the root's, and their numbers ascend from 1 and
--- lie below that of the next instance
+-- the instances of a situation stand in ascending number, and its connections lead both ways
+pub record IsInOrder (s : Situation) : Type 0 where
+  pub numbers : AreNumbered s
+  pub connections : AreMutual s.peer
+
+-- so it is in each situation of a run
 abbrev pub RowsAreInOrder : Type 0
 RowsAreInOrder = (c : Setup) (run : List Move) (p : Place) → IsBegun c → IsRun c run p
-    → HasRowsInOrder p.situation
+    → IsInOrder p.situation

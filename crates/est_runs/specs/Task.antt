@@ -1,9 +1,9 @@
 -- What a call on a world is about.
 use Rattle.std.specs.Prelude.{◌≡◌, ℕ, List}
 use Rattle.est_syntax.specs.declared.specification.Spec.{Spec}
-use Rattle.est_meaning.specs.declared.event.Event.{Event}
-use Rattle.est_meaning.specs.Allowed.{IsAllowedTrace}
-use Rattle.est_runs.specs.Stack.{Stack}
+use Rattle.est_choices.specs.declared.event.Event.{Event}
+use Rattle.est_choices.specs.AllowedEvents.{IsAllowedTrace}
+use Rattle.est_worlds.specs.SituationStacks.{Stack}
 use Rattle.est_runs.specs.Run.{Setup, IsBegun}
 
 -- the runs from the situation in which a world stands, after these events of its start

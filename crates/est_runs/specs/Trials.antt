@@ -1,13 +1,16 @@
 -- Trials: firings that are tried after runs, what comes of them, and how many there are.
 use Rattle.std.specs.Prelude.{◌≡◌, ℕ, ◌≤◌, List, [], ◌∷◌, Option, Some, None, length}
 use Rattle.est_syntax.specs.Least.{IsIn}
-use Rattle.est_meaning.specs.declared.firing.Firing.{Firing}
-use Rattle.est_meaning.specs.declared.firing.BlockFault.{BlockFault}
+use Rattle.est_semantics.specs.declared.fault.BlockFault.{BlockFault}
+use Rattle.est_semantics.specs.Outcome.{Outcome, Fault, Limit}
+use Rattle.est_semantics.specs.GlobalSituation.{Situation}
+use Rattle.est_semantics.specs.TextByPlace.{text_of}
+use Rattle.est_choices.specs.declared.firing.Firing.{Firing}
+use Rattle.est_choices.specs.declared.event.Event.{Event}
+use Rattle.est_choices.specs.TransitionSelection.{IsSettled, IsPossible}
+use Rattle.est_choices.specs.FiringSteps.{outcome}
 use Rattle.est_runs.specs.declared.run.Move.{Move}
 use Rattle.est_runs.specs.declared.run.Move.TheVariants.{Take, Fire}
-use Rattle.est_meaning.specs.Choices.{IsSettled, IsPossible}
-use Rattle.est_meaning.specs.Blocks.{Outcome, Fault, Limit}
-use Rattle.est_meaning.specs.Step.{outcome}
 use Rattle.est_runs.specs.Order.{Mark, Guarding, Trying, marks_of, NotAfter, IsEarliest}
 use Rattle.est_runs.specs.Run.{Setup, Place, IsBoundedRun, AgreeAll, Follows}
 
@@ -22,7 +25,7 @@ abbrev pub IsTrial : Setup → List Move → Type 0
 IsTrial c [] = ⊥
 IsTrial c (Take ∷ earlier) = ⊥
 IsTrial c (Fire f ∷ earlier) =
-    (p : Place) × IsInner c earlier p × IsPossible c.limit c.spec p.situation f
+    (p : Place) × IsInner c earlier p × IsPossible c.limit (text_of c.spec) p.situation f
 
 -- a trial that comes before a run or is one of its own firings
 abbrev pub IsTrialUpTo : Setup → List Move → List Move → Type 0
@@ -31,17 +34,18 @@ IsTrialUpTo c run x = IsTrial c x × NotAfter x run
 -- PASSED LIMITS AND FAULTS
 
 -- a trial whose block has this outcome
-pub record ComesTo (c : Setup) (earlier : List Move) (f : Firing) (o : Outcome) : Type 0 where
+pub record ComesTo (c : Setup) (earlier : List Move) (f : Firing)
+    (o : Outcome Situation (List Event)) : Type 0 where
   pub place : Place
   pub inner : IsInner c earlier place
-  pub possible : IsPossible c.limit c.spec place.situation f
-  pub outcome_is : outcome c.limit c.spec place.situation f ≡ o
+  pub possible : IsPossible c.limit (text_of c.spec) place.situation f
+  pub outcome_is : outcome c.limit (text_of c.spec) place.situation f ≡ o
 
 -- an inner run after which some guard passes its limit
 pub record IsUnsettled (c : Setup) (run : List Move) : Type 0 where
   pub place : Place
   pub inner : IsInner c run place
-  pub unsettled : IsSettled c.limit c.spec place.situation → ⊥
+  pub unsettled : IsSettled c.limit (text_of c.spec) place.situation → ⊥
 
 -- in the order of marks: where a limit is passed, by the guards after a run or by a trial's block
 pub data PassesLimit (c : Setup) (x : List Mark) : Type 0 where

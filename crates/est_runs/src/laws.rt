@@ -39,7 +39,7 @@ pub fn clock_stays_bounded()
     ensures { ClockStaysBounded }
 {}
 
-/// In each situation of a run the numbers of instances ascend.
+/// In each situation of a run the numbers of instances ascend, and connections lead both ways.
 pub fn rows_are_in_order()
     ensures { RowsAreInOrder }
 {}

@@ -1,6 +1,5 @@
-//! Runs of a specification along a trace, their order, and systems that can be run and undone.
+//! Runs of a specification along a trace, and their order.
 #![tactic(auto)]
 
 pub mod laws;
 pub mod run;
-pub mod world;

@@ -1,8 +1,7 @@
-//! Runs and their limits, and what a system answers.
+//! Runs and their limits.
 
+use est_choices::firing::Firing;
 use est_items::Items;
-use est_meaning::event::Events;
-use est_meaning::firing::{BlockFault, Firing};
 
 /// A move of a run: the next event of the trace happens, or a transition fires.
 #[derive(Clone, Copy, PartialEq, Eq)]
@@ -21,27 +20,4 @@ pub struct Limits {
     pub silent: u32,
     pub budget: u32,
     pub statements: u32,
-}
-
-/// What came of a firing.
-#[derive(Clone, Copy, PartialEq, Eq)]
-pub enum Fired {
-    Done,
-    Fault(BlockFault),
-    Limit,
-}
-
-/// Whether a guard passed its limit.
-#[derive(Clone, Copy, PartialEq, Eq)]
-pub enum Offers {
-    Settled,
-    Unsettled,
-}
-
-/// What came of a start: a world and the outside events so far, or a fault or a passed limit.
-#[derive(Drop)]
-pub enum Started<W> {
-    Ready { world: W, outs: Events },
-    Fault(BlockFault),
-    Limit,
 }

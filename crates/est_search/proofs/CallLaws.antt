@@ -8,19 +8,22 @@ use Rattle.std.specs.Option.{option_or}
 use Rattle.std.proofs.lemmas.Bool.Decides.{nat_tests}
 use Rattle.std.proofs.lemmas.List.{length-reverse, reverse-reverse, append_cancel_left}
 use Rattle.est_syntax.specs.declared.specification.Spec.{Spec}
-use Rattle.est_meaning.specs.declared.event.Event.{Event}
-use Rattle.est_meaning.specs.declared.firing.Firing.{Firing}
-use Rattle.est_meaning.specs.declared.firing.BlockFault.{BlockFault}
-use Rattle.est_meaning.specs.Situation.{Situation}
-use Rattle.est_meaning.specs.Allowed.{IsAllowed, units_of}
-use Rattle.est_meaning.specs.Choices.{IsSettled, IsPossible}
-use Rattle.est_meaning.specs.Blocks.{Outcome, Done, Fault, Limit}
-use Rattle.est_meaning.specs.Step.{outcome, after_event}
+use Rattle.est_semantics.specs.declared.fault.BlockFault.{BlockFault}
+use Rattle.est_semantics.specs.GlobalSituation.{Situation}
+use Rattle.est_semantics.specs.Outcome.{Outcome, Done, Fault, Limit}
+use Rattle.est_semantics.specs.TextByPlace.{text_of}
+use Rattle.est_choices.specs.declared.event.Event.{Event}
+use Rattle.est_choices.specs.declared.firing.Firing.{Firing}
+use Rattle.est_choices.specs.AllowedEvents.{IsAllowed}
+use Rattle.est_choices.specs.OutsideEvents.{after_event, units_of}
+use Rattle.est_choices.specs.TransitionSelection.{IsSettled, IsPossible}
+use Rattle.est_choices.specs.FiringSteps.{outcome}
+use Rattle.est_worlds.specs.declared.answers.Fired.TheVariants as fired
+use Rattle.est_worlds.specs.declared.answers.Offers.TheVariants.{Settled, Unsettled}
+use Rattle.est_worlds.specs.PossibleFirings.{AreOptions, OffersAre}
+use Rattle.est_worlds.specs.SituationStacks.{Stack, pushed, FiredAs}
 use Rattle.est_runs.specs.declared.run.Move.{Move}
 use Rattle.est_runs.specs.declared.run.Move.TheVariants.{Take, Fire}
-use Rattle.est_runs.specs.declared.run.Fired.TheVariants as fired
-use Rattle.est_runs.specs.declared.run.Offers.TheVariants.{Settled, Unsettled}
-use Rattle.est_runs.specs.Stack.{Stack, pushed, AreOptions, OffersAre, FiredAs}
 use Rattle.est_runs.specs.Run.{Setup, Place, Takes, IsFromOutside, after_taking, silent_after}
 use Rattle.est_runs.specs.Trials.{IsTrial, HasMany}
 use Rattle.est_runs.proofs.ClockLaws.{clock_bounded}
@@ -115,7 +118,7 @@ module _ (c : Setup) (spec : Spec) (limit silent : ℕ) (trace : List Event) (st
 
     -- the event is taken
     pub take_call : (stack' : Stack) (new : Walk) (found : Bool) → IsFromOutside e
-        → stack' ≡ pushed (after_event spec stack.now e) stack
+        → stack' ≡ pushed (after_event (text_of spec) stack.now e) stack
         → HasReached w.best new.best (length w.path.moves.items) Take (w.path.top.matched + 1)
         → view_of new.path ≡ entered (view_of w.path) Take (w.path.top.matched + 1) 0
         → new.tried ≡ w.tried → new.notes ≡ w.notes
@@ -132,15 +135,15 @@ module _ (c : Setup) (spec : Spec) (limit silent : ℕ) (trace : List Event) (st
         let m = matched_within in
         let n : length c.trace ≡ length trace = ap length r.suits.trace_is in
         let lt : w.path.top.matched + 1 < length trace = grind (arith, nat_tests) in
-        let to : stack' ≡ pushed (after_event c.spec stack.now e) stack =
-        same ∙ ap (λ x. pushed (after_event x stack.now e) stack) (sym r.suits.spec_is) in
+        let to : stack' ≡ pushed (after_event (text_of c.spec) stack.now e) stack =
+        same ∙ ap (λ x. pushed (after_event (text_of x) stack.now e) stack) (sym r.suits.spec_is) in
         subst (λ s. IsOnWay c s (view_of new.path) new.tried new.best new.notes) (sym to)
-        (subst (λ v. IsOnWay c (pushed (after_event c.spec stack.now e) stack) v new.tried new.best
-        new.notes) (sym path)
-        (subst (λ n. IsOnWay c (pushed (after_event c.spec stack.now e) stack)
+        (subst (λ v. IsOnWay c (pushed (after_event (text_of c.spec) stack.now e) stack) v new.tried
+        new.best new.notes) (sym path)
+        (subst (λ n. IsOnWay c (pushed (after_event (text_of c.spec) stack.now e) stack)
         (entered (view_of w.path) Take (w.path.top.matched + 1) 0) n new.best new.notes)
         (sym tried)
-        (subst (λ n. IsOnWay c (pushed (after_event c.spec stack.now e) stack)
+        (subst (λ n. IsOnWay c (pushed (after_event (text_of c.spec) stack.now e) stack)
         (entered (view_of w.path) Take (w.path.top.matched + 1) 0) w.tried new.best n)
         (sym notes)
         (taken_on c stack (view_of w.path) w.tried w.best w.notes r.on_way fresh e
@@ -167,20 +170,23 @@ module _ (c : Setup) (spec : Spec) (limit silent : ℕ) (trace : List Event) (st
       (subst (λ n. IsOnWay c stack (with_firings (view_of w.path) offers) w.tried w.best n)
       (sym notes_are) way))))
 
-  settled_there : IsSettled limit spec stack.now → IsSettled c.limit c.spec stack.now
-  settled_there s = subst (λ l. IsSettled l c.spec stack.now) (sym r.suits.limit_is)
-      (subst (λ x. IsSettled limit x stack.now) (sym r.suits.spec_is) s)
+  settled_there : IsSettled limit (text_of spec) stack.now
+      → IsSettled c.limit (text_of c.spec) stack.now
+  settled_there s = subst (λ l. IsSettled l (text_of c.spec) stack.now) (sym r.suits.limit_is)
+      (subst (λ x. IsSettled limit (text_of x) stack.now) (sym r.suits.spec_is) s)
 
-  settled_here : IsSettled c.limit c.spec stack.now → IsSettled limit spec stack.now
-  settled_here s = subst (λ l. IsSettled l spec stack.now) r.suits.limit_is
-      (subst (λ x. IsSettled c.limit x stack.now) r.suits.spec_is s)
+  settled_here : IsSettled c.limit (text_of c.spec) stack.now
+      → IsSettled limit (text_of spec) stack.now
+  settled_here s = subst (λ l. IsSettled l (text_of spec) stack.now) r.suits.limit_is
+      (subst (λ x. IsSettled c.limit (text_of x) stack.now) r.suits.spec_is s)
 
-  options_there : AreOptions limit spec stack.now offers
-      → AreOptions c.limit c.spec stack.now offers
-  options_there o = subst (λ l. AreOptions l c.spec stack.now offers) (sym r.suits.limit_is)
-      (subst (λ x. AreOptions limit x stack.now offers) (sym r.suits.spec_is) o)
+  options_there : AreOptions limit (text_of spec) stack.now offers
+      → AreOptions c.limit (text_of c.spec) stack.now offers
+  options_there o =
+      subst (λ l. AreOptions l (text_of c.spec) stack.now offers) (sym r.suits.limit_is)
+      (subst (λ x. AreOptions limit (text_of x) stack.now offers) (sym r.suits.spec_is) o)
 
-  pub settled_call : new.notes ≡ w.notes → OffersAre limit spec stack.now Settled offers
+  pub settled_call : new.notes ≡ w.notes → OffersAre limit (text_of spec) stack.now Settled offers
       → IsWalk c stack' new
   settled_call notes o = listed_call w.notes notes
       (settled_on c stack (view_of w.path) w.tried w.best w.notes r.on_way taken offers
@@ -190,7 +196,7 @@ module _ (c : Setup) (spec : Spec) (limit silent : ℕ) (trace : List Event) (st
     passed = option_or w.notes.passed
         (Some (record { run = w.path.moves.items; events = w.path.top.matched; firing = None }));
   }
-      → OffersAre limit spec stack.now Unsettled offers → IsWalk c stack' new
+      → OffersAre limit (text_of spec) stack.now Unsettled offers → IsWalk c stack' new
   unsettled_call notes o = listed_call _ notes
       (unsettled_on c stack (view_of w.path) w.tried w.best w.notes r.on_way taken offers
       w.path.moves.items refl (λ s. o.0 (settled_here s)) o.1)
@@ -203,14 +209,15 @@ on_err (Err e) p = p
 
 module _ (c : Setup) (spec : Spec) (limit silent : ℕ) (trace : List Event) (stack : Stack)
     (w : Walk) (f : Firing) (t : IsTrying c spec limit silent trace stack w f) where
-  outcome_there : (o : Outcome) → outcome limit spec stack.now f ≡ o
-      → outcome c.limit c.spec stack.now f ≡ o
-  outcome_there o e = subst (λ l. outcome l c.spec stack.now f ≡ o) (sym t.suits.limit_is)
-      (subst (λ x. outcome limit x stack.now f ≡ o) (sym t.suits.spec_is) e)
+  outcome_there : (o : Outcome Situation (List Event))
+      → outcome limit (text_of spec) stack.now f ≡ o
+      → outcome c.limit (text_of c.spec) stack.now f ≡ o
+  outcome_there o e = subst (λ l. outcome l (text_of c.spec) stack.now f ≡ o) (sym t.suits.limit_is)
+      (subst (λ x. outcome limit (text_of x) stack.now f ≡ o) (sym t.suits.spec_is) e)
 
-  pub possible_call : IsPossible limit spec stack.now f
-  possible_call = subst (λ l. IsPossible l spec stack.now f) t.suits.limit_is
-      (subst (λ x. IsPossible c.limit x stack.now f) t.suits.spec_is
+  pub possible_call : IsPossible limit (text_of spec) stack.now f
+  possible_call = subst (λ l. IsPossible l (text_of spec) stack.now f) t.suits.limit_is
+      (subst (λ x. IsPossible c.limit (text_of x) stack.now f) t.suits.spec_is
       (fire_possible c stack t.before w.tried w.best w.notes t.on_way f (view_of w.path) t.next))
 
   moves_same : (view_of w.path).moves ≡ t.before.moves
@@ -234,7 +241,7 @@ module _ (c : Setup) (spec : Spec) (limit silent : ℕ) (trace : List Event) (st
       t.next).size
 
   pub fault_call : (stack' : Stack) (new : Walk) (fault : BlockFault) (events : List Event)
-      → FiredAs (outcome limit spec stack.now f) (fired.Fault fault) events stack stack'
+      → FiredAs (outcome limit (text_of spec) stack.now f) (fired.Fault fault) events stack stack'
       → new.path ≡ w.path → new.tried ≡ w.tried + 1 → new.best ≡ w.best
       → new.notes ≡ record w.notes {
         faulted = option_or w.notes.faulted
@@ -242,13 +249,13 @@ module _ (c : Setup) (spec : Spec) (limit silent : ℕ) (trace : List Event) (st
       }
       → IsWalk c stack' new
   fault_call stack' new fault events is path tried best notes =
-      let a = fired_fault (outcome limit spec stack.now f) fault events stack stack' is in
+      let a = fired_fault (outcome limit (text_of spec) stack.now f) fault events stack stack' is in
       let way = fault_on c stack t.before w.tried w.best w.notes t.on_way f (view_of w.path) t.next
       w.path.moves.items fault moves_same (outcome_there (Fault fault) a.0) in
       rw (a.1, path, tried, best, notes) way
 
   pub limit_call : (stack' : Stack) (new : Walk) (events : List Event)
-      → FiredAs (outcome limit spec stack.now f) fired.Limit events stack stack'
+      → FiredAs (outcome limit (text_of spec) stack.now f) fired.Limit events stack stack'
       → new.path ≡ w.path → new.tried ≡ w.tried + 1 → new.best ≡ w.best
       → new.notes ≡ record w.notes {
         passed = option_or w.notes.passed
@@ -256,7 +263,7 @@ module _ (c : Setup) (spec : Spec) (limit silent : ℕ) (trace : List Event) (st
       }
       → IsWalk c stack' new
   limit_call stack' new events is path tried best notes =
-      let a = fired_limit (outcome limit spec stack.now f) events stack stack' is in
+      let a = fired_limit (outcome limit (text_of spec) stack.now f) events stack stack' is in
       let way = limit_on c stack t.before w.tried w.best w.notes t.on_way f (view_of w.path) t.next
       w.path.moves.items w.path.top.matched moves_same top_matched (outcome_there Limit a.0) in
       rw (a.1, path, tried, best, notes) way
@@ -265,14 +272,15 @@ module _ (c : Setup) (spec : Spec) (limit silent : ℕ) (trace : List Event) (st
   module _ (mid : Walk) (stack' : Stack) (path : mid.path ≡ w.path) (tried : mid.tried ≡ w.tried +
       1)
       (best : mid.best ≡ w.best) (notes : mid.notes ≡ w.notes)
-      (is : FiredAs (outcome limit spec stack.now f) fired.Done mid.outs.items stack stack')
+      (is : FiredAs (outcome limit (text_of spec) stack.now f) fired.Done mid.outs.items stack
+      stack')
     where
-      done : (s : Situation) × (outcome limit spec stack.now f ≡ Done s mid.outs.items)
+      done : (s : Situation) × (outcome limit (text_of spec) stack.now f ≡ Done mid.outs.items s)
           × (stack' ≡ pushed s stack)
-      done = fired_done (outcome limit spec stack.now f) mid.outs.items stack stack' is
+      done = fired_done (outcome limit (text_of spec) stack.now f) mid.outs.items stack stack' is
 
-      done_there : outcome c.limit c.spec stack.now f ≡ Done done.0 mid.outs.items
-      done_there = outcome_there (Done done.0 mid.outs.items) done.1
+      done_there : outcome c.limit (text_of c.spec) stack.now f ≡ Done mid.outs.items done.0
+      done_there = outcome_there (Done mid.outs.items done.0) done.1
 
       matched_is : mid.path.top.matched ≡ t.before.top.matched
       matched_is = ap (λ (p : Path). p.top.matched) path ∙ top_matched

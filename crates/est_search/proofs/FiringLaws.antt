@@ -3,21 +3,20 @@ use Rattle.std.proofs.Common.{◌≡◌, ℕ, ◌+◌, ◌<◌, ◌≤◌, ◌�
 use Rattle.std.proofs.Common.{length, take, refl, sym, ap, subst, ◌∙◌, inl, inr}
 use Rattle.std.proofs.Common.{reverse, arith}
 use Rattle.std.specs.Option.{option_or}
-use Rattle.est_meaning.specs.declared.event.Event.{Event}
-use Rattle.est_meaning.specs.declared.firing.Firing.{Firing}
-use Rattle.est_meaning.specs.declared.firing.BlockFault.{BlockFault}
-use Rattle.est_meaning.specs.Situation.{Situation}
-use Rattle.est_meaning.specs.Choices.{IsPossible}
-use Rattle.est_meaning.specs.Blocks.{Outcome, Done, Fault, Limit}
-use Rattle.est_meaning.specs.Step.{outcome}
+use Rattle.est_semantics.specs.declared.fault.BlockFault.{BlockFault}
+use Rattle.est_semantics.specs.GlobalSituation.{Situation}
+use Rattle.est_semantics.specs.Outcome.{Outcome, Done, Fault, Limit}
+use Rattle.est_semantics.specs.TextByPlace.{text_of}
+use Rattle.est_choices.specs.declared.event.Event.{Event}
+use Rattle.est_choices.specs.declared.firing.Firing.{Firing}
+use Rattle.est_choices.specs.TransitionSelection.{IsPossible}
+use Rattle.est_choices.specs.FiringSteps.{outcome}
+use Rattle.est_worlds.specs.SituationStacks.{Stack, pushed}
 use Rattle.est_runs.specs.declared.run.Move.{Move}
 use Rattle.est_runs.specs.declared.run.Move.TheVariants.{Take, Fire}
 use Rattle.est_runs.specs.Order.{Mark, Trying, mark_of, marks_of, StartsWith}
-use Rattle.est_runs.specs.Stack.{Stack, pushed}
-use Rattle.est_runs.specs.Run.{Setup, Place, after_firing}
-use Rattle.est_runs.specs.Run.{silent_after, IsBoundedRun, YieldsFirst}
-use Rattle.est_runs.specs.Trials.{IsTrial, ComesTo, PassesLimit}
-use Rattle.est_runs.specs.Trials.{block, Faults}
+use Rattle.est_runs.specs.Run.{Setup, Place, after_firing, silent_after, IsBoundedRun, YieldsFirst}
+use Rattle.est_runs.specs.Trials.{IsTrial, ComesTo, PassesLimit, block, Faults}
 use Rattle.est_runs.proofs.OrderLaws.{marks_same, starts_self, starts_one}
 use Rattle.est_runs.proofs.RunLaws.{one_place, explains_follows}
 use Rattle.est_runs.proofs.TreeLaws.{IsInTree, IsOnTree, passes_in_tree, faults_in_tree}
@@ -34,13 +33,10 @@ use Rattle.est_search.specs.inside.Path.{View, place_at, entered}
 use Rattle.est_search.specs.inside.Path.{IsNext, IsUndone, stage_after, StageIs}
 use Rattle.est_search.specs.inside.Path.{AreLeftBelow, AreLower, IsAt, HasReached, HasKept}
 use Rattle.est_search.specs.inside.Walk.{passed_at, faulted_at, FaultIs, NotesAre, KnowsAll}
-use Rattle.est_search.specs.inside.Walk.{IsOnWay}
-use Rattle.est_search.specs.inside.Walk.{Accepts, IsOver}
-use Rattle.est_search.proofs.AheadLaws.{Turn, turn_on, turn_off, skip_back}
-use Rattle.est_search.proofs.AheadLaws.{skip_all, IsNextMark}
+use Rattle.est_search.specs.inside.Walk.{IsOnWay, Accepts, IsOver}
+use Rattle.est_search.proofs.AheadLaws.{Turn, turn_on, turn_off, skip_back, skip_all, IsNextMark}
 use Rattle.est_search.proofs.KnownLaws.{knows_skip, noted_on, noted_now}
-use Rattle.est_search.proofs.KnownLaws.{best_on, trials_more, accepts_tried}
-use Rattle.est_search.proofs.KnownLaws.{over_now}
+use Rattle.est_search.proofs.KnownLaws.{best_on, trials_more, accepts_tried, over_now}
 use Rattle.est_search.proofs.EventLaws.{yields_so, yields_no_more, departs}
 use Rattle.est_search.proofs.EventLaws.{events_are, is_unfinished, explains_so}
 use Rattle.est_search.proofs.PathLaws.{inner_at}
@@ -62,7 +58,7 @@ module _ (c : Setup) (stack : Stack) (v : View) (tried : ℕ) (best : Best) (not
   listed = listed_stage c stack.now v.stage way.dealt way.at.mine f mine_next.others
       mine_next.mine_is way.at.stage
 
-  pub fire_possible : IsPossible c.limit c.spec stack.now f
+  pub fire_possible : IsPossible c.limit (text_of c.spec) stack.now f
   fire_possible = listed.left.possible f (inl refl)
 
   trial : IsTrial c (Fire f ∷ v.moves)
@@ -72,7 +68,8 @@ module _ (c : Setup) (stack : Stack) (v : View) (tried : ℕ) (best : Best) (not
     fire_possible,
   )
 
-  comes : (o : Outcome) → outcome c.limit c.spec stack.now f ≡ o → ComesTo c v.moves f o
+  comes : (o : Outcome Situation (List Event))
+      → outcome c.limit (text_of c.spec) stack.now f ≡ o → ComesTo c v.moves f o
   comes o is = record {
     place = place_at c stack.now v.top;
     inner = inner_at c v.moves stack.now v.top way.at.node;
@@ -153,7 +150,7 @@ module _ (c : Setup) (stack : Stack) (v : View) (tried : ℕ) (best : Best) (not
           trial));
     }
 
-    quiet : (outcome c.limit c.spec stack.now f ≡ Limit → ⊥)
+    quiet : (outcome c.limit (text_of c.spec) stack.now f ≡ Limit → ⊥)
         → IsNoted (PassesLimit c) (IsAhead (marks_of v.moves) (Some listed.mark))
         (passed_at notes.passed)
         → IsNoted (PassesLimit c) (IsAhead (marks_of v.moves) (Some (Trying f)))
@@ -164,7 +161,7 @@ module _ (c : Setup) (stack : Stack) (v : View) (tried : ℕ) (best : Best) (not
         (trying_passes c v.moves (place_at c stack.now v.top) f way.at.node.is_run never)
         (passed_at notes.passed)
 
-    sound : ((fault : BlockFault) → outcome c.limit c.spec stack.now f ≡ Fault fault → ⊥)
+    sound : ((fault : BlockFault) → outcome c.limit (text_of c.spec) stack.now f ≡ Fault fault → ⊥)
         → IsNoted (Faults c) (IsAhead (marks_of v.moves) (Some listed.mark))
         (faulted_at notes.faulted)
         → IsNoted (Faults c) (IsAhead (marks_of v.moves) (Some (Trying f)))
@@ -191,15 +188,16 @@ module _ (c : Setup) (stack : Stack) (v : View) (tried : ℕ) (best : Best) (not
           (marks_same r (Fire f ∷ v.moves) same) y.is_run))) all_listed.knows.best;
     }
 
-  undone_nowhere : (o : Outcome) → outcome c.limit c.spec stack.now f ≡ o
-      → ((s : Situation) (outs : List Event) → o ≡ Done s outs → ⊥) → (p : Place)
+  undone_nowhere : (o : Outcome Situation (List Event))
+      → outcome c.limit (text_of c.spec) stack.now f ≡ o
+      → ((s : Situation) (outs : List Event) → o ≡ Done outs s → ⊥) → (p : Place)
       → IsBoundedRun c (Fire f ∷ v.moves) p → ⊥
   undone_nowhere o is never p run =
       let e : run.0 ≡ place_at c stack.now v.top =
       one_place c v.moves run.0 (place_at c stack.now v.top) run.1 way.at.node.is_run in
       never run.2.situation run.2.outs (sym is
-      ∙ subst (λ (u : Place). outcome c.limit c.spec u.situation f
-      ≡ Done run.2.situation run.2.outs) e run.2.step.done)
+      ∙ subst (λ (u : Place). outcome c.limit (text_of c.spec) u.situation f
+      ≡ Done run.2.outs run.2.situation) e run.2.step.done)
 
   fault_noted : (o : Option Faulted) (moves : List Move) (fault : BlockFault)
       → reverse moves ≡ v.moves
@@ -215,7 +213,7 @@ module _ (c : Setup) (stack : Stack) (v : View) (tried : ℕ) (best : Best) (not
   fault_is (Some p) moves fault e is before = before
 
   pub fault_on : (moves : List Move) (fault : BlockFault) → reverse moves ≡ v.moves
-      → outcome c.limit c.spec stack.now f ≡ Fault fault
+      → outcome c.limit (text_of c.spec) stack.now f ≡ Fault fault
       → IsOnWay c stack w (tried + 1) best (record notes {
         faulted =
             option_or notes.faulted (Some (record { run = moves; firing = f; fault = fault }));
@@ -248,7 +246,7 @@ module _ (c : Setup) (stack : Stack) (v : View) (tried : ℕ) (best : Best) (not
   pass_noted (Some p) moves many e = refl
 
   pub limit_on : (moves : List Move) (many : ℕ) → reverse moves ≡ v.moves → many ≡ v.top.matched
-      → outcome c.limit c.spec stack.now f ≡ Limit
+      → outcome c.limit (text_of c.spec) stack.now f ≡ Limit
       → IsOnWay c stack w (tried + 1) best (record notes {
         passed =
             option_or notes.passed
@@ -273,12 +271,13 @@ module _ (c : Setup) (stack : Stack) (v : View) (tried : ℕ) (best : Best) (not
   -- IT IS DONE
 
   module _ (s' : Situation) (outs : List Event)
-      (is_done : outcome c.limit c.spec stack.now f ≡ Done s' outs) where
-    never_limit : outcome c.limit c.spec stack.now f ≡ Limit → ⊥
-    never_limit l = (let e : Done s' outs ≡ Limit = sym is_done ∙ l in cc)
+      (is_done : outcome c.limit (text_of c.spec) stack.now f ≡ Done outs s') where
+    never_limit : outcome c.limit (text_of c.spec) stack.now f ≡ Limit → ⊥
+    never_limit l = (let e : Done outs s' ≡ Limit = sym is_done ∙ l in cc)
 
-    never_fault : (fault : BlockFault) → outcome c.limit c.spec stack.now f ≡ Fault fault → ⊥
-    never_fault fault l = (let e : Done s' outs ≡ Fault fault = sym is_done ∙ l in cc)
+    never_fault : (fault : BlockFault)
+        → outcome c.limit (text_of c.spec) stack.now f ≡ Fault fault → ⊥
+    never_fault fault l = (let e : Done outs s' ≡ Fault fault = sym is_done ∙ l in cc)
 
     -- too many silent firings stand in a row
     silent_nowhere : c.silent < silent_after v.top.silent outs → (p : Place)
@@ -286,10 +285,10 @@ module _ (c : Setup) (stack : Stack) (v : View) (tried : ℕ) (best : Best) (not
     silent_nowhere many p run =
         let e : run.0 ≡ place_at c stack.now v.top =
         one_place c v.moves run.0 (place_at c stack.now v.top) run.1 way.at.node.is_run in
-        let d : outcome c.limit c.spec stack.now f ≡ Done run.2.situation run.2.outs =
-        subst (λ (u : Place). outcome c.limit c.spec u.situation f
-        ≡ Done run.2.situation run.2.outs) e run.2.step.done in
-        let both : Done s' outs ≡ Done run.2.situation run.2.outs = sym is_done ∙ d in
+        let d : outcome c.limit (text_of c.spec) stack.now f ≡ Done run.2.outs run.2.situation =
+        subst (λ (u : Place). outcome c.limit (text_of c.spec) u.situation f
+        ≡ Done run.2.outs run.2.situation) e run.2.step.done in
+        let both : Done outs s' ≡ Done run.2.outs run.2.situation = sym is_done ∙ d in
         let same : outs ≡ run.2.outs = cc in
         let row : p.silent_in_row ≡ silent_after v.top.silent outs =
         ap (λ (u : Place). u.silent_in_row) run.2.leads

@@ -6,8 +6,7 @@ use Rattle.est_syntax.specs.Least.{IsIn}
 use Rattle.est_runs.specs.declared.run.Move.{Move}
 use Rattle.est_runs.specs.Order.{Mark, marks_of, Before, NotAfter, IsFirst}
 use Rattle.est_runs.specs.Run.{Setup, Explains, YieldsFirst}
-use Rattle.est_runs.specs.Trials.{IsTrial, IsTrialUpTo, HasMany}
-use Rattle.est_runs.specs.Trials.{PassesLimit, Faults}
+use Rattle.est_runs.specs.Trials.{IsTrial, IsTrialUpTo, HasMany, PassesLimit, Faults}
 use Rattle.est_runs.proofs.OrderLaws.{marks_same, before_irreflexive, not_after_before}
 use Rattle.est_runs.proofs.TreeLaws.{IsInTree, explains_in_tree, trial_in_tree, yields_in_tree}
 use Rattle.est_runs.proofs.TreeLaws.{passes_in_tree, faults_in_tree}

@@ -5,24 +5,23 @@ use Rattle.std.proofs.Common.{inl, inr, zero-le, arith}
 use Rattle.std.proofs.lemmas.Bool.{cases_lt}
 use Rattle.std.proofs.lemmas.List.{reverse-reverse}
 use Rattle.est_syntax.specs.Least.{IsIn}
-use Rattle.est_meaning.specs.declared.firing.Firing.{Firing}
-use Rattle.est_meaning.specs.declared.firing.BlockFault.{BlockFault}
-use Rattle.est_meaning.specs.Blocks.{Fault}
-use Rattle.est_meaning.specs.Step.{outcome}
+use Rattle.est_semantics.specs.declared.fault.BlockFault.{BlockFault}
+use Rattle.est_semantics.specs.Outcome.{Fault}
+use Rattle.est_semantics.specs.TextByPlace.{text_of}
+use Rattle.est_choices.specs.declared.firing.Firing.{Firing}
+use Rattle.est_choices.specs.FiringSteps.{outcome}
 use Rattle.est_runs.specs.declared.run.Move.{Move}
-use Rattle.est_runs.specs.Order.{Mark, Trying, marks_of, NotAfter, IsFirst}
-use Rattle.est_runs.specs.Order.{IsEarliest}
+use Rattle.est_runs.specs.Order.{Mark, Trying, marks_of, NotAfter, IsFirst, IsEarliest}
 use Rattle.est_runs.specs.Run.{Setup, Place, IsBoundedRun, Yields}
-use Rattle.est_runs.specs.Trials.{AreDistinct, HasMany, HasAtMost, ComesTo, Faults}
-use Rattle.est_runs.specs.Trials.{mark_passed}
+use Rattle.est_runs.specs.Trials.{AreDistinct, HasMany, HasAtMost, ComesTo, Faults, mark_passed}
 use Rattle.est_runs.proofs.OrderLaws.{marks_same, before_asymmetric}
 use Rattle.est_runs.proofs.RunLaws.{one_place, yields_below_all}
+use Rattle.est_runs.proofs.StackLaws.{faulted}
 use Rattle.est_search.specs.declared.verdict.Faulted.{Faulted}
 use Rattle.est_search.specs.declared.verdict.Verdict.{Verdict}
 use Rattle.est_search.specs.declared.verdict.Verdict.TheVariants.{Accepted, Refused}
 use Rattle.est_search.specs.declared.verdict.Verdict.TheVariants.{OverFirings, OverAction}
-use Rattle.est_search.specs.Verdict.{HasEvents, IsLeastUnyielded, IsFirstFaulted}
-use Rattle.est_search.specs.Verdict.{VerdictIsUnique}
+use Rattle.est_search.specs.Verdict.{HasEvents, IsLeastUnyielded, IsFirstFaulted, VerdictIsUnique}
 
 -- COUNTING
 
@@ -121,7 +120,7 @@ one_before c (suc k) n x y e least a b =
 
 -- FAULTS
 
-fault_same : (f g : BlockFault) → Fault f ≡ Fault g → f ≡ g
+fault_same : (f g : BlockFault) → faulted f ≡ faulted g → f ≡ g
 fault_same f g e = cc
 
 one_fault : (c : Setup) (x y : List Move) (f g : Firing) (a b : BlockFault) → x ≡ y → f ≡ g
@@ -130,8 +129,8 @@ one_fault c x y f g a b e same s t =
     let p : s.place ≡ t.place = one_place c y s.place t.place
     (subst (λ w. IsBoundedRun c w s.place) e s.inner.is_run) t.inner.is_run in
     fault_same a b (sym s.outcome_is
-    ∙ ap (λ (w : Place). outcome c.limit c.spec w.situation f) p
-    ∙ ap (λ w. outcome c.limit c.spec t.place.situation w) same ∙ t.outcome_is)
+    ∙ ap (λ (w : Place). outcome c.limit (text_of c.spec) w.situation f) p
+    ∙ ap (λ w. outcome c.limit (text_of c.spec) t.place.situation w) same ∙ t.outcome_is)
 
 same_faulted : (a b : Faulted) → a.run ≡ b.run → a.firing ≡ b.firing → a.fault ≡ b.fault → a ≡ b
 same_faulted a b r f g =

@@ -5,13 +5,14 @@ use Rattle.std.proofs.Common.{inl, inr, append_assoc, arith}
 use Rattle.std.proofs.lemmas.Bool.{cases_lt}
 use Rattle.std.proofs.lemmas.List.{take-append-drop, length-take-le, length-append}
 use Rattle.est_syntax.specs.Least.{IsIn}
-use Rattle.est_meaning.specs.declared.firing.Firing.{Firing}
-use Rattle.est_meaning.specs.Situation.{Situation}
-use Rattle.est_meaning.specs.Choices.{IsPossible}
+use Rattle.est_semantics.specs.GlobalSituation.{Situation}
+use Rattle.est_semantics.specs.TextByPlace.{text_of}
+use Rattle.est_choices.specs.declared.firing.Firing.{Firing}
+use Rattle.est_choices.specs.TransitionSelection.{IsPossible}
+use Rattle.est_worlds.specs.FiringOrder.{FiringBefore, IsBeforeAll}
 use Rattle.est_runs.specs.declared.run.Move.{Move}
 use Rattle.est_runs.specs.declared.run.Move.TheVariants.{Fire}
-use Rattle.est_runs.specs.Order.{FiringBefore, IsBeforeAll, Mark, Taking, Guarding}
-use Rattle.est_runs.specs.Order.{Trying, MarkBefore, marks_of, StartsWith}
+use Rattle.est_runs.specs.Order.{Mark, Taking, Guarding, Trying, MarkBefore, marks_of, StartsWith}
 use Rattle.est_runs.specs.Run.{Setup, Place, IsBoundedRun, YieldsFirst}
 use Rattle.est_runs.specs.Trials.{IsInner}
 use Rattle.est_runs.proofs.OrderLaws.{firing_irreflexive, mark_transitive, starts_self}
@@ -89,9 +90,9 @@ before_each f g (x ∷ fs) b a = elim a [
 
 -- the situation of a run that can go on by a firing is that of the node
 pub possible_there : (c : Setup) (h : List Move) (p : Place) (f : Firing) → IsBoundedRun c h p
-    → CanGoOn c h (Trying f) → IsPossible c.limit c.spec p.situation f
+    → CanGoOn c h (Trying f) → IsPossible c.limit (text_of c.spec) p.situation f
 possible_there c h p f is can =
-    subst (λ (w : Place). IsPossible c.limit c.spec w.situation f)
+    subst (λ (w : Place). IsPossible c.limit (text_of c.spec) w.situation f)
     (one_place c h can.place p can.is_run is) can.defined
 
 firing_next_by : (c : Setup) (h : List Move) (p : Place) (m : Mark) (f : Firing)

@@ -3,9 +3,10 @@ use Rattle.std.proofs.Common.{◌≡◌, ℕ, ◌+◌, ◌≤◌, List, [], ◌�
 use Rattle.std.proofs.Common.{length, reverse, refl, sym, ap, subst, ◌∙◌, inl, inr, arith}
 use Rattle.std.proofs.Common.{Result, Ok, Err, IfOk}
 use Rattle.std.proofs.lemmas.List.{append-nil, reverse-reverse}
+use Rattle.est_syntax.specs.Least.{IsIn}
+use Rattle.est_worlds.specs.SituationStacks.{Stack}
 use Rattle.est_runs.specs.declared.run.Move.{Move}
 use Rattle.est_runs.specs.Order.{Mark, IsFirst}
-use Rattle.est_runs.specs.Stack.{Stack}
 use Rattle.est_runs.specs.Run.{Setup, Yields}
 use Rattle.est_runs.specs.Trials.{IsTrial, IsTrialUpTo, AreDistinct, HasMany, PassesLimit, Faults}
 use Rattle.est_runs.proofs.RunLaws.{yields_below_all}
@@ -18,7 +19,6 @@ use Rattle.est_search.specs.declared.walk.Step.{Step}
 use Rattle.est_search.specs.declared.walk.Step.TheVariants.{Going, Accepting, Over, Done}
 use Rattle.est_search.specs.Verdict.{IsUnexplained}
 use Rattle.est_search.specs.Verdict.{IsFirstFaulted, IsRefused, IsVerdict, IsWithinTried}
-use Rattle.est_syntax.specs.Least.{IsIn}
 use Rattle.est_search.specs.inside.Known.{KnowsTrials, IsNoted}
 use Rattle.est_search.specs.inside.Walk.{passed_at, faulted_at, FaultIs, EventsAre}
 use Rattle.est_search.specs.inside.Walk.{IsDone, StepIs, Concludes, Answers}

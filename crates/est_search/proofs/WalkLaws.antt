@@ -4,26 +4,28 @@ use Rattle.std.proofs.Common.{length, take, drop, get_or, refl, sym, ap, subst, 
 use Rattle.std.proofs.Common.{reverse, zero-le, arith}
 use Rattle.std.specs.Option.{option_or}
 use Rattle.std.proofs.lemmas.List.{length-take-le}
-use Rattle.est_meaning.specs.declared.event.Event.{Event}
-use Rattle.est_meaning.specs.declared.firing.Firing.{Firing}
-use Rattle.est_meaning.specs.declared.firing.BlockFault.{BlockFault}
-use Rattle.est_meaning.specs.Choices.{IsSettled}
-use Rattle.est_meaning.specs.Blocks.{Outcome, Fault, Limit}
-use Rattle.est_meaning.specs.Step.{outcome, after_event}
-use Rattle.est_meaning.proofs.StepLaws.{possible_settled}
+use Rattle.est_semantics.specs.declared.fault.BlockFault.{BlockFault}
+use Rattle.est_semantics.specs.Outcome.{Outcome, Fault, Limit}
+use Rattle.est_semantics.specs.GlobalSituation.{Situation}
+use Rattle.est_semantics.specs.TextByPlace.{text_of}
+use Rattle.est_choices.specs.declared.event.Event.{Event}
+use Rattle.est_choices.specs.declared.firing.Firing.{Firing}
+use Rattle.est_choices.specs.TransitionSelection.{IsSettled}
+use Rattle.est_choices.specs.FiringSteps.{outcome}
+use Rattle.est_choices.specs.OutsideEvents.{after_event}
+use Rattle.est_choices.proofs.Steps.{possible_settled}
+use Rattle.est_worlds.specs.PossibleFirings.{AreOptions}
+use Rattle.est_worlds.specs.SituationStacks.{Stack, pushed}
 use Rattle.est_runs.specs.declared.run.Move.{Move}
 use Rattle.est_runs.specs.declared.run.Move.TheVariants.{Take, Fire}
 use Rattle.est_runs.specs.Order.{Mark, Taking, Guarding, Trying, marks_of}
-use Rattle.est_runs.specs.Stack.{Stack, pushed, AreOptions}
 use Rattle.est_runs.specs.Run.{Setup, Place, Takes, IsFromOutside, after_taking}
 use Rattle.est_runs.specs.Run.{IsBoundedRun, Explains, YieldsFirst}
-use Rattle.est_runs.specs.Trials.{IsTrial, ComesTo, PassesLimit, guards}
-use Rattle.est_runs.specs.Trials.{block, Faults}
+use Rattle.est_runs.specs.Trials.{IsTrial, ComesTo, PassesLimit, guards, block, Faults}
 use Rattle.est_runs.proofs.OrderLaws.{marks_same, starts_one}
 use Rattle.est_runs.proofs.RunLaws.{one_place}
 use Rattle.est_runs.proofs.TreeLaws.{passes_in_tree, faults_in_tree}
 use Rattle.est_search.specs.declared.path.Stage.TheVariants.{Fresh, Taken}
-use Rattle.est_meaning.specs.Situation.{Situation}
 use Rattle.est_search.specs.declared.path.Level.{Level}
 use Rattle.est_search.specs.declared.path.Best.{Best}
 use Rattle.est_search.specs.declared.walk.Passed.{Passed}
@@ -32,11 +34,9 @@ use Rattle.est_search.specs.inside.Ahead.{IsAhead}
 use Rattle.est_search.specs.inside.Known.{KnowsTrials, IsNoted}
 use Rattle.est_search.specs.inside.Agreement.{AgreeFor}
 use Rattle.est_search.specs.inside.Path.{View, place_at, entered, with_firings, with_taken}
-use Rattle.est_search.specs.inside.Path.{IsNode, AreLeft, StageIs}
-use Rattle.est_search.specs.inside.Path.{HasReached}
+use Rattle.est_search.specs.inside.Path.{IsNode, AreLeft, StageIs, HasReached}
 use Rattle.est_search.specs.inside.Walk.{passed_at, faulted_at, FaultIs, EventsAre, NotesAre}
-use Rattle.est_search.specs.inside.Walk.{KnowsAll, IsOnWay}
-use Rattle.est_search.specs.inside.Walk.{Accepts}
+use Rattle.est_search.specs.inside.Walk.{KnowsAll, IsOnWay, Accepts}
 use Rattle.est_search.proofs.AheadLaws.{Turn, Skip, turn_on, turn_off, skip_mark}
 use Rattle.est_search.proofs.KnownLaws.{knows_skip, noted_on, noted_now, explaining_on, trials_on}
 use Rattle.est_search.proofs.KnownLaws.{best_on, accepts_untried}
@@ -76,37 +76,39 @@ guarding_sound c h t = (let e = t.at in cc)
 
 -- guards pass their limit only where the situation is not settled
 guarding_passes : (c : Setup) (h : List Move) (p : Place) → IsBoundedRun c h p
-    → IsSettled c.limit c.spec p.situation → PassesLimit c (Guarding ∷ marks_of h) → ⊥
+    → IsSettled c.limit (text_of c.spec) p.situation → PassesLimit c (Guarding ∷ marks_of h) → ⊥
 guarding_passes c h p is settled (guards run at u) =
     let e : marks_of h ≡ marks_of run = cc in
     let r : run ≡ h = sym (marks_same h run e) in
     let q : u.place ≡ p = one_place c h u.place p
     (subst (λ w. IsBoundedRun c w u.place) r u.inner.is_run) is in
-    u.unsettled (subst (λ (w : Place). IsSettled c.limit c.spec w.situation) (sym q) settled)
+    u.unsettled (subst (λ (w : Place). IsSettled c.limit (text_of c.spec) w.situation) (sym q)
+    settled)
 guarding_passes c h p is settled (block earlier f at t) = cc
 
 -- a trial has one outcome
-outcome_there : (c : Setup) (h earlier : List Move) (p : Place) (f g : Firing) (o : Outcome)
-    → IsBoundedRun c h p → Trying f ∷ marks_of h ≡ Trying g ∷ marks_of earlier
-    → ComesTo c earlier g o → outcome c.limit c.spec p.situation f ≡ o
+outcome_there : (c : Setup) (h earlier : List Move) (p : Place) (f g : Firing)
+    (o : Outcome Situation (List Event)) → IsBoundedRun c h p
+    → Trying f ∷ marks_of h ≡ Trying g ∷ marks_of earlier
+    → ComesTo c earlier g o → outcome c.limit (text_of c.spec) p.situation f ≡ o
 outcome_there c h earlier p f g o is at t =
     let e : marks_of h ≡ marks_of earlier = cc in
     let same : f ≡ g = cc in
     let r : earlier ≡ h = sym (marks_same h earlier e) in
     let q : t.place ≡ p = one_place c h t.place p
     (subst (λ w. IsBoundedRun c w t.place) r t.inner.is_run) is in
-    ap (λ w. outcome c.limit c.spec p.situation w) same
-    ∙ ap (λ (w : Place). outcome c.limit c.spec w.situation g) (sym q) ∙ t.outcome_is
+    ap (λ w. outcome c.limit (text_of c.spec) p.situation w) same
+    ∙ ap (λ (w : Place). outcome c.limit (text_of c.spec) w.situation g) (sym q) ∙ t.outcome_is
 
 pub trying_passes : (c : Setup) (h : List Move) (p : Place) (f : Firing) → IsBoundedRun c h p
-    → (outcome c.limit c.spec p.situation f ≡ Limit → ⊥) → PassesLimit c (Trying f ∷ marks_of h)
-    → ⊥
+    → (outcome c.limit (text_of c.spec) p.situation f ≡ Limit → ⊥)
+    → PassesLimit c (Trying f ∷ marks_of h) → ⊥
 trying_passes c h p f is never (guards run at u) = cc
 trying_passes c h p f is never (block earlier g at t) =
     never (outcome_there c h earlier p f g Limit is at t)
 
 pub trying_faults : (c : Setup) (h : List Move) (p : Place) (f : Firing) → IsBoundedRun c h p
-    → ((fault : BlockFault) → outcome c.limit c.spec p.situation f ≡ Fault fault → ⊥)
+    → ((fault : BlockFault) → outcome c.limit (text_of c.spec) p.situation f ≡ Fault fault → ⊥)
     → Faults c (Trying f ∷ marks_of h) → ⊥
 trying_faults c h p f is never t =
     never t.fault (outcome_there c h t.earlier p f t.firing (Fault t.fault) is t.at t.comes)
@@ -250,13 +252,13 @@ module _ (c : Setup) (stack : Stack) (v : View) (tried : ℕ) (best : Best) (not
           (marks_same r (Take ∷ v.moves) same) y)
 
       taken_next : IsBoundedRun c (Take ∷ v.moves) (record {
-        situation = after_event c.spec stack.now e;
+        situation = after_event (text_of c.spec) stack.now e;
         events = take (v.top.matched + 1) c.trace;
         silent_in_row = 0;
       })
       unfolding there
       taken_next = subst (λ es. IsBoundedRun c (Take ∷ v.moves) (record {
-        situation = after_event c.spec stack.now e;
+        situation = after_event (text_of c.spec) stack.now e;
         events = es;
         silent_in_row = 0;
       })) (events_are c (Take ∷ v.moves) there taken_run (e ∷ []) v.top.matched taken_events one)
@@ -265,7 +267,7 @@ module _ (c : Setup) (stack : Stack) (v : View) (tried : ℕ) (best : Best) (not
       pub taken_on : (best' : Best) (made : ℕ) → made ≡ length v.moves
           → HasReached best best' made Take (v.top.matched + 1)
           → v.top.matched + 1 < length c.trace
-          → IsOnWay c (pushed (after_event c.spec stack.now e) stack)
+          → IsOnWay c (pushed (after_event (text_of c.spec) stack.now e) stack)
           (entered v Take (v.top.matched + 1) 0) tried best' notes
       taken_on best' made made_is reached lt =
           let P = IsAhead (marks_of v.moves) None in
@@ -369,8 +371,8 @@ module _ (c : Setup) (stack : Stack) (v : View) (tried : ℕ) (best : Best) (not
         };
       }
 
-  pub settled_on : IsSettled c.limit c.spec stack.now
-      → AreOptions c.limit c.spec stack.now offers
+  pub settled_on : IsSettled c.limit (text_of c.spec) stack.now
+      → AreOptions c.limit (text_of c.spec) stack.now offers
       → IsOnWay c stack (with_firings v offers) tried best notes
   settled_on settled options =
       guarded_by notes (record {
@@ -393,7 +395,7 @@ module _ (c : Setup) (stack : Stack) (v : View) (tried : ℕ) (best : Best) (not
   guards_noted (Some p) moves e = refl
 
   pub unsettled_on : (moves : List Move) → reverse moves ≡ v.moves
-      → (IsSettled c.limit c.spec stack.now → ⊥) → offers ≡ []
+      → (IsSettled c.limit (text_of c.spec) stack.now → ⊥) → offers ≡ []
       → IsOnWay c stack (with_firings v offers) tried best
       (record notes {
         passed = option_or notes.passed (Some (record {
@@ -407,7 +409,7 @@ module _ (c : Setup) (stack : Stack) (v : View) (tried : ℕ) (best : Best) (not
         ascending = tt;
         possible = λ f a. absurd a;
         later = λ f a. absurd a;
-        all = λ f p lt. unsettled (possible_settled c.limit c.spec stack.now f p);
+        all = λ f p lt. unsettled (possible_settled c.limit (text_of c.spec) stack.now f p);
       })) (subst (λ w. IsNoted (PassesLimit c) (IsAhead (marks_of v.moves) (Some Guarding)) w)
       (sym (guards_noted notes.passed moves same))
       (noted_now c (IsAhead (marks_of v.moves) (Some Taking))

@@ -1,6 +1,6 @@
 -- The verdict on a specification, a trace and limits.
 use Rattle.std.specs.Prelude.{◌≡◌, ℕ, ◌+◌, ◌<◌, List, Option, Some, None, length, reverse}
-use Rattle.est_meaning.specs.declared.firing.Firing.{Firing}
+use Rattle.est_choices.specs.declared.firing.Firing.{Firing}
 use Rattle.est_runs.specs.declared.run.Move.{Move}
 use Rattle.est_runs.specs.Order.{Mark, IsFirst}
 use Rattle.est_runs.specs.Run.{Setup, Place, IsBoundedRun, Explains, Yields}

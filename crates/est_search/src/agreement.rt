@@ -3,7 +3,7 @@ ghost use Rattle.std.specs.Prelude.{◌≡◌, ◌<◌, ◌≤◌, length, Match
 ghost use Rattle.est_runs.specs.Run.{silent_after};
 ghost use Rattle.est_search.specs.inside.Agreement.{AgreeFor};
 
-use est_meaning::event::Event;
+use est_choices::event::Event;
 
 /// For how many events these agree with the trace from a place on.
 pub fn agreed(trace: &[Event], from: usize, events: &[Event]) -> usize
@@ -12,7 +12,7 @@ pub fn agreed(trace: &[Event], from: usize, events: &[Event]) -> usize
 {
     let mut many = 0;
     for event in events {
-        if many >= trace.len() - from || !event.same(&trace[from + many]) {
+        if many >= trace.len() - from || !event.is(&trace[from + many]) {
             return many;
         }
         many += 1;

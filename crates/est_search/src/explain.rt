@@ -1,11 +1,12 @@
 //! The search for a run that explains a trace.
 ghost use Rattle.std.specs.Prelude.{◌≡◌, ℕ, ◌+◌, ◌-◌, ◌<◌, ◌≤◌, ◌^◌, [], length, IfOk};
 ghost use Rattle.est_syntax.specs.declared.specification.Spec.{Spec};
-ghost use Rattle.est_meaning.specs.Allowed.{IsAllowedTrace, most_events};
-ghost use Rattle.est_meaning.specs.Blocks.{Done};
-ghost use Rattle.est_meaning.specs.Step.{start_of};
+ghost use Rattle.est_semantics.specs.Outcome.{Done};
+ghost use Rattle.est_semantics.specs.TextByPlace.{text_of};
+ghost use Rattle.est_choices.specs.AllowedEvents.{IsAllowedTrace, most_events};
+ghost use Rattle.est_choices.specs.FiringSteps.{start_of};
+ghost use Rattle.est_worlds.specs.SituationStacks.{Keeps, SameStack};
 ghost use Rattle.est_runs.specs.Run.{Setup};
-ghost use Rattle.est_runs.specs.Stack.{Keeps, SameStack};
 ghost use Rattle.est_runs.specs.Task.{setup_of};
 ghost use Rattle.est_runs.specs.Trials.{IsTrial, HasMany};
 ghost use Rattle.est_search.specs.Verdict.{IsVerdict, IsWithinTried};
@@ -16,10 +17,10 @@ use crate::agreement::agreed;
 use crate::turn::turn;
 use crate::verdict::Verdict;
 use crate::walk::{Notes, Step, Task, Walk, reversed};
+use est_choices::event::{Event, Trace};
 use est_items::Items;
-use est_meaning::event::{Event, Trace};
 use est_runs::run::Limits;
-use est_runs::world::World;
+use est_worlds::world::World;
 use std::alloc::{AllocError, Global};
 
 // Goes on until there is an answer.
@@ -176,7 +177,8 @@ pub fn explain<W: World>(
     limits: &Limits,
 ) -> Result<Verdict, AllocError>
     requires start { (spec : Spec) → W.speaks world.old spec
-        → start_of limits.now.statements spec ≡ Done (W.stack world.old spec).now start_outs.now }
+        → start_of limits.now.statements (text_of spec)
+        ≡ Done start_outs.now (W.stack world.old spec).now }
     requires bottom { (spec : Spec) → W.speaks world.old spec
         → (W.stack world.old spec).below ≡ [] }
     requires limit { W.limit world.old ≡ limits.now.statements }

@@ -4,7 +4,7 @@ ghost use Rattle.std.specs.Prelude.{IfSome, IfNone, OnOk};
 ghost use Rattle.est_search.specs.inside.Path.{view_of, entered, with_firings, IsNext, IsUndone};
 ghost use Rattle.est_search.specs.inside.Path.{first_view, HasReached, HasKept};
 
-use est_meaning::firing::Firing;
+use est_choices::firing::Firing;
 use est_runs::run::Move;
 use std::alloc::{AllocError, Global};
 

@@ -2,10 +2,11 @@
 ghost use Rattle.std.specs.Prelude.{◌≡◌, ℕ, ◌+◌, ◌-◌, ◌<◌, ◌≤◌, ◌*◌, ◌^◌, ◌⊎◌, false, [], length};
 ghost use Rattle.std.specs.Prelude.{IfOk, OnErr, OnOk, MatchBool};
 ghost use Rattle.est_syntax.specs.declared.specification.Spec.{Spec};
-ghost use Rattle.est_meaning.specs.Allowed.{IsAllowed, most_events, units_of};
-ghost use Rattle.est_meaning.specs.Step.{after_event};
+ghost use Rattle.est_semantics.specs.TextByPlace.{text_of};
+ghost use Rattle.est_choices.specs.AllowedEvents.{IsAllowed, most_events};
+ghost use Rattle.est_choices.specs.OutsideEvents.{units_of, after_event};
+ghost use Rattle.est_worlds.specs.SituationStacks.{Keeps, SameStack, pushed};
 ghost use Rattle.est_runs.specs.Run.{Setup, IsFromOutside};
-ghost use Rattle.est_runs.specs.Stack.{Keeps, SameStack, pushed};
 ghost use Rattle.est_runs.specs.Trials.{IsTrial, HasMany};
 ghost use Rattle.est_search.specs.inside.Path.{view_of};
 ghost use Rattle.est_search.specs.inside.Walk.{SameBottom, IsWalk, IsReady, IsTrying, IsFound};
@@ -14,10 +15,11 @@ ghost use Rattle.est_search.specs.inside.Walk.{HasLanded, StepIs, load, work};
 use crate::agreement::{agreed, silent_with};
 use crate::path::Stage;
 use crate::walk::{Landed, Step, Task, Walk};
-use est_meaning::event::Event;
-use est_meaning::firing::Firing;
-use est_runs::run::{Fired, Move, Offers};
-use est_runs::world::World;
+use est_choices::event::Event;
+use est_choices::firing::Firing;
+use est_runs::run::Move;
+use est_worlds::answers::{Fired, Offers};
+use est_worlds::world::World;
 use std::alloc::{AllocError, Global};
 
 // Lets an event happen that comes from outside. The answer says whether it does.
@@ -30,7 +32,7 @@ fn happen<W: World>(alloc: Global, world: &mut W, event: &Event) -> Result<bool,
     ensures outside { IfOk result
         (λ outside. MatchBool outside (IsFromOutside event.now) (IsFromOutside event.now → ⊥)) }
     ensures happened { IfOk result (λ outside. (spec : Spec) → W.speaks world.old spec
-        → MatchBool outside (W.stack world.new spec ≡ pushed (after_event spec
+        → MatchBool outside (W.stack world.new spec ≡ pushed (after_event (text_of spec)
         (W.stack world.old spec).now event.now) (W.stack world.old spec))
         (W.stack world.new spec ≡ W.stack world.old spec)) }
     ensures err { OnErr result (SameStack W.speaks W.stack world.old world.new) }

@@ -1,7 +1,8 @@
 //! What a search answers.
 
-use est_meaning::firing::{BlockFault, Firing};
+use est_choices::firing::Firing;
 use est_runs::run::Run;
+use est_semantics::fault::BlockFault;
 
 /// After these moves the block of this firing has this fault.
 #[derive(Drop)]

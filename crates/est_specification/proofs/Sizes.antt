@@ -35,8 +35,8 @@ use Rattle.est_productions.specs.Nodes.{a_channel, a_point, a_header, a_module_v
 use Rattle.est_productions.specs.Nodes.{a_common_part, a_body_part, a_transition}
 use Rattle.est_productions.specs.Nodes.{a_group, a_body, a_specification, layer}
 use Rattle.est_productions.proofs.Fits.{fits}
-use Rattle.est_skeleton.specs.Small.{state_names, by_names, point_names, modvar_names}
-use Rattle.est_skeleton.specs.Small.{part_names, group_transitions, part_transitions}
+use Rattle.est_check.specs.Small.{state_names, by_names, point_names, modvar_names}
+use Rattle.est_check.specs.Small.{part_names, group_transitions, part_transitions}
 
 -- NAMES
 

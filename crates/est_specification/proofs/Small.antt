@@ -3,7 +3,7 @@ use Rattle.std.proofs.Common.{◌≤◌, ℕ, List, length, arith}
 use Rattle.est_lexer.specs.declared.kind.Token.{Token}
 use Rattle.est_syntax.specs.declared.specification.Spec.{Spec}
 use Rattle.est_grammar.specs.Answer.{HasOneTree}
-use Rattle.est_skeleton.specs.Small.{IsSmall, most_parts}
+use Rattle.est_check.specs.Small.{IsSmall, most_parts}
 use Rattle.est_specification.proofs.Sizes.{HasParts, names_few, parts_read, transitions_few}
 
 pub sentence_is_small : (text : List ℕ) (tokens : List Token) (spec : Spec)

@@ -2,7 +2,7 @@
 use Rattle.std.specs.Prelude.{ℕ, ◌≤◌, List, length}
 use Rattle.est_lexer.specs.declared.kind.Token.{Token}
 use Rattle.est_syntax.specs.declared.specification.Spec.{Spec}
-use Rattle.est_skeleton.specs.Small.{IsSmall, most_parts}
+use Rattle.est_check.specs.Small.{IsSmall, most_parts}
 use Rattle.est_grammar.specs.Answer.{HasOneTree}
 
 -- A sentence of few tokens is a small specification.

@@ -2,7 +2,7 @@
 
 ghost use Rattle.std.specs.Prelude.{◌≤◌, length};
 ghost use Rattle.est_lexer.specs.Offsets.{text_of, tokens_of};
-ghost use Rattle.est_skeleton.specs.Small.{most_parts};
+ghost use Rattle.est_check.specs.Small.{most_parts};
 ghost use Rattle.est_specification.specs.SpecificationText.{ReadsSpecification};
 
 use crate::error::SpecificationError;

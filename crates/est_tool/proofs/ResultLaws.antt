@@ -24,7 +24,7 @@ use Rattle.est_words.specs.declared.status.Status.{Status}
 use Rattle.est_words.specs.declared.status.Status.TheVariants.{Fine, Refused, BadSpec, BadTrace}
 use Rattle.est_words.specs.declared.status.Status.TheVariants.{BadExplanation, OverBudget, TooLong}
 use Rattle.est_words.specs.declared.status.Status.TheVariants.{Usage, ReadFault, WriteFault}
-use Rattle.est_words.specs.declared.status.Status.TheVariants.{OutOfMemory, NoStart, NotBuilt}
+use Rattle.est_words.specs.declared.status.Status.TheVariants.{OutOfMemory, NoStart}
 use Rattle.est_tool.specs.ReplayReports.{replay_status}
 use Rattle.est_reports.specs.SearchReports.{verdict_status}
 use Rattle.est_files.specs.FileTexts.{Holds, Refusals, RefusesSpecification, RefusesTrace}
@@ -35,8 +35,8 @@ use Rattle.est_files.specs.Seen.{Seen, Sent}
 use Rattle.est_files.specs.FileEnds.{End, reported, unread, EndsAt, longer, refused}
 use Rattle.est_files.specs.FileEnds.{failed}
 use Rattle.est_tool.specs.Ends.{at_its_file, good, at_specification}
-use Rattle.est_tool.specs.Ends.{unbuilt, at_trace, at_explanation, replayed, Ends}
-use Rattle.est_tool.specs.Ends.{ends_at_specification, not_run, ends_at_trace, not_started}
+use Rattle.est_tool.specs.Ends.{at_trace, at_explanation, replayed, Ends}
+use Rattle.est_tool.specs.Ends.{ends_at_specification, ends_at_trace, not_started}
 use Rattle.est_tool.specs.Ends.{start_over, searched}
 use Rattle.est_tool.specs.Result.{Reports, Writes, IsResult}
 use Rattle.est_files.specs.Reads.{IsQuiet}
@@ -107,7 +107,6 @@ ends_reportable shelf (check name) _ (good spec holds) = tt
 ends_reportable shelf (explain s t silent budget statements) _ (ends_at_specification end is) =
     at_file RefusesSpecification end (λ text tokens status place why refuses. of_specification
     refuses.0 status place why refuses.2) is
-ends_reportable shelf (explain s t silent budget statements) _ (not_run spec holds none) = tt
 ends_reportable shelf (explain s t silent budget statements) _ (ends_at_trace spec end holds is) =
     at_file (RefusesTrace spec) end (λ text tokens status place why refuses. of_trace refuses.0
     status place why refuses.2) is
@@ -116,11 +115,10 @@ ends_reportable shelf (explain s t silent budget statements) _
 ends_reportable shelf (explain s t silent budget statements) _
     (start_over spec events holds traced is) = tt
 ends_reportable shelf (explain s t silent budget statements) _
-    (searched spec events situation outs verdict holds traced begun is) = of_verdict verdict
+    (searched spec events situation outs verdict holds traced begun is fits) = of_verdict verdict
 ends_reportable shelf (replay s t e silent statements) _ (at_specification end is) =
     at_file RefusesSpecification end (λ text tokens status place why refuses. of_specification
     refuses.0 status place why refuses.2) is
-ends_reportable shelf (replay s t e silent statements) _ (unbuilt spec holds none) = tt
 ends_reportable shelf (replay s t e silent statements) _ (at_trace spec end holds is) =
     at_file (RefusesTrace spec) end (λ text tokens status place why refuses. of_trace refuses.0
     status place why refuses.2) is
@@ -145,7 +143,6 @@ module _ (Gives : Status → List ℕ → Type 0) where
   writes_whole OverBudget report before after has given is = (report, given, is)
   writes_whole TooLong report before after has given is = (report, given, is)
   writes_whole NoStart report before after has given is = (report, given, is)
-  writes_whole NotBuilt report before after has given is = (report, given, is)
   writes_whole Usage report before after has given is = absurd has
   writes_whole ReadFault report before after has given is = absurd has
   writes_whole WriteFault report before after has given is = absurd has

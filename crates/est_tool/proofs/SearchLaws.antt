@@ -1,10 +1,11 @@
 -- What comes of a search from the start of a specification.
 use Rattle.std.proofs.Common.{◌≡◌, List, subst}
 use Rattle.est_syntax.specs.declared.specification.Spec.{Spec}
-use Rattle.est_meaning.specs.declared.event.Event.{Event}
-use Rattle.est_meaning.specs.Situation.{Situation}
-use Rattle.est_meaning.specs.Blocks.{Done}
-use Rattle.est_meaning.specs.Step.{start_of}
+use Rattle.est_semantics.specs.GlobalSituation.{Situation}
+use Rattle.est_semantics.specs.Outcome.{Done}
+use Rattle.est_semantics.specs.TextByPlace.{text_of}
+use Rattle.est_choices.specs.declared.event.Event.{Event}
+use Rattle.est_choices.specs.FiringSteps.{start_of}
 use Rattle.est_runs.specs.declared.run.Limits.{Limits}
 use Rattle.est_search.specs.declared.verdict.Verdict.{Verdict}
 use Rattle.est_search.specs.Verdict.{IsVerdict}
@@ -15,7 +16,7 @@ use Rattle.est_tool.specs.Ends.{task_of}
 -- a verdict from the start
 pub found_searched : (limits : Limits) (spec : Spec) (events : List Event) (s : Situation)
     (outs outs' : List Event) (verdict : Verdict) → outs' ≡ outs
-    → start_of limits.statements spec ≡ Done s outs
+    → start_of limits.statements (text_of spec) ≡ Done outs s
     → IsVerdict (task_of limits.silent limits.statements spec events s outs') limits.budget verdict
     → IsSearched limits spec events (came.Found verdict)
 found_searched limits spec events s outs outs' verdict same begun is = (

@@ -8,10 +8,8 @@ use Rattle.est_edge.specs.Pieces.{SameTold}
 use Rattle.est_edge.proofs.CountLaws.{AllStay-then, rose_then}
 use Rattle.est_edge.proofs.PieceLaws.{SameTold-then}
 use Rattle.est_syntax.specs.declared.specification.Spec.{Spec}
-use Rattle.est_meaning.specs.declared.event.Event.{Event}
+use Rattle.est_choices.specs.declared.event.Event.{Event}
 use Rattle.est_explanation.specs.declared.explanation.Explanation.{Explanation}
-use Rattle.est_skeleton.specs.Skeleton.{IsSkeleton}
-use Rattle.est_check.specs.Checked.{IsSkeletonOf}
 use Rattle.est_runs.specs.declared.run.Limits.{Limits}
 use Rattle.est_tool.specs.declared.search.Searched.{Searched}
 use Rattle.est_tool.specs.declared.search.Searched.TheVariants as came
@@ -19,9 +17,8 @@ use Rattle.est_files.specs.declared.report.Report.{Report}
 use Rattle.est_files.specs.declared.stop.Stop.{Stop}
 use Rattle.est_files.specs.declared.stop.Stop.TheVariants.{Refused, ReadFault, OutOfMemory}
 use Rattle.est_files.specs.declared.file.File.{File}
-use Rattle.est_files.specs.declared.file.File.TheVariants.{Specification}
 use Rattle.est_words.specs.declared.status.Status.{Status}
-use Rattle.est_words.specs.declared.status.Status.TheVariants.{Fine, OverBudget, NoStart, NotBuilt}
+use Rattle.est_words.specs.declared.status.Status.TheVariants.{Fine, OverBudget, NoStart}
 use Rattle.est_files.specs.Files.{limit_of}
 use Rattle.est_tool.specs.ReplayReports.{replay_status}
 use Rattle.est_files.specs.Seen.{Shelved, Seen, seen}
@@ -29,17 +26,17 @@ use Rattle.est_files.specs.FileTexts.{Holds, Refusals, IsReported, OfSpecificati
 use Rattle.est_files.specs.FileTexts.{OfTrace, OfExplanation}
 use Rattle.est_words.specs.Requests.{Request, check, explain, replay}
 use Rattle.est_files.specs.FileEnds.{End, reported, IsTooLong, EndsAt, longer, refused, failed}
-use Rattle.est_files.specs.FileEnds.{HoldsSpecification, HoldsSkeleton, HoldsTrace}
+use Rattle.est_files.specs.FileEnds.{HoldsSpecification, HoldsTrace}
 use Rattle.est_files.specs.FileEnds.{HoldsExplanation}
 use Rattle.est_tool.specs.Ends.{CheckEnds, at_its_file, good, ReplayEnds, at_specification}
-use Rattle.est_tool.specs.Ends.{unbuilt, at_trace, at_explanation, replayed, Ends}
-use Rattle.est_tool.specs.Ends.{ExplainEnds, ends_at_specification, not_run, ends_at_trace}
+use Rattle.est_tool.specs.Ends.{at_trace, at_explanation, replayed, Ends}
+use Rattle.est_tool.specs.Ends.{ExplainEnds, ends_at_specification, ends_at_trace}
 use Rattle.est_tool.specs.Ends.{not_started, start_over, searched}
 use Rattle.est_tool.specs.Started.{ExplainStarts, first_alone, both}
 use Rattle.est_tool.specs.Started.{ReplayStarts, one, two, three, Starts}
 use Rattle.est_files.specs.Reads.{IsStop, IsQuiet, ReadsFile}
 use Rattle.est_tool.specs.inside.Work.{IsMade, Gives, IsCounted}
-use Rattle.est_tool.specs.inside.Work.{IsUnbuilt, IsAnswered, Tells, IsExplained, IsWork}
+use Rattle.est_tool.specs.inside.Work.{IsAnswered, Tells, IsExplained, IsWork}
 use Rattle.est_tool.specs.inside.Searching.{IsSearched}
 use Rattle.est_files.proofs.ReadLaws.{stop_then, stops_for, quiet_any, quiet_stop}
 
@@ -48,26 +45,10 @@ pub holds_before : (file : File) {old new : Option (List ℕ)} (Is : List ℕ �
     → new ≡ old → Holds file new Is → Holds file old Is
 holds_before file Is same holds = subst (λ told. Holds file told Is) same holds
 
--- of a skeleton that a checked specification is
-pub skeleton_holds : {old new : Option (List ℕ)} (skeleton checked : Spec) → skeleton ≡ checked
-    → new ≡ old → Holds Specification old (OfSpecification checked)
-    → Holds Specification new (OfSpecification skeleton)
-skeleton_holds {old} {new} skeleton checked is same holds =
-    subst (λ (told : Option (List ℕ)). Holds Specification told (OfSpecification skeleton))
-    (sym same)
-    (subst (λ (s : Spec). Holds Specification old (OfSpecification s)) (sym is) holds)
-
-pub skeleton_none : (checked : Spec) (found : Option Spec) → IsSkeletonOf checked found
-    → found ≡ None → IsSkeleton checked → ⊥
-skeleton_none checked found h e = subst (IsSkeletonOf checked) e h
-
-pub skeleton_some : (checked skeleton : Spec) (found : Option Spec) → IsSkeletonOf checked found
-    → found ≡ Some skeleton → (skeleton ≡ checked) × IsSkeleton checked
-skeleton_some checked skeleton found h e = subst (IsSkeletonOf checked) e h
-
-pub skeleton_is : (skeleton checked : Spec) → skeleton ≡ checked → IsSkeleton checked
-    → IsSkeleton skeleton
-skeleton_is skeleton checked is h = subst IsSkeleton (sym is) h
+-- what is held where a shelf tells the same after was held before
+pub holds_after : (file : File) {old new : Option (List ℕ)} (Is : List ℕ → List Token → Type 0)
+    → new ≡ old → Holds file old Is → Holds file new Is
+holds_after file Is same holds = holds_before file Is (sym same) holds
 
 -- what holds of the end of a command holds in a weaker form too
 pub made_then : {P Q : End → Type 0} (made : Result Report Stop) → ((end : End) → P end → Q end)
@@ -99,58 +80,52 @@ module _ (before middle after : Shelved) (same : SameTold before.told middle.tol
       is)
   file_before {name = name} _ (failed rose) = failed (rose_then stay name rose)
 
-  skeleton_before : (name : List ℕ) (spec : Spec) → HoldsSkeleton (seen middle after) name spec
-      → HoldsSkeleton (seen before after) name spec
-  skeleton_before name spec holds =
-      (holds_before _ (OfSpecification spec) (same name) holds.0, holds.1)
+  text_before : (name : List ℕ) (spec : Spec) → HoldsSpecification (seen middle after) name spec
+      → HoldsSpecification (seen before after) name spec
+  text_before name spec holds = holds_before _ (OfSpecification spec) (same name) holds
 
   ends_before : (request : Request) (end : End) → Ends (seen middle after) request end
       → Ends (seen before after) request end
   ends_before (check s) _ (at_its_file end at) = at_its_file end (file_before end at)
-  ends_before (check s) _ (good spec holds) = good spec (holds_before _ (OfSpecification spec)
-      (same s) holds)
+  ends_before (check s) _ (good spec holds) = good spec (text_before s spec holds)
   ends_before (explain s t n b m) _ (ends_at_specification end at) = ends_at_specification end
       (file_before end at)
-  ends_before (explain s t n b m) _ (not_run spec holds none) = not_run spec
-      (holds_before _ (OfSpecification spec) (same s) holds) none
   ends_before (explain s t n b m) _ (ends_at_trace spec end holds at) = ends_at_trace spec end
-      (skeleton_before s spec holds) (file_before end at)
+      (text_before s spec holds) (file_before end at)
   ends_before (explain s t n b m) _ (not_started spec events fault holds traced is) =
-      not_started spec events fault (skeleton_before s spec holds)
+      not_started spec events fault (text_before s spec holds)
       (holds_before _ (OfTrace spec events) (same t) traced) is
   ends_before (explain s t n b m) _ (start_over spec events holds traced is) =
-      start_over spec events (skeleton_before s spec holds)
+      start_over spec events (text_before s spec holds)
       (holds_before _ (OfTrace spec events) (same t) traced) is
   ends_before (explain s t n b m) _
-      (searched spec events situation outs verdict holds traced begun is) =
-      searched spec events situation outs verdict (skeleton_before s spec holds)
-      (holds_before _ (OfTrace spec events) (same t) traced) begun is
+      (searched spec events situation outs verdict holds traced begun is fits) =
+      searched spec events situation outs verdict (text_before s spec holds)
+      (holds_before _ (OfTrace spec events) (same t) traced) begun is fits
   ends_before (replay s t e n m) _ (at_specification end at) = at_specification end
       (file_before end at)
-  ends_before (replay s t e n m) _ (unbuilt spec holds none) = unbuilt spec
-      (holds_before _ (OfSpecification spec) (same s) holds) none
   ends_before (replay s t e n m) _ (at_trace spec end holds at) = at_trace spec end
-      (skeleton_before s spec holds) (file_before end at)
+      (text_before s spec holds) (file_before end at)
   ends_before (replay s t e n m) _ (at_explanation spec events end holds traced at) =
-      at_explanation spec events end (skeleton_before s spec holds)
+      at_explanation spec events end (text_before s spec holds)
       (holds_before _ (OfTrace spec events) (same t) traced) (file_before end at)
   ends_before (replay s t e n m) _ (replayed spec events read answer holds traced explained is) =
-      replayed spec events read answer (skeleton_before s spec holds)
+      replayed spec events read answer (text_before s spec holds)
       (holds_before _ (OfTrace spec events) (same t) traced)
       (holds_before _ (OfExplanation read) (same e) explained) is
 
   replay_starts_before : (s t e : List ℕ) (names : List (List ℕ))
       → ReplayStarts (seen middle after) s t e names → ReplayStarts (seen before after) s t e names
   replay_starts_before s t e _ one = one
-  replay_starts_before s t e _ (two spec holds) = two spec (skeleton_before s spec holds)
+  replay_starts_before s t e _ (two spec holds) = two spec (text_before s spec holds)
   replay_starts_before s t e _ (three spec events holds traced) =
-      three spec events (skeleton_before s spec holds)
+      three spec events (text_before s spec holds)
       (holds_before _ (OfTrace spec events) (same t) traced)
 
   explain_starts_before : (s t : List ℕ) (names : List (List ℕ))
       → ExplainStarts (seen middle after) s t names → ExplainStarts (seen before after) s t names
   explain_starts_before s t _ first_alone = first_alone
-  explain_starts_before s t _ (both spec holds) = both spec (skeleton_before s spec holds)
+  explain_starts_before s t _ (both spec holds) = both spec (text_before s spec holds)
 
   starts_before : (request : Request) (names : List (List ℕ))
       → Starts (seen middle after) request names → Starts (seen before after) request names
@@ -235,15 +210,6 @@ check_reports shelf name spec holds status report is =
     subst (λ s. CheckEnds shelf name (reported s report)) (sym is.0)
     (subst (λ r. CheckEnds shelf name (reported Fine r)) (sym is.1) (good spec holds))
 
-pub not_run_reports : (shelf : Seen) (s t : List ℕ) (silent budget statements : ℕ)
-    (spec : Spec) → HoldsSpecification shelf s spec → (IsSkeleton spec → ⊥)
-    → (status : Status) (report : List ℕ) → IsUnbuilt status report
-    → ExplainEnds shelf s t silent budget statements (reported status report)
-not_run_reports shelf s t silent budget statements spec holds none status report is =
-    subst (λ z. ExplainEnds shelf s t silent budget statements (reported z report)) (sym is.0)
-    (subst (λ r. ExplainEnds shelf s t silent budget statements (reported NotBuilt r)) (sym is.1)
-    (not_run spec holds none))
-
 -- an end with this status and this report
 ends_so : (shelf : Seen) (s t : List ℕ) (silent budget statements : ℕ) (a b : Status)
     (r q : List ℕ) → (a ≡ b) × (r ≡ q)
@@ -254,37 +220,28 @@ ends_so shelf s t silent budget statements a b r q same ends =
     (subst (λ z. ExplainEnds shelf s t silent budget statements (reported b z)) (sym same.1) ends)
 
 explain_reports : (shelf : Seen) (s t : List ℕ) (limits : Limits) (spec : Spec)
-    (events : List Event) → HoldsSkeleton shelf s spec → HoldsTrace shelf t spec events
+    (events : List Event) → HoldsSpecification shelf s spec → HoldsTrace shelf t spec events
     → (status : Status) (report : List ℕ) (found : Searched) → IsSearched limits spec events found
     → Tells limits.statements (length events) found status report
     → ExplainEnds shelf s t limits.silent limits.budget limits.statements (reported status report)
 explain_reports shelf s t limits spec events holds traced status report (came.Found verdict) is
-    tells = ends_so shelf s t _ _ _ _ _ _ _ tells
-    (searched spec events is.0 is.1 verdict holds traced is.2 is.3)
+    tells = ends_so shelf s t _ _ _ _ _ _ _ (tells.0, tells.1)
+    (searched spec events is.0 is.1 verdict holds traced is.2 is.3 tells.2)
 explain_reports shelf s t limits spec events holds traced status report (came.Fault fault) is
     tells = ends_so shelf s t _ _ _ _ _ _ _ tells (not_started spec events fault holds traced is)
 explain_reports shelf s t limits spec events holds traced status report came.Limit is tells =
     ends_so shelf s t _ _ _ _ _ _ _ tells (start_over spec events holds traced is)
 
 pub search_reports : (shelf : Seen) (s t : List ℕ) (limits : Limits) (spec : Spec)
-    (events : List Event) → HoldsSkeleton shelf s spec → HoldsTrace shelf t spec events
+    (events : List Event) → HoldsSpecification shelf s spec → HoldsTrace shelf t spec events
     → (status : Status) (report : List ℕ) → IsExplained limits spec events status report
     → ExplainEnds shelf s t limits.silent limits.budget limits.statements (reported status report)
 search_reports shelf s t limits spec events holds traced status report is =
     explain_reports shelf s t limits spec events holds traced status report is.0 is.1 is.2
 
-pub unbuilt_reports : (shelf : Seen) (s t e : List ℕ) (silent statements : ℕ) (spec : Spec)
-    → HoldsSpecification shelf s spec → (IsSkeleton spec → ⊥)
-    → (status : Status) (report : List ℕ) → IsUnbuilt status report
-    → ReplayEnds shelf s t e silent statements (reported status report)
-unbuilt_reports shelf s t e silent statements spec holds none status report is =
-    subst (λ z. ReplayEnds shelf s t e silent statements (reported z report)) (sym is.0)
-    (subst (λ r. ReplayEnds shelf s t e silent statements (reported NotBuilt r)) (sym is.1)
-    (unbuilt spec holds none))
-
 pub replay_reports : (shelf : Seen) (s t e : List ℕ) (silent statements : ℕ) (spec : Spec)
     (events : List Event) (read : Explanation)
-    → HoldsSkeleton shelf s spec → HoldsTrace shelf t spec events
+    → HoldsSpecification shelf s spec → HoldsTrace shelf t spec events
     → HoldsExplanation shelf e read
     → (status : Status) (report : List ℕ)
     → IsAnswered silent statements spec events read status report

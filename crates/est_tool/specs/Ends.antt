@@ -2,24 +2,24 @@
 use Rattle.std.specs.Prelude.{◌≡◌, ℕ, List, length}
 use Rattle.est_syntax.specs.declared.specification.Spec.{Spec}
 use Rattle.est_counts.specs.Counts.{counts_of}
-use Rattle.est_skeleton.specs.Skeleton.{IsSkeleton}
-use Rattle.est_meaning.specs.declared.event.Event.{Event}
-use Rattle.est_meaning.specs.declared.firing.BlockFault.{BlockFault}
-use Rattle.est_meaning.specs.Situation.{Situation}
-use Rattle.est_meaning.specs.Blocks.{Done, Fault, Limit}
-use Rattle.est_meaning.specs.Step.{start_of}
+use Rattle.est_semantics.specs.declared.fault.BlockFault.{BlockFault}
+use Rattle.est_semantics.specs.GlobalSituation.{Situation}
+use Rattle.est_semantics.specs.Outcome.{Done, Fault, Limit}
+use Rattle.est_semantics.specs.TextByPlace.{text_of}
+use Rattle.est_choices.specs.declared.event.Event.{Event}
+use Rattle.est_choices.specs.FiringSteps.{start_of}
 use Rattle.est_runs.specs.Run.{Setup}
 use Rattle.est_search.specs.Verdict.{IsVerdict}
 use Rattle.est_search.specs.declared.verdict.Verdict.{Verdict}
 use Rattle.est_replay.specs.Replay.{IsReplay}
 use Rattle.est_explanation.specs.declared.explanation.Explanation.{Explanation}
 use Rattle.est_replay.specs.declared.verdict.Replayed.{Replayed}
-use Rattle.est_files.specs.FileEnds.{End, reported, EndsAt, HoldsSpecification, HoldsSkeleton}
+use Rattle.est_files.specs.FileEnds.{End, reported, EndsAt, HoldsSpecification}
 use Rattle.est_files.specs.FileEnds.{HoldsTrace, HoldsExplanation}
 use Rattle.est_files.specs.declared.file.File.TheVariants as file
-use Rattle.est_words.specs.declared.status.Status.TheVariants.{Fine, OverBudget}
-use Rattle.est_words.specs.declared.status.Status.TheVariants.{NoStart, NotBuilt}
-use Rattle.est_reports.specs.Reports.{ok_line, not_built_line}
+use Rattle.est_words.specs.declared.status.Status.TheVariants.{Fine, OverBudget, NoStart}
+use Rattle.est_reports.specs.ReadableReports.{IsReadable}
+use Rattle.est_reports.specs.Reports.{ok_line}
 use Rattle.est_tool.specs.ReplayReports.{replay_line}
 use Rattle.est_reports.specs.SearchReports.{no_start_line, over_start_line, verdict_report}
 use Rattle.est_files.specs.Seen.{Seen}
@@ -36,28 +36,24 @@ pub data CheckEnds (shelf : Seen) (name : List ℕ) : End → Type 0 where
   good : (spec : Spec) → HoldsSpecification shelf name spec
       → CheckEnds shelf name (reported Fine (ok_line (counts_of spec)))
 
--- `replay` ends at the first of its files that is refused, or at a good specification that is no
--- skeleton, which cannot be run yet, or tells the answer
+-- `replay` ends at the first of its files that is refused, or tells the answer
 pub data ReplayEnds
     (shelf : Seen) (specification trace explanation : List ℕ) (silent statements : ℕ)
     : End → Type 0 where
   at_specification : (end : End)
       → EndsAt shelf file.Specification specification RefusesSpecification end
       → ReplayEnds shelf specification trace explanation silent statements end
-  unbuilt : (spec : Spec) → HoldsSpecification shelf specification spec → (IsSkeleton spec → ⊥)
-      → ReplayEnds shelf specification trace explanation silent statements
-      (reported NotBuilt not_built_line)
   at_trace : (spec : Spec) (end : End)
-      → HoldsSkeleton shelf specification spec
+      → HoldsSpecification shelf specification spec
       → EndsAt shelf file.Trace trace (RefusesTrace spec) end
       → ReplayEnds shelf specification trace explanation silent statements end
   at_explanation : (spec : Spec) (events : List Event) (end : End)
-      → HoldsSkeleton shelf specification spec
+      → HoldsSpecification shelf specification spec
       → HoldsTrace shelf trace spec events
       → EndsAt shelf file.Explanation explanation RefusesExplanation end
       → ReplayEnds shelf specification trace explanation silent statements end
   replayed : (spec : Spec) (events : List Event) (read : Explanation) (answer : Replayed)
-      → HoldsSkeleton shelf specification spec
+      → HoldsSpecification shelf specification spec
       → HoldsTrace shelf trace spec events
       → HoldsExplanation shelf explanation read
       → IsReplay statements silent spec events read.moves read.claim answer
@@ -75,40 +71,37 @@ task_of silent statements spec events s outs = record {
   start_outs = outs;
 }
 
--- `explain` ends at the first of its files that is refused, or at a good specification that is no
--- skeleton, which cannot be run yet, or at a start that faults or passes its limit, or tells the
--- verdict
+-- `explain` ends at the first of its files that is refused, or at a start that faults or passes its
+-- limit, or tells the verdict, in a report whose numbers an explanation may have
 pub data ExplainEnds
     (shelf : Seen) (specification trace : List ℕ) (silent budget statements : ℕ)
     : End → Type 0 where
   ends_at_specification : (end : End)
       → EndsAt shelf file.Specification specification RefusesSpecification end
       → ExplainEnds shelf specification trace silent budget statements end
-  not_run : (spec : Spec) → HoldsSpecification shelf specification spec → (IsSkeleton spec → ⊥)
-      → ExplainEnds shelf specification trace silent budget statements
-      (reported NotBuilt not_built_line)
   ends_at_trace : (spec : Spec) (end : End)
-      → HoldsSkeleton shelf specification spec
+      → HoldsSpecification shelf specification spec
       → EndsAt shelf file.Trace trace (RefusesTrace spec) end
       → ExplainEnds shelf specification trace silent budget statements end
   not_started : (spec : Spec) (events : List Event) (fault : BlockFault)
-      → HoldsSkeleton shelf specification spec
+      → HoldsSpecification shelf specification spec
       → HoldsTrace shelf trace spec events
-      → start_of statements spec ≡ Fault fault
+      → start_of statements (text_of spec) ≡ Fault fault
       → ExplainEnds shelf specification trace silent budget statements
       (reported NoStart (no_start_line fault))
   start_over : (spec : Spec) (events : List Event)
-      → HoldsSkeleton shelf specification spec
+      → HoldsSpecification shelf specification spec
       → HoldsTrace shelf trace spec events
-      → start_of statements spec ≡ Limit
+      → start_of statements (text_of spec) ≡ Limit
       → ExplainEnds shelf specification trace silent budget statements
       (reported OverBudget (over_start_line statements))
   searched : (spec : Spec) (events : List Event) (s : Situation) (outs : List Event)
       (verdict : Verdict)
-      → HoldsSkeleton shelf specification spec
+      → HoldsSpecification shelf specification spec
       → HoldsTrace shelf trace spec events
-      → start_of statements spec ≡ Done s outs
+      → start_of statements (text_of spec) ≡ Done outs s
       → IsVerdict (task_of silent statements spec events s outs) budget verdict
+      → IsReadable statements (length events) verdict
       → ExplainEnds shelf specification trace silent budget statements
       (reported (verdict_status verdict) (verdict_report statements (length events) verdict))
 

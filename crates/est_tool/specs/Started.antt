@@ -1,9 +1,9 @@
 -- Which files a call starts.
 use Rattle.std.specs.Prelude.{◌≡◌, ℕ, List, [], ◌∷◌}
 use Rattle.est_syntax.specs.declared.specification.Spec.{Spec}
-use Rattle.est_meaning.specs.declared.event.Event.{Event}
+use Rattle.est_choices.specs.declared.event.Event.{Event}
 use Rattle.est_files.specs.Seen.{Seen}
-use Rattle.est_files.specs.FileEnds.{HoldsSkeleton, HoldsTrace}
+use Rattle.est_files.specs.FileEnds.{HoldsSpecification, HoldsTrace}
 use Rattle.est_words.specs.Requests.{Request, check, explain, replay}
 
 -- `check` starts its file, once
@@ -14,18 +14,18 @@ CheckStarts name names = names ≡ name ∷ []
 pub data ReplayStarts (shelf : Seen) (specification trace explanation : List ℕ)
     : List (List ℕ) → Type 0 where
   one : ReplayStarts shelf specification trace explanation (specification ∷ [])
-  two : (spec : Spec) → HoldsSkeleton shelf specification spec
+  two : (spec : Spec) → HoldsSpecification shelf specification spec
       → ReplayStarts shelf specification trace explanation (specification ∷ trace ∷ [])
-  three : (spec : Spec) (events : List Event) → HoldsSkeleton shelf specification spec
+  three : (spec : Spec) (events : List Event) → HoldsSpecification shelf specification spec
       → HoldsTrace shelf trace spec events
       → ReplayStarts shelf specification trace explanation
       (specification ∷ trace ∷ explanation ∷ [])
 
 -- `explain` starts its files in their order, each once, and the trace only where the specification
--- is a good skeleton
+-- is good
 pub data ExplainStarts (shelf : Seen) (specification trace : List ℕ) : List (List ℕ) → Type 0 where
   first_alone : ExplainStarts shelf specification trace (specification ∷ [])
-  both : (spec : Spec) → HoldsSkeleton shelf specification spec
+  both : (spec : Spec) → HoldsSpecification shelf specification spec
       → ExplainStarts shelf specification trace (specification ∷ trace ∷ [])
 
 -- the files of these names are all that is started for what the words ask for

@@ -1,25 +1,24 @@
 //! The commands.
 ghost use Rattle.std.specs.Prelude.{◌≤◌, [], ◌∷◌, length};
-ghost use Rattle.est_meaning.specs.Allowed.{IsAllowedTrace, most_events};
+ghost use Rattle.est_choices.specs.AllowedEvents.{IsAllowedTrace, most_events};
 ghost use Rattle.est_replay.specs.Replay.{most_moves};
-ghost use Rattle.est_skeleton.specs.Skeleton.{IsSkeleton};
 ghost use Rattle.est_files.specs.declared.file.File.TheVariants as file;
 ghost use Rattle.est_files.specs.Seen.{seen, shelved};
 ghost use Rattle.est_files.specs.FileTexts.{Holds, OfSpecification, OfTrace};
 ghost use Rattle.est_words.specs.Requests.{check, explain, replay};
-ghost use Rattle.est_tool.specs.inside.Work.{IsWork, Gives, IsCounted, IsUnbuilt};
+ghost use Rattle.est_tool.specs.inside.Work.{IsWork, Gives, IsCounted};
 ghost use Rattle.est_tool.specs.inside.Work.{IsAnswered, IsExplained, Tells};
 
 use crate::replay_report::{replay_report, replay_status};
 use crate::search::{Searched, search};
-use est_check::{Checked, Skeleton};
+use est_check::Checked;
+use est_choices::event::Trace;
 use est_edge::Shelf;
 use est_explanation::explanation::Explanation;
 use est_files::explanation::explanation_in;
 use est_files::specification::specification_in;
 use est_files::trace::trace_in;
-use est_files::{Report, Stop, line_report};
-use est_meaning::event::Trace;
+use est_files::{Report, Stop};
 use est_replay::checked::replay;
 use est_reports::report::ok_report;
 use est_reports::search_report::{
@@ -66,17 +65,6 @@ fn counted(alloc: Global, checked: &Checked) -> Result<Report, Stop>
     })
 }
 
-// The report of a good specification that cannot be run yet.
-fn unbuilt(alloc: Global) -> Result<Report, Stop>
-    ensures { Gives IsUnbuilt result }
-{
-    let text = line_report(alloc, "not built yet")?;
-    Ok(Report {
-        status: Status::NotBuilt,
-        text: text.into_bytes(),
-    })
-}
-
 /// Searches for an explanation of a trace.
 pub(crate) fn explain_files<S: Shelf>(
     alloc: Global,
@@ -93,11 +81,7 @@ pub(crate) fn explain_files<S: Shelf>(
         result }
 {
     let checked = specification_in(alloc, shelf, files.specification)?;
-    match Skeleton::of(alloc, checked) {
-        Err(_) => Err(Stop::OutOfMemory),
-        Ok(None) => unbuilt(alloc),
-        Ok(Some(skeleton)) => explain_trace(alloc, shelf, files, limits, &skeleton),
-    }
+    explain_trace(alloc, shelf, files, limits, &checked)
 }
 
 // What is left of a search once the specification was read.
@@ -106,11 +90,10 @@ fn explain_trace<S: Shelf>(
     shelf: &mut S,
     files: &ExplainFiles<'_>,
     limits: &Limits,
-    checked: &Skeleton,
+    checked: &Checked,
 ) -> Result<Report, Stop>
-    requires checked { Holds file.Specification (S.told shelf.old files.now.specification.now)
+    requires { Holds file.Specification (S.told shelf.old files.now.specification.now)
         (OfSpecification checked.now) }
-    requires skeleton { IsSkeleton checked.now }
     ensures { IsWork (files.now.specification.now ∷ [])
         (explain files.now.specification.now files.now.trace.now
         limits.now.silent limits.now.budget limits.now.statements)
@@ -126,7 +109,7 @@ fn explain_trace<S: Shelf>(
 // The report of a search.
 fn explained(
     alloc: Global,
-    checked: &Skeleton,
+    checked: &Checked,
     trace: &Trace,
     limits: &Limits,
 ) -> Result<Report, Stop>
@@ -183,11 +166,7 @@ pub(crate) fn replay_files<S: Shelf>(
         result }
 {
     let checked = specification_in(alloc, shelf, files.specification)?;
-    match Skeleton::of(alloc, checked) {
-        Err(_) => Err(Stop::OutOfMemory),
-        Ok(None) => unbuilt(alloc),
-        Ok(Some(skeleton)) => replay_trace(alloc, shelf, files, limits, &skeleton),
-    }
+    replay_trace(alloc, shelf, files, limits, &checked)
 }
 
 // What is left of a replay once the specification was read.
@@ -196,11 +175,10 @@ fn replay_trace<S: Shelf>(
     shelf: &mut S,
     files: &ReplayFiles<'_>,
     limits: &Limits,
-    checked: &Skeleton,
+    checked: &Checked,
 ) -> Result<Report, Stop>
-    requires checked { Holds file.Specification (S.told shelf.old files.now.specification.now)
+    requires { Holds file.Specification (S.told shelf.old files.now.specification.now)
         (OfSpecification checked.now) }
-    requires skeleton { IsSkeleton checked.now }
     ensures { IsWork (files.now.specification.now ∷ [])
         (replay files.now.specification.now files.now.trace.now files.now.explanation.now
         limits.now.silent limits.now.statements)
@@ -219,13 +197,12 @@ fn replay_explanation<S: Shelf>(
     shelf: &mut S,
     files: &ReplayFiles<'_>,
     limits: &Limits,
-    checked: &Skeleton,
+    checked: &Checked,
     trace: &Trace,
 ) -> Result<Report, Stop>
     requires allowed { IsAllowedTrace checked.now trace.now }
     requires checked { Holds file.Specification (S.told shelf.old files.now.specification.now)
         (OfSpecification checked.now) }
-    requires skeleton { IsSkeleton checked.now }
     requires traced { Holds file.Trace (S.told shelf.old files.now.trace.now)
         (OfTrace checked.now trace.now) }
     ensures { IsWork (files.now.specification.now ∷ files.now.trace.now ∷ [])
@@ -243,7 +220,7 @@ fn replay_explanation<S: Shelf>(
 // The report of a replay.
 fn judged(
     alloc: Global,
-    checked: &Skeleton,
+    checked: &Checked,
     trace: &Trace,
     explanation: &Explanation,
     limits: &Limits,

@@ -1,15 +1,16 @@
 //! The search for an explanation, from the start of a specification.
 ghost use Rattle.std.specs.Prelude.{IfOk};
-ghost use Rattle.est_meaning.specs.Allowed.{IsAllowedTrace};
+ghost use Rattle.est_choices.specs.AllowedEvents.{IsAllowedTrace};
 ghost use Rattle.est_tool.specs.inside.Searching.{IsSearched};
 
-use est_check::Skeleton;
-use est_meaning::event::Trace;
-use est_meaning::firing::BlockFault;
-use est_plain::world::PlainWorld;
-use est_runs::run::{Limits, Started};
+use est_check::Checked;
+use est_choices::event::Trace;
+use est_running::world::PlainWorld;
+use est_runs::run::Limits;
 use est_search::explain::explain;
 use est_search::verdict::Verdict;
+use est_semantics::fault::BlockFault;
+use est_worlds::answers::Started;
 use std::alloc::{AllocError, Global};
 
 /// What came of a search: a verdict, or, of a start that is not ready, a fault or a passed limit.
@@ -20,10 +21,10 @@ pub enum Searched {
     Limit,
 }
 
-/// Searches for a run of a checked skeleton that explains a trace.
+/// Searches for a run of a checked specification that explains a trace.
 pub(crate) fn search(
     alloc: Global,
-    checked: &Skeleton,
+    checked: &Checked,
     trace: &Trace,
     limits: &Limits,
 ) -> Result<Searched, AllocError>

@@ -4,7 +4,7 @@ use Rattle.est_words.specs.declared.status.Status.{Status}
 use Rattle.est_words.specs.declared.status.Status.TheVariants.{Fine, Refused, BadSpec, BadTrace}
 use Rattle.est_words.specs.declared.status.Status.TheVariants.{BadExplanation, OverBudget, TooLong}
 use Rattle.est_words.specs.declared.status.Status.TheVariants.{Usage, ReadFault, WriteFault}
-use Rattle.est_words.specs.declared.status.Status.TheVariants.{OutOfMemory, NoStart, NotBuilt}
+use Rattle.est_words.specs.declared.status.Status.TheVariants.{OutOfMemory, NoStart}
 
 -- the exit status of the program
 abbrev pub code_of : Status → ℕ
@@ -20,4 +20,3 @@ code_of ReadFault = 8
 code_of WriteFault = 9
 code_of OutOfMemory = 10
 code_of NoStart = 11
-code_of NotBuilt = 12

@@ -29,8 +29,6 @@ pub enum Status {
     OutOfMemory = 10,
     /// The start of the specification faults.
     NoStart = 11,
-    /// The specification is good and no skeleton: its runs are not built yet.
-    NotBuilt = 12,
 }
 
 impl Status {

@@ -2,11 +2,11 @@
 use Rattle.std.specs.Prelude.{◌≡◌, ℕ, ◌+◌, ◌<◌, ◌≤◌, ◌⊎◌, List, []}
 use Rattle.std.specs.Prelude.{◌∷◌, ◌++◌, length, take, drop, reverse}
 use Rattle.est_syntax.specs.declared.specification.Spec.{Spec}
-use Rattle.est_meaning.specs.declared.event.Event.{Event}
-use Rattle.est_runs.specs.Task.{Suits}
+use Rattle.est_semantics.specs.GlobalSituation.{Situation}
+use Rattle.est_choices.specs.declared.event.Event.{Event}
+use Rattle.est_worlds.specs.SituationStacks.{Stack}
 use Rattle.est_runs.specs.declared.run.Move.{Move}
-use Rattle.est_meaning.specs.Situation.{Situation}
-use Rattle.est_runs.specs.Stack.{Stack}
+use Rattle.est_runs.specs.Task.{Suits}
 use Rattle.est_runs.specs.Run.{AgreeFirst, Setup, Place}
 use Rattle.est_runs.specs.Run.{Moves, IsBoundedRun, silent_after}
 use Rattle.est_replay.specs.declared.verdict.Why.TheVariants as why

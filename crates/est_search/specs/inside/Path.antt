@@ -2,13 +2,15 @@
 use Rattle.std.specs.Prelude.{◌≡◌, ℕ, ◌+◌, ◌<◌, ◌≤◌, List, [], ◌∷◌, ◌++◌}
 use Rattle.std.specs.Prelude.{Option, Some, None, length, take, reverse}
 use Rattle.est_syntax.specs.Least.{IsIn}
-use Rattle.est_meaning.specs.declared.firing.Firing.{Firing}
-use Rattle.est_meaning.specs.Situation.{Situation}
-use Rattle.est_meaning.specs.Choices.{IsPossible}
+use Rattle.est_semantics.specs.GlobalSituation.{Situation}
+use Rattle.est_semantics.specs.TextByPlace.{text_of}
+use Rattle.est_choices.specs.declared.firing.Firing.{Firing}
+use Rattle.est_choices.specs.TransitionSelection.{IsPossible}
+use Rattle.est_worlds.specs.FiringOrder.{IsAscending}
+use Rattle.est_worlds.specs.SituationStacks.{Stack}
 use Rattle.est_runs.specs.declared.run.Move.{Move}
 use Rattle.est_runs.specs.declared.run.Move.TheVariants.{Take, Fire}
-use Rattle.est_runs.specs.Order.{IsAscending, Mark, Taking, Trying, MarkBefore, StartsWith}
-use Rattle.est_runs.specs.Stack.{Stack}
+use Rattle.est_runs.specs.Order.{Mark, Taking, Trying, MarkBefore, StartsWith}
 use Rattle.est_runs.specs.Run.{Setup, Place, IsBoundedRun}
 use Rattle.est_search.specs.declared.path.Stage.{Stage}
 use Rattle.est_search.specs.declared.path.Stage.TheVariants.{Fresh, Taken, Listed}
@@ -102,9 +104,10 @@ pub record IsNode (c : Setup) (h : List Move) (s : Situation) (l : Level) : Type
 -- these are the possible firings after a mark, in order
 pub record AreLeft (c : Setup) (s : Situation) (m : Mark) (firings : List Firing) : Type 0 where
   pub ascending : IsAscending firings
-  pub possible : (f : Firing) → IsIn f firings → IsPossible c.limit c.spec s f
+  pub possible : (f : Firing) → IsIn f firings → IsPossible c.limit (text_of c.spec) s f
   pub later : (f : Firing) → IsIn f firings → MarkBefore m (Trying f)
-  pub all : (f : Firing) → IsPossible c.limit c.spec s f → MarkBefore m (Trying f) → IsIn f firings
+  pub all : (f : Firing) → IsPossible c.limit (text_of c.spec) s f → MarkBefore m (Trying f)
+      → IsIn f firings
 
 -- what was dealt with last, and the firings that are left
 abbrev pub StageIs : Setup → Situation → Stage → Option Mark → List Firing → Type 0

@@ -2,18 +2,17 @@
 use Rattle.std.specs.Prelude.{◌≡◌, ℕ, ◌+◌, ◌-◌, ◌*◌, ◌<◌, ◌≤◌, ◌⊎◌, Bool, true, false}
 use Rattle.std.specs.Prelude.{List, [], ◌∷◌, Option, Some, None, length, reverse}
 use Rattle.est_syntax.specs.declared.specification.Spec.{Spec}
-use Rattle.est_meaning.specs.declared.event.Event.{Event}
-use Rattle.est_meaning.specs.declared.firing.Firing.{Firing}
-use Rattle.est_meaning.specs.Situation.{Situation}
-use Rattle.est_meaning.specs.Blocks.{Fault}
+use Rattle.est_semantics.specs.GlobalSituation.{Situation}
+use Rattle.est_semantics.specs.Outcome.{Fault}
+use Rattle.est_choices.specs.declared.event.Event.{Event}
+use Rattle.est_choices.specs.declared.firing.Firing.{Firing}
+use Rattle.est_worlds.specs.SituationStacks.{Stack}
 use Rattle.est_runs.specs.declared.run.Move.{Move}
 use Rattle.est_runs.specs.declared.run.Move.TheVariants.{Fire}
 use Rattle.est_runs.specs.Order.{Mark, Trying, marks_of, IsFirst}
-use Rattle.est_runs.specs.Stack.{Stack}
 use Rattle.est_runs.specs.Task.{Suits, IsSetup}
 use Rattle.est_runs.specs.Run.{Setup, Explains, silent_after}
-use Rattle.est_runs.specs.Trials.{IsTrial, IsTrialUpTo, HasMany, HasExactly}
-use Rattle.est_runs.specs.Trials.{ComesTo, mark_passed}
+use Rattle.est_runs.specs.Trials.{IsTrial, IsTrialUpTo, HasMany, HasExactly, ComesTo, mark_passed}
 use Rattle.est_search.specs.declared.verdict.Faulted.{Faulted}
 use Rattle.est_search.specs.Verdict.{HasEvents}
 use Rattle.est_search.specs.declared.verdict.Verdict.{Verdict}
@@ -32,8 +31,7 @@ use Rattle.est_search.specs.declared.walk.Step.TheVariants.{Going, Accepting, Ov
 use Rattle.est_search.specs.inside.Ahead.{IsAhead}
 use Rattle.est_search.specs.inside.Known.{Knows}
 use Rattle.est_search.specs.inside.Agreement.{AgreeFor}
-use Rattle.est_search.specs.inside.Path.{View, view_of, entered, IsNext, IsAt}
-use Rattle.est_search.specs.inside.Path.{IsKept, HasReached}
+use Rattle.est_search.specs.inside.Path.{View, view_of, entered, IsNext, IsAt, IsKept, HasReached}
 
 -- THE WORLD'S STACK
 

@@ -1,10 +1,11 @@
 -- What came of a search from the start of a specification.
 use Rattle.std.specs.Prelude.{◌≡◌, ℕ, List}
 use Rattle.est_syntax.specs.declared.specification.Spec.{Spec}
-use Rattle.est_meaning.specs.declared.event.Event.{Event}
-use Rattle.est_meaning.specs.Situation.{Situation}
-use Rattle.est_meaning.specs.Blocks.{Done, Fault, Limit}
-use Rattle.est_meaning.specs.Step.{start_of}
+use Rattle.est_semantics.specs.GlobalSituation.{Situation}
+use Rattle.est_semantics.specs.Outcome.{Done, Fault, Limit}
+use Rattle.est_semantics.specs.TextByPlace.{text_of}
+use Rattle.est_choices.specs.declared.event.Event.{Event}
+use Rattle.est_choices.specs.FiringSteps.{start_of}
 use Rattle.est_runs.specs.declared.run.Limits.{Limits}
 use Rattle.est_search.specs.Verdict.{IsVerdict}
 use Rattle.est_tool.specs.declared.search.Searched.{Searched}
@@ -14,7 +15,10 @@ use Rattle.est_tool.specs.Ends.{task_of}
 -- the verdict, where the start is ready, and else what comes of the start
 abbrev pub IsSearched : Limits → Spec → List Event → Searched → Type 0
 IsSearched limits spec events (searched.Found verdict) =
-    (s : Situation) × (outs : List Event) × (start_of limits.statements spec ≡ Done s outs)
+    (s : Situation) × (outs : List Event)
+    × (start_of limits.statements (text_of spec) ≡ Done outs s)
     × IsVerdict (task_of limits.silent limits.statements spec events s outs) limits.budget verdict
-IsSearched limits spec events (searched.Fault fault) = start_of limits.statements spec ≡ Fault fault
-IsSearched limits spec events searched.Limit = start_of limits.statements spec ≡ Limit
+IsSearched limits spec events (searched.Fault fault) =
+    start_of limits.statements (text_of spec) ≡ Fault fault
+IsSearched limits spec events searched.Limit =
+    start_of limits.statements (text_of spec) ≡ Limit

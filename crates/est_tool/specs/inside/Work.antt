@@ -6,14 +6,15 @@ use Rattle.est_files.specs.declared.report.Report.{Report}
 use Rattle.est_files.specs.declared.stop.Stop.{Stop}
 use Rattle.est_files.specs.declared.stop.Stop.TheVariants.{OutOfMemory}
 use Rattle.est_words.specs.declared.status.Status.{Status}
-use Rattle.est_words.specs.declared.status.Status.TheVariants.{Fine, OverBudget, NoStart, NotBuilt}
+use Rattle.est_words.specs.declared.status.Status.TheVariants.{Fine, OverBudget, NoStart}
 use Rattle.est_syntax.specs.declared.specification.Spec.{Spec}
 use Rattle.est_counts.specs.Counts.{counts_of}
-use Rattle.est_meaning.specs.declared.event.Event.{Event}
+use Rattle.est_choices.specs.declared.event.Event.{Event}
 use Rattle.est_replay.specs.Replay.{IsReplay}
 use Rattle.est_explanation.specs.declared.explanation.Explanation.{Explanation}
 use Rattle.est_replay.specs.declared.verdict.Replayed.{Replayed}
-use Rattle.est_reports.specs.Reports.{ok_line, not_built_line}
+use Rattle.est_reports.specs.Reports.{ok_line}
+use Rattle.est_reports.specs.ReadableReports.{IsReadable}
 use Rattle.est_tool.specs.ReplayReports.{replay_line}
 use Rattle.est_reports.specs.SearchReports.{no_start_line, over_start_line, verdict_report}
 use Rattle.est_tool.specs.ReplayReports.{replay_status}
@@ -43,10 +44,6 @@ Gives P (Err stop) = stop ≡ OutOfMemory
 abbrev pub IsCounted : Spec → Status → List ℕ → Type 0
 IsCounted spec status report = (status ≡ Fine) × (report ≡ ok_line (counts_of spec))
 
--- the report of one that cannot be run yet
-abbrev pub IsUnbuilt : Status → List ℕ → Type 0
-IsUnbuilt status report = (status ≡ NotBuilt) × (report ≡ not_built_line)
-
 -- the report of a replay within limits, by the one answer
 abbrev pub IsAnswered : ℕ → ℕ → Spec → List Event → Explanation → Status → List ℕ → Type 0
 IsAnswered silent statements spec events read status report =
@@ -57,6 +54,7 @@ IsAnswered silent statements spec events read status report =
 abbrev pub Tells : ℕ → ℕ → Searched → Status → List ℕ → Type 0
 Tells limit events (searched.Found verdict) status report =
     (status ≡ verdict_status verdict) × (report ≡ verdict_report limit events verdict)
+    × IsReadable limit events verdict
 Tells limit events (searched.Fault fault) status report =
     (status ≡ NoStart) × (report ≡ no_start_line fault)
 Tells limit events searched.Limit status report =

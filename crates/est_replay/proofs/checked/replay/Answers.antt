@@ -1,5 +1,6 @@
-use Rattle.std.proofs.Common.{◌≤◌, length, subst, sym, ◌∙◌, arith}
-use Rattle.est_meaning.specs.Allowed.{IsAllowedTrace}
+use Rattle.std.proofs.Common.{◌≤◌, length, ap, subst, sym, ◌∙◌, arith}
+use Rattle.est_semantics.specs.TextByPlace.{Text}
+use Rattle.est_choices.specs.AllowedEvents.{IsAllowedTrace}
 use Rattle.est_replay.specs.Replay.{IsReplay, most_moves}
 use Rattle.est_replay.proofs.FromStart.{starts_so, answers_from, if_ok_alike}
 use Rattle.est_replay.proofs.checked.replay.Goals as goal
@@ -10,11 +11,12 @@ replay_in-requires c =
     record {
       start = λ spec speaks. starts_so c.args.limits.now.statements c.in-Ready.world.limit spec _
           c.in-Ready.outs c.as_slice.result.now s.1.limit_is c.as_slice.ensures
-          (s.1.start spec speaks);
-      room = (let u = s.1.unfired in omega arith);
-      allowed = λ spec speaks. subst (λ x. IsAllowedTrace x c.as_slice-in-Ready.result.now) (sym s.0
-          ∙ speaks) (subst (λ es. IsAllowedTrace c.args.checked.now es)
-          (sym c.as_slice-in-Ready.ensures) c.requires.allowed);
+          (s.1.stack_is spec speaks);
+      room = (let u = s.1.fired_none in omega arith);
+      allowed = λ spec speaks. subst (λ x. IsAllowedTrace x c.as_slice-in-Ready.result.now)
+          (ap (λ (t : Text). t.spec) (sym s.0 ∙ speaks))
+          (subst (λ es. IsAllowedTrace c.args.checked.now es) (sym c.as_slice-in-Ready.ensures)
+          c.requires.allowed);
       few = subst (λ ms. length ms ≤ most_moves) (sym c.as_slice-in-Ready-2.ensures) c.requires.few;
     }
 
@@ -30,7 +32,8 @@ returns-in-Ready c =
     answers_from limits.statements c.in-Ready.world.limit limits.silent c.args.checked.now
     c.as_slice-in-Ready.result.now _ c.in-Ready.outs c.as_slice.result.now
     c.as_slice-in-Ready-2.result.now claim a
-    s.1.limit_is c.as_slice.ensures (s.1.start c.args.checked.now s.0) (h c.args.checked.now s.0) in
+    s.1.limit_is c.as_slice.ensures (s.1.stack_is c.args.checked.now s.0)
+    (h c.args.checked.now s.0) in
     subst (λ ms. IsReplay limits.statements limits.silent c.args.checked.now c.args.trace.now ms
     claim a) c.as_slice-in-Ready-2.ensures
     (subst (λ es. IsReplay limits.statements limits.silent c.args.checked.now es

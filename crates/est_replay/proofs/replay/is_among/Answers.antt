@@ -1,5 +1,5 @@
 use Rattle.std.proofs.Common.{refl, get_or}
-use Rattle.est_meaning.specs.declared.firing.Firing.{Firing}
+use Rattle.est_choices.specs.declared.firing.Firing.{Firing}
 use Rattle.est_replay.proofs.Events.{among_at, same_firing}
 use Rattle.est_replay.proofs.replay.is_among.Goals as goal
 

@@ -1,8 +1,8 @@
 use Rattle.std.proofs.Common.{◌≡◌, ◌+◌, ap, subst, sym, arith, ◌∙◌}
 use Rattle.std.proofs.Math.Logic.{∥∥₁_elim}
 use Rattle.std.specs.Coded.{le_prop}
+use Rattle.est_worlds.specs.SituationStacks.{Stack}
 use Rattle.est_runs.specs.Task.{Suits}
-use Rattle.est_runs.specs.Stack.{Stack}
 use Rattle.est_replay.specs.inside.Standing.{IsStanding}
 use Rattle.est_replay.proofs.Replaying.{within_call, ready_call, stands_call}
 use Rattle.est_replay.proofs.Replaying.{rejects_call, keeps_both, ends_call}

@@ -1,7 +1,7 @@
 use Rattle.std.proofs.Common.{◌≤◌, ◌+◌}
 use Rattle.est_syntax.specs.declared.specification.Spec.{Spec}
+use Rattle.est_worlds.specs.SituationStacks.{Keeps}
 use Rattle.est_runs.specs.Task.{Suits}
-use Rattle.est_runs.specs.Stack.{Keeps}
 use Rattle.est_replay.specs.inside.Standing.{IsStanding}
 use Rattle.est_replay.proofs.replay.replay_moves.Given as goal
 

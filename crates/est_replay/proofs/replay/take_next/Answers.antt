@@ -1,7 +1,8 @@
 use Rattle.std.proofs.Common.{◌≡◌, ◌≤◌, ◌+◌, ◌^◌, sym, ap, subst, ◌∙◌}
+use Rattle.est_semantics.specs.TextByPlace.{text_of}
+use Rattle.est_choices.specs.OutsideEvents.{after_event, later}
 use Rattle.est_runs.specs.Run.{IsFromOutside}
-use Rattle.est_meaning.specs.Step.{after_event, later}
-use Rattle.est_meaning.proofs.StepLaws.{after_passing}
+use Rattle.est_runs.proofs.ClockLaws.{after_passing}
 use Rattle.est_replay.proofs.Moving.{pushed_now, time_fits, next_taken}
 use Rattle.est_replay.proofs.replay.take_next.Goals.{in-Arrives+in_ok-arrive-in-Arrives}
 use Rattle.est_replay.proofs.replay.take_next.Goals.{in-Passes+in_ok-pass-in-Passes}
@@ -26,13 +27,12 @@ returns-clause-moved g c spec speaks =
           let same : (g.W.World.stack c.match-event.world spec).now
           ≡ (g.W.World.stack w.arrive.new.self spec).now =
           ap (λ v. (g.W.World.stack v spec).now) w.world-is in
-          let arrived : (g.W.World.stack w.arrive.new.self spec).now ≡ after_event spec stack.now
-          e = pushed_now (g.W.World.stack w.arrive.new.self spec) stack
-          (after_event spec stack.now e) (w.in_ok-arrive-in-Arrives.ensures.ok spec speaks) in
-          let now : (g.W.World.stack c.match-event.world spec).now ≡ after_event spec stack.now e =
-          same ∙ arrived in
-          let after : after_event spec stack.now e
-          ≡ (g.W.World.stack c.match-event.world spec).now = sym now in
+          let there = after_event (text_of spec) stack.now e in
+          let arrived : (g.W.World.stack w.arrive.new.self spec).now ≡ there =
+          pushed_now (g.W.World.stack w.arrive.new.self spec) stack there
+          (w.in_ok-arrive-in-Arrives.ensures.ok spec speaks) in
+          let now : (g.W.World.stack c.match-event.world spec).now ≡ there = same ∙ arrived in
+          let after : there ≡ (g.W.World.stack c.match-event.world spec).now = sym now in
           next_taken (g.setup spec) spec (g.W.World.limit c.args.world.now)
           c.args.expected.now.silent c.args.expected.now.trace.now stack c.args.at
           (c.requires.1.1 spec speaks)
@@ -40,9 +40,9 @@ returns-clause-moved g c spec speaks =
           c.if-at-trace.false (sym c.index-trace-at.is) outside after)
       | in-Passes+in_ok-pass-in-Passes w ↦
           (let outside : IsFromOutside e = subst IsFromOutside (sym w.in-Passes.is) tt in
-          let here : after_event spec stack.now e ≡ later stack.now w.from.result =
-          ap (after_event spec stack.now) w.in-Passes.is
-          ∙ after_passing spec stack.now w.in-Passes.units
+          let here : after_event (text_of spec) stack.now e ≡ later stack.now w.from.result =
+          ap (after_event (text_of spec) stack.now) w.in-Passes.is
+          ∙ after_passing (text_of spec) stack.now w.in-Passes.units
           ∙ ap (later stack.now) (sym w.from.ensures) in
           let same : (g.W.World.stack c.match-event.world spec).now
           ≡ (g.W.World.stack w.pass.new.self spec).now = ap (λ v. (g.W.World.stack v spec).now)
@@ -52,7 +52,7 @@ returns-clause-moved g c spec speaks =
           (later stack.now w.from.result) (w.in_ok-pass-in-Passes.ensures.ok spec speaks) in
           let now : (g.W.World.stack c.match-event.world spec).now ≡ later stack.now w.from.result =
           same ∙ passed in
-          let after : after_event spec stack.now e
+          let after : after_event (text_of spec) stack.now e
           ≡ (g.W.World.stack c.match-event.world spec).now = here ∙ sym now in
           next_taken (g.setup spec) spec (g.W.World.limit c.args.world.now)
           c.args.expected.now.silent c.args.expected.now.trace.now stack c.args.at

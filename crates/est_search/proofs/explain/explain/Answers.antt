@@ -1,9 +1,10 @@
 use Rattle.std.proofs.Common.{◌≡◌, ◌≤◌, length, refl, sym, subst}
 use Rattle.std.proofs.Math.Logic.{∥∥₁_elim}
 use Rattle.std.specs.Coded.{le_prop}
-use Rattle.est_meaning.specs.Allowed.{IsAllowedTrace, most_events}
-use Rattle.est_meaning.specs.Blocks.{Done}
-use Rattle.est_meaning.specs.Step.{start_of}
+use Rattle.est_semantics.specs.Outcome.{Done}
+use Rattle.est_semantics.specs.TextByPlace.{text_of}
+use Rattle.est_choices.specs.AllowedEvents.{IsAllowedTrace, most_events}
+use Rattle.est_choices.specs.FiringSteps.{start_of}
 use Rattle.est_search.proofs.explain.explain.Goals as goal
 
 pub search-requires : goal.search-requires
@@ -22,8 +23,8 @@ search-requires g c κs within = (
             limit_is = refl;
             silent_is = refl;
             trace_is = refl;
-            begun = subst (λ l. start_of l spec
-                ≡ Done (g.W.World.stack c.args.world.now spec).now c.args.start_outs.now)
+            begun = subst (λ l. start_of l (text_of spec)
+                ≡ Done c.args.start_outs.now (g.W.World.stack c.args.world.now spec).now)
                 (sym c.requires.limit) (c.requires.start spec speaks);
             allowed = subst (IsAllowedTrace spec) (sym c.as_slice.ensures)
                 (c.requires.allowed spec speaks);

@@ -1,48 +1,22 @@
+use Rattle.est_files.specs.declared.file.File.TheVariants as file
 use Rattle.est_files.specs.FileTexts.{OfSpecification, RefusesSpecification}
-use Rattle.std.proofs.Common.{ℕ, List, [], Err, refl}
-use Rattle.est_words.specs.declared.status.Status.{Status}
-use Rattle.est_files.specs.declared.stop.Stop.TheVariants.{OutOfMemory}
+use Rattle.std.proofs.Common.{[]}
 use Rattle.est_tool.specs.Ends.{at_specification}
 use Rattle.est_tool.specs.Started.{one}
-use Rattle.est_tool.proofs.WorkLaws.{stops_at, goes_on, ends_work, unbuilt_reports}
-use Rattle.est_tool.proofs.WorkLaws.{skeleton_none, skeleton_some, skeleton_holds, skeleton_is}
+use Rattle.est_tool.proofs.WorkLaws.{stops_at, goes_on, holds_after}
 use Rattle.est_tool.proofs.commands.replay_files.Goals as goal
-
--- nothing is reported
-abbrev Nothing : Status → List ℕ → Type 0
-Nothing status report = ⊥
 
 pub returns-in_err-checked : goal.returns-in_err-checked
 returns-in_err-checked g c =
     stops_at OfSpecification RefusesSpecification [] _ _ c.from_residual.result _
     c.from_residual.ensures c.in_err-checked.ensures one (λ end at. at_specification end at)
 
-pub returns-in-Err : goal.returns-in-Err
-returns-in-Err g c =
-    ends_work OfSpecification RefusesSpecification [] _ _ _ (Err OutOfMemory) Nothing
-    c.in_ok-checked.ensures refl one (λ status report none. absurd none)
-
-pub returns-in-Ok-None : goal.returns-in-Ok-None
-returns-in-Ok-None g c =
-    ends_work OfSpecification RefusesSpecification [] _ _ _ c.unbuilt.result _
-    c.in_ok-checked.ensures c.unbuilt.ensures one
-    (unbuilt_reports _ _ _ _ _ _ _ c.in_ok-checked.ensures.good (skeleton_none
-    c.in_ok-checked.checked c.in-Ok-None.field-0 c.in-Ok-None.ensures (cc)))
-
-pub returns-in-Ok-Some : goal.returns-in-Ok-Some
-returns-in-Ok-Some g c = goes_on OfSpecification RefusesSpecification [] _ _ _ _ _
+pub returns : goal.returns
+returns g c = goes_on OfSpecification RefusesSpecification [] _ _ _ _ _
     c.replay_trace.result c.in_ok-checked.ensures c.replay_trace.ensures
 
-pub replay_trace-requires-clause-checked : goal.replay_trace-requires-clause-checked
-replay_trace-requires-clause-checked g c =
-    let is = skeleton_some c.in_ok-checked.checked c.in-Ok-Some.skeleton c.in-Ok-Some.field-0
-    c.in-Ok-Some.ensures (cc) in
-    skeleton_holds c.in-Ok-Some.skeleton c.in_ok-checked.checked is.0
+pub replay_trace-requires : goal.replay_trace-requires
+replay_trace-requires g c =
+    holds_after file.Specification (OfSpecification c.in_ok-checked.checked)
     (c.in_ok-checked.ensures.touches.told c.args.files.now.specification.now)
     c.in_ok-checked.ensures.good
-
-pub replay_trace-requires-clause-skeleton : goal.replay_trace-requires-clause-skeleton
-replay_trace-requires-clause-skeleton g c =
-    let is = skeleton_some c.in_ok-checked.checked c.in-Ok-Some.skeleton c.in-Ok-Some.field-0
-    c.in-Ok-Some.ensures (cc) in
-    skeleton_is c.in-Ok-Some.skeleton c.in_ok-checked.checked is.0 is.1

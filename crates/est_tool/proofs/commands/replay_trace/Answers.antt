@@ -9,8 +9,8 @@ pub returns-in_err-trace : goal.returns-in_err-trace
 returns-in_err-trace g c =
     stops_at (OfTrace c.args.checked.now) (RefusesTrace c.args.checked.now) (_ ∷ []) _ _
     c.from_residual.result _ c.from_residual.ensures c.in_err-trace.ensures.reads
-    (two _ (c.requires.checked, c.requires.skeleton))
-    (λ end at. at_trace _ end (c.requires.checked, c.requires.skeleton) at)
+    (two _ c.requires)
+    (λ end at. at_trace _ end c.requires at)
 
 pub returns : goal.returns
 returns g c = goes_on (OfTrace c.args.checked.now) (RefusesTrace c.args.checked.now) (_ ∷ []) _ _ _

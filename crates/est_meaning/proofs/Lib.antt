@@ -1,3 +1,0 @@
-pub mod StepLaws
-pub mod RowLaws
-pub mod FaultLaws

@@ -1,9 +1,0 @@
-pub mod BlockLaws
-pub mod ChoiceLaws
-pub mod FewLaws
-pub mod FromStateLaws
-pub mod ListLaws
-pub mod RootLaws
-pub mod SituationLaws
-pub mod UndoLaws
-pub mod WorldLaws

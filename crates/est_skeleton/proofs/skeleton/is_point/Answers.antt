@@ -1,9 +1,0 @@
-use Rattle.std.proofs.Common.{arith}
-use Rattle.std.proofs.lemmas.Grind.{common_steps}
-use Rattle.est_skeleton.proofs.skeleton.is_point.Goals as goal
-
-pub returns-then-len-eq0 : goal.returns-then-len-eq0
-returns-then-len-eq0 c = grind (arith, common_steps)
-
-pub returns-else-len-eq0 : goal.returns-else-len-eq0
-returns-else-len-eq0 c = grind (arith, common_steps)

@@ -1,6 +1,0 @@
-pub mod DifferentNames
-pub mod PortLaws
-pub mod Ports
-pub mod Skeleton
-pub mod Small
-pub mod inside

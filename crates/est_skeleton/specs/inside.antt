@@ -1,3 +1,0 @@
--- What only the private functions say.
-pub mod Known
-pub mod SkeletonParts
