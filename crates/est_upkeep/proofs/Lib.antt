@@ -2,9 +2,14 @@ pub mod BlocksOfInstances
 pub mod ClimbsEnd
 pub mod FittingFrames
 pub mod GivenThings
+pub mod GoodDelays
 pub mod LivingLinks
+pub mod OneRoot
 pub mod OrderlyBlocks
+pub mod OrderlyRuns
 pub mod OrderlyStart
+pub mod OrderlySteps
+pub mod OwnQueues
 pub mod ParentsOlder
 pub mod RowLaws
 pub mod SameRows

@@ -34,10 +34,10 @@ none_some a h = cc
 true_false : (b : Bool) → b ≡ true → b ≡ false → ⊥
 true_false b h k = cc
 
-abbrev Links : Type 0
+abbrev pub Links : Type 0
 Links = Map InteractionPoint InteractionPoint
 
-abbrev Queues : Type 0
+abbrev pub Queues : Type 0
 Queues = QueueName → List Item
 
 -- links and queues are those of living instances
@@ -50,7 +50,7 @@ abbrev pub IsLinked : List Row → Situation → Type 0
 IsLinked rs s = AreLiving rs s.peer s.down s.queues
 
 module _ (rs : List Row) where
-  abbrev Lives : InteractionPoint → Type 0
+  abbrev pub Lives : InteractionPoint → Type 0
   Lives p = IsLiving rs p.instance
 
   -- LINKS
@@ -71,7 +71,7 @@ module _ (rs : List Row) where
 
   -- QUEUES
 
-  queue_owner : (a b : QueueName) → is_queue a b ≡ true → owner a ≡ owner b
+  pub queue_owner : (a b : QueueName) → is_queue a b ≡ true → owner a ≡ owner b
   queue_owner (Own a) (Own b) e = ap (λ (p : InteractionPoint). p.instance) (point_same a b e)
   queue_owner (Own a) (Shared n) e = absurd (true_false false e refl)
   queue_owner (Shared m) (Own b) e = absurd (true_false false e refl)
@@ -95,7 +95,7 @@ module _ (rs : List Row) where
   at_point : (t : Text) (p : InteractionPoint) → Lives p → IsLiving rs (owner (queue_of t p))
   at_point t p h = subst (IsLiving rs) (sym (owner_by p (discipline t p.declared))) h
 
-  appended_living : (t : Text) (p : InteractionPoint) (items : List Item) (queues : Queues)
+  pub appended_living : (t : Text) (p : InteractionPoint) (items : List Item) (queues : Queues)
       → Lives p → WaitAtTheLiving rs queues
       → WaitAtTheLiving rs (λ q. if is_queue (queue_of t p) q then queues (queue_of t p) ++ items
       else queues q)
@@ -123,7 +123,7 @@ module _ (rs : List Row) where
       one None e f = g
       one (Some q) e f = f q (h p q e).1
 
-  bottom_living : (s : Situation) → IsLinked rs s → (p : InteractionPoint) → Lives p
+  pub bottom_living : (s : Situation) → IsLinked rs s → (p : InteractionPoint) → Lives p
       → Lives (bottom s p)
   bottom_living s h p g = follow_living s.down h.downs (length s.rows) p g
 

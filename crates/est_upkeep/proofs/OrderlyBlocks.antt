@@ -95,7 +95,7 @@ follows_after r s u h k = record {
       };
 }
 
-own_row : (rs : List Row) (r : Row) → IsRowOf rs r → HasRow rs r
+pub own_row : (rs : List Row) (r : Row) → IsRowOf rs r → HasRow rs r
 own_row rs r c = record { row = r; found = c; number = refl; parent = refl }
 
 follows_from : (s u : Situation) → s.next ≤ u.next → From s.rows u.rows → Follows s u
@@ -155,7 +155,7 @@ row_work n i s change mild numbers age h =
         one (inl e) = inl (sym a.parent ∙ e)
         one (inr l) = inr (living_from rs us to r.parent (subst (IsLiving rs) a.parent l))
 
-state_mild : (p : Option ℕ) → IsMild (in_state p)
+pub state_mild : (p : Option ℕ) → IsMild (in_state p)
 state_mild None r = (refl, refl)
 state_mild (Some x) r = (refl, refl)
 
@@ -227,7 +227,7 @@ module _ (n i : ℕ) (s : State) (h : IsAtWork n s) (apart : IsUpTo s.situation.
 
 -- AN INSTANCE COMES
 
-holds_mild : (e : Element) (n : ℕ) → IsMild (holds e n)
+pub holds_mild : (e : Element) (n : ℕ) → IsMild (holds e n)
 holds_mild e n r = (refl, refl)
 
 module _ (t : Text) (n body : ℕ) (e : Element) (f : Frame) (s : State) (h : IsAtWork n s) where

@@ -22,17 +22,18 @@ use Rattle.est_semantics.specs.WorkingState.{State, Does, view, counting}
 use Rattle.est_semantics.specs.WorkingState.{enter, changed_by}
 use Rattle.est_semantics.specs.FunctionCalls.{frame_of}
 use Rattle.est_semantics.specs.ExpressionValues.{values_in}
-use Rattle.est_semantics.specs.OutputEffects.{Sent}
 use Rattle.est_semantics.specs.InstanceEffects.{most_instances, variables_of, with_next, holds}
 use Rattle.est_semantics.specs.StatementEffects.{initialized, element_of, init_done, statements_in}
 use Rattle.est_semantics.specs.BlockLevels.{within, site, left_by, most_levels}
-use Rattle.est_semantics.specs.StartMeaning.{no_instances}
+use Rattle.est_semantics.specs.StartMeaning.{no_instances, start_before}
+use Rattle.est_semantics.proofs.OrderlyStarts.{OnSent}
 use Rattle.est_upkeep.specs.UpkeepLaws.{OnDone}
 use Rattle.est_upkeep.specs.AncestorLaws.{IsRowOf}
-use Rattle.est_upkeep.specs.OrderLaws.{IsOrderly, IsLiving, StartsAreOrderly}
+use Rattle.est_upkeep.specs.OrderLaws.{IsOrderly, IsLiving, IsOneTree, StartsAreOrderly}
 use Rattle.est_upkeep.proofs.ParentsOlder.{begun_age}
 use Rattle.est_upkeep.proofs.OrderlyBlocks.{Works, IsAtWork, Follows, Reached, order_kept}
 use Rattle.est_upkeep.proofs.OrderlyBlocks.{order_done}
+use Rattle.est_upkeep.proofs.OneRoot.{UnderRoot, Whatever, root_kept}
 use Rattle.est_upkeep.proofs.BlocksOfInstances.{with_situation, initialized_keeps, deeper_keep}
 
 none_some : {A : Type 0} (a : A) → None ≡ Some a → ⊥
@@ -42,9 +43,9 @@ none_some a h = cc
 abbrev blank : ℕ → State
 blank l = record { situation = no_instances; outs = []; frames = []; left = l }
 
--- an orderly situation, in which the root lives
+-- an orderly situation with one root
 abbrev HasRoot : State → Type 0
-HasRoot u = IsOrderly u.situation × IsLiving u.situation.rows 1
+HasRoot u = IsOneTree u.situation
 
 -- OUTCOMES
 
@@ -69,6 +70,14 @@ idle_after (Done a s) h = h
 idle_after (Fault f) h = tt
 idle_after Limit h = tt
 
+tree_done : (x : Situation) (o : Outcome State (Unit {0}))
+    → OnDone (λ u. IsOrderly u.situation × IsLiving u.situation.rows 1) o
+    → OnDone (λ u. UnderRoot 1 u × Whatever x u.situation) o → OnDone HasRoot o
+tree_done x (Done a u) h g =
+    record { order = h.0; root = record { alive = h.1; alone = g.0.2 } }
+tree_done x (Fault f) h g = tt
+tree_done x Limit h g = tt
+
 -- THE ROOT
 
 module _ (t : Text) where
@@ -80,6 +89,11 @@ module _ (t : Text) where
       → (r.parent ≡ 0) ⊎ IsLiving (rooted e body f).rows r.parent
   root_parent e body f r (inl i) = inl (ap (λ (y : Row). y.parent) (sym i))
   root_parent e body f r (inr h) = absurd h
+
+  root_alone : (e : Element) (body : ℕ) (f : Frame) (r : Row) → IsRowOf (rooted e body f).rows r
+      → r.parent ≡ 0 → r.number ≡ 1
+  root_alone e body f r (inl i) z = ap (λ (y : Row). y.number) (sym i)
+  root_alone e body f r (inr h) z = absurd h
 
   root_works : (e : Element) (body : ℕ) (f : Frame) → Works 1 (rooted e body f) []
   root_works e body f = record {
@@ -114,12 +128,19 @@ module _ (t : Text) where
       (λ y. born_root m e p (nat_lt most_instances 1)
       (frame_of t.outline (variables_of t.outline p) xs)
       (initialized 1 (out-Body y).first x)
-      (λ f. order_done 1 (rooted e p f)
+      (λ f. tree_done (rooted e p f)
+      (initialized 1 (out-Body y).first x (with_situation (blank m) (rooted e p f)))
+      (order_done 1 (rooted e p f)
       (initialized 1 (out-Body y).first x (with_situation (blank m) (rooted e p f)))
       (initialized_keeps t IsAtWork Follows Reached (λ n i. n < i) (order_kept t) 0 d
       (λ i ys. deeper_keep t IsAtWork Follows Reached (λ n i. n < i) (order_kept t) most_levels i
       ys) 1 (out-Body y).first (with_situation (blank m) (rooted e p f))
-      (root_works e p f)))))))
+      (root_works e p f)))
+      (initialized_keeps t UnderRoot Whatever (λ n s i. Unit {0}) (λ n i. Unit {0}) (root_kept t) 0
+      d (λ i ys. deeper_keep t UnderRoot Whatever (λ n s i. Unit {0}) (λ n i. Unit {0})
+      (root_kept t) most_levels i ys) 1 (out-Body y).first
+      (with_situation (blank m) (rooted e p f))
+      (omega arith, omega arith, root_alone e p f)))))))
 
   first_root : (target : Access) (body : Used) (arguments : List Expr) (place limit : ℕ)
       → OnDone HasRoot (statements_in (statement.Init target body arguments place ∷ [])
@@ -132,20 +153,20 @@ module _ (t : Text) where
 
 -- THE LAW
 
--- a property of the situation that a block leaves
-abbrev OnSent : Outcome Sent (Unit {0}) → Type 0
-OnSent (Done u x) = IsOrderly x.situation × IsLiving x.situation.rows 1
-OnSent (Fault f) = Unit {0}
-OnSent Limit = Unit {0}
-
-left_root : (o : Outcome State (Unit {0})) → OnDone HasRoot o → OnSent (left_by o)
+left_root : (o : Outcome State (Unit {0})) → OnDone HasRoot o → OnSent IsOneTree (left_by o)
 left_root (Done u s) h = h
 left_root (Fault f) h = tt
 left_root Limit h = tt
 
-pub starts_are_orderly : StartsAreOrderly
-starts_are_orderly t limit target body arguments place x e k = subst OnSent k
-    (left_root (statements_in (t.spec.first ∷ []) (site t 0 false most_levels) (blank limit))
+pub start_tree : (t : Text) (limit : ℕ) (target : Access) (body : Used) (arguments : List Expr)
+    (place : ℕ) → t.spec.first ≡ statement.Init target body arguments place
+    → OnSent IsOneTree (start_before t limit)
+start_tree t limit target body arguments place e =
+    left_root (statements_in (t.spec.first ∷ []) (site t 0 false most_levels) (blank limit))
     (subst (λ (y : Statement). OnDone HasRoot (statements_in (y ∷ [])
     (site t 0 false most_levels) (blank limit))) (sym e)
-    (first_root t target body arguments place limit)))
+    (first_root t target body arguments place limit))
+
+pub starts_are_orderly : StartsAreOrderly
+starts_are_orderly t limit target body arguments place x e k = subst (OnSent IsOneTree) k
+    (start_tree t limit target body arguments place e)

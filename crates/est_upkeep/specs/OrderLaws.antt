@@ -51,6 +51,16 @@ pub record IsOrderly (s : Situation) : Type 0 where
   pub attachments : LinkTheLiving s.rows s.down
   pub items : WaitAtTheLiving s.rows s.queues
 
+-- instance 1, the root, lives, and no other instance is without a parent
+pub record IsRooted (rs : List Row) : Type 0 where
+  pub alive : IsLiving rs 1
+  pub alone : (r : Row) → IsRowOf rs r → r.parent ≡ 0 → r.number ≡ 1
+
+-- an orderly situation with one root
+pub record IsOneTree (s : Situation) : Type 0 where
+  pub order : IsOrderly s
+  pub root : IsRooted s.rows
+
 -- no frame names an instance: only an `all` opens such a frame, for its turns
 abbrev pub NameNone : List Frame → Type 0
 NameNone fs = AllByRecursion IsPlain fs
@@ -65,9 +75,9 @@ SituationsStayOrderly = (t : Text) (n levels : ℕ) (xs : List Statement) (s : S
     (statements_in xs (site t n false levels) s)
 
 -- The `init` of a specification, of which the number 0 executes the statement, leaves an orderly
--- situation, in which the root lives.
+-- situation with one root.
 abbrev pub StartsAreOrderly : Type 0
 StartsAreOrderly = (t : Text) (limit : ℕ) (target : Access) (body : Used) (arguments : List Expr)
     (place : ℕ) (x : Sent) → t.spec.first ≡ Init target body arguments place
     → start_before t limit ≡ Done tt x
-    → IsOrderly x.situation × IsLiving x.situation.rows 1
+    → IsOneTree x.situation

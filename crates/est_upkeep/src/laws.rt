@@ -1,8 +1,12 @@
-//! What holds of all blocks of instances.
+//! What holds of all blocks of instances, and so in each situation of a run.
 ghost use Rattle.est_upkeep.specs.AncestorLaws.{ParentsStayOlder, AncestorsAreOlder};
 ghost use Rattle.est_upkeep.specs.AncestorLaws.{NoneIsItsAncestor};
 ghost use Rattle.est_upkeep.specs.ClimbLaws.{ClimbsEnd, DescentsEnd};
 ghost use Rattle.est_upkeep.specs.OrderLaws.{SituationsStayOrderly, StartsAreOrderly};
+ghost use Rattle.est_upkeep.specs.RunOrder.{OneTreeDescends, FiringsStayOrderly};
+ghost use Rattle.est_upkeep.specs.RunOrder.{EventsStayOrderly, RunsStayOrderly};
+ghost use Rattle.est_upkeep.specs.RunOrder.{RunsStampInTime, GoodDelaysAwaitNothing};
+ghost use Rattle.est_upkeep.specs.RunOrder.{RunsHaveTheirStamps, ItemsWaitAtTheirPoints};
 
 /// Parents are older than their children after a block where they were before.
 #[tactic(auto, using(crate::proofs::ParentsOlder::parents_stay_older))]
@@ -30,7 +34,56 @@ pub fn climbs_end()
     ensures down { DescentsEnd }
 {}
 
-/// A start is orderly, and the root lives.
+/// A start is orderly, and has one root.
 pub fn starts_are_orderly()
     ensures { StartsAreOrderly }
+{}
+
+/// In an orderly situation with one root all instances descend from that.
+pub fn one_tree_descends()
+    ensures { OneTreeDescends }
+{}
+
+/// Firings leave orderly situations with one root.
+#[tactic(auto, using(crate::proofs::OrderlySteps::firings_stay_orderly))]
+pub fn firings_stay_orderly()
+    ensures { FiringsStayOrderly }
+{}
+
+/// Events leave orderly situations with one root.
+#[tactic(auto, using(crate::proofs::OrderlySteps::events_stay_orderly))]
+pub fn events_stay_orderly()
+    ensures { EventsStayOrderly }
+{}
+
+/// Each situation of a run is orderly, with one root; its connections lead both ways, and climbs
+/// end.
+#[tactic(auto, using(crate::proofs::OrderlyRuns::runs_stay_orderly))]
+pub fn runs_stay_orderly()
+    ensures { RunsStayOrderly }
+{}
+
+/// In each situation of a run items wait in the queues of the interaction points to which they
+/// belong.
+#[tactic(auto, using(crate::proofs::OwnQueues::items_wait_at_their_points))]
+pub fn items_wait_at_their_points()
+    ensures { ItemsWaitAtTheirPoints }
+{}
+
+/// In each situation of a run no stamp is later than the clock.
+#[tactic(auto, using(crate::proofs::OrderlyRuns::runs_stamp_in_time))]
+pub fn runs_stamp_in_time()
+    ensures { RunsStampInTime }
+{}
+
+/// No transition with a delay awaits an interaction, where no rule is broken.
+#[tactic(auto, using(crate::proofs::GoodDelays::good_delays_await_nothing))]
+pub fn good_delays_await_nothing()
+    ensures { GoodDelaysAwaitNothing }
+{}
+
+/// In each situation of a run stamps stand exactly where transitions with a delay are enabled.
+#[tactic(auto, using(crate::proofs::OrderlyRuns::runs_have_their_stamps))]
+pub fn runs_have_their_stamps()
+    ensures { RunsHaveTheirStamps }
 {}
