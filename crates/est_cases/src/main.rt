@@ -24,7 +24,7 @@ use std::process::ExitCode;
 use std::str;
 
 // The files of cases, in the order in which they are run. The first has the texts that all share.
-const FILES: [&str; 17] = [
+const FILES: [&str; 24] = [
     "texts.cases",
     "words.cases",
     "tokens.cases",
@@ -38,9 +38,16 @@ const FILES: [&str; 17] = [
     "specifications.cases",
     "profile.cases",
     "traces.cases",
+    "values.cases",
+    "ports.cases",
     "explanations.cases",
     "replays.cases",
     "searches.cases",
+    "runs.cases",
+    "blocks.cases",
+    "limits.cases",
+    "stations.cases",
+    "servers.cases",
     "faults.cases",
 ];
 
