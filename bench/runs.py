@@ -1,0 +1,240 @@
+#!/usr/bin/env python3
+"""Times runs of the whole language by the program, on inputs that it makes itself, and prints two tables.
+
+Each row of the first is the least processor time of some runs of one command, at a size and at twice that
+size; the last column is the one time over the other, near 2 where the work is linear. The second table
+has a row for each of the six protocols of examples/: a search along a trace of some 10,000 events, which
+repeats what the protocol does. The program is the one of these sources.
+"""
+
+import os
+import pathlib
+import subprocess
+import sys
+import tempfile
+
+TOP = pathlib.Path(__file__).resolve().parent.parent
+PROGRAM = subprocess.check_output([TOP / "hawkopal", "--program"], text=True).rstrip("\n")
+RUNS = 3
+MOST_STATEMENTS = "1000000"
+
+HEAD = """specification Measured;
+default individual queue;
+channel C(A, B); by A: Go; Ask(n: integer); by B: Num(n: integer);
+module M systemactivity; ip P: C(B); end;
+module K activity; ip Q: C(B); end;
+"""
+TAIL = """
+modvar X: M;
+initialize begin init X with MB end;
+end.
+"""
+
+
+def texts(body, events, moves):
+    """A specification with this body MB, a trace, and the explanation of all of it."""
+    trace = "trace 1\n" + "\n".join(events) + "\nend\n"
+    claim = "\n".join(moves) + f"\nyields {len(events) + 1}\n"
+    return HEAD + body + TAIL, trace, "explanation 1\n" + claim
+
+
+def statements(size):
+    turns = size // 4
+    last = (turns - 1) // 10 * 10
+    return texts(f"""body MB for M;
+  var a: array [1..10] of integer; i: integer;
+  initialize begin i := 0;
+    while i < {turns} do begin a[i mod 10 + 1] := i; i := i + 1 end; output P.Num(a[1]) end;
+end;""", [f"out p.num({last})"], [])
+
+
+def calls(size):
+    return texts(f"""body MB for M;
+  var s, i: integer;
+  procedure Put(n: integer; var t: integer); begin t := n end;
+  initialize begin for i := 1 to {size} do Put(i, s); output P.Num(s) end;
+end;""", [f"out p.num({size})"], [])
+
+
+def asked(size, body):
+    """A replay in which each arrival is answered by a firing."""
+    events = [event for n in range(size) for event in (f"in p.ask({n})", f"out p.num({n})")]
+    return texts(body, events, ["take", "fire 1 1 1"] * size)
+
+
+def firings(size):
+    return asked(size, """body MB for M;
+  trans when P.Ask begin output P.Num(n) end;
+end;""")
+
+
+def writes(size):
+    return asked(size, """body MB for M;
+  var a: array [1..60000] of integer;
+  trans when P.Ask begin a[n mod 60000 + 1] := n; output P.Num(n) end;
+end;""")
+
+
+def states(size):
+    """So many firings, among 10,000 states with a transition each."""
+    names = [f"S{n}" for n in range(10_000)]
+    body = ["body MB for M;", "  state " + ", ".join(names) + ";", "  initialize to S0 begin end;", "  trans"]
+    body += [f"    from S{n} to S{(n + 1) % 10_000} begin output P.Num({n}) end;" for n in range(10_000)] + ["end;"]
+    events = [f"out p.num({n % 10_000})" for n in range(size)]
+    return texts("\n".join(body), events, [f"fire 1 {n % 10_000 + 1} 1" for n in range(size)])
+
+
+def queue(size):
+    return texts("""body MB for M;
+  trans when P.Ask begin output P.Num(n) end;
+end;""", [f"in p.ask({n})" for n in range(size)] + [f"out p.num({n})" for n in range(size)],
+                 ["take"] * size + ["fire 1 1 1"] * size)
+
+
+def delays(size):
+    """A timer that fires each second, beside 100 that never do."""
+    others = "".join(f"  trans delay (1000000 + {n}) begin end;\n" for n in range(100))
+    return texts(f"""body MB for M;
+  trans delay (1) begin output P.Num(0) end;
+{others}end;""", ["time 1", "out p.num(0)"] * size, ["take", "fire 1 1 1"] * size)
+
+
+def children(size):
+    """Each firing begins a child and releases it."""
+    return asked(size, """body KB for K; end;
+body MB for M;
+  modvar V: K;
+  trans when P.Ask begin init V with KB; release V; output P.Num(n) end;
+end;""")
+
+
+def records(size):
+    """A trace of so many arrivals with record values, which is read; nothing is replayed."""
+    specification = """specification Measured;
+default individual queue;
+type Small = 0..9; Color = (red, green, blue); Row = array [1..3] of Small;
+  Rec = record a: integer; b: boolean; c: Row; d: Color; e: char; f: set of Small end;
+channel C(A, B); by A: Ask(r: Rec); by B: Num(n: integer);
+module M systemactivity; ip P: C(B); end;
+body MB for M; end;
+modvar X: M;
+initialize begin init X with MB end;
+end.
+"""
+    event = "in p.ask((%d, true, (1, 2, 3), green, 'x', [1, 5, 7]))"
+    trace = "trace 1\n" + "\n".join(event % -n for n in range(1, size + 1)) + "\nend\n"
+    return specification, trace, "explanation 1\nyields 0\n"
+
+
+def elements(size):
+    """A trace of so many arrivals at 60,000 ports with 10,000 signals each, which is read."""
+    signals = " ".join(f"S{n};" for n in range(10_000))
+    names = ", ".join(f"P{n}" for n in range(60))
+    specification = f"""specification Measured;
+default individual queue;
+channel C(A, B); by A: {signals} by B: Num(n: integer);
+module M systemactivity; ip {names}: array [1..1000] of C(B); end;
+body MB for M; end;
+modvar X: M;
+initialize begin init X with MB end;
+end.
+"""
+    trace = "".join(f"in p{n % 60}[{n * 7919 % 1000 + 1}].s{n * 6007 % 10_000}\n" for n in range(size))
+    return specification, f"trace 1\n{trace}end\n", "explanation 1\nyields 0\n"
+
+
+ROWS = [
+    ("statements: `while`, an assignment with a subscript, a comparison", statements, 400_000),
+    ("calls of a procedure with two parameters", calls, 150_000),
+    ("arrivals, each with a firing", firings, 25_000),
+    ("the same, each writing one of 60,000 variables", writes, 25_000),
+    ("firings among 10,000 states", states, 25_000),
+    ("arrivals that wait in a queue, and are taken", queue, 25_000),
+    ("time that passes, each with a firing of one of 101 delays", delays, 5_000),
+    ("children that are begun and released", children, 25_000),
+    ("arrivals with record values, read", records, 60_000),
+    ("arrivals at 60,000 ports with 10,000 signals, read", elements, 75_000),
+]
+
+
+def alternating_bit():
+    half = ["in u.sendrequest(7)", "out n.transfer((data, %d, 7))", "in n.transfer((ack, %d, _))", "out u.sendconfirm"]
+    return [line % bit if "%" in line else line for bit in (0, 1) for line in half]
+
+
+def go_back_n():
+    lines = []
+    for number in range(8):
+        lines += ["in access[1].send(10)", f"out line.data({number}, 1, 10)", f"in line.acknowledge({number})",
+                  "out access[1].sent"]
+    return lines
+
+
+PROTOCOLS = {
+    "alternating_bit": alternating_bit(),
+    "connection": ["in isapini.iconreq", "time 5", "out isapres.iconind", "in isapres.iconresp", "out isapini.iconconf",
+                   "in isapres.idisreq", "out isapini.idisind"],
+    "go_back_n": go_back_n(),
+    "sessions": ["in port[1].read(note)", "out port[1].data(1, true)", "in port[1].ack(1)"],
+    "ring_election": ["in user[1].start"] + [f"out user[{n}].elected(40)" for n in (3, 4, 1, 2)],
+    "arbiter": ["in port[1].readrequest", "out port[1].granted", "in port[1].done"],
+}
+
+
+def measured(command, folder):
+    """The least processor time of some runs, in seconds, the most memory, in MiB, and what was told."""
+    best, most = None, 0
+    for _ in range(RUNS):
+        process = subprocess.Popen([PROGRAM, *command], cwd=folder, stdout=subprocess.PIPE)
+        told = process.stdout.read().decode()
+        _, status, used = os.wait4(process.pid, 0)
+        if os.waitstatus_to_exitcode(status) != 0:
+            sys.exit(f"{' '.join(command)}: {told[:400]}")
+        taken = used.ru_utime + used.ru_stime
+        best = taken if best is None else min(best, taken)
+        most = max(most, used.ru_maxrss / 1024)
+    return best, most, told
+
+
+def replayed(folder, made):
+    specification, trace, explanation = made
+    (folder / "a.est").write_text(specification)
+    (folder / "a.trace").write_text(trace)
+    (folder / "a.explanation").write_text(explanation)
+    command = ["replay", "a.est", "a.trace", "a.explanation", "8", MOST_STATEMENTS]
+    taken, most, told = measured(command, folder)
+    if not told.startswith("confirmed"):
+        sys.exit(told)
+    return taken, most
+
+
+def main():
+    with tempfile.TemporaryDirectory() as name:
+        folder = pathlib.Path(name)
+        print("| Replay | Size | Seconds | Microseconds each | MiB | Over half the size |")
+        print("|---|---|---|---|---|---|")
+        for what, made, size in ROWS:
+            half, _ = replayed(folder, made(size))
+            whole, most = replayed(folder, made(2 * size))
+            print(f"| {what} | {2 * size:,} | {whole:.3f} | {whole / (2 * size) * 1e6:.2f} | {most:.0f} |"
+                  f" {whole / max(half, 0.001):.1f} |", flush=True)
+        print()
+        print("| Search | Events | Seconds | Microseconds each | MiB | Over half the events |")
+        print("|---|---|---|---|---|---|")
+        for protocol, lines in PROTOCOLS.items():
+            before = None
+            for turns in (5_000 // len(lines), 10_000 // len(lines)):
+                (folder / "a.trace").write_text("trace 1\n" + "\n".join(lines * turns) + "\nend\n")
+                command = ["explain", str(TOP / "examples" / f"{protocol}.est"), "a.trace", "30", "4000000", "10000"]
+                taken, most, told = measured(command, folder)
+                if "accepted" not in told[:40]:
+                    sys.exit(f"{protocol}: {told[:100]}")
+                ratio = "" if before is None else f"{taken / before:.1f}"
+                before = taken
+            events = len(lines) * turns
+            print(f"| {protocol} | {events:,} | {taken:.3f} | {taken / events * 1e6:.1f} | {most:.0f} | {ratio} |",
+                  flush=True)
+
+
+if __name__ == "__main__":
+    main()
