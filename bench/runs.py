@@ -129,17 +129,17 @@ end.
 def elements(size):
     """A trace of so many arrivals at 60,000 ports with 10,000 signals each, which is read."""
     signals = " ".join(f"S{n};" for n in range(10_000))
-    names = ", ".join(f"P{n}" for n in range(60))
+    names = ", ".join(f"P{n}" for n in range(240))
     specification = f"""specification Measured;
 default individual queue;
 channel C(A, B); by A: {signals} by B: Num(n: integer);
-module M systemactivity; ip {names}: array [1..1000] of C(B); end;
+module M systemactivity; ip {names}: array [1..250] of C(B); end;
 body MB for M; end;
 modvar X: M;
 initialize begin init X with MB end;
 end.
 """
-    trace = "".join(f"in p{n % 60}[{n * 7919 % 1000 + 1}].s{n * 6007 % 10_000}\n" for n in range(size))
+    trace = "".join(f"in p{n % 240}[{n * 7919 % 250 + 1}].s{n * 6007 % 10_000}\n" for n in range(size))
     return specification, f"trace 1\n{trace}end\n", "explanation 1\nyields 0\n"
 
 
