@@ -5,7 +5,7 @@ import re
 from .doings import Doings, Function
 from .phrases import NoPhrase
 from .regions import Item, OuterRegion, Region
-from .values import BOOLEAN, CHAR, INTEGER, ArrayOf, Fields, Ordinal, SetOf, enumeration, is_group
+from .values import CHAR, INTEGER, ArrayOf, Fields, Ordinal, SetOf, enumeration, is_group
 
 QUEUES = ["", "", "individual queue", "common queue"]
 LETTERS = Ordinal(CHAR.host, ord("a"), ord("e"))

@@ -2,9 +2,7 @@
 
 from .frames import Frame, Place
 from .naming import AllChild, Constant, Declarations, ModuleVariable, Predeclared, Variable
-from .values import (
-    BOOLEAN, CHAR, INTEGER, MEMBERS, MOST, ArrayOf, Fault, Ordinal, SetOf, fitted, is_group, undefined, whole,
-)
+from .values import BOOLEAN, CHAR, INTEGER, MEMBERS, MOST, Fault, SetOf, fitted, undefined, whole
 
 
 def in_range(value, kind=INTEGER):

@@ -3,8 +3,7 @@
 from rules_checker.tokens import tokens_of
 
 from .modules import System
-from .texts import MOST_EVENTS
-from .values import Fault, Limit, fitted, is_group
+from .values import Fault, Limit
 from .world import IN, Event, Firing, World, passing
 
 
