@@ -4,6 +4,7 @@ pub mod BirthLaws
 pub mod FirstPlaces
 pub mod LinkLaws
 pub mod LostLaws
+pub mod OutsideLaws
 pub mod QueueLaws
 pub mod SamePoints
 pub mod SystemLaws

@@ -1,6 +1,9 @@
 -- Interaction points of instances, as lists of them are made.
 use Rattle.std.specs.Prelude.{◌≡◌, ℕ, ℤ, List, map, find, Option, Some, length, take, slice_get}
-use Rattle.std.specs.List.{flat_map}
+use Rattle.std.specs.Prelude.{Bool, nat_eq, ◌&&◌}
+use Rattle.std.specs.Ordering.{int_eq}
+use Rattle.std.specs.Cmp.Lexicographic.{pointwise}
+use Rattle.std.specs.List.{flat_map, list_any}
 use Rattle.est_syntax.specs.declared.kind.Kind.{Kind}
 use Rattle.est_values.specs.OrdinalTuples.{ordinal_tuples}
 use Rattle.est_scope.specs.Outline.{Outline}
@@ -13,6 +16,10 @@ use Rattle.est_semantics.specs.Attachments.{leads_to}
 -- the interaction points of an instance that are declared at some places
 abbrev pub points_at : Outline → ℕ → List ℕ → List InteractionPoint
 points_at o n places = flat_map (λ p. map (point n p) (indices_of o p)) places
+
+-- whether an interaction point is declared at a place, and its subscripts are among those there
+abbrev pub is_at : Outline → InteractionPoint → ℕ → Bool
+is_at o p d = nat_eq p.declared d && list_any (pointwise int_eq p.index) (indices_of o d)
 
 -- the external interaction point of an instance that is attached to one of a child
 abbrev pub above_in : Text → Situation → ℕ → InteractionPoint → Option InteractionPoint

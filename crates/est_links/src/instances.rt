@@ -1,13 +1,18 @@
 //! The interaction points and the children of instances.
 ghost use Rattle.std.specs.Prelude.{◌≡◌, ◌++◌, nat_lt, map, length, IfOk, OnOk};
 ghost use Rattle.std.specs.Prelude.{Some, None, true, false};
-ghost use Rattle.std.specs.List.{flat_map, list_all};
+ghost use Rattle.std.specs.List.{flat_map, list_all, list_any};
+ghost use Rattle.std.specs.Ordering.{int_eq};
+ghost use Rattle.std.specs.Cmp.Lexicographic.{pointwise};
 ghost use Rattle.est_values.specs.FittingValues.{ordinal_count};
 ghost use Rattle.est_values.specs.OrdinalTuples.{first_tuple, next_tuple, ordinal_tuples};
+ghost use Rattle.est_values.specs.OrdinalTuples.{ordinals_of};
+ghost use Rattle.est_scope.specs.declared.declaration.Sort.TheVariants as sort;
+ghost use Rattle.est_semantics.specs.NamesInRuns.{places_of};
 ghost use Rattle.est_semantics.specs.InstancePoints.{point, indices_of, points_of, header_of};
 ghost use Rattle.est_semantics.specs.InstancePoints.{external_of, is_child, children_of};
 ghost use Rattle.est_frames.specs.HeldSystems.{situation_of};
-ghost use Rattle.est_links.specs.PointsOfInstances.{points_at};
+ghost use Rattle.est_links.specs.PointsOfInstances.{points_at, is_at};
 
 use est_frames::rows::row_of;
 use est_frames::system::System;
@@ -17,7 +22,7 @@ use est_scope::declaration::Sort;
 use est_scope::outline::Outline;
 use est_semantics::situation::{InteractionPoint, Row};
 use est_syntax::kind::{Kind, Ordinals};
-use est_values::ordinals::{first_ordinal, ordinal_count};
+use est_values::ordinals::{first_ordinal, last_ordinal, ordinal_count};
 use est_values::tuples::next_tuple;
 use std::alloc::{AllocError, Global};
 
@@ -132,8 +137,73 @@ pub fn points_of(
     points_at(alloc, outline, instance, places.as_slice())
 }
 
-// The header of a living instance.
-fn header_of(outline: &Outline, system: &System, instance: u32) -> Option<u32>
+// Whether an ordinal is one of a kind.
+fn is_ordinal(kind: &Kind, z: i32) -> bool
+    ensures { result ≡ list_any (int_eq z) (ordinals_of kind.now) }
+{
+    if z < first_ordinal(kind) {
+        return false;
+    }
+    if last_ordinal(kind) < z {
+        return false;
+    }
+    true
+}
+
+// Whether a tuple is one of ordinals of these kinds.
+fn is_tuple(kinds: &[Kind], tuple: &[i32]) -> bool
+    ensures { result ≡ list_any (pointwise int_eq tuple.now) (ordinal_tuples kinds.now) }
+{
+    if kinds.len() != tuple.len() {
+        return false;
+    }
+    for i in 0..kinds.len() {
+        if !is_ordinal(&kinds[i], tuple[i]) {
+            return false;
+        }
+    }
+    true
+}
+
+// Whether subscripts are among those of what is declared at a place.
+fn is_index(outline: &Outline, place: u32, index: &[i32]) -> bool
+    ensures { result ≡ list_any (pointwise int_eq index.now) (indices_of outline.now place) }
+{
+    match dims_at(outline, place) {
+        None => is_tuple(&[], index),
+        Some(kinds) => is_tuple(kinds, index),
+    }
+}
+
+// Whether an interaction point is declared at a place, with its subscripts.
+fn is_at(outline: &Outline, point: &InteractionPoint, place: u32) -> bool
+    ensures { result ≡ is_at outline.now point.now place }
+{
+    point.declared == place && is_index(outline, place, point.index.as_slice())
+}
+
+/// Whether an interaction point is one that a header declares, of whatever instance. No list of
+/// them is made. Errs where memory runs out.
+pub fn is_declared(
+    alloc: Global,
+    outline: &Outline,
+    header: u32,
+    point: &InteractionPoint,
+) -> Result<bool, AllocError>
+    ensures { IfOk result (λ declared. declared
+        ≡ list_any (is_at outline.now point.now) (places_of outline.now sort.Point header)) }
+{
+    let places = places_of(alloc, outline, Sort::Point, header)?;
+    Ok(
+        places
+            .as_slice()
+            .iter()
+            .any(|place| is_at(outline, point, *place)),
+    )
+}
+
+/// The header of a living instance.
+pub fn header_of(outline: &Outline, system: &System, instance: u32) -> Option<u32>
     ensures { result ≡ header_of outline.now (situation_of system.now) instance }
 {
     match row_of(system, instance) {

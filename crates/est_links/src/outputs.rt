@@ -5,15 +5,18 @@ ghost use Rattle.est_frames.specs.HeldSystems.{linked, situation_of};
 ghost use Rattle.est_links.specs.ChangedSystems.{sent_of};
 
 use crate::attachments::{bottom, up};
-use crate::instances::external_of;
+use crate::instances::{header_of, is_declared};
 use crate::links::linked;
-use crate::points::{is_point, queue_of};
+use crate::points::queue_of;
 use crate::queues::put;
 use est_frames::system::{System, Working};
 use est_items::Twin;
 use est_names::text::Text;
 use est_semantics::situation::{InteractionPoint, Item};
 use std::alloc::{AllocError, Global};
+
+// The number of the root.
+const ROOT: u32 = 1;
 
 // Whether an interaction point is an external one of the root.
 fn is_outside(
@@ -25,8 +28,13 @@ fn is_outside(
     ensures { IfOk result (λ outside. outside
         ≡ is_outside text.now (situation_of system.now) point.now) }
 {
-    let points = external_of(alloc, text.outline(), system, 1)?;
-    Ok(points.as_slice().iter().any(|own| is_point(point, own)))
+    if point.instance != ROOT {
+        return Ok(false);
+    }
+    match header_of(text.outline(), system, ROOT) {
+        None => Ok(false),
+        Some(header) => is_declared(alloc, text.outline(), header, point),
+    }
 }
 
 /// An item goes into the queue of the innermost interaction point below one. Errs where memory runs
