@@ -3,6 +3,7 @@ pub mod Longest
 pub mod Lookups
 pub mod Marks
 pub mod Runs
+pub mod SymbolBytes
 pub mod SymbolFront
 pub mod There
 pub mod TokenLaws

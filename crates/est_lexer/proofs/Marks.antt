@@ -1,5 +1,8 @@
 use Rattle.std.proofs.Common.{◌≡◌, ◌≤◌, ◌<◌, ◌+◌, ℕ, suc, zero, List, [], ◌∷◌, length}
 use Rattle.std.proofs.Common.{get_or, arith, subst, Option, Some, None, MatchOption, IfSome}
+use Rattle.std.proofs.Common.{true, false, eqb, refl}
+use Rattle.std.specs.Char.{is_ascii_alphabetic, is_ascii_digit}
+use Rattle.std.proofs.lemmas.Bool.Decides.{nat_tests}
 use Rattle.est_lexer.specs.Between.{opening, closing, IsBetween, IsFirstEnd}
 use Rattle.est_lexer.specs.Between.{IsUnended, IsComment, nothing, blank, comment}
 
@@ -27,6 +30,36 @@ opening_small text mark = grind arith
 pub closing_small : (text : List ℕ) (mark : ℕ) → closing text mark ≤ 2
 unfolding closing
 closing_small text mark = grind arith
+
+-- With another byte no comment begins.
+no_opening : (text : List ℕ) (place : ℕ) → eqb (get_or text place 0) 123 ≡ false
+    → eqb (get_or text place 0) 40 ≡ false → opening text place ≡ 0
+unfolding opening
+no_opening text place no_brace no_parenthesis = rw (no_brace, no_parenthesis) refl
+
+letter_no_mark : (b : ℕ) → is_ascii_alphabetic b ≡ true → (eqb b 123 ≡ false) × (eqb b 40 ≡ false)
+letter_no_mark b letter = (grind (arith, nat_tests), grind (arith, nat_tests))
+
+digit_no_mark : (b : ℕ) → is_ascii_digit b ≡ true → (eqb b 123 ≡ false) × (eqb b 40 ≡ false)
+digit_no_mark b digit = (grind (arith, nat_tests), grind (arith, nat_tests))
+
+-- With a letter, a digit or a quote no comment begins.
+pub letter_opens_none : (text : List ℕ) (place : ℕ)
+    → is_ascii_alphabetic (get_or text place 0) ≡ true → opening text place ≡ 0
+letter_opens_none text place letter =
+    let other = letter_no_mark (get_or text place 0) letter in
+    no_opening text place other.0 other.1
+
+pub digit_opens_none : (text : List ℕ) (place : ℕ) → is_ascii_digit (get_or text place 0) ≡ true
+    → opening text place ≡ 0
+digit_opens_none text place digit =
+    let other = digit_no_mark (get_or text place 0) digit in
+    no_opening text place other.0 other.1
+
+pub quote_opens_none : (text : List ℕ) (place : ℕ) → get_or text place 0 ≡ 39
+    → opening text place ≡ 0
+unfolding opening
+quote_opens_none text place quote = rw quote refl
 
 -- After the text no mark stands.
 pub closing_past : (text : List ℕ) (mark : ℕ) → length text ≤ mark → closing text mark ≡ 0

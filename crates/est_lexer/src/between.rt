@@ -1,8 +1,8 @@
 //! Blanks and comments, which lie between tokens.
 
-ghost use Rattle.std.specs.Prelude.{◌≡◌, ◌≤◌, ◌<◌, ◌+◌, ℕ, length};
+ghost use Rattle.std.specs.Prelude.{◌≡◌, ◌≤◌, ◌<◌, ◌+◌, ℕ, false, length};
 ghost use Rattle.std.specs.Prelude.{slice_index, MatchOption, IfNone, IfSome};
-ghost use Rattle.est_lexer.specs.inside.Scanning.{IsBegin};
+ghost use Rattle.est_lexer.specs.inside.Scanning.{IsBegin, HasNoEnd};
 ghost use Rattle.est_lexer.specs.Between.{is_blank, opening, closing};
 ghost use Rattle.est_lexer.specs.Between.{IsBetween, IsFirstEnd, IsUnended};
 
@@ -56,17 +56,14 @@ fn first_end(text: &[u8], from: usize) -> Option<usize>
     None
 }
 
-// The end of the blank or the comment that begins at a place.
-fn piece_end(text: &[u8], place: usize) -> Option<usize>
+// The end of the comment that begins at a place, if one does and it has an end.
+fn comment_end(text: &[u8], place: usize) -> Option<usize>
     requires { place ≤ length text.now }
     ensures between { IfSome result (λ end. IsBetween text.now place end) }
     ensures onward { IfSome result (λ end. place < end) }
     ensures inside { IfSome result (λ end. end ≤ length text.now) }
-    ensures begin { IfNone result (IsBegin text.now place) }
+    ensures unended { IfNone result (HasNoEnd text.now place) }
 {
-    if is_blank_byte(byte_at(text, place)) {
-        return Some(place + 1);
-    }
     let mark = opening_at(text, place);
     if mark == 0 {
         None
@@ -75,11 +72,25 @@ fn piece_end(text: &[u8], place: usize) -> Option<usize>
     }
 }
 
+// The end of the blanks in a row from a place on.
+fn blanks_end(text: &[u8], from: usize) -> usize
+    requires { from ≤ length text.now }
+    ensures between { IsBetween text.now from result }
+    ensures inside { result ≤ length text.now }
+    ensures ended { is_blank (slice_index text.now result) ≡ false }
+{
+    let mut end = from;
+    while end < text.len() && is_blank_byte(text[end]) {
+        end += 1;
+    }
+    end
+}
+
 // Whether the byte is a blank.
 fn is_blank_byte(byte: u8) -> bool
     ensures { result ≡ is_blank byte }
 {
-    matches!(byte, b'\t' | b'\n' | b'\x0c' | b'\r' | b' ')
+    byte <= b' ' && matches!(byte, b'\t' | b'\n' | b'\x0c' | b'\r' | b' ')
 }
 
 /// The first place from `from` on at which neither a blank nor a comment that has an end begins.
@@ -89,9 +100,9 @@ pub(crate) fn begin_from(text: &[u8], from: usize) -> usize
     ensures inside { result ≤ length text.now }
     ensures begin { IsBegin text.now result }
 {
-    let mut place = from;
-    while let Some(end) = piece_end(text, place) {
-        place = end;
+    let mut place = blanks_end(text, from);
+    while let Some(end) = comment_end(text, place) {
+        place = blanks_end(text, end);
     }
     place
 }

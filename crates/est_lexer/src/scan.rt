@@ -27,9 +27,6 @@ pub(crate) fn token_from(text: &[u8], place: usize) -> Result<Token, Token>
     requires begin { IsBegin text.now place }
     ensures { MatchResult result (IsTokenAt text.now place) (IsBadAt text.now place) }
 {
-    if opening_at(text, place) > 0 {
-        return Err(bad_token(place, text.len() - place));
-    }
     let first = text[place];
     if first.is_ascii_alphabetic() {
         Ok(name(text, place))
@@ -37,6 +34,8 @@ pub(crate) fn token_from(text: &[u8], place: usize) -> Result<Token, Token>
         number(text, place)
     } else if first == QUOTE {
         character(text, place)
+    } else if opening_at(text, place) > 0 {
+        Err(bad_token(place, text.len() - place))
     } else {
         symbol(text, place)
     }
@@ -93,7 +92,7 @@ fn name_end(text: &[u8], from: usize) -> usize
 fn is_name_part(byte: u8) -> bool
     ensures { result ≡ is_identifier_part byte }
 {
-    byte.is_ascii_alphanumeric() || byte == b'_'
+    byte.is_ascii_alphabetic() || byte.is_ascii_digit() || byte == b'_'
 }
 
 // The number at a place, or the bad token of 19 or more digits.

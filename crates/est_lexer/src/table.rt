@@ -1,6 +1,6 @@
 //! The words and symbols of the profile with their spellings.
 
-ghost use Rattle.std.specs.Prelude.{◌≡◌, ◌<◌, true, length, slice_index};
+ghost use Rattle.std.specs.Prelude.{◌≡◌, ◌<◌, true, length, slice_index, [], ◌∷◌};
 ghost use Rattle.std.specs.Prelude.{option_map, find, nat_eq, IsTrue};
 ghost use Rattle.std.specs.Char.{is_ascii_alphabetic};
 ghost use Rattle.std.specs.List.{starts_with};
@@ -9,10 +9,11 @@ ghost use Rattle.est_lexer.specs.inside.Scanning.{rows, groups, all_of, is_by_le
 ghost use Rattle.est_lexer.specs.Spellings.{name_kind};
 ghost use Rattle.est_lexer.specs.Words.{symbols};
 
+use crate::between::byte_at;
 use crate::kind::TokenKind::{LeftOut, Reserved};
 use crate::kind::{LeftOutToken, ReservedWord, Symbol, TokenKind};
 
-// A word or a symbol: its spelling, in lower case, and its kind.
+// A word: its spelling, in lower case, and its kind.
 type Word = (&'static [u8], TokenKind);
 
 // The reserved and the left-out words by their first letter, from `a` to `z`.
@@ -136,35 +137,6 @@ static WORDS: [&[Word]; 26] = [
     &[],
 ];
 
-// The symbols and the left-out symbols, each before those that begin it.
-static SYMBOLS: [Word; 25] = [
-    (b"...", LeftOut(LeftOutToken::Ellipsis)),
-    (b"..", TokenKind::Symbol(Symbol::DoublePeriod)),
-    (b".", TokenKind::Symbol(Symbol::Period)),
-    (b":=", TokenKind::Symbol(Symbol::Assign)),
-    (b":", TokenKind::Symbol(Symbol::Colon)),
-    (b"<>", TokenKind::Symbol(Symbol::Unequal)),
-    (b"<=", TokenKind::Symbol(Symbol::AtMost)),
-    (b"<", TokenKind::Symbol(Symbol::Below)),
-    (b">=", TokenKind::Symbol(Symbol::AtLeast)),
-    (b">", TokenKind::Symbol(Symbol::Above)),
-    (b"=", TokenKind::Symbol(Symbol::Equal)),
-    (b"+", TokenKind::Symbol(Symbol::Plus)),
-    (b"-", TokenKind::Symbol(Symbol::Minus)),
-    (b"*", TokenKind::Symbol(Symbol::Star)),
-    (b"(", TokenKind::Symbol(Symbol::LeftParenthesis)),
-    (b")", TokenKind::Symbol(Symbol::RightParenthesis)),
-    (b"[", TokenKind::Symbol(Symbol::LeftBracket)),
-    (b"]", TokenKind::Symbol(Symbol::RightBracket)),
-    (b",", TokenKind::Symbol(Symbol::Comma)),
-    (b";", TokenKind::Symbol(Symbol::Semicolon)),
-    (b"_", TokenKind::Symbol(Symbol::Underscore)),
-    (b"?", TokenKind::Symbol(Symbol::QuestionMark)),
-    (b"^", LeftOut(LeftOutToken::Caret)),
-    (b"@", LeftOut(LeftOutToken::At)),
-    (b"/", LeftOut(LeftOutToken::Slash)),
-];
-
 /// The kind of an identifier or a word with these bytes.
 pub(crate) fn word_or_identifier(bytes: &[u8]) -> TokenKind
     requires some { 0 < length bytes.now }
@@ -203,23 +175,44 @@ fn find_word(words: &[Word], bytes: &[u8]) -> Option<TokenKind>
 }
 
 /// The length and the kind of the longest symbol that these bytes begin with.
-#[tactic(auto, unfolding(crate::specs::Words::symbols))]
 pub(crate) fn symbol_before(rest: &[u8]) -> Option<(usize, TokenKind)>
     ensures { result ≡ option_map (λ w. (length w.0, w.1))
         (find (λ w. starts_with nat_eq rest.now w.0) symbols) }
 {
-    find_prefix(&SYMBOLS, rest)
+    symbol_of(byte_at(rest, 0), byte_at(rest, 1), byte_at(rest, 2))
 }
 
-// The length and the kind of the first of these symbols that the bytes begin with.
-fn find_prefix(symbols: &[Word], rest: &[u8]) -> Option<(usize, TokenKind)>
+// The length and the kind of the longest symbol that these three bytes begin with.
+fn symbol_of(first: u8, second: u8, third: u8) -> Option<(usize, TokenKind)>
     ensures { result ≡ option_map (λ w. (length w.0, w.1))
-        (find (λ w. starts_with nat_eq rest.now w.0) (rows symbols.now)) }
+        (find (λ w. starts_with nat_eq (first ∷ second ∷ third ∷ []) w.0) symbols) }
 {
-    for symbol in symbols {
-        if rest.starts_with(symbol.0) {
-            return Some((symbol.0.len(), symbol.1));
-        }
+    match (first, second, third) {
+        (b'.', b'.', b'.') => Some((3, LeftOut(LeftOutToken::Ellipsis))),
+        (b'.', b'.', _) => Some((2, TokenKind::Symbol(Symbol::DoublePeriod))),
+        (b'.', _, _) => Some((1, TokenKind::Symbol(Symbol::Period))),
+        (b':', b'=', _) => Some((2, TokenKind::Symbol(Symbol::Assign))),
+        (b':', _, _) => Some((1, TokenKind::Symbol(Symbol::Colon))),
+        (b'<', b'>', _) => Some((2, TokenKind::Symbol(Symbol::Unequal))),
+        (b'<', b'=', _) => Some((2, TokenKind::Symbol(Symbol::AtMost))),
+        (b'<', _, _) => Some((1, TokenKind::Symbol(Symbol::Below))),
+        (b'>', b'=', _) => Some((2, TokenKind::Symbol(Symbol::AtLeast))),
+        (b'>', _, _) => Some((1, TokenKind::Symbol(Symbol::Above))),
+        (b'=', _, _) => Some((1, TokenKind::Symbol(Symbol::Equal))),
+        (b'+', _, _) => Some((1, TokenKind::Symbol(Symbol::Plus))),
+        (b'-', _, _) => Some((1, TokenKind::Symbol(Symbol::Minus))),
+        (b'*', _, _) => Some((1, TokenKind::Symbol(Symbol::Star))),
+        (b'(', _, _) => Some((1, TokenKind::Symbol(Symbol::LeftParenthesis))),
+        (b')', _, _) => Some((1, TokenKind::Symbol(Symbol::RightParenthesis))),
+        (b'[', _, _) => Some((1, TokenKind::Symbol(Symbol::LeftBracket))),
+        (b']', _, _) => Some((1, TokenKind::Symbol(Symbol::RightBracket))),
+        (b',', _, _) => Some((1, TokenKind::Symbol(Symbol::Comma))),
+        (b';', _, _) => Some((1, TokenKind::Symbol(Symbol::Semicolon))),
+        (b'_', _, _) => Some((1, TokenKind::Symbol(Symbol::Underscore))),
+        (b'?', _, _) => Some((1, TokenKind::Symbol(Symbol::QuestionMark))),
+        (b'^', _, _) => Some((1, LeftOut(LeftOutToken::Caret))),
+        (b'@', _, _) => Some((1, LeftOut(LeftOutToken::At))),
+        (b'/', _, _) => Some((1, LeftOut(LeftOutToken::Slash))),
+        _ => None,
     }
-    None
 }

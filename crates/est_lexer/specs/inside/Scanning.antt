@@ -15,6 +15,10 @@ pub record IsBegin (text : List ℕ) (place : ℕ) : Type 0 where
   pub no_blank : is_blank (slice_index text place) ≡ false
   pub unended : 0 < opening text place → IsUnended text (place + opening text place)
 
+-- A comment that begins at a place has no end.
+abbrev pub HasNoEnd : List ℕ → ℕ → Type 0
+HasNoEnd text place = 0 < opening text place → IsUnended text (place + opening text place)
+
 -- The rows of a table that the code reads.
 abbrev pub rows : List (Bor (List ℕ) × TokenKind) → List Word
 rows table = map (λ w. (w.0.now, w.1)) table

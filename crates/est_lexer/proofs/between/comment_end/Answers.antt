@@ -1,12 +1,6 @@
-use Rattle.std.proofs.Common.{arith, ◌≡◌, true, slice_index}
-use Rattle.est_lexer.specs.Between.{is_blank, blank, nothing}
+use Rattle.std.proofs.Common.{arith}
 use Rattle.est_lexer.proofs.Marks.{opening_small, comment_between, comment_inside}
-use Rattle.est_lexer.proofs.between.piece_end.Goals as goal
-
-pub returns-then-is_blank_byte-clause-between : goal.returns-then-is_blank_byte-clause-between
-returns-then-is_blank_byte-clause-between c =
-    let b : is_blank (slice_index c.args.text.now c.args.place) ≡ true = cc in
-    blank _ _ b (nothing _)
+use Rattle.est_lexer.proofs.between.comment_end.Goals as goal
 
 pub overflow_add-place : goal.overflow_add-place
 overflow_add-place c = omega (arith, opening_small c.args.text.now c.args.place)
