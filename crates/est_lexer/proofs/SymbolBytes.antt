@@ -1,18 +1,13 @@
 use Rattle.std.proofs.Common.{◌≡◌, ℕ, List, [], ◌∷◌, get_or, Bool, true, false, refl, ap, sym, ◌∙◌}
-use Rattle.std.proofs.Common.{eqb, ◌&&◌, ◌||◌, Option, Some, None, option_map, nat_eq}
+use Rattle.std.proofs.Common.{eqb, ◌||◌, Some, None, option_map, nat_eq}
 use Rattle.std.specs.Prelude.{codes}
 use Rattle.std.specs.List.{find, list_all, list_any, starts_with}
-use Rattle.std.proofs.lemmas.Bool.{and_left, and_parts, eqb-true, ne_eqb}
+use Rattle.std.proofs.lemmas.Bool.{and_left, and_parts, both_ways, eqb-true, ne_eqb}
+use Rattle.est_lexer.specs.inside.Symbols.{begins_several, symbol_at}
 use Rattle.est_lexer.specs.Words.{Word, symbols}
-use Rattle.est_lexer.specs.declared.kind.TokenKind.{TokenKind}
 use Rattle.est_lexer.specs.declared.kind.TokenKind.TheVariants.{Symbol}
 use Rattle.est_lexer.specs.declared.kind.Symbol.TheVariants as sign
 use Rattle.est_lexer.proofs.SymbolFront.{sized}
-
--- The length and the kind of the symbol that three bytes begin with.
-abbrev pub symbol_at : ℕ → ℕ → ℕ → Option (ℕ × TokenKind)
-symbol_at a b d =
-    option_map sized (find (λ w. starts_with nat_eq (a ∷ b ∷ d ∷ []) w.0) symbols)
 
 -- The first three bytes decide.
 three_decide : (rest : List ℕ) → symbol_at (get_or rest 0 0) (get_or rest 1 0) (get_or rest 2 0)
@@ -70,44 +65,63 @@ abbrev pub IsOther : ℕ → List ℕ → Type 0
 IsOther a [] = Unit {0}
 IsOther a (x ∷ xs) = IsOther a xs × (a ≡ x → ⊥)
 
--- The spelling begins with one of these bytes.
+-- A byte that begins several symbols is one of four.
+pub several_are_four : (a : ℕ) → begins_several a ≡ true → IsOther a (codes "><:.") → ⊥
+several_are_four a several others =
+    let none : begins_several a ≡ false =
+    rw (
+      ne_eqb a 46 others.0.0.0.1,
+      ne_eqb a 58 others.0.0.1,
+      ne_eqb a 60 others.0.1,
+      ne_eqb a 62
+          others.1,
+    ) refl
+    in
+    both_ways _ none several
+
+-- The spelling begins with one of these bytes, or with one that begins several symbols.
 abbrev begins_with_one : List ℕ → List ℕ → Bool
 begins_with_one firsts [] = false
-begins_with_one firsts (x ∷ xs) = list_any (λ b. eqb b x) firsts
+begins_with_one firsts (x ∷ xs) = begins_several x || list_any (λ b. eqb b x) firsts
 
-other_step : (a b x : ℕ) (bs : List ℕ) (t : Bool) → eqb b x ≡ t → (a ≡ b → ⊥)
-    → (list_any (λ y. eqb y x) bs ≡ true → a ≡ x → ⊥) → t || list_any (λ y. eqb y x) bs ≡ true
-    → a ≡ x → ⊥
-other_step a b x bs true at here more any same = here (same ∙ sym (eqb-true b x at))
-other_step a b x bs false at here more any same = more any same
+or_step : (a x : ℕ) (t u : Bool) → (t ≡ true → a ≡ x → ⊥) → (u ≡ true → a ≡ x → ⊥)
+    → t || u ≡ true → a ≡ x → ⊥
+or_step a x true u left right any same = left refl same
+or_step a x false u left right any same = right any same
 
 other_than : (a x : ℕ) (firsts : List ℕ) → IsOther a firsts
     → list_any (λ b. eqb b x) firsts ≡ true → a ≡ x → ⊥
 other_than a x [] others any same = cc
 other_than a x (b ∷ bs) others any same =
-    other_step a b x bs (eqb b x) refl others.1 (other_than a x bs others.0) any same
+    or_step a x (eqb b x) (list_any (λ y. eqb y x) bs)
+    (λ at s. others.1 (s ∙ sym (eqb-true b x at))) (other_than a x bs others.0) any same
 
-begins_other : (a b d : ℕ) (firsts spelling : List ℕ) → IsOther a firsts
+begins_other : (a b d : ℕ) (firsts spelling : List ℕ) → begins_several a ≡ false → IsOther a firsts
     → begins_with_one firsts spelling ≡ true
     → starts_with nat_eq (a ∷ b ∷ d ∷ []) spelling ≡ false
-begins_other a b d firsts [] others one = absurd (cc)
-begins_other a b d firsts (x ∷ xs) others one =
-    and_left _ _ (ne_eqb x a (λ h. other_than a x firsts others one (sym h)))
+begins_other a b d firsts [] several others one = absurd (cc)
+begins_other a b d firsts (x ∷ xs) several others one =
+    let differs = or_step a x (begins_several x) (list_any (λ y. eqb y x) firsts)
+    (λ at s. both_ways (begins_several x) (ap begins_several (sym s) ∙ several) at)
+    (other_than a x firsts others) one in
+    and_left _ _ (ne_eqb x a (λ h. differs (sym h)))
 
-find_other : (a b d : ℕ) (firsts : List ℕ) (table : List Word) → IsOther a firsts
-    → list_all (λ w. begins_with_one firsts w.0) table ≡ true
+find_other : (a b d : ℕ) (firsts : List ℕ) (table : List Word) → begins_several a ≡ false
+    → IsOther a firsts → list_all (λ w. begins_with_one firsts w.0) table ≡ true
     → find (λ w. starts_with nat_eq (a ∷ b ∷ d ∷ []) w.0) table ≡ None
-find_other a b d firsts [] others all = refl
-find_other a b d firsts (w ∷ ws) others all =
+find_other a b d firsts [] several others all = refl
+find_other a b d firsts (w ∷ ws) several others all =
     let parts = and_parts _ _ all in
-    let other = begins_other a b d firsts w.0 others parts.0 in
-    rw other (find_other a b d firsts ws others parts.1)
+    let other = begins_other a b d firsts w.0 several others parts.0 in
+    rw other (find_other a b d firsts ws several others parts.1)
 
 -- With another byte no symbol begins.
-pub no_symbol_at : (a b d : ℕ) → IsOther a (codes "/@^?_;,][)(*-+=><:.") → None ≡ symbol_at a b d
+pub no_symbol_at : (a b d : ℕ) → begins_several a ≡ false → IsOther a (codes "/@^?_;,][)(*-+=")
+    → None ≡ symbol_at a b d
 unfolding symbols
-no_symbol_at a b d others =
-    ap (option_map sized) (sym (find_other a b d (codes "/@^?_;,][)(*-+=><:.") symbols others test))
+no_symbol_at a b d several others =
+    ap (option_map sized)
+    (sym (find_other a b d (codes "/@^?_;,][)(*-+=") symbols several others test))
   where
-    test : list_all (λ w. begins_with_one (codes "/@^?_;,][)(*-+=><:.") w.0) symbols ≡ true
+    test : list_all (λ w. begins_with_one (codes "/@^?_;,][)(*-+=") w.0) symbols ≡ true
     test = refl

@@ -92,7 +92,7 @@ fn name_end(text: &[u8], from: usize) -> usize
 fn is_name_part(byte: u8) -> bool
     ensures { result ≡ is_identifier_part byte }
 {
-    byte.is_ascii_alphabetic() || byte.is_ascii_digit() || byte == b'_'
+    byte.is_ascii_alphanumeric() || byte == b'_'
 }
 
 // The number at a place, or the bad token of 19 or more digits.

@@ -1,11 +1,12 @@
 //! The words and symbols of the profile with their spellings.
 
-ghost use Rattle.std.specs.Prelude.{◌≡◌, ◌<◌, true, length, slice_index, [], ◌∷◌};
+ghost use Rattle.std.specs.Prelude.{◌≡◌, ◌<◌, ℕ, true, false, length, slice_index};
 ghost use Rattle.std.specs.Prelude.{option_map, find, nat_eq, IsTrue};
 ghost use Rattle.std.specs.Char.{is_ascii_alphabetic};
 ghost use Rattle.std.specs.List.{starts_with};
 ghost use Rattle.std.specs.Str.{str_eq_ignore_ascii_case};
 ghost use Rattle.est_lexer.specs.inside.Scanning.{rows, groups, all_of, is_by_letter};
+ghost use Rattle.est_lexer.specs.inside.Symbols.{begins_several, symbol_at};
 ghost use Rattle.est_lexer.specs.Spellings.{name_kind};
 ghost use Rattle.est_lexer.specs.Words.{symbols};
 
@@ -179,13 +180,25 @@ pub(crate) fn symbol_before(rest: &[u8]) -> Option<(usize, TokenKind)>
     ensures { result ≡ option_map (λ w. (length w.0, w.1))
         (find (λ w. starts_with nat_eq rest.now w.0) symbols) }
 {
-    symbol_of(byte_at(rest, 0), byte_at(rest, 1), byte_at(rest, 2))
+    let first = byte_at(rest, 0);
+    if begins_several_symbols(first) {
+        longest_symbol(first, byte_at(rest, 1), byte_at(rest, 2))
+    } else {
+        single_symbol(first)
+    }
+}
+
+// Whether more than one symbol begins with this byte.
+fn begins_several_symbols(first: u8) -> bool
+    ensures { result ≡ begins_several first }
+{
+    matches!(first, b'.' | b':' | b'<' | b'>')
 }
 
 // The length and the kind of the longest symbol that these three bytes begin with.
-fn symbol_of(first: u8, second: u8, third: u8) -> Option<(usize, TokenKind)>
-    ensures { result ≡ option_map (λ w. (length w.0, w.1))
-        (find (λ w. starts_with nat_eq (first ∷ second ∷ third ∷ []) w.0) symbols) }
+fn longest_symbol(first: u8, second: u8, third: u8) -> Option<(usize, TokenKind)>
+    requires { begins_several first ≡ true }
+    ensures { result ≡ symbol_at first second third }
 {
     match (first, second, third) {
         (b'.', b'.', b'.') => Some((3, LeftOut(LeftOutToken::Ellipsis))),
@@ -198,21 +211,31 @@ fn symbol_of(first: u8, second: u8, third: u8) -> Option<(usize, TokenKind)>
         (b'<', _, _) => Some((1, TokenKind::Symbol(Symbol::Below))),
         (b'>', b'=', _) => Some((2, TokenKind::Symbol(Symbol::AtLeast))),
         (b'>', _, _) => Some((1, TokenKind::Symbol(Symbol::Above))),
-        (b'=', _, _) => Some((1, TokenKind::Symbol(Symbol::Equal))),
-        (b'+', _, _) => Some((1, TokenKind::Symbol(Symbol::Plus))),
-        (b'-', _, _) => Some((1, TokenKind::Symbol(Symbol::Minus))),
-        (b'*', _, _) => Some((1, TokenKind::Symbol(Symbol::Star))),
-        (b'(', _, _) => Some((1, TokenKind::Symbol(Symbol::LeftParenthesis))),
-        (b')', _, _) => Some((1, TokenKind::Symbol(Symbol::RightParenthesis))),
-        (b'[', _, _) => Some((1, TokenKind::Symbol(Symbol::LeftBracket))),
-        (b']', _, _) => Some((1, TokenKind::Symbol(Symbol::RightBracket))),
-        (b',', _, _) => Some((1, TokenKind::Symbol(Symbol::Comma))),
-        (b';', _, _) => Some((1, TokenKind::Symbol(Symbol::Semicolon))),
-        (b'_', _, _) => Some((1, TokenKind::Symbol(Symbol::Underscore))),
-        (b'?', _, _) => Some((1, TokenKind::Symbol(Symbol::QuestionMark))),
-        (b'^', _, _) => Some((1, LeftOut(LeftOutToken::Caret))),
-        (b'@', _, _) => Some((1, LeftOut(LeftOutToken::At))),
-        (b'/', _, _) => Some((1, LeftOut(LeftOutToken::Slash))),
+        _ => None,
+    }
+}
+
+// The length and the kind of the symbol that alone begins with this byte.
+fn single_symbol(first: u8) -> Option<(usize, TokenKind)>
+    requires { begins_several first ≡ false }
+    ensures { (second third : ℕ) → result ≡ symbol_at first second third }
+{
+    match first {
+        b'=' => Some((1, TokenKind::Symbol(Symbol::Equal))),
+        b'+' => Some((1, TokenKind::Symbol(Symbol::Plus))),
+        b'-' => Some((1, TokenKind::Symbol(Symbol::Minus))),
+        b'*' => Some((1, TokenKind::Symbol(Symbol::Star))),
+        b'(' => Some((1, TokenKind::Symbol(Symbol::LeftParenthesis))),
+        b')' => Some((1, TokenKind::Symbol(Symbol::RightParenthesis))),
+        b'[' => Some((1, TokenKind::Symbol(Symbol::LeftBracket))),
+        b']' => Some((1, TokenKind::Symbol(Symbol::RightBracket))),
+        b',' => Some((1, TokenKind::Symbol(Symbol::Comma))),
+        b';' => Some((1, TokenKind::Symbol(Symbol::Semicolon))),
+        b'_' => Some((1, TokenKind::Symbol(Symbol::Underscore))),
+        b'?' => Some((1, TokenKind::Symbol(Symbol::QuestionMark))),
+        b'^' => Some((1, LeftOut(LeftOutToken::Caret))),
+        b'@' => Some((1, LeftOut(LeftOutToken::At))),
+        b'/' => Some((1, LeftOut(LeftOutToken::Slash))),
         _ => None,
     }
 }
