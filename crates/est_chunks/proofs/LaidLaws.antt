@@ -288,3 +288,26 @@ count_drop n xss ys k f e h =
       length-drop k xss,
       h,
     )
+
+-- where no chunk is full, the items of the last are all
+pub none_full : {T : Type 0} (xss : List (List T)) (ys : List T) → length xss ≡ 0
+    → laid xss ys ≡ ys
+none_full [] ys h = refl
+none_full (x ∷ xss) ys h = absurd (omega (arith, h))
+
+-- some of them are counted
+pub last_there : {T : Type 0} (n : ℕ) (xss : List (List T)) (ys : List T) (k : ℕ)
+    → n ≡ length (laid xss ys) → length xss ≡ 0 → k ≤ length ys → k ≤ n
+last_there n xss ys k e none h = omega (arith, e, ap length (none_full xss ys none), h)
+
+-- some of them go
+pub last_drop : {T : Type 0} (xss : List (List T)) (ys : List T) (k : ℕ) → length xss ≡ 0
+    → laid xss (drop k ys) ≡ drop k (laid xss ys)
+last_drop xss ys k none =
+    none_full xss (drop k ys) none ∙ ap (drop k) (sym (none_full xss ys none))
+
+-- and the others are so many without them
+pub count_last_drop : {T : Type 0} (n : ℕ) (xss : List (List T)) (ys : List T) (k : ℕ)
+    → n ≡ length (laid xss ys) → length xss ≡ 0 → n - k ≡ length (laid xss (drop k ys))
+count_last_drop n xss ys k e none =
+    ap (λ m. m - k) e ∙ sym (length-drop k (laid xss ys)) ∙ ap length (sym (last_drop xss ys k none))

@@ -51,6 +51,23 @@ fn chunks_from<T: Drop>(
     Shared::new(alloc, Items { items })
 }
 
+// The items of a chunk after so many, copied into one of their own.
+fn chunk_from<T: Twin + Drop>(
+    chunk: &Items<T>,
+    alloc: Global,
+    count: usize,
+) -> Result<Shared<Items<T>>, AllocError>
+    requires { count ≤ length chunk.now }
+    ensures { IfOk result (λ rest. rest ≡ drop count chunk.now) }
+{
+    let rest = &chunk.as_slice()[count..];
+    let mut items = Vec::with_capacity(alloc, rest.len())?;
+    for item in rest {
+        items.push(item.twin(alloc)?)?;
+    }
+    Shared::new(alloc, Items { items })
+}
+
 // A chunk of one item.
 fn alone<T: Drop>(alloc: Global, item: T) -> Result<Shared<Items<T>>, AllocError>
     ensures { IfOk result (λ chunk. chunk ≡ item ∷ []) }
@@ -156,7 +173,8 @@ impl<T: Twin + Drop> Chunks<T> {
     }
 
     /// Lets go of the full chunks that lie before a place, where they are as many as the other full
-    /// ones or more. Answers how many items went. Errs where memory runs out.
+    /// ones or more; and where no chunk is full, of the items before the place, where they are as
+    /// many as the others or more. Answers how many items went. Errs where memory runs out.
     pub fn cut(&mut self, alloc: Global, before: usize) -> Result<usize, AllocError>
         ensures before { IfOk result (λ count. count ≤ before) }
         ensures there { IfOk result (λ count. count ≤ length self.old) }
@@ -164,6 +182,15 @@ impl<T: Twin + Drop> Chunks<T> {
         ensures err { OnErr result (self.new ≡ self.old) }
     {
         let full = self.full.get();
+        if full.len() == 0 {
+            let last = self.last.get();
+            if last.len() < before || before < last.len() - before || before == 0 {
+                return Ok(0);
+            }
+            self.last = chunk_from(last, alloc, before)?;
+            self.count -= before;
+            return Ok(before);
+        }
         let count = before / WIDTH;
         if full.len() < count || count < full.len() - count || count == 0 {
             return Ok(0);
