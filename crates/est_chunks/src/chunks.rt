@@ -10,6 +10,9 @@ use std::mem;
 // So many items make a full chunk.
 const WIDTH: usize = 128;
 
+// So many items at most are copied to let go of those before them.
+const FEW: usize = 32;
+
 /// A list in chunks, which several lists can share: a copy costs two counts, and a write copies at
 /// most one chunk and the list of those that are full. The last chunk may be of any length. A type
 /// may hold itself through it.
@@ -173,8 +176,8 @@ impl<T: Twin + Drop> Chunks<T> {
     }
 
     /// Lets go of the full chunks that lie before a place, where they are as many as the other full
-    /// ones or more; and where no chunk is full, of the items before the place, where they are as
-    /// many as the others or more. Answers how many items went. Errs where memory runs out.
+    /// ones or more; and where no chunk is full, of the items before the place, where the others
+    /// are few and no more than they. Answers how many items went. Errs where memory runs out.
     pub fn cut(&mut self, alloc: Global, before: usize) -> Result<usize, AllocError>
         ensures before { IfOk result (λ count. count ≤ before) }
         ensures there { IfOk result (λ count. count ≤ length self.old) }
@@ -184,7 +187,11 @@ impl<T: Twin + Drop> Chunks<T> {
         let full = self.full.get();
         if full.len() == 0 {
             let last = self.last.get();
-            if last.len() < before || before < last.len() - before || before == 0 {
+            if before == 0 || last.len() < before {
+                return Ok(0);
+            }
+            let others = last.len() - before;
+            if before < others || FEW < others {
                 return Ok(0);
             }
             self.last = chunk_from(last, alloc, before)?;
