@@ -310,4 +310,5 @@ last_drop xss ys k none =
 pub count_last_drop : {T : Type 0} (n : ℕ) (xss : List (List T)) (ys : List T) (k : ℕ)
     → n ≡ length (laid xss ys) → length xss ≡ 0 → n - k ≡ length (laid xss (drop k ys))
 count_last_drop n xss ys k e none =
-    ap (λ m. m - k) e ∙ sym (length-drop k (laid xss ys)) ∙ ap length (sym (last_drop xss ys k none))
+    ap (λ m. m - k) e ∙ sym (length-drop k (laid xss ys))
+    ∙ ap length (sym (last_drop xss ys k none))
