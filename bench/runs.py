@@ -3,8 +3,9 @@
 
 Each row of the first is the least processor time of some runs of one command, at a size and at twice that
 size; the last column is the one time over the other, near 2 where the work is linear. The second table
-has a row for each of the six protocols of examples/: a search along a trace of some 10,000 events, which
-repeats what the protocol does. The program is the one of these sources.
+is of searches: first along traces that are made as well, and then a row for each of the six protocols of
+examples/, along a trace of some 10,000 events, which repeats what the protocol does. The program is the one of
+these sources.
 """
 
 import os
@@ -21,8 +22,8 @@ MOST_STATEMENTS = "1000000"
 HEAD = """specification Measured;
 default individual queue;
 channel C(A, B); by A: Go; Ask(n: integer); by B: Num(n: integer);
-module M systemactivity; ip P: C(B); end;
-module K activity; ip Q: C(B); end;
+module M systemactivity; ip P, R: C(B); end;
+module K activity; ip Q, R: C(B); end;
 """
 TAIL = """
 modvar X: M;
@@ -108,6 +109,91 @@ body MB for M;
 end;""")
 
 
+def answered_later(size, body, firing="fire 1 1 1"):
+    """So many arrivals, and then as many firings that each tell one of them."""
+    events = [f"in p.ask({n})" for n in range(size)] + [f"out p.num({n})" for n in range(size)]
+    return texts(body, events, ["take"] * size + [firing] * size)
+
+
+def among(children, size):
+    """The last of so many children is begun and released by each firing, while items wait at the first."""
+    rows = children // 250
+    names = ", ".join(f"V{n}" for n in range(1, rows + 1))
+    begun = "; ".join(f"init V{n}[i] with KB" for n in range(1, rows + 1))
+    events = [f"in p.ask({n})" for n in range(size)] + ["out r.num(0)"] * size
+    return texts(f"""body KB for K; end;
+body MB for M;
+  var i: integer;
+  modvar {names}: array [1..250] of K;
+  initialize begin for i := 1 to 250 do begin {begun} end; attach P to V1[1].Q end;
+  trans begin release V{rows}[250]; init V{rows}[250] with KB; output R.Num(0) end;
+end;""", events, ["take"] * size + ["fire 1 1 1"] * size)
+
+
+def last_of_many(size):
+    return among(10_000, size)
+
+
+def instances(size):
+    """250 firings that each begin and release the last of so many children."""
+    return among(size, 250)
+
+
+def levels(depth, size):
+    """Arrivals that go down so many attachments, and wait; each is answered up along the same ones."""
+    inner = "  trans when Q.Ask begin output Q.Num(n) end;\n"
+    for level in range(depth, 0, -1):
+        own = "P" if level == 1 else "Q"
+        inner = f"""body B{level} for K;
+{inner}end;
+modvar V: K;
+initialize begin init V with B{level}; attach {own} to V.Q end;
+"""
+    return answered_later(size, f"body MB for M;\n{inner}end;", f"fire {depth + 1} 1 1")
+
+
+def deep(size):
+    return levels(30, size)
+
+
+def sent_within(size, turn):
+    """One firing sends so many items to a child, which takes them one by one."""
+    body = f"""body KB for K;
+{turn}end;
+body MB for M;
+  state Begun, Sent;
+  var i: integer;
+  ip J: C(A);
+  modvar V: K;
+  initialize to Begun begin init V with KB; connect J to V.Q; attach P to V.R end;
+  trans from Begun to Sent begin for i := 1 to {size} do output J.Ask(i) end;
+end;"""
+    return texts(body, [f"out p.num({n})" for n in range(1, size + 1)], ["fire 1 1 1"] + ["fire 2 1 1"] * size)
+
+
+def taken(size):
+    return sent_within(size, "  trans when Q.Ask begin output R.Num(n) end;\n")
+
+
+def tried(size):
+    """The same for a search, which tries a wrong answer to each item before the right one."""
+    return sent_within(size, """  trans when Q.Ask begin output R.Num(0) end;
+    when Q.Ask begin output R.Num(n) end;
+""")
+
+
+def moved(size):
+    """So many items go to a child and back, twenty times."""
+    body = f"""body KB for K; end;
+body MB for M;
+  var i: integer;
+  modvar V: K;
+  initialize begin init V with KB end;
+  trans begin for i := 1 to 20 do begin attach P to V.Q; detach P end; output R.Num(0) end;
+end;"""
+    return texts(body, [f"in p.ask({n})" for n in range(size)] + ["out r.num(0)"], ["take"] * size + ["fire 1 1 1"])
+
+
 def records(size):
     """A trace of so many arrivals with record values, which is read; nothing is replayed."""
     specification = """specification Measured;
@@ -152,8 +238,17 @@ ROWS = [
     ("arrivals that wait in a queue, and are taken", queue, 25_000),
     ("time that passes, each with a firing of one of 101 delays", delays, 5_000),
     ("children that are begun and released", children, 25_000),
+    ("the last of 10,000 children released and begun again, with as many items waiting", last_of_many, 1_000),
+    ("the last of so many children released and begun again, 250 times", instances, 5_000),
+    ("arrivals that go down 30 attachments and wait, each answered up along them", deep, 25_000),
+    ("items that one firing sends, each with a firing that takes it", taken, 100_000),
+    ("items that wait, attached and detached 20 times", moved, 99_000),
     ("arrivals with record values, read", records, 60_000),
     ("arrivals at 60,000 ports with 10,000 signals, read", elements, 75_000),
+]
+
+SEARCHES = [
+    ("items that one firing sends, each tried with a wrong answer first", tried, 100_000),
 ]
 
 
@@ -208,6 +303,17 @@ def replayed(folder, made):
     return taken, most
 
 
+def searched(folder, made):
+    specification, trace, _ = made
+    (folder / "a.est").write_text(specification)
+    (folder / "a.trace").write_text(trace)
+    command = ["explain", "a.est", "a.trace", "8", "4000000", MOST_STATEMENTS]
+    taken, most, told = measured(command, folder)
+    if "accepted" not in told[:40]:
+        sys.exit(told[:100])
+    return taken, most
+
+
 def main():
     with tempfile.TemporaryDirectory() as name:
         folder = pathlib.Path(name)
@@ -221,6 +327,11 @@ def main():
         print()
         print("| Search | Events | Seconds | Microseconds each | MiB | Over half the events |")
         print("|---|---|---|---|---|---|")
+        for what, made, size in SEARCHES:
+            half, _ = searched(folder, made(size))
+            whole, most = searched(folder, made(2 * size))
+            print(f"| {what} | {2 * size:,} | {whole:.3f} | {whole / (2 * size) * 1e6:.2f} | {most:.0f} |"
+                  f" {whole / max(half, 0.001):.1f} |", flush=True)
         for protocol, lines in PROTOCOLS.items():
             before = None
             for turns in (5_000 // len(lines), 10_000 // len(lines)):
