@@ -1,0 +1,2 @@
+pub mod CountedItems
+pub mod CountedSteps

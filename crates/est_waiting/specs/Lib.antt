@@ -1,0 +1,2 @@
+pub mod ItemCounts
+pub mod StepItems
