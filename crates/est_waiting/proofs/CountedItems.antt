@@ -20,15 +20,13 @@ use Rattle.est_semantics.specs.InstancePoints.{external_of}
 use Rattle.est_semantics.specs.Attachments.{above, up, bottom}
 use Rattle.est_semantics.specs.QueueEffects.{queue_of, appended, belongs, passed_to, emptied, moved}
 use Rattle.est_semantics.specs.OutputEffects.{Sent, crossed, delivered_at, is_outside}
-use Rattle.est_semantics.specs.LinkEffects.{detached_end, each}
 use Rattle.est_semantics.specs.LinkEffects.{is_taken, parted, loosened, detached, detached_from}
-use Rattle.est_semantics.specs.LinkEffects.{detached_above}
+use Rattle.est_semantics.specs.LinkEffects.{detached_above, detached_end, each}
 use Rattle.est_semantics.specs.InstanceEffects.{most_instances, variables_of, with_next, holds}
-use Rattle.est_semantics.specs.InstanceEffects.{is_among, descendants, owner, untied}
-use Rattle.est_semantics.specs.KeepingLaws.{OnChange}
-use Rattle.est_semantics.specs.InstanceEffects.{in_state, without}
+use Rattle.est_semantics.specs.InstanceEffects.{in_state, is_among, descendants, owner, untied}
+use Rattle.est_semantics.specs.InstanceEffects.{without}
 use Rattle.est_semantics.specs.WriteEffects.{with_variables}
-use Rattle.est_semantics.specs.KeepingLaws.{Keeps}
+use Rattle.est_semantics.specs.KeepingLaws.{OnChange, Keeps}
 use Rattle.est_semantics.proofs.KeptByBlocks.{blocks_keep}
 use Rattle.est_semantics.proofs.MutualPeers.{point_same, point_self, eq_self}
 use Rattle.est_waiting.specs.ItemCounts.{Queues, is_one_of, AreDistinct, number_in, IsNumberOf}

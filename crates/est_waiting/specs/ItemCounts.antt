@@ -37,7 +37,8 @@ AreDistinct (q ∷ qs) = (is_one_of qs q ≡ false) × AreDistinct qs
 abbrev pub number_in : List QueueName → Queues → ℕ
 number_in qs queues = sum_by (λ q. length (queues q)) qs
 
--- so many items wait in all queues: in some, of which none stands twice, as all others are empty
+-- so many items wait in all queues together: in these, none of which stands twice, as all others
+-- are empty
 pub record IsNumberOf (queues : Queues) (n : ℕ) : Type 0 where
   pub names : List QueueName
   pub once : AreDistinct names
@@ -71,7 +72,7 @@ HasOneMore s u = (n : ℕ) → HasItems s n → HasItems u (n + 1)
 abbrev pub HasOneLess : Situation → Situation → Type 0
 HasOneLess s u = (n : ℕ) → HasItems s n → (m : ℕ) × HasItems u m × (m + 1 ≡ n)
 
--- An arrival puts one item into a queue.
+-- an arrival puts one item into a queue
 abbrev pub ArrivalsPutOne : Type 0
 ArrivalsPutOne = (t : Text) (p : InteractionPoint) (i : Item) (s : Situation)
     → HasOneMore s (arrived t p i s)
