@@ -1,100 +1,139 @@
 -- Items are counted from step to step.
-use Rattle.std.proofs.Common.{◌≡◌, refl, ap, ◌∙◌, arith, ℕ, ◌+◌, ◌≤◌, Bool, true, false}
-use Rattle.std.proofs.Common.{List, [], ◌∷◌, Option, Some, None}
-use Rattle.std.specs.Prelude.{if◌then◌else◌, drop, slice_get}
-use Rattle.std.specs.Option.{option_map_or}
-use Rattle.est_semantics.specs.declared.situation.InteractionPoint.{InteractionPoint}
+use Rattle.std.proofs.Common.{◌≡◌, refl, sym, ap, subst, ◌∙◌, arith, ℕ, ◌+◌, Bool, true}
+use Rattle.std.proofs.Common.{false, List, [], ◌∷◌, ◌++◌, Option, Some, None}
+use Rattle.std.specs.Prelude.{if◌then◌else◌, find, slice_get, option_and_then, option_to_list}
+use Rattle.std.specs.Option.{option_map, option_map_or}
+use Rattle.est_syntax.specs.declared.body.Block.{out-Block}
+use Rattle.est_semantics.specs.declared.fault.BlockFault.TheVariants.{Undefined}
 use Rattle.est_semantics.specs.declared.situation.Item.{Item}
-use Rattle.est_semantics.specs.Outcome.{Done}
+use Rattle.est_semantics.specs.Outcome.{Outcome, Done, Fault, Limit}
 use Rattle.est_semantics.specs.TextByPlace.{Text}
-use Rattle.est_semantics.specs.GlobalSituation.{Situation, QueueName, is_queue}
-use Rattle.est_semantics.specs.QueueEffects.{queue_of, head_at, without_head}
-use Rattle.est_semantics.specs.OutputEffects.{arrived}
+use Rattle.est_semantics.specs.GlobalSituation.{Frame, Situation, QueueName}
+use Rattle.est_semantics.specs.WorkingState.{View}
+use Rattle.est_semantics.specs.QueueEffects.{queue_of, without_head}
+use Rattle.est_semantics.specs.OutputEffects.{Sent, arrived}
 use Rattle.est_semantics.specs.StartMeaning.{no_instances}
+use Rattle.est_semantics.proofs.OrderlyStarts.{OnSent, block_kept}
 use Rattle.est_choices.specs.declared.event.Event.{Event}
 use Rattle.est_choices.specs.declared.event.Event.TheVariants as event
 use Rattle.est_choices.specs.declared.firing.Firing.{Firing}
+use Rattle.est_choices.specs.ClauseContexts.{Awaited, when_of}
+use Rattle.est_choices.specs.TransitionChoices.{Choice, choice_of}
+use Rattle.est_choices.specs.GuardParts.{seen_by, is_from, awaited_point, came_through}
+use Rattle.est_choices.specs.GuardParts.{arrived_through, awaited_item, parameters_of, frames_of}
+use Rattle.est_choices.specs.GuardParts.{view_of}
 use Rattle.est_choices.specs.DelayStamps.{restamped}
 use Rattle.est_choices.specs.OutsideEvents.{arrival, after_event, later}
-use Rattle.est_choices.specs.FiringSteps.{taking_point, without_awaited, completed, outcome}
-use Rattle.est_choices.proofs.Steps.{firing_leads, start_leads}
+use Rattle.est_choices.specs.FiringSteps.{without_awaited, block_frame, performed_in, completed}
+use Rattle.est_choices.specs.FiringSteps.{finished, fired_in, fired_by, outcome}
+use Rattle.est_choices.proofs.Options.{then_some, map_some, by_option}
+use Rattle.est_choices.proofs.Steps.{OnNext, start_leads}
 use Rattle.est_waiting.specs.ItemCounts.{HasItems, Becomes, rests, puts, takes, after, TakesNone}
-use Rattle.est_waiting.specs.StepItems.{EventsPutOneAtMost, FiringsTakeOneAtMost, IsCounted}
-use Rattle.est_waiting.specs.StepItems.{StartsAreCounted, CountsGoOn}
-use Rattle.est_waiting.proofs.CountedItems.{queue_same, none_waits, changes_add_up}
-use Rattle.est_waiting.proofs.CountedItems.{blocks_take_none}
+use Rattle.est_waiting.specs.StepItems.{put_by, taken_in, taken_by, EventsPutWhatArrives}
+use Rattle.est_waiting.specs.StepItems.{IsCounted}
+use Rattle.est_waiting.specs.StepItems.{FiringsTakeWhatTheyAwait, StartsAreCounted, CountsGoOn}
+use Rattle.est_waiting.proofs.CountedItems.{none_waits, changes_add_up, blocks_take_none}
 
 -- EVENTS
 
-arrived_one : (t : Text) (s : Situation) (o : Option Item) → (put : ℕ) × (put ≤ 1)
-    × Becomes put 0 0 s (option_map_or (λ (x : Item). arrived t x.at x s) o s)
-arrived_one t s None = (0, omega arith, rests s s (λ q. refl))
-arrived_one t s (Some x) = (1, omega arith, puts t x.at x s)
+arrived_puts : (t : Text) (s : Situation) (o : Option Item)
+    → Becomes (option_map_or (λ (x : Item). 1) o 0) 0 0 s
+    (option_map_or (λ (x : Item). arrived t x.at x s) o s)
+arrived_puts t s None = rests s s (λ q. refl)
+arrived_puts t s (Some x) = puts t x.at x s
 
-pub events_put_one : EventsPutOneAtMost
+pub events_put : EventsPutWhatArrives
 unfolding after_event
-events_put_one t s (event.Arrives i) = arrived_one t s (arrival t i)
-events_put_one t s (event.Leaves i) = (0, omega arith, rests s s (λ q. refl))
-events_put_one t s (event.Passes units) =
-    (0, omega arith, rests s (later s units) (λ q. refl))
+events_put t s (event.Arrives i) = arrived_puts t s (arrival t i)
+events_put t s (event.Leaves i) = rests s s (λ q. refl)
+events_put t s (event.Passes units) = rests s (later s units) (λ q. refl)
 
 -- FIRINGS
 
--- nothing is taken of an empty queue
-empty_head : (items : List Item) → slice_get items 0 ≡ None → drop 1 items ≡ items
-empty_head [] e = refl
-empty_head (x ∷ items) e = absurd (cc)
+-- what is found at the head of a queue is its head
+found_head : (test : Item → Bool) (items : List Item) (i : Item)
+    → find test (option_to_list (slice_get items 0)) ≡ Some i
+    → (x : Item) × (slice_get items 0 ≡ Some x)
+found_head test [] i e = absurd (cc)
+found_head test (x ∷ items) i e = (x, refl)
 
-untaken : (t : Text) (p : InteractionPoint) (s : Situation) → head_at t p s ≡ None
-    → (q : QueueName) → (without_head t p s).queues q ≡ s.queues q
-untaken t p s e q = one (is_queue (queue_of t p) q) refl
-  where
-    one : (b : Bool) → is_queue (queue_of t p) q ≡ b
-        → (if b then drop 1 (s.queues (queue_of t p)) else s.queues q) ≡ s.queues q
-    one true g = empty_head (s.queues (queue_of t p)) e ∙ ap s.queues (queue_same _ q g)
-    one false g = refl
+module _ (limit : ℕ) (t : Text) (s : Situation) (c : Choice) where
+  -- what is awaited is there, and is taken
+  awaited_taken : (o : Option Awaited) (frames : List Frame)
+      → frames_of limit t s c o ≡ Some frames
+      → Becomes 0 (option_map_or (λ (w : Awaited). 1) o 0) 0 s
+      (option_map_or (λ p. without_head t p s) (option_and_then (awaited_point limit t s c) o) s)
+  awaited_taken None frames e = rests s s (λ q. refl)
+  awaited_taken (Some w) frames e =
+      let a = map_some (λ i. c.chosen ∷ parameters_of t.outline i ∷ [])
+      (awaited_item limit t s c w) frames e in
+      let b = then_some (arrived_through t s w.signal) (awaited_point limit t s c w) a.0 a.1 in
+      let h = found_head (came_through t.outline w.signal b.0) (s.queues (queue_of t b.0)) a.0
+      b.2 in
+      subst (λ o. Becomes 0 1 0 s (option_map_or (λ p. without_head t p s) o s)) (sym b.1)
+      (takes t b.0 h.0 s h.1)
 
-abbrev TakesOne : Situation → Situation → Type 0
-TakesOne s u = (taken : ℕ) × (taken ≤ 1) × Becomes 0 taken 0 s u
+  frames_seen : (b : Bool) (o : Option (List Frame)) (v : View)
+      → (if b then option_map (seen_by t s c) o else None) ≡ Some v
+      → (frames : List Frame) × (o ≡ Some frames)
+  frames_seen false o v e = absurd (cc)
+  frames_seen true None v e = absurd (cc)
+  frames_seen true (Some frames) v e = (frames, refl)
 
-head_taken : (t : Text) (p : InteractionPoint) (s : Situation) (o : Option Item)
-    → head_at t p s ≡ o → TakesOne s (without_head t p s)
-head_taken t p s None e = (0, omega arith, rests s (without_head t p s) (untaken t p s e))
-head_taken t p s (Some i) e = (1, omega arith, takes t p i s e)
+  seen_taken : (v : View) → view_of limit t s c ≡ Some v
+      → Becomes 0 (taken_in c) 0 s (without_awaited limit t s c)
+  seen_taken v e =
+      let a = frames_seen (is_from t c) (frames_of limit t s c (when_of c.transition)) v e in
+      awaited_taken (when_of c.transition) a.0 a.1
 
-point_taken : (t : Text) (o : Option InteractionPoint) (s : Situation)
-    → TakesOne s (option_map_or (λ p. without_head t p s) o s)
-point_taken t None s = (0, omega arith, rests s s (λ q. refl))
-point_taken t (Some p) s = head_taken t p s (head_at t p s) refl
+-- a firing leads from one situation to another, and takes so many items
+abbrev FiresTo : ℕ → Situation → Situation → Type 0
+FiresTo k s u = (n : ℕ) → HasItems s n → (put : ℕ) × (gone : ℕ) × Becomes put k gone s u
 
-abbrev FiresTo : Situation → Situation → Type 0
-FiresTo s u = (n : ℕ) → HasItems s n
-    → (put : ℕ) × (taken : ℕ) × (gone : ℕ) × (taken ≤ 1) × Becomes put taken gone s u
-
--- one is taken at most, and then the block puts
-block_fires : (s v u w : Situation) → TakesOne s v → TakesNone v u
-    → ((q : QueueName) → w.queues q ≡ u.queues q) → FiresTo s w
-block_fires s v u w one block e n h =
-    let m = changes_add_up 0 one.0 0 s v n one.2 h in
+-- some are taken, and then the block puts
+block_fires : (k : ℕ) (s v u w : Situation) → Becomes 0 k 0 s v → TakesNone v u
+    → ((q : QueueName) → w.queues q ≡ u.queues q) → FiresTo k s w
+block_fires k s v u w one block e n h =
+    let m = changes_add_up 0 k 0 s v n one h in
     let x = block m.0 m.1 in
-    let l = one.1 in (
+    let l : k + 0 + 0 ≡ k = omega arith in (
       0 + x.0 + 0,
-      one.0 + 0 + 0,
       0 + x.1 + 0,
-      omega (arith, l),
-      after (0 + x.0) (one.0 + 0) (0 + x.1) 0 0 0 s u w
-          (after 0 one.0 0 x.0 0 x.1 s v u one.2 x.2) (rests u w e),
+      subst (λ z. Becomes (0 + x.0 + 0) z (0 + x.1 + 0) s w) l
+          (after (0 + x.0) (k + 0) (0 + x.1) 0 0 0 s u w
+          (after 0 k 0 x.0 0 x.1 s v u one x.2) (rests u w e)),
     )
 
-firing_fires : (limit : ℕ) (t : Text) (s next : Situation) (f : Firing) (outs : List Event)
-    → outcome limit t s f ≡ Done outs next → FiresTo s next
-firing_fires limit t s next f outs e =
-    firing_leads TakesNone (FiresTo s) blocks_take_none limit t s next f outs
-    (λ c _ u g. block_fires s (without_awaited limit t s c) u (completed limit t f c u)
-    (point_taken t (taking_point limit t s c) s) g (λ q. refl)) e
+finished_next : (t : Text) (finish : Situation → Situation) (P Q : Situation → Type 0)
+    (o : Outcome Sent (Unit {0})) → ((u : Situation) → Q u → P (finish u)) → OnSent Q o
+    → OnNext P (finished t finish o)
+finished_next t finish P Q (Done a x) h k = h x.situation k
+finished_next t finish P Q (Fault f) h k = tt
+finished_next t finish P Q Limit h k = tt
 
-pub firings_take_one : FiringsTakeOneAtMost
-firings_take_one limit t s next f outs n e h = firing_fires limit t s next f outs e n h
+firing_next : (limit : ℕ) (t : Text) (s : Situation) (f : Firing)
+    → OnNext (FiresTo (taken_by t s f) s) (outcome limit t s f)
+unfolding outcome
+firing_next limit t s f = let P = FiresTo (taken_by t s f) s in
+    by_option (OnNext P) (fired_by limit t s f) (choice_of t s f) (Fault Undefined)
+    (λ c g. by_option (OnNext P) (fired_in limit t s f c) (view_of limit t s c) (Fault Undefined)
+    (λ v e. let x = without_awaited limit t s c in
+    finished_next t (completed limit t f c) P (TakesNone x) (performed_in limit t s c v)
+    (λ u k. subst (λ m. FiresTo m s (completed limit t f c u))
+    (sym (ap (λ o. option_map_or taken_in o 0) g))
+    (block_fires (taken_in c) s x u (completed limit t f c u) (seen_taken limit t s c v e) k
+    (λ q. refl)))
+    (block_kept TakesNone blocks_take_none t c.row.number
+    (v.frames ++ block_frame t.outline c.transition ∷ [])
+    (out-Block c.transition.block).statements limit x)) tt) tt
+
+firing_fires : (limit : ℕ) (t : Text) (s next : Situation) (f : Firing) (outs : List Event)
+    → outcome limit t s f ≡ Done outs next → FiresTo (taken_by t s f) s next
+firing_fires limit t s next f outs e =
+    subst (OnNext (FiresTo (taken_by t s f) s)) e (firing_next limit t s f)
+
+pub firings_take : FiringsTakeWhatTheyAwait
+firings_take limit t s next f outs n e h = firing_fires limit t s next f outs e n h
 
 -- STARTS AND STEPS
 
@@ -140,12 +179,12 @@ starts_counted limit t s outs e =
 event_counted : (t : Text) (s : Situation) (e : Event) → IsCounted s
     → IsCounted (after_event t s e)
 event_counted t s e h = counted_after s (after_event t s e) h
-    (λ n g. let x = events_put_one t s e in (x.0, 0, 0, x.2))
+    (λ n g. (put_by t e, 0, 0, events_put t s e))
 
 firing_counted : (limit : ℕ) (t : Text) (s next : Situation) (f : Firing) (outs : List Event)
     → outcome limit t s f ≡ Done outs next → IsCounted s → IsCounted next
 firing_counted limit t s next f outs e h = counted_after s next h
-    (λ n g. let x = firing_fires limit t s next f outs e n g in (x.0, x.1, x.2, x.4))
+    (λ n g. let x = firing_fires limit t s next f outs e n g in (x.0, taken_by t s f, x.1, x.2))
 
 pub counts_go_on : CountsGoOn
 counts_go_on = record { event = event_counted; firing = firing_counted }

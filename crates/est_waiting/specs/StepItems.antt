@@ -1,25 +1,44 @@
 -- How many items events and firings put and take, and what becomes of their number.
-use Rattle.std.specs.Prelude.{◌≡◌, ℕ, ◌+◌, ◌≤◌, List}
+use Rattle.std.specs.Prelude.{◌≡◌, ℕ, ◌+◌, List}
+use Rattle.std.specs.Option.{option_map_or}
+use Rattle.est_semantics.specs.declared.situation.Item.{Item}
 use Rattle.est_semantics.specs.Outcome.{Done}
 use Rattle.est_semantics.specs.TextByPlace.{Text}
 use Rattle.est_semantics.specs.GlobalSituation.{Situation}
 use Rattle.est_semantics.specs.StartMeaning.{no_instances}
 use Rattle.est_choices.specs.declared.event.Event.{Event}
+use Rattle.est_choices.specs.declared.event.Event.TheVariants as event
 use Rattle.est_choices.specs.declared.firing.Firing.{Firing}
-use Rattle.est_choices.specs.OutsideEvents.{after_event}
+use Rattle.est_choices.specs.ClauseContexts.{Awaited, when_of}
+use Rattle.est_choices.specs.TransitionChoices.{Choice, choice_of}
+use Rattle.est_choices.specs.OutsideEvents.{arrival, after_event}
 use Rattle.est_choices.specs.FiringSteps.{outcome, start_of}
 use Rattle.est_waiting.specs.ItemCounts.{HasItems, Becomes}
 
--- an event puts one item at most, and does nothing else with items
-abbrev pub EventsPutOneAtMost : Type 0
-EventsPutOneAtMost = (t : Text) (s : Situation) (e : Event)
-    → (put : ℕ) × (put ≤ 1) × Becomes put 0 0 s (after_event t s e)
+-- how many items an event puts: one where an item of the specification arrives
+abbrev pub put_by : Text → Event → ℕ
+put_by t (event.Arrives i) = option_map_or (λ (x : Item). 1) (arrival t i) 0
+put_by t (event.Leaves i) = 0
+put_by t (event.Passes units) = 0
 
--- a firing takes one item at most
-abbrev pub FiringsTakeOneAtMost : Type 0
-FiringsTakeOneAtMost = (limit : ℕ) (t : Text) (s next : Situation) (f : Firing)
+-- an event puts what arrives, and does nothing else with items
+abbrev pub EventsPutWhatArrives : Type 0
+EventsPutWhatArrives = (t : Text) (s : Situation) (e : Event)
+    → Becomes (put_by t e) 0 0 s (after_event t s e)
+
+-- how many items a choice takes: one where it awaits an interaction
+abbrev pub taken_in : Choice → ℕ
+taken_in c = option_map_or (λ (w : Awaited). 1) (when_of c.transition) 0
+
+-- how many a firing takes
+abbrev pub taken_by : Text → Situation → Firing → ℕ
+taken_by t s f = option_map_or taken_in (choice_of t s f) 0
+
+-- a firing takes one item where it awaits an interaction, and else none
+abbrev pub FiringsTakeWhatTheyAwait : Type 0
+FiringsTakeWhatTheyAwait = (limit : ℕ) (t : Text) (s next : Situation) (f : Firing)
     (outs : List Event) (n : ℕ) → outcome limit t s f ≡ Done outs next → HasItems s n
-    → (put : ℕ) × (taken : ℕ) × (gone : ℕ) × (taken ≤ 1) × Becomes put taken gone s next
+    → (put : ℕ) × (gone : ℕ) × Becomes put (taken_by t s f) gone s next
 
 -- The number of items is that of those which were put, less those which were taken and those which
 -- went with their instances.

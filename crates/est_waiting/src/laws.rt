@@ -4,8 +4,8 @@ ghost use Rattle.est_waiting.specs.ItemCounts.{ArrivalsPutOne, OutputsPutOneOrNo
 ghost use Rattle.est_waiting.specs.ItemCounts.{TakingLeavesOneLess, LinksMoveItems};
 ghost use Rattle.est_waiting.specs.ItemCounts.{BeginningsKeepItems, ReleasesLoseTheirItems};
 ghost use Rattle.est_waiting.specs.ItemCounts.{ChangesAddUp, BlocksTakeNone};
-ghost use Rattle.est_waiting.specs.StepItems.{StartsAreCounted, EventsPutOneAtMost};
-ghost use Rattle.est_waiting.specs.StepItems.{FiringsTakeOneAtMost, CountsGoOn};
+ghost use Rattle.est_waiting.specs.StepItems.{StartsAreCounted, EventsPutWhatArrives};
+ghost use Rattle.est_waiting.specs.StepItems.{FiringsTakeWhatTheyAwait, CountsGoOn};
 
 /// No queues have two numbers of items, and none waits where there are no instances.
 pub fn items_have_one_number()
@@ -49,10 +49,10 @@ pub fn changes_add_up()
     ensures blocks { BlocksTakeNone }
 {}
 
-/// An event puts one item at most, and a firing takes one at most.
-pub fn steps_take_one_at_most()
-    ensures events { EventsPutOneAtMost }
-    ensures firings { FiringsTakeOneAtMost }
+/// An event puts what arrives, and a firing takes just what it awaits.
+pub fn steps_put_and_take()
+    ensures events { EventsPutWhatArrives }
+    ensures firings { FiringsTakeWhatTheyAwait }
 {}
 
 /// From the start on the number of items is that of those which were put, less those which were
