@@ -20,9 +20,11 @@ use Rattle.est_runs.specs.declared.run.Move.{Move}
 use Rattle.est_runs.specs.declared.run.Move.TheVariants.{Take, Fire}
 use Rattle.est_runs.specs.Run.{Setup, Place, IsBegun, IsRun}
 use Rattle.est_runs.proofs.RunRows.{rows_in_order}
+use Rattle.est_waiting.specs.StepItems.{IsCounted}
+use Rattle.est_waiting.proofs.CountedSteps.{starts_counted, counts_go_on}
 use Rattle.est_upkeep.specs.OrderLaws.{IsOneTree}
 use Rattle.est_upkeep.specs.RunOrder.{BeginsWithInit, RunsStayOrderly, StampsArePast}
-use Rattle.est_upkeep.specs.RunOrder.{RunsStampInTime, RunsHaveTheirStamps}
+use Rattle.est_upkeep.specs.RunOrder.{RunsStampInTime, RunsHaveTheirStamps, RunsAreCounted}
 use Rattle.est_upkeep.proofs.ClimbsEnd.{climbs_end}
 use Rattle.est_upkeep.proofs.GoodDelays.{good_delays_await_nothing}
 use Rattle.est_upkeep.proofs.OrderlyStart.{start_tree}
@@ -74,6 +76,14 @@ runs_stay_orderly c run p first begun r =
       connections = (rows_in_order c run p begun r).connections;
       climbs = λ q. climbs_end (text_of c.spec) p.situation q tree.order.age;
     }
+
+-- ITEMS
+
+pub runs_are_counted : RunsAreCounted
+runs_are_counted c run p begun r = let t = text_of c.spec in
+    in_each c IsCounted (λ e. starts_counted c.limit t c.start c.start_outs e)
+    (λ s e h. counts_go_on.event t s e h)
+    (λ s next f outs e h. counts_go_on.firing c.limit t s next f outs e h) run p begun r
 
 -- STAMPS
 

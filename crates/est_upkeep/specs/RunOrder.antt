@@ -23,6 +23,7 @@ use Rattle.est_choices.specs.FiringSteps.{outcome}
 use Rattle.est_choices.specs.SelectionLaws.{DelaysAwaitNothing, HasStamps}
 use Rattle.est_runs.specs.declared.run.Move.{Move}
 use Rattle.est_runs.specs.Run.{Setup, Place, IsBegun, IsRun}
+use Rattle.est_waiting.specs.StepItems.{IsCounted}
 use Rattle.est_upkeep.specs.AncestorLaws.{IsAncestor}
 use Rattle.est_upkeep.specs.OrderLaws.{IsLiving, IsOrderly, IsOneTree}
 
@@ -82,6 +83,12 @@ WaitAtTheirPoints t s = (q : QueueName)
 abbrev pub ItemsWaitAtTheirPoints : Type 0
 ItemsWaitAtTheirPoints = (c : Setup) (run : List Move) (p : Place) → IsBegun c → IsRun c run p
     → WaitAtTheirPoints (text_of c.spec) p.situation
+
+-- in each situation of a run the number of items is that of those which were put, less those which
+-- were taken and those which went with their instances
+abbrev pub RunsAreCounted : Type 0
+RunsAreCounted = (c : Setup) (run : List Move) (p : Place) → IsBegun c → IsRun c run p
+    → IsCounted p.situation
 
 -- STAMPS
 

@@ -7,6 +7,7 @@ ghost use Rattle.est_upkeep.specs.RunOrder.{OneTreeDescends, FiringsStayOrderly}
 ghost use Rattle.est_upkeep.specs.RunOrder.{EventsStayOrderly, RunsStayOrderly};
 ghost use Rattle.est_upkeep.specs.RunOrder.{RunsStampInTime, GoodDelaysAwaitNothing};
 ghost use Rattle.est_upkeep.specs.RunOrder.{RunsHaveTheirStamps, ItemsWaitAtTheirPoints};
+ghost use Rattle.est_upkeep.specs.RunOrder.{RunsAreCounted};
 
 /// Parents are older than their children after a block where they were before.
 #[tactic(auto, using(crate::proofs::ParentsOlder::parents_stay_older))]
@@ -68,6 +69,13 @@ pub fn runs_stay_orderly()
 #[tactic(auto, using(crate::proofs::OwnQueues::items_wait_at_their_points))]
 pub fn items_wait_at_their_points()
     ensures { ItemsWaitAtTheirPoints }
+{}
+
+/// In each situation of a run the number of items is that of those which were put, less those which
+/// were taken and those which went with their instances.
+#[tactic(auto, using(crate::proofs::OrderlyRuns::runs_are_counted))]
+pub fn runs_are_counted()
+    ensures { RunsAreCounted }
 {}
 
 /// In each situation of a run no stamp is later than the clock.
