@@ -30,6 +30,7 @@ pub fn routine_of<'t>(site: &Site<'_, 't>, place: u32) -> Option<&'t Routine>
 }
 
 /// The frame of a routine with these arguments.
+#[inline(never)]
 pub fn frame_with(alloc: Global, site: &Site, place: u32, slots: Slots) -> Result<Frame, Stop>
     ensures { Says (routine_frame site.now.text.now.outline place slots) result }
 {
@@ -37,6 +38,7 @@ pub fn frame_with(alloc: Global, site: &Site, place: u32, slots: Slots) -> Resul
 }
 
 /// The result of a function whose frame is the first.
+#[inline(never)]
 pub fn result_of(alloc: Global, place: u32, frames: Frames) -> Result<Value, Stop>
     ensures { Says (result_in place frames) result }
 {
@@ -46,6 +48,7 @@ pub fn result_of(alloc: Global, place: u32, frames: Frames) -> Result<Value, Sto
 }
 
 /// Writes a value to a variable, which has to take it.
+#[inline(never)]
 pub fn store(
     alloc: Global,
     site: &Site,
@@ -69,6 +72,7 @@ pub fn store(
 }
 
 /// Opens the frame of a turn of an `all`, in which a name stands for this.
+#[inline(never)]
 pub fn open_naming(alloc: Global, place: u32, slot: Slot, working: &mut Working) -> Result<(), Stop>
     ensures { (n : ℕ) → Answers (opened (naming place slot) (state_of working.old n)) result
         (state_of working.new n) }

@@ -130,6 +130,7 @@ fn values_with(alloc: Global, site: &Site, declared: u32, slots: Slots) -> Resul
 }
 
 /// The item of an output at an interaction point, with these arguments.
+#[inline(never)]
 pub fn item_with(
     alloc: Global,
     site: &Site,
@@ -149,6 +150,7 @@ pub fn item_with(
 }
 
 /// An item is sent.
+#[inline(never)]
 pub fn send(alloc: Global, site: &Site, item: Item, working: &mut Working) -> Result<(), Stop>
     ensures { (n : ℕ) → Answers (delivered (site_of site.now) item (state_of working.old n)) result
         (state_of working.new n) }
@@ -227,6 +229,7 @@ pub fn free(alloc: Global, site: &Site, child: u32, working: &mut Working) -> Re
 }
 
 /// The next instance begins, in an element of this one.
+#[inline(never)]
 pub fn birth(
     alloc: Global,
     site: &Site,
@@ -255,6 +258,7 @@ pub fn birth(
 }
 
 /// The frame of an initialize part.
+#[inline(never)]
 pub fn first_frame(alloc: Global, site: &Site, first: &FirstPart) -> Result<Frame, Stop>
     ensures { Says (frame_of site.now.text.now.outline
         (places_of site.now.text.now.outline Variable (first_region first.now)) []) result }

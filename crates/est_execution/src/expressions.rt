@@ -65,6 +65,7 @@ use std::mem;
 
 /// The value of an expression.
 #[cycle(run)]
+#[inline(never)]
 pub fn value_of(
     alloc: Global,
     site: &Site,
@@ -107,6 +108,7 @@ fn related(
 
 // The value of a sum.
 #[cycle(run)]
+#[inline(never)]
 fn simple_of(
     alloc: Global,
     site: &Site,
@@ -150,6 +152,7 @@ fn with_term(
 
 // The value of a product.
 #[cycle(run)]
+#[inline(never)]
 fn term_of(
     alloc: Global,
     site: &Site,
@@ -191,6 +194,7 @@ fn with_factor(
 
 // The value of an operand.
 #[cycle(run)]
+#[inline(never)]
 fn factor_of(
     alloc: Global,
     site: &Site,
@@ -224,6 +228,7 @@ fn factor_of(
 
 // The other boolean than that of an operand.
 #[cycle(run)]
+#[inline(never)]
 fn opposite(
     alloc: Global,
     site: &Site,
@@ -242,6 +247,7 @@ fn opposite(
 
 // The value of a set.
 #[cycle(run)]
+#[inline(never)]
 fn set_value(
     alloc: Global,
     site: &Site,
@@ -310,6 +316,7 @@ fn variable_value(
 
 // The value of a variable.
 #[cycle(run)]
+#[inline(never)]
 fn stored_value(
     alloc: Global,
     site: &Site,
@@ -328,6 +335,7 @@ fn stored_value(
 
 /// What a variable with its selectors reaches.
 #[cycle(run)]
+#[inline(never)]
 pub fn variable_of<'t>(
     alloc: Global,
     site: &Site<'_, 't>,
@@ -448,6 +456,7 @@ pub fn subscripts_in(
 
 // The value of a call.
 #[cycle(run)]
+#[inline(never)]
 fn call_value(
     alloc: Global,
     site: &Site,
@@ -516,6 +525,7 @@ fn required(
 
 /// The values of arguments in order.
 #[cycle(run)]
+#[inline(never)]
 pub fn values_in(
     alloc: Global,
     site: &Site,
@@ -537,6 +547,7 @@ pub fn values_in(
 
 // A call of a function.
 #[cycle(run)]
+#[inline(never)]
 fn call(
     alloc: Global,
     site: &Site,
@@ -598,6 +609,7 @@ fn run_function(
 
 /// The arguments of a procedure in order.
 #[cycle(run)]
+#[inline(never)]
 pub fn arguments_in(
     alloc: Global,
     site: &Site,

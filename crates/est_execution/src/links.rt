@@ -275,6 +275,7 @@ fn item_at(
 
 /// An output.
 #[cycle(run)]
+#[inline(never)]
 pub fn output(
     alloc: Global,
     site: &Site,
@@ -328,6 +329,7 @@ fn send_one(
 
 /// An `init`.
 #[cycle(run)]
+#[inline(never)]
 pub fn init(
     alloc: Global,
     site: &Site,
@@ -382,6 +384,7 @@ fn begin(
 
 // The initialize part of an instance, if its body has one.
 #[cycle(run)]
+#[inline(never)]
 fn initialize(
     alloc: Global,
     site: &Site,
@@ -407,6 +410,7 @@ fn initialize(
 
 /// A `release`.
 #[cycle(run)]
+#[inline(never)]
 pub fn release(
     alloc: Global,
     site: &Site,
@@ -427,6 +431,7 @@ pub fn release(
 
 /// A `connect`.
 #[cycle(run)]
+#[inline(never)]
 pub fn connect(
     alloc: Global,
     site: &Site,
@@ -450,6 +455,7 @@ pub fn connect(
 
 /// An `attach`.
 #[cycle(run)]
+#[inline(never)]
 pub fn attach(
     alloc: Global,
     site: &Site,
@@ -474,6 +480,7 @@ pub fn attach(
 
 /// A `disconnect`.
 #[cycle(run)]
+#[inline(never)]
 pub fn disconnect(
     alloc: Global,
     site: &Site,
@@ -494,6 +501,7 @@ pub fn disconnect(
 
 /// A `detach`.
 #[cycle(run)]
+#[inline(never)]
 pub fn detach(
     alloc: Global,
     site: &Site,

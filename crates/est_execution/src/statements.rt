@@ -66,6 +66,7 @@ use std::mem;
 
 /// A statement, which counts.
 #[cycle(run)]
+#[inline(never)]
 pub fn statement_of(
     alloc: Global,
     site: &Site,
@@ -214,6 +215,7 @@ pub fn statements_in(
 
 // An assignment: the target, the value, the write.
 #[cycle(run)]
+#[inline(never)]
 fn assign(
     alloc: Global,
     site: &Site,
@@ -234,6 +236,7 @@ fn assign(
 
 // A call of a procedure.
 #[cycle(run)]
+#[inline(never)]
 fn perform(
     alloc: Global,
     site: &Site,
@@ -264,6 +267,7 @@ fn perform(
 
 // Statements within a frame, one level deeper.
 #[cycle(run)]
+#[inline(never)]
 pub fn deepen(
     alloc: Global,
     site: &Site,
@@ -294,6 +298,7 @@ pub fn deepen(
 
 // An `if`.
 #[cycle(run)]
+#[inline(never)]
 fn either(
     alloc: Global,
     site: &Site,
@@ -320,6 +325,7 @@ fn either(
 
 // A `case`.
 #[cycle(run)]
+#[inline(never)]
 fn choose(
     alloc: Global,
     site: &Site,
@@ -359,6 +365,7 @@ fn arms_in(
 
 // A `while`. Each turn counts, so there are no more turns than statements are left.
 #[cycle(run)]
+#[inline(never)]
 fn repeat_while(
     alloc: Global,
     site: &Site,
@@ -406,6 +413,7 @@ fn turn_of(
 
 // A `repeat`, in the same way.
 #[cycle(run)]
+#[inline(never)]
 fn repeat_until(
     alloc: Global,
     site: &Site,
@@ -450,6 +458,7 @@ fn turn_until(
 
 // A `for`: both bounds, the turns, and then the variable is undefined.
 #[cycle(run)]
+#[inline(never)]
 fn control(
     alloc: Global,
     site: &Site,
@@ -479,6 +488,7 @@ fn control(
 
 // The turns of a `for`.
 #[cycle(run)]
+#[inline(never)]
 fn count_turns(
     alloc: Global,
     site: &Site,
@@ -524,6 +534,7 @@ fn count_turn(
 
 // An `all`, whose name is declared at a place.
 #[cycle(run)]
+#[inline(never)]
 fn over_all(
     alloc: Global,
     site: &Site,
@@ -548,6 +559,7 @@ fn over_all(
 
 // The turns of an `all` for the ordinals of a kind.
 #[cycle(run)]
+#[inline(never)]
 fn for_each(
     alloc: Global,
     site: &Site,
@@ -570,6 +582,7 @@ fn for_each(
 
 // A turn of an `all`, in which its name stands for this.
 #[cycle(run)]
+#[inline(never)]
 fn turn_for(
     alloc: Global,
     site: &Site,
@@ -592,6 +605,7 @@ fn turn_for(
 
 // The turns of an `all` for the children that a module variable may hold.
 #[cycle(run)]
+#[inline(never)]
 fn over_children(
     alloc: Global,
     site: &Site,
@@ -614,6 +628,7 @@ fn over_children(
 
 // The turns of an `all` for these children.
 #[cycle(run)]
+#[inline(never)]
 fn for_children(
     alloc: Global,
     site: &Site,
