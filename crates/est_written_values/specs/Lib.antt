@@ -1,0 +1,3 @@
+pub mod WrittenLists
+pub mod WrittenOrdinals
+pub mod WrittenValues
