@@ -1,0 +1,2 @@
+pub mod WrittenTraces
+pub mod inside
