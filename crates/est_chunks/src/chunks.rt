@@ -80,6 +80,19 @@ fn alone<T: Drop>(alloc: Global, item: T) -> Result<Shared<Items<T>>, AllocError
     Shared::new(alloc, items)
 }
 
+// No full chunks: these, where there are none of them.
+fn no_full_chunks<T: Drop>(
+    full: &Shared<Items<Shared<Items<T>>>>,
+    alloc: Global,
+) -> Result<Shared<Items<Shared<Items<T>>>>, AllocError>
+    ensures { IfOk result (λ none. none ≡ []) }
+{
+    if full.get().len() == 0 {
+        return full.share();
+    }
+    Shared::new(alloc, Items::new(alloc))
+}
+
 // Puts a chunk last, shared.
 fn join<T: Drop>(
     full: &mut Items<Shared<Items<T>>>,
@@ -138,6 +151,20 @@ impl<T: Drop> Chunks<T> {
             count: self.count,
             full: self.full.share()?,
             last: self.last.share()?,
+        })
+    }
+
+    /// No items, with room for so many, as far as they stand in one chunk. What holds nothing is
+    /// shared with these. Errs where memory runs out, or where there can be no more owners.
+    pub fn emptied(&self, alloc: Global, room: usize) -> Result<Chunks<T>, AllocError>
+        ensures { IfOk result (λ chunks. chunks ≡ []) }
+    {
+        let full = no_full_chunks(&self.full, alloc)?;
+        let items = Vec::with_capacity(alloc, room.min(WIDTH))?;
+        Ok(Chunks {
+            count: 0,
+            full,
+            last: Shared::new(alloc, Items { items })?,
         })
     }
 }
