@@ -93,6 +93,21 @@ fn no_full_chunks<T: Drop>(
     Shared::new(alloc, Items::new(alloc))
 }
 
+// No items, with room for so many: these, where there are none of them and no room is wanted.
+fn no_items<T: Drop>(
+    last: &Shared<Items<T>>,
+    alloc: Global,
+    room: usize,
+) -> Result<Shared<Items<T>>, AllocError>
+    ensures { IfOk result (λ none. none ≡ []) }
+{
+    if room == 0 && last.get().len() == 0 {
+        return last.share();
+    }
+    let items = Vec::with_capacity(alloc, room.min(WIDTH))?;
+    Shared::new(alloc, Items { items })
+}
+
 // Puts a chunk last, shared.
 fn join<T: Drop>(
     full: &mut Items<Shared<Items<T>>>,
@@ -159,12 +174,10 @@ impl<T: Drop> Chunks<T> {
     pub fn emptied(&self, alloc: Global, room: usize) -> Result<Chunks<T>, AllocError>
         ensures { IfOk result (λ chunks. chunks ≡ []) }
     {
-        let full = no_full_chunks(&self.full, alloc)?;
-        let items = Vec::with_capacity(alloc, room.min(WIDTH))?;
         Ok(Chunks {
             count: 0,
-            full,
-            last: Shared::new(alloc, Items { items })?,
+            full: no_full_chunks(&self.full, alloc)?,
+            last: no_items(&self.last, alloc, room)?,
         })
     }
 }
