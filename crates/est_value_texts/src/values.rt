@@ -89,6 +89,20 @@ fn no_values(reader: &mut Reader) -> Option<Values>
     }
 }
 
+// No values, with room for so many, beside others. None where memory runs out.
+fn no_parts(reader: &mut Reader, others: &Values, room: usize) -> Option<Values>
+    ensures still { Still reader.old reader.new }
+    ensures empty { MatchOption result (reader.new.outcome ≡ Well → ⊥) (λ values. values ≡ []) }
+{
+    match others.emptied(reader.alloc, room) {
+        Ok(values) => Some(values),
+        Err(_) => {
+            reader.spend();
+            None
+        }
+    }
+}
+
 // One value more.
 #[cycle(value)]
 fn next_value(reader: &mut Reader, before: u64, kind: &Kind, values: &mut Values)
@@ -96,7 +110,7 @@ fn next_value(reader: &mut Reader, before: u64, kind: &Kind, values: &mut Values
         reader.old values.old reader.new values.new }
 {
     comma(reader, before);
-    let next = value(reader, kind);
+    let next = value(reader, kind, values);
     keep(reader, values, next);
 }
 
@@ -110,9 +124,9 @@ fn keep(reader: &mut Reader, values: &mut Values, value: Value)
     }
 }
 
-// A value of a kind.
+// A value of a kind, beside others.
 #[cycle(value)]
-fn value(reader: &mut Reader, kind: &Kind) -> Value
+fn value(reader: &mut Reader, kind: &Kind, others: &Values) -> Value
     ensures { Reads (grammar.a_value kind.now) (λ t. ShowsValue kind.now result t)
         reader.old reader.new }
 {
@@ -131,9 +145,9 @@ fn value(reader: &mut Reader, kind: &Kind) -> Value
         } => ordinal_value(reader, kind),
         Kind::SetOf(base) => set_value(reader, base.get()),
         Kind::ArrayOf { index, of } => {
-            group(elements(reader, of.get(), ordinal_count(index.get())))
+            group(elements(reader, of.get(), ordinal_count(index.get()), others))
         }
-        Kind::Fields(fields) => group(components(reader, fields.get().as_slice())),
+        Kind::Fields(fields) => group(components(reader, fields.get().as_slice(), others)),
     }
 }
 
@@ -178,14 +192,14 @@ fn set_value(reader: &mut Reader, base: &Kind) -> Value
     }
 }
 
-// So many values of a kind in parentheses. None where memory runs out.
+// So many values of a kind in parentheses, beside others. None where memory runs out.
 #[cycle(value)]
-fn elements(reader: &mut Reader, of: &Kind, count: u64) -> Option<Values>
+fn elements(reader: &mut Reader, of: &Kind, count: u64, others: &Values) -> Option<Values>
     ensures { Reads (grammar.group (replicate count of.now)) (λ t. IsSomeAnd result
         (λ values. AreEnclosed ShowsValue (replicate count of.now) values t))
         reader.old reader.new }
 {
-    let mut values = no_values(reader)?;
+    let mut values = no_parts(reader, others, count as usize)?;
     reader.symbol(Symbol::LeftParenthesis);
     for i in 0..count {
         next_value(reader, i, of, &mut values);
@@ -194,14 +208,14 @@ fn elements(reader: &mut Reader, of: &Kind, count: u64) -> Option<Values>
     Some(values)
 }
 
-// The values of fields in parentheses. None where memory runs out.
+// The values of fields in parentheses, beside others. None where memory runs out.
 #[cycle(value)]
-fn components(reader: &mut Reader, fields: &[FieldKind]) -> Option<Values>
+fn components(reader: &mut Reader, fields: &[FieldKind], others: &Values) -> Option<Values>
     ensures { Reads (grammar.group (grammar.field_kinds fields.now)) (λ t. IsSomeAnd result
         (λ values. AreEnclosed ShowsValue (grammar.field_kinds fields.now) values t))
         reader.old reader.new }
 {
-    let mut values = no_values(reader)?;
+    let mut values = no_parts(reader, others, fields.len())?;
     reader.symbol(Symbol::LeftParenthesis);
     for i in 0..fields.len() {
         next_value(reader, i as u64, &fields[i].kind, &mut values);

@@ -17,7 +17,7 @@ use Rattle.est_value_texts.proofs.values.+value.Goals as goal
 
 pub components-returns-in_err-values : goal.components-returns-in_err-values
 components-returns-in_err-values t c =
-    reads_none _ _ c.no_values.ensures.still c.in_err-values.ensures.empty
+    reads_none _ _ c.no_parts.ensures.still c.in_err-values.ensures.empty
 
 pub components-loop-i-init : goal.components-loop-i-init
 components-loop-i-init t c =
@@ -40,7 +40,7 @@ components-loop-i-preserved t c =
 pub components-returns : goal.components-returns
 components-returns t c =
     let ks = field_kinds c.args.fields.now in
-    reads_after c.no_values.ensures.still
+    reads_after c.no_parts.ensures.still
     (all_read a_value ShowsValue ks (drop c.loop-i.i ks) c.loop-i.i (λ j. refl)
     (drop_of_length-le ks (omega (
       arith,
@@ -50,7 +50,7 @@ components-returns t c =
 
 pub elements-returns-in_err-values : goal.elements-returns-in_err-values
 elements-returns-in_err-values t c =
-    reads_none _ _ c.no_values.ensures.still c.in_err-values.ensures.empty
+    reads_none _ _ c.no_parts.ensures.still c.in_err-values.ensures.empty
 
 pub elements-loop-i-init : goal.elements-loop-i-init
 elements-loop-i-init t c =
@@ -72,7 +72,7 @@ pub elements-returns : goal.elements-returns
 elements-returns t c =
     let k = c.args.of.now in
     let n = c.args.count in
-    reads_after c.no_values.ensures.still
+    reads_after c.no_parts.ensures.still
     (all_read a_value ShowsValue (replicate n k) (replicate (n - c.loop-i.i) k) c.loop-i.i
     (λ j. refl) (none_replicated n c.loop-i.i k c.loop-i-test.false) c.symbol.ensures c.loop-i.invariant
     c.symbol-2.ensures)
