@@ -1,0 +1,4 @@
+pub mod Drawing
+pub mod DrawnFits
+pub mod DrawnOnce
+pub mod Receiving

@@ -1,0 +1,4 @@
+pub mod Arrivals
+pub mod DrawnValues
+pub mod Words
+pub mod inside
