@@ -2,5 +2,8 @@
 #![tactic(auto)]
 
 mod arrivals;
+pub mod laws;
+pub mod made;
+pub mod making;
 mod values;
 mod words;
