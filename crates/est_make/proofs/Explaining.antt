@@ -125,7 +125,7 @@ reaches_on t p q (recipe.happens w next left e drawn held draws) r = record {
 leads_reach : (t : Task) (count : ℕ) (p q : Standing) → Leads t count p q → Reaches t p
     → Reaches t q
 leads_reach t count p q recipe.here r = r
-leads_reach t count p q (recipe.further {m} {n} leads short draws) r =
+leads_reach t count p q (recipe.further {q = m} leads short draws) r =
     reaches_on t m q draws (leads_reach t count p m leads r)
 
 makes_reaches : (t : Task) (seed count : ℕ) (p : Standing) → Makes t seed count p → Reaches t p

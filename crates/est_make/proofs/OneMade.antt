@@ -148,17 +148,19 @@ interaction_once ports w v words others left more i j e same a b =
       left_is = both.left_is;
     }
 
+none_chosen : (list : List Arrival) (n : ℕ) (a : Arrival) → list ≡ []
+    → slice_get list (n % length list) ≡ Some a → ⊥
+none_chosen [] n a e chosen = cc
+none_chosen (x ∷ xs) n a e chosen = cc
+
 -- a word by which an interaction arrives has no time pass
 interaction_not_time : (ports : List Port) (w v units : ℕ) (words left : Stream) (i : Interaction)
     → w ≡ v → DrawsInteraction ports w words i left → DrawsTime ports v units → ⊥
 interaction_not_time ports w v units words left i e a b =
     elim b.none [
       | inl odd ↦ (let even = a.even in absurd (omega arith))
-      | inr none ↦ none_at (arrivals_of ports) none
+      | inr none ↦ none_chosen (arrivals_of ports) (w / 2) a.arrival none a.chosen
     ]
-  where
-    none_at : (list : List Arrival) → list ≡ [] → ⊥
-    none_at list is = absurd cc
 
 outside_once : (ports : List Port) (words others left more : Stream) (e g : Event)
     → words ≡ others → DrawsOutside ports words e left → DrawsOutside ports others g more
