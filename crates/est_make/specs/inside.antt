@@ -1,3 +1,2 @@
 -- What only the private functions say.
 pub mod Received
-pub mod Standings

@@ -2,8 +2,5 @@
 #![tactic(auto)]
 
 mod arrivals;
-pub mod laws;
-pub mod made;
-pub mod making;
 mod values;
 mod words;
