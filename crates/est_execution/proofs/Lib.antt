@@ -1,6 +1,7 @@
 pub mod AccessLaws
 pub mod CallingLaws
 pub mod FrameValues
+pub mod LoneOperands
 pub mod LoopSteps
 pub mod OperatorSteps
 pub mod Spans

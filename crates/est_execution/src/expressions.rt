@@ -29,6 +29,7 @@ ghost use Rattle.est_operators.specs.GatheredMembers.{IsGathered};
 ghost use Rattle.est_execution.specs.TurnsOfLoops.{for_turn, counted_turn, ended, branched, chosen};
 
 use crate::calls::{frame_with, open_naming, result_of, routine_of, store};
+use crate::lone::lone_operand;
 use crate::loops::{
     children_of, distance, head_of_all, header_of, is_chosen, nth_slot, turn_value,
 };
@@ -65,6 +66,7 @@ use std::mem;
 
 /// The value of an expression.
 #[cycle(run)]
+#[tactic(auto, using(est_semantics::proofs::Answering::answers_stop, est_semantics::proofs::Answering::says_answers, est_semantics::proofs::ExpressionLayers::value_at, crate::proofs::LoneOperands::lone_value))]
 #[inline(never)]
 pub fn value_of(
     alloc: Global,
@@ -77,6 +79,9 @@ pub fn value_of(
         result left.new }
     ensures world { OnOk result (LooksSame working.old working.new) }
 {
+    if let Some(factor) = lone_operand(e) {
+        return factor_of(alloc, site, factor, working, left);
+    }
     let a = simple_of(alloc, site, &e.left, working, left)?;
     match &e.relation {
         None => Ok(a),

@@ -5,6 +5,7 @@ pub mod calls;
 pub mod effects;
 pub mod expressions;
 pub mod links;
+pub mod lone;
 pub mod loops;
 pub mod operands;
 pub mod reached;

@@ -27,6 +27,7 @@ use Rattle.est_execution.specs.ExpressionSteps.{module_at}
 use Rattle.est_execution.specs.HeldVariables.{reached_of, reached_in}
 use Rattle.est_execution.specs.TurnsOfLoops.{counted_turn, for_turn, turn_at}
 use Rattle.est_execution.proofs.CallingLaws.{called_by, deeper_opens}
+use Rattle.est_execution.proofs.LoneOperands.{lone_weighs}
 use Rattle.est_execution.proofs.LoopSteps.{components_step, components_stop, subscripts_step}
 use Rattle.est_execution.proofs.LoopSteps.{subscripts_stop, members_step, members_stop, view_same}
 use Rattle.est_execution.proofs.LoopSteps.{looks_after, drop_end}
@@ -273,13 +274,22 @@ expressions::term_of-with_factor-requires t c = (
   tt,
 )
 
+pub expressions::value_of-factor_of-requires : goal.expressions::value_of-factor_of-requires
+expressions::value_of-factor_of-requires t c = (
+  omega (
+    arith,
+    lone_weighs c.args.e.now c.in-Some.factor.now (sym c.in-Some.ensures),
+  ),
+  tt,
+)
+
 pub expressions::value_of-simple_of-requires : goal.expressions::value_of-simple_of-requires
 expressions::value_of-simple_of-requires t c = (omega (arith, expr_weighs c.args.e.now), tt)
 
 pub expressions::value_of-related-requires : goal.expressions::value_of-related-requires
 expressions::value_of-related-requires t c = (
   omega
-      (arith, expr_weighs c.args.e.now, ap (option_weight relation_weight) c.in-Some.is),
+      (arith, expr_weighs c.args.e.now, ap (option_weight relation_weight) c.in-Some-relation.is),
   tt,
 )
 

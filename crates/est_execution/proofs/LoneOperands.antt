@@ -1,0 +1,99 @@
+-- An expression that is an operand and nothing else: what it yields, and what it weighs.
+use Rattle.std.proofs.Common.{◌≡◌, refl, ap, ◌∙◌, ℕ, ◌+◌, ◌≤◌, List, [], ◌∷◌, Bool, true, false}
+use Rattle.std.proofs.Common.{Option, Some, None, arith}
+use Rattle.est_syntax.specs.declared.expression.Expr.{Expr, out-Expr}
+use Rattle.est_syntax.specs.declared.expression.Factor.{Factor}
+use Rattle.est_syntax.specs.declared.expression.ProductStep.{ProductStep}
+use Rattle.est_syntax.specs.declared.expression.Relation.{Relation}
+use Rattle.est_syntax.specs.declared.expression.Simple.{Simple, out-Simple}
+use Rattle.est_syntax.specs.declared.expression.SumStep.{SumStep}
+use Rattle.est_syntax.specs.declared.expression.Term.{Term, out-Term}
+use Rattle.est_values.specs.declared.value.Value.{Value}
+use Rattle.est_semantics.specs.Outcome.{Outcome, Done, Fault, Limit, onward, ◌>>=◌, give}
+use Rattle.est_semantics.specs.ValueOperators.{signed}
+use Rattle.est_semantics.specs.WorkingState.{View}
+use Rattle.est_semantics.specs.ExpressionValues.{value_of, simple_of, term_of, factor_of}
+use Rattle.est_semantics.specs.ExpressionValues.{related_in, sums_in, products_in}
+use Rattle.est_semantics.proofs.ExpressionLayers.{value_at, simple_at, term_at}
+use Rattle.est_execution.specs.LoneOperands.{lone_product, lone_sum, lone_by, lone_operand}
+use Rattle.est_execution.proofs.Weights.{expr_weight, simple_weight, term_weight, factor_weight}
+use Rattle.est_execution.proofs.Weights.{expr_weighs, simple_weighs, term_weighs}
+
+none_some : {P : Type 0} (f : Factor) → ◌≡◌ {A = Option Factor} None (Some f) → P
+none_some f h = absurd (cc)
+
+one_some : (f g : Factor) → ◌≡◌ {A = Option Factor} (Some f) (Some g) → f ≡ g
+one_some f g h = cc
+
+-- what gives a thing at last, and nothing else after it
+onward_give : {S A : Type 0} (o : Outcome S A) → onward o give ≡ o
+onward_give (Done a s) = refl
+onward_give (Fault f) = refl
+onward_give Limit = refl
+
+-- WHAT IT YIELDS
+
+product_value : (x : Factor) (ss : List ProductStep) (f : Factor) (v : View) (n : ℕ)
+    → lone_product x ss ≡ Some f
+    → (factor_of x v >>= λ a. products_in ss a v) n ≡ factor_of f v n
+product_value x [] f v n h =
+    onward_give (factor_of x v n) ∙ ap (λ g. factor_of g v n) (one_some x f h)
+product_value x (s ∷ ss) f v n h = none_some f h
+
+sum_value : (b : Bool) (t : Term) (ss : List SumStep) (f : Factor) (v : View) (n : ℕ)
+    → lone_sum b t ss ≡ Some f
+    → (term_of t v >>= λ a. signed b a >>= λ c. sums_in ss c v) n ≡ factor_of f v n
+sum_value false t [] f v n h =
+    onward_give (term_of t v n) ∙ term_at t v n
+    ∙ product_value (out-Term t).first (out-Term t).rest f v n h
+sum_value false t (s ∷ ss) f v n h = none_some f h
+sum_value true t [] f v n h = none_some f h
+sum_value true t (s ∷ ss) f v n h = none_some f h
+
+relation_value : (s : Simple) (r : Option Relation) (f : Factor) (v : View) (n : ℕ)
+    → lone_by s r ≡ Some f
+    → (simple_of s v >>= λ a. related_in r a v) n ≡ factor_of f v n
+relation_value s None f v n h =
+    onward_give (simple_of s v n) ∙ simple_at s v n
+    ∙ sum_value (out-Simple s).minus (out-Simple s).first (out-Simple s).rest f v n h
+relation_value s (Some r) f v n h = none_some f h
+
+pub lone_value : (e : Expr) (f : Factor) (v : View) (n : ℕ) → lone_operand e ≡ Some f
+    → value_of e v n ≡ factor_of f v n
+lone_value e f v n h = value_at e v n
+    ∙ relation_value (out-Expr e).left (out-Expr e).relation f v n h
+
+-- WHAT IT WEIGHS
+
+product_weighs : (x : Factor) (ss : List ProductStep) (f : Factor) → lone_product x ss ≡ Some f
+    → factor_weight f ≡ factor_weight x
+product_weighs x [] f h = let e : f ≡ x = cc in ap factor_weight e
+product_weighs x (s ∷ ss) f h = none_some f h
+
+sum_weighs : (b : Bool) (t : Term) (ss : List SumStep) (f : Factor) → lone_sum b t ss ≡ Some f
+    → factor_weight f + 1 ≤ term_weight t
+sum_weighs false t [] f h = omega (
+  arith,
+  term_weighs t,
+  product_weighs (out-Term t).first (out-Term t).rest f h,
+)
+sum_weighs false t (s ∷ ss) f h = none_some f h
+sum_weighs true t [] f h = none_some f h
+sum_weighs true t (s ∷ ss) f h = none_some f h
+
+relation_weighs : (s : Simple) (r : Option Relation) (f : Factor) → lone_by s r ≡ Some f
+    → factor_weight f + 2 ≤ simple_weight s
+relation_weighs s None f h = omega (
+  arith,
+  simple_weighs s,
+  sum_weighs (out-Simple s).minus (out-Simple s).first (out-Simple s).rest f h,
+)
+relation_weighs s (Some r) f h = none_some f h
+
+pub lone_weighs : (e : Expr) (f : Factor) → lone_operand e ≡ Some f
+    → factor_weight f + 3 ≤ expr_weight e
+lone_weighs e f h = omega (
+  arith,
+  expr_weighs e,
+  relation_weighs (out-Expr e).left (out-Expr e).relation f h,
+)
