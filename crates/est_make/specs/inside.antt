@@ -1,2 +1,3 @@
 -- What only the private functions say.
 pub mod Received
+pub mod Standings

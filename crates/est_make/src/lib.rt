@@ -2,5 +2,9 @@
 #![tactic(auto)]
 
 mod arrivals;
+pub mod checked;
+pub mod laws;
+pub mod made;
+pub mod making;
 mod values;
 mod words;
