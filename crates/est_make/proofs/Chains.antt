@@ -1,5 +1,5 @@
 -- Draw by draw, from the start to what is made.
-use Rattle.std.proofs.Common.{◌≡◌, refl, sym, ap, subst, ◌∙◌, ℕ, ◌+◌, ◌*◌, ◌<◌, ◌≤◌, ◌^◌, arith}
+use Rattle.std.proofs.Common.{◌≡◌, refl, sym, ap, subst, ◌∙◌, ℕ, ◌*◌, ◌<◌, ◌≤◌}
 use Rattle.std.proofs.Common.{List, [], length, reverse, Result, Ok, Err, IfOk}
 use Rattle.est_syntax.specs.declared.specification.Spec.{Spec}
 use Rattle.est_semantics.specs.GlobalSituation.{Situation}
@@ -8,8 +8,7 @@ use Rattle.est_semantics.specs.TextByPlace.{text_of}
 use Rattle.est_choices.specs.declared.event.Event.{Event}
 use Rattle.est_choices.specs.FiringSteps.{start_of}
 use Rattle.est_choices.proofs.Steps.{starts_begin_in_order}
-use Rattle.est_worlds.specs.SituationStacks.{Stack, Keeps, alone}
-use Rattle.est_runs.specs.declared.run.Move.{Move}
+use Rattle.est_worlds.specs.SituationStacks.{Stack, Keeps}
 use Rattle.est_make.specs.declared.made.Made.{Made}
 use Rattle.est_make.specs.declared.made.Made.TheVariants as made
 use Rattle.est_make.specs.declared.making.Making.{Making}
@@ -19,7 +18,7 @@ use Rattle.est_make.specs.Recipe.{Standing, Draws, Leads, PassesLimit, IsMade, I
 use Rattle.est_make.specs.Recipe.{Task, task_of, first_standing}
 use Rattle.est_make.specs.Recipe as recipe
 use Rattle.est_make.specs.Words.{stream_at, words_of}
-use Rattle.est_make.specs.inside.Standings.{standing_of, IsUntouched, HasEnough, HasPassed, EndedAs}
+use Rattle.est_make.specs.inside.Standings.{standing_of, IsUntouched, HasPassed, EndedAs}
 use Rattle.est_make.specs.inside.Standings.{MadeOf}
 use Rattle.est_make.proofs.Explaining.{clock_on, made_explained}
 use Rattle.est_make.proofs.Turning.{standing_with}

@@ -1,6 +1,6 @@
 -- The same words draw the same value.
-use Rattle.std.proofs.Common.{◌≡◌, refl, sym, ap, subst, ◌∙◌, ℕ, zero, suc, ◌+◌, ◌%◌, ◌<◌, arith}
-use Rattle.std.proofs.Common.{ℤ, pos, ◌+ℤ◌, Bool, true, false, IsTrue, List, [], ◌∷◌, ◌++◌}
+use Rattle.std.proofs.Common.{◌≡◌, refl, sym, ap, subst, ◌∙◌, ℕ, ◌%◌, arith}
+use Rattle.std.proofs.Common.{ℤ, pos, ◌+ℤ◌, false, IsTrue, List, [], ◌∷◌, ◌++◌}
 use Rattle.std.proofs.Common.{replicate}
 use Rattle.rand_core.specs.Stream.{Stream}
 use Rattle.est_syntax.specs.declared.kind.Kind.{Kind, out-Kind}

@@ -1,7 +1,7 @@
 -- What is made is a bounded run that explains its own events.
-use Rattle.std.proofs.Common.{◌≡◌, refl, sym, ap, subst, ◌∙◌, ℕ, ◌+◌, ◌*◌, ◌%◌, ◌/◌, ◌<◌, ◌≤◌}
+use Rattle.std.proofs.Common.{◌≡◌, refl, sym, subst, ◌∙◌, ℕ, ◌+◌, ◌*◌, ◌<◌, ◌≤◌}
 use Rattle.std.proofs.Common.{arith}
-use Rattle.std.proofs.Common.{List, [], ◌∷◌, ◌++◌, length, append_assoc, reverse}
+use Rattle.std.proofs.Common.{List, [], ◌∷◌, ◌++◌, length, append_assoc}
 use Rattle.std.proofs.lemmas.List.{append-nil, length-append}
 use Rattle.rand_core.specs.Stream.{Stream}
 use Rattle.est_syntax.specs.declared.ports.Port.{Port}
@@ -13,7 +13,7 @@ use Rattle.est_ports.specs.PortList.{ports_of}
 use Rattle.est_choices.specs.FiringSteps.{start_of}
 use Rattle.est_choices.specs.OutsideEvents.{after_event, units_of}
 use Rattle.est_choices.proofs.Outside.{events_are_outside}
-use Rattle.est_choices.proofs.Steps.{firings_are_orderly, starts_begin_in_order}
+use Rattle.est_choices.proofs.Steps.{firings_are_orderly}
 use Rattle.est_runs.specs.declared.run.Move.{Move}
 use Rattle.est_runs.specs.Run.{Setup, Place, IsBoundedRun, IsFromOutside, silent_after}
 use Rattle.est_make.specs.Recipe.{Task, Standing, Draws, DrawsOutside, Leads, Makes}

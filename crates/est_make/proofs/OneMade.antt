@@ -1,6 +1,6 @@
 -- One thing is made of one seed.
 use Rattle.std.proofs.Common.{◌≡◌, refl, sym, ap, subst, ◌∙◌, ℕ, ◌+◌, ◌/◌, ◌%◌, ◌<◌, ◌≤◌, ◌⊎◌}
-use Rattle.std.proofs.Common.{inl, inr, arith, List, [], ◌∷◌, ◌++◌, length, slice_get, Some}
+use Rattle.std.proofs.Common.{inl, inr, arith, List, [], ◌∷◌, length, slice_get, Some}
 use Rattle.std.proofs.Common.{reverse}
 use Rattle.std.proofs.lemmas.List.{reverse-reverse}
 use Rattle.std.proofs.lemmas.Option.{same_Some}
@@ -10,9 +10,8 @@ use Rattle.est_syntax.specs.declared.ports.Port.{Port}
 use Rattle.est_syntax.specs.declared.ports.Signal.{Signal}
 use Rattle.est_syntax.proofs.Members.{in_at}
 use Rattle.est_ports.specs.PortList.{ports_of}
-use Rattle.est_semantics.specs.declared.fault.BlockFault.{BlockFault}
 use Rattle.est_semantics.specs.GlobalSituation.{Situation}
-use Rattle.est_semantics.specs.Outcome.{Done, Fault, Limit}
+use Rattle.est_semantics.specs.Outcome.{Done, Fault}
 use Rattle.est_semantics.specs.TextByPlace.{text_of}
 use Rattle.est_choices.specs.declared.event.Event.{Event}
 use Rattle.est_choices.specs.declared.event.Event.TheVariants as event
@@ -24,7 +23,6 @@ use Rattle.est_choices.proofs.Steps.{possible_settled, steps_unique}
 use Rattle.est_worlds.specs.FiringOrder.{FiringBefore, IsBeforeAll, IsAscending}
 use Rattle.est_worlds.specs.PossibleFirings.{AreOptions}
 use Rattle.est_runs.specs.declared.run.Move.{Move}
-use Rattle.est_make.specs.declared.made.Made.{Made}
 use Rattle.est_make.specs.declared.made.Made.TheVariants as made
 use Rattle.est_make.specs.declared.arrivals.Arrival.{Arrival}
 use Rattle.est_make.specs.Recipe.{Task, Standing, Chooses, HoldsBack, DrawsInteraction, DrawsTime}

@@ -1,5 +1,5 @@
 -- What may arrive is what a port receives.
-use Rattle.std.proofs.Common.{◌≡◌, refl, sym, ap, subst, ◌∙◌, ℕ, zero, suc, ◌+◌, ◌<◌, ◌⊎◌, inl, inr}
+use Rattle.std.proofs.Common.{◌≡◌, refl, sym, ap, ◌∙◌, ℕ, zero, suc, ◌+◌, ◌<◌, ◌⊎◌, inl, inr}
 use Rattle.std.proofs.Common.{arith, Bool, true, false, IsTrue, List, [], ◌∷◌, ◌++◌, length, drop}
 use Rattle.std.proofs.Common.{append_assoc, get_or, drop-cons, slice_get, if◌then◌else◌}
 use Rattle.std.proofs.Common.{Option, Some, None}

@@ -1,6 +1,5 @@
 -- How far a trace is made, and what comes of a draw.
 use Rattle.std.specs.Prelude.{◌≡◌, ℕ, ◌+◌, ◌<◌, ◌≤◌, ◌⊎◌, List, [], ◌∷◌, ◌++◌, length, reverse}
-use Rattle.rand_core.specs.Stream.{Stream}
 use Rattle.est_syntax.specs.declared.ports.Port.{Port}
 use Rattle.est_syntax.specs.declared.specification.Spec.{Spec}
 use Rattle.est_choices.specs.declared.event.Event.{Event}

@@ -1,6 +1,3 @@
-use Rattle.std.proofs.Common.{refl, ap, ◌∙◌}
-use Rattle.est_syntax.specs.declared.kind.Kind.{out-Kind}
-use Rattle.est_syntax.specs.declared.kind.Kind.TheVariants as kind
 use Rattle.est_make.specs.Words.{stream_at}
 use Rattle.est_make.proofs.Drawing.{values_none, one_component, one_field, set_drawn}
 use Rattle.est_make.proofs.Drawing.{array_drawn, record_drawn}

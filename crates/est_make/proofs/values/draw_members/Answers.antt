@@ -1,6 +1,5 @@
-use Rattle.std.proofs.Common.{◌≡◌, ◌∙◌, ◌+ℤ◌, pos, ap, rules, w32, ℤ, refl, subst, sym}
+use Rattle.std.proofs.Common.{◌∙◌, ◌+ℤ◌, pos, ap, rules, w32, ℤ}
 use Rattle.std.proofs.lemmas.Int.{to_z-of_z}
-use Rattle.std.specs.Int.{int_gap}
 use mir.Val.{SFits, to_z, of_z}
 use Rattle.est_make.specs.Words.{stream_at}
 use Rattle.est_make.proofs.Drawing.{members_none, member_drawn, no_member_drawn}

@@ -1,9 +1,8 @@
-use Rattle.std.proofs.Common.{◌≡◌, ◌∙◌, ◌<◌, ◌%◌, ◌+ℤ◌, pos, ap, arith, rules, w32}
-use Rattle.std.proofs.Common.{ℤ, ℕ, refl}
+use Rattle.std.proofs.Common.{◌∙◌, ◌<◌, ◌%◌, ◌+ℤ◌, pos, ap, arith, rules, w32}
+use Rattle.std.proofs.Common.{ℤ}
 use Rattle.std.proofs.lemmas.Int.{to_z-of_z}
 use Rattle.std.specs.Int.{int_gap}
 use mir.Val.{SFits, to_z, of_z}
-use Rattle.est_values.specs.FittingValues.{first_ordinal, last_ordinal, ordinal_count}
 use Rattle.est_make.proofs.Drawing.{ordinal_drawn, undefined_drawn}
 use Rattle.est_make.proofs.values.draw_ordinal.Goals as goal
 
