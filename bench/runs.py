@@ -3,7 +3,7 @@
 
 Each row of the first is the least processor time of some runs of one command, at a size and at twice that
 size; the last column is the one time over the other, near 2 where the work is linear. The second table
-is of searches: first along traces that are made as well, and then a row for each of the six protocols of
+is of searches: first along traces that are made as well, and then a row for each of six protocols of
 examples/, along a trace of some 10,000 events, which repeats what the protocol does. The program is the one of
 these sources.
 """
