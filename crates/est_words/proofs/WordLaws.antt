@@ -8,10 +8,12 @@ use Rattle.std.proofs.lemmas.List.{nil_from_length, take_all}
 use Rattle.std.specs.Global.{Global}
 use Rattle.est_runs.specs.declared.run.Limits.{Limits}
 use Rattle.est_words.specs.declared.words.Command.{Command}
-use Rattle.est_words.specs.declared.words.Command.TheVariants.{Check, Explain, Replay}
-use Rattle.est_words.specs.Requests.{Request, Asks, AreLimits, AreSearchLimits, AsksNothing}
-use Rattle.est_words.specs.Requests.{AsksToCheck, AsksToExplain, AsksToReplay, IsCommand, bytes_of}
-use Rattle.est_words.specs.Requests.{to_check, to_explain, to_replay, usual, told, left_out, given}
+use Rattle.est_words.specs.declared.words.Command.TheVariants.{Check, Explain, Replay, SelfRun}
+use Rattle.est_words.specs.Requests.{Request, Asks, AreLimits, AreSearchLimits, AreRecipe}
+use Rattle.est_words.specs.Requests.{AsksNothing, AsksToCheck, AsksToExplain, AsksToReplay}
+use Rattle.est_words.specs.Requests.{AsksToSelfRun, IsCommand, bytes_of}
+use Rattle.est_words.specs.Requests.{to_check, to_explain, to_replay, to_self_run}
+use Rattle.est_words.specs.Requests.{usual, told, left_out, given}
 use Rattle.est_words.specs.Requests.{IsNumber, usual_budget, most_silent, most_budget}
 use Rattle.est_words.specs.Requests.{most_statements}
 use Rattle.est_words.specs.inside.CommandWords.{BeginWith}
@@ -26,6 +28,12 @@ named word empty is not = λ nil. let long : length (string_bytes word) ≡ 0 = 
 pub unnamed : (word : String Global) (empty : Bool) → empty ≡ (string_len word == 0) → empty ≡ true
     → string_bytes word ≡ []
 unnamed word empty is holds = nil_from_length _ (grind (arith, nat_tests, word.bytes.ok.0))
+
+-- words that begin with `explain` do not begin with `selfrun`
+pub explain_or_self_run : (word : List ℕ) → word ≡ codes "explain" → word ≡ codes "selfrun" → ⊥
+explain_or_self_run word one other =
+    let first : 101 ≡ 115 = ap (λ w. get_or w 0 0) (sym one ∙ other) in
+    absurd (omega (arith, first))
 
 -- two words are those at their places
 pub two_words : {A : Type 0} (words : List A) (a b : A) → 2 ≤ length words → length words < 3
@@ -77,6 +85,7 @@ is_check_of (a ∷ b ∷ c ∷ words) begin _ (to_check name are named) = absurd
 is_check_of (a ∷ words) begin _ (to_explain s t limits n b m are s_named t_named is) = absurd cc
 is_check_of (a ∷ words) begin _ (to_replay s t e limits n m are s_named t_named e_named is) =
     absurd cc
+is_check_of (a ∷ words) begin _ (to_self_run name x y n m are named is) = absurd cc
 
 -- SEARCH
 
@@ -134,6 +143,8 @@ is_explain_of (a ∷ x ∷ y ∷ rest) begin _ (to_explain s t limits n b m are 
     }
 is_explain_of (a ∷ words) begin _ (to_replay s t e limits n m are s_named t_named e_named is) =
     absurd cc
+is_explain_of (a ∷ words) begin _ (to_self_run name x y n m are named is) =
+    absurd (explain_or_self_run (string_bytes a) begin (ap (λ ws. get_or ws 0 []) are))
 
 -- limits of a search that are left out
 pub none_told : (words : List (String Global)) → length words < 1
@@ -230,6 +241,7 @@ pub is_replay_of : (words : List (String Global)) → BeginWith (codes "replay")
 is_replay_of [] begin request asked = absurd begin
 is_replay_of (a ∷ words) begin _ (to_check name are named) = absurd cc
 is_replay_of (a ∷ words) begin _ (to_explain s t limits n b m are s_named t_named is) = absurd cc
+is_replay_of (a ∷ words) begin _ (to_self_run name x y n m are named is) = absurd cc
 is_replay_of (a ∷ []) begin _ (to_replay s t e limits n m are s_named t_named e_named is) =
     absurd cc
 is_replay_of (a ∷ x ∷ []) begin _ (to_replay s t e limits n m are s_named t_named e_named is) =
@@ -265,6 +277,63 @@ pub both_given : (words : List (String Global)) (a b : String Global) (silent st
 both_given words a b silent statements are is_silent is_statements = given _ _ silent statements
     (ap bytes_of are) is_silent is_statements
 
+-- TRACES THAT ARE MADE
+
+-- words that begin so ask for a trace to be made
+pub is_self_run : (words : List (String Global)) (specification first second : String Global)
+    (seed count : ℕ)
+    → BeginWith (codes "selfrun") words → 4 ≤ length words → length words < 5
+    → specification ≡ get_or words 1 specification → first ≡ get_or words 2 first
+    → second ≡ get_or words 3 second → string_bytes specification ≢ []
+    → AreRecipe (string_bytes first) (string_bytes second) seed count
+    → AsksToSelfRun seed count words
+is_self_run [] s x y n m begin long short at_s at_x at_y named are = absurd begin
+is_self_run (a ∷ []) s x y n m begin long short at_s at_x at_y named are = absurd (omega arith)
+is_self_run (a ∷ b ∷ []) s x y n m begin long short at_s at_x at_y named are =
+    absurd (omega arith)
+is_self_run (a ∷ b ∷ c ∷ []) s x y n m begin long short at_s at_x at_y named are =
+    absurd (omega arith)
+is_self_run (a ∷ b ∷ c ∷ d ∷ []) s x y n m begin long short at_s at_x at_y named are =
+    to_self_run (string_bytes b) (string_bytes c) (string_bytes d) n m
+    (ap (λ w. w ∷ string_bytes b ∷ string_bytes c ∷ string_bytes d ∷ []) begin)
+    (subst (λ w. string_bytes w ≢ []) at_s named)
+    (subst (λ w. AreRecipe (string_bytes w) (string_bytes d) n m) at_x
+    (subst (λ w. AreRecipe (string_bytes x) (string_bytes w) n m) at_y are))
+is_self_run (a ∷ b ∷ c ∷ d ∷ e ∷ words) s x y n m begin long short at_s at_x at_y named are =
+    absurd (omega arith)
+
+-- words of a trace that is made are four: the second one is a name, and the others its numbers
+pub record IsSelfRunOf (words : List (String Global)) : Type 0 where
+  pub four : length words ≡ 4
+  pub named : (word : String Global) → word ≡ get_or words 1 word → string_bytes word ≢ []
+  pub seed : ℕ
+  pub count : ℕ
+  pub recipe : (x y : String Global) → x ≡ get_or words 2 x → y ≡ get_or words 3 y
+      → AreRecipe (string_bytes x) (string_bytes y) seed count
+
+-- what words that begin so ask for
+pub is_self_run_of : (words : List (String Global)) → BeginWith (codes "selfrun") words
+    → (request : Request) → Asks (bytes_of words) request → IsSelfRunOf words
+is_self_run_of [] begin request asked = absurd begin
+is_self_run_of (a ∷ words) begin _ (to_check name are named) = absurd cc
+is_self_run_of (a ∷ words) begin _ (to_explain s t limits n b m are s_named t_named is) =
+    absurd (explain_or_self_run (string_bytes a) (ap (λ ws. get_or ws 0 []) are) begin)
+is_self_run_of (a ∷ words) begin _ (to_replay s t e limits n m are s_named t_named e_named is) =
+    absurd cc
+is_self_run_of (a ∷ []) begin _ (to_self_run s x y n m are named is) = absurd cc
+is_self_run_of (a ∷ b ∷ []) begin _ (to_self_run s x y n m are named is) = absurd cc
+is_self_run_of (a ∷ b ∷ c ∷ []) begin _ (to_self_run s x y n m are named is) = absurd cc
+is_self_run_of (a ∷ b ∷ c ∷ d ∷ []) begin _ (to_self_run s x y n m are named is) = record {
+  four = refl;
+  named = λ word at. subst (λ w. w ≢ []) (let q : s ≡ string_bytes word = cc in q) named;
+  seed = n;
+  count = m;
+  recipe = λ v w at_v at_w.
+      subst (λ z. AreRecipe z (string_bytes w) n m) (let q : x ≡ string_bytes v = cc in q)
+      (subst (λ z. AreRecipe x z n m) (let q : y ≡ string_bytes w = cc in q) is);
+}
+is_self_run_of (a ∷ b ∷ c ∷ d ∷ e ∷ words) begin _ (to_self_run s x y n m are named is) = absurd cc
+
 -- COMMANDS
 
 -- words that ask to check a file ask for something
@@ -291,9 +360,20 @@ replay_asks (a ∷ b ∷ []) limits asked nothing = asked
 replay_asks (a ∷ b ∷ c ∷ []) limits asked nothing = asked
 replay_asks (a ∷ b ∷ c ∷ d ∷ words) limits asked nothing = nothing _ asked
 
+-- words that ask for a trace to be made ask for something
+self_run_asks : (words : List (String Global)) (seed count : ℕ) → AsksToSelfRun seed count words
+    → AsksNothing words → ⊥
+self_run_asks [] n m asked nothing = asked
+self_run_asks (a ∷ []) n m asked nothing = asked
+self_run_asks (a ∷ b ∷ []) n m asked nothing = asked
+self_run_asks (a ∷ b ∷ c ∷ []) n m asked nothing = asked
+self_run_asks (a ∷ b ∷ c ∷ d ∷ []) n m asked nothing = nothing _ asked
+self_run_asks (a ∷ b ∷ c ∷ d ∷ e ∷ words) n m asked nothing = asked
+
 -- words that ask for a command ask for something
 pub command_asks : (words : List (String Global)) (command : Command) → IsCommand words command
     → AsksNothing words → ⊥
 command_asks words Check asked nothing = check_asks words asked nothing
 command_asks words (Explain limits) asked nothing = explain_asks words limits asked nothing
 command_asks words (Replay limits) asked nothing = replay_asks words limits asked.0 nothing
+command_asks words (SelfRun seed count) asked nothing = self_run_asks words seed count asked nothing
