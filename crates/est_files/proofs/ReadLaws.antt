@@ -1,5 +1,5 @@
 -- What readers of files answer, from what their steps answered.
-use Rattle.std.proofs.Common.{◌≡◌, ◌≤◌, ◌⊎◌, inl, inr, ℕ, List, Option, Some}
+use Rattle.std.proofs.Common.{◌≡◌, ◌<◌, ◌≤◌, ◌⊎◌, inl, inr, ℕ, List, Option, Some}
 use Rattle.std.proofs.Common.{None, length, min, sym, subst, ap, ◌∙◌, IfSome}
 use Rattle.std.proofs.Common.{IfNone, Result, Ok, Err, true, false, arith}
 use Rattle.std.specs.Result.{IsErr, IsErrAnd}
@@ -18,8 +18,11 @@ use Rattle.est_files.specs.Files.{limit_of}
 use Rattle.est_files.specs.Seen.{Seen}
 use Rattle.est_files.specs.FileTexts.{IsText, Holds, Refusals, IsReported, refusal_at}
 use Rattle.est_files.specs.FileEnds.{End, reported, unread, EndsAt, longer, refused, failed}
+use Rattle.est_files.specs.FileEnds.{EndsAtText, text_longer, text_refused}
+use Rattle.est_files.specs.RefusalLines.{too_long_line}
 use Rattle.est_files.specs.Reads.{IsStop, StopsWith, IsQuiet, IsUnread, IsRefusedText}
-use Rattle.est_files.specs.Reads.{IsRead, Touches, ReadsBytes, ReadsText, ReadsFile}
+use Rattle.est_files.specs.Reads.{IsRead, Touches, ReadsBytes, ReadsText, ReadsFile, TakesText}
+use Rattle.est_words.specs.declared.status.Status.TheVariants.{TooLong}
 
 -- TEXTS
 
@@ -115,6 +118,40 @@ pub said_then : {X : Type 0} {P Q : X → Type 0} (said : Option X) → ((x : X)
     → IfSome said P → IfSome said Q
 said_then (Some x) weaker holds = weaker x holds
 said_then None weaker holds = tt
+
+-- TEXTS TAKEN AS THOSE OF FILES
+
+-- a text that is longer than its limit
+pub takes_longer : {A : Type 0} {file : File} {Is : A → List ℕ → List Token → Type 0}
+    {Refuses : Refusals} {text : List ℕ} (stop : Stop) → limit_of file < length text
+    → StopsWith TooLong (too_long_line file) stop → TakesText file Is Refuses text (Err stop)
+takes_longer {A} {file} {Is} {Refuses} {text} stop long stops = record {
+  good = tt;
+  ended = by_stop stop stops;
+}
+  where
+    by_stop : (stop : Stop) → StopsWith TooLong (too_long_line file) stop
+        → IsStop (EndsAtText file text Refuses) stop
+    by_stop (Refused report) stops =
+        subst (λ s. EndsAtText file text Refuses (reported s report.text.items)) (sym stops.0)
+        (subst (λ t. EndsAtText file text Refuses (reported TooLong t)) (sym stops.1)
+        (text_longer long))
+    by_stop ReadFault stops = absurd stops
+    by_stop OutOfMemory stops = tt
+
+-- a text that was read, within its limit
+pub takes_read : {A : Type 0} {file : File} (Is : A → List ℕ → List Token → Type 0)
+    (Refuses : Refusals) {text : List ℕ} (r : Result A Stop) → ReadsText file Is Refuses text r
+    → TakesText file Is Refuses text r
+takes_read Is Refuses (Ok x) reads = record { good = reads.good; ended = tt }
+takes_read {A} {file} Is Refuses {text} (Err stop) reads = record {
+  good = tt;
+  ended = stop_then stop ends reads.refused;
+}
+  where
+    ends : (end : End) → IsRefusedText file Refuses text end → EndsAtText file text Refuses end
+    ends (reported status report) is = text_refused status report is
+    ends unread is = absurd is
 
 -- FILES
 

@@ -11,7 +11,7 @@ use Rattle.est_words.specs.declared.status.Status.TheVariants.{TooLong}
 use Rattle.est_files.specs.Files.{limit_of}
 use Rattle.est_files.specs.RefusalLines.{too_long_line}
 use Rattle.est_files.specs.Seen.{Seen}
-use Rattle.est_files.specs.FileTexts.{Holds, OfSpecification, OfTrace, OfExplanation}
+use Rattle.est_files.specs.FileTexts.{IsText, Holds, OfSpecification, OfTrace, OfExplanation}
 use Rattle.est_files.specs.FileTexts.{Refusals, IsReported}
 
 -- an end of a call: a status with a report, or a file that could not be read
@@ -38,6 +38,14 @@ pub data EndsAt (shelf : Seen) (file : File) (name : List ℕ) (Refuses : Refusa
       → EndsAt shelf file name Refuses (reported status report)
   failed : Rose (shelf.before.faults name) (shelf.after.faults name)
       → EndsAt shelf file name Refuses unread
+
+-- a call ends at a text that it takes as a file's: it is too long, or refused
+pub data EndsAtText (file : File) (text : List ℕ) (Refuses : Refusals) : End → Type 0 where
+  text_longer : limit_of file < length text
+      → EndsAtText file text Refuses (reported TooLong (too_long_line file))
+  text_refused : (status : Status) (report : List ℕ)
+      → IsText file text (IsReported file Refuses status report)
+      → EndsAtText file text Refuses (reported status report)
 
 -- the file of this name holds the text of this specification, which breaks no rule
 abbrev pub HoldsSpecification : Seen → List ℕ → Spec → Type 0

@@ -12,7 +12,7 @@ use Rattle.est_files.specs.declared.file.File.{File}
 use Rattle.est_files.specs.Files.{limit_of}
 use Rattle.est_files.specs.FileTexts.{IsText, Holds, Refusals, IsReported}
 use Rattle.est_files.specs.Seen.{Seen}
-use Rattle.est_files.specs.FileEnds.{End, reported, unread, IsTooLong, EndsAt}
+use Rattle.est_files.specs.FileEnds.{End, reported, unread, IsTooLong, EndsAt, EndsAtText}
 
 -- a function stops before its work is done; memory may run out at any time
 abbrev pub IsStop : (End → Type 0) → Stop → Type 0
@@ -71,6 +71,15 @@ pub record ReadsText {A : Type 0}
     : Type 0 where
   pub good : IfOk result (λ x. IsText file text (Is x))
   pub refused : IfErr result (IsStop (IsRefusedText file Refuses text))
+
+-- what a reader answers that takes a text as a file's: the value that it is of, or that the call
+-- ends there
+pub record TakesText {A : Type 0}
+    (file : File) (Is : A → List ℕ → List Token → Type 0) (Refuses : Refusals) (text : List ℕ)
+    (result : Result A Stop)
+    : Type 0 where
+  pub good : IfOk result (λ x. IsText file text (Is x))
+  pub ended : IfErr result (IsStop (EndsAtText file text Refuses))
 
 -- what a reader of a file answers: the value of its text, or that the call ends there
 pub record ReadsFile {A : Type 0}

@@ -30,8 +30,8 @@ pub fn read_text<S: Shelf>(
     }
 }
 
-// Stops with the report of a file that is longer than its limit.
-fn too_long(alloc: Global, file: File) -> Stop
+/// Stops with the report of a file that is longer than its limit.
+pub fn too_long(alloc: Global, file: File) -> Stop
     ensures { StopsWith Status.TooLong (too_long_line file) result }
 {
     match too_long_report(alloc, file) {

@@ -4,11 +4,11 @@ ghost use Rattle.est_choices.specs.AllowedEvents.{IsAllowedTrace};
 ghost use Rattle.est_files.specs.Files.{limit_of};
 ghost use Rattle.est_files.specs.Seen.{seen, shelved};
 ghost use Rattle.est_files.specs.FileTexts.{OfTrace, RefusesTrace, SaysOfTrace};
-ghost use Rattle.est_files.specs.Reads.{ReadsFile, ReadsText};
+ghost use Rattle.est_files.specs.Reads.{ReadsFile, ReadsText, TakesText};
 
 use crate::diagnostic::{Diagnostic, refuse};
 use crate::file::File;
-use crate::reading::read_text;
+use crate::reading::{read_text, too_long};
 use crate::stop::Stop;
 use est_check::Checked;
 use est_choices::event::Trace;
@@ -35,6 +35,18 @@ pub fn trace_in<S: Shelf>(
 {
     let text = read_text(alloc, shelf, name, File::Trace)?;
     trace_of(alloc, text.as_slice(), checked)
+}
+
+/// The trace of a specification that a text is, which is taken as that of a file.
+pub fn trace_of_text(alloc: Global, text: &[u8], checked: &Checked) -> Result<Trace, Stop>
+    ensures allowed { IfOk result (IsAllowedTrace checked.now) }
+    ensures takes { TakesText File.Trace
+        (OfTrace checked.now) (RefusesTrace checked.now) text.now result }
+{
+    if text.len() > File::Trace.limit() as usize {
+        return Err(too_long(alloc, File::Trace));
+    }
+    trace_of(alloc, text, checked)
 }
 
 // The trace of a specification that a text within its limit is.

@@ -1,3 +1,4 @@
 pub mod ReadableReports
 pub mod Reports
 pub mod SearchReports
+pub mod SelfRunReports

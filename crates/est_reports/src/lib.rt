@@ -4,3 +4,4 @@
 mod readable;
 pub mod report;
 pub mod search_report;
+pub mod self_run_report;

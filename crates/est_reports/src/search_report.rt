@@ -110,8 +110,8 @@ fn refused_report(
     Ok(line)
 }
 
-// The line that says where a trace is refused.
-fn refused_at(alloc: Global, at: u32, events: u32) -> Result<String, AllocError>
+/// The line that says where a trace is refused.
+pub(crate) fn refused_at(alloc: Global, at: u32, events: u32) -> Result<String, AllocError>
     ensures { IfOk result (λ line. string_bytes line ≡ refused_line at events) }
 {
     if at <= events {
