@@ -37,7 +37,7 @@ use Rattle.est_calls.proofs.SearchStages.{limits_of, Explains as Stages, Searche
 use Rattle.est_calls.proofs.SearchStages.{verdict_at}
 
 -- a file ends a call unread only where its count of faults rose
-unread_rose : (shelf : Seen) (file : File) (name : List ℕ) (Refuses : Refusals) (end : End)
+pub unread_rose : (shelf : Seen) (file : File) (name : List ℕ) (Refuses : Refusals) (end : End)
     → end ≡ unread → EndsAt shelf file name Refuses end
     → Rose (shelf.before.faults name) (shelf.after.faults name)
 unread_rose shelf file name Refuses _ is (longer s r x) = absurd cc

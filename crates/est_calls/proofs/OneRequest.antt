@@ -1,9 +1,12 @@
 -- Words ask for one thing at most.
-use Rattle.std.proofs.Common.{◌≡◌, ◌∙◌, ℕ, List, sym, ap, refl}
+use Rattle.std.proofs.Common.{◌≡◌, ◌∙◌, ℕ, List, [], ◌∷◌, get_or, sym, ap, refl}
 use Rattle.std.specs.Str.Parse.{digits_value}
-use Rattle.est_words.specs.Requests.{check, explain, replay, to_check, to_explain, to_replay}
+use Rattle.est_words.specs.Requests.{check, explain, replay, selfrun}
+use Rattle.est_words.specs.Requests.{to_check, to_explain, to_replay, to_self_run}
 use Rattle.est_words.specs.Requests.{AreLimits, left_out, given, AreSearchLimits, usual, told}
 use Rattle.est_words.specs.Requests.{IsNumber, most_silent, most_budget, most_statements}
+use Rattle.est_words.specs.Requests.{most_made, most_seed}
+use Rattle.est_words.proofs.WordLaws.{explain_or_self_run}
 use Rattle.est_calls.specs.CallLaws.{OneRequest}
 
 -- a word is of one number
@@ -42,6 +45,11 @@ one_search_limits words other _ _ _ _ _ _ same (told x y z a b c p k l m)
       one_number 1 most_statements z z' c f three m m',
     )
 
+-- a first word is the same however the words are told
+first_is : (words rest : List (List ℕ)) (word : List ℕ) → words ≡ word ∷ rest
+    → get_or words 0 [] ≡ word
+first_is words rest word e = ap (λ ws. get_or ws 0 []) e
+
 pub request_one : OneRequest
 request_one words _ _ (to_check name e named) (to_check other f named') = let same : name ≡ other =
     cc in ap check same
@@ -74,3 +82,22 @@ request_one words _ _ (to_explain specification trace limits silent budget state
     let same = one_search_limits limits limits' silent budget statements silent' budget' statements'
     rest l l' in
     λ i. explain (one i) (two i) (same.0 i) (same.1 i) (same.2 i)
+request_one words _ _ (to_check name e named) (to_self_run other x y n m f p q) = absurd cc
+request_one words _ _ (to_self_run other x y n m e p q) (to_check name f named) = absurd cc
+request_one words _ _ (to_explain specification trace limits silent budget statements e p q l)
+    (to_self_run other x y n m f p' q') =
+    absurd (explain_or_self_run _ (first_is words _ _ e) (first_is words _ _ f))
+request_one words _ _ (to_self_run other x y n m e p q)
+    (to_explain specification trace limits silent budget statements f p' q' l) =
+    absurd (explain_or_self_run _ (first_is words _ _ f) (first_is words _ _ e))
+request_one words _ _ (to_replay specification trace explanation limits silent statements e p q r l)
+    (to_self_run other x y n m f p' q') = absurd cc
+request_one words _ _ (to_self_run other x y n m e p q)
+    (to_replay specification trace explanation limits silent statements f p' q' r' l) = absurd cc
+request_one words _ _ (to_self_run name x y n m e p q) (to_self_run name' x' y' n' m' f p' q') =
+    let one : name ≡ name' = cc in
+    let two : x ≡ x' = cc in
+    let three : y ≡ y' = cc in
+    let seed : n ≡ n' = one_number 0 most_seed x x' n n' two q.seeded q'.seeded in
+    let count : m ≡ m' = one_number 0 most_made y y' m m' three q.counted q'.counted in
+    λ i. selfrun (one i) (seed i) (count i)

@@ -12,7 +12,7 @@ use Rattle.est_tool.specs.ReplayReports.{replay_line}
 use Rattle.est_tool.specs.ReplayReports.{replay_status}
 use Rattle.est_files.specs.FileTexts.{OfSpecification, OfTrace, OfExplanation}
 use Rattle.est_files.specs.FileTexts.{RefusesSpecification, RefusesTrace, RefusesExplanation}
-use Rattle.est_words.specs.Requests.{check, explain, replay}
+use Rattle.est_words.specs.Requests.{check, explain, replay, selfrun}
 use Rattle.est_files.specs.Seen.{Seen}
 use Rattle.est_tool.specs.inside.Work.{IsCounted, IsAnswered, IsExplained}
 use Rattle.est_files.specs.FileEnds.{End, reported, unread}
@@ -23,6 +23,7 @@ use Rattle.est_calls.proofs.Stages.{AreSame, OfReport, stopped, stops, goes_on, 
 use Rattle.est_calls.proofs.Stages.{AtSpecification, AtTrace, AtExplanation}
 use Rattle.est_calls.proofs.Stages.{specifications_decided, traces_decided, explanations_decided}
 use Rattle.est_calls.proofs.SearchStages.{Explains, explain_stages, one_explained}
+use Rattle.est_calls.proofs.SelfRunStages.{SelfRuns, self_run_stages, one_made_report}
 
 one_counted : (spec : Spec) (s s' : Status) (r r' : List ℕ) → IsCounted spec s r
     → IsCounted spec s' r' → AreSame s s' r r'
@@ -136,6 +137,13 @@ one_explain shelf shelf' specification trace limits s s' r r' told traced x y =
         shelf shelf' traced.1 traced.2 _ _
         (one_explained limits spec) s s' r r' x y
 
+one_self_run : (shelf shelf' : Seen) (name : List ℕ) (seed count : ℕ) (s s' : Status)
+    (r r' : List ℕ) → TellAlike shelf shelf' name → SelfRuns shelf name seed count s r
+    → SelfRuns shelf' name seed count s' r' → AreSame s s' r r'
+one_self_run shelf shelf' name seed count s s' r r' told x y =
+    one_stage Specification name told.0 RefusesSpecification OfSpecification specifications_decided
+    shelf shelf' told.1 told.2 _ _ (one_made_report seed count) s s' r r' x y
+
 pub result_one : OneResult
 result_one shelf shelf' (check specification) s s' r r' told x y =
     one_check shelf shelf' specification s s' r r' told (check_stages shelf specification
@@ -152,3 +160,7 @@ result_one shelf shelf' (replay specification trace explanation silent statement
     told.1 told.2 (replay_stages shelf specification trace explanation silent statements
     (reported s r) x)
     (replay_stages shelf' specification trace explanation silent statements (reported s' r') y)
+result_one shelf shelf' (selfrun name seed count) s s' r r' told x y =
+    one_self_run shelf shelf' name seed count s s' r r' told
+    (self_run_stages shelf name seed count (reported s r) x)
+    (self_run_stages shelf' name seed count (reported s' r') y)

@@ -19,7 +19,8 @@ use Rattle.est_files.specs.Seen.{Seen}
 use Rattle.est_tool.specs.inside.Work.{Tells, IsExplained}
 use Rattle.est_tool.specs.inside.Searching.{IsSearched}
 use Rattle.est_files.specs.FileEnds.{End, reported, unread}
-use Rattle.est_tool.specs.Ends.{task_of, ExplainEnds}
+use Rattle.est_tool.specs.Ends.{ExplainEnds}
+use Rattle.est_tool.specs.Tasks.{task_of}
 use Rattle.est_tool.specs.Ends.{ends_at_specification, ends_at_trace, not_started}
 use Rattle.est_tool.specs.Ends.{start_over, searched}
 use Rattle.est_calls.proofs.Stages.{AreSame, OfReport, stopped, stops, goes_on}
@@ -82,7 +83,7 @@ verdict_at limits spec events s t outs outs' verdict x y is =
     limits.budget verdict) same.0 is)
 
 -- one thing comes of a search
-one_found : (limits : Limits) (spec : Spec) (events : List Event) (a b : Searched)
+pub one_found : (limits : Limits) (spec : Spec) (events : List Event) (a b : Searched)
     → IsSearched limits spec events a → IsSearched limits spec events b → a ≡ b
 one_found limits spec events (came.Found v) (came.Found w) x y =
     ap (λ z. came.Found z)

@@ -336,7 +336,7 @@ explanations_decided = record {
 -- FILES
 
 -- two texts that are held where the same bytes are told have the same tokens
-at_once : (file : File) {told told' : Option (List ℕ)} {bytes : List ℕ} (Is Js : List ℕ → List Token
+pub at_once : (file : File) {told told' : Option (List ℕ)} {bytes : List ℕ} (Is Js : List ℕ → List Token
     → Type 0) {P : Type 0} → told ≡ Some bytes → told' ≡ Some bytes → Holds file told Is
     → Holds file told' Js
     → ((tokens : List Token) → Is bytes tokens → Js bytes tokens → P) → P
@@ -391,19 +391,20 @@ module _ {A : Type 0} (file : File) (name bytes : List ℕ) (Refuses : Refusals)
       at_once file (IsReported file Refuses s r) (Good x) told told' because is
       (λ tokens n g. decided.not_both x bytes tokens s n.place n.why g n.refused)
 
+  -- tokens are refused with one report
+  pub one_report : (s s' : Status) (r r' : List ℕ) (tokens : List Token)
+      → IsReported file Refuses s r bytes tokens → IsReported file Refuses s' r' bytes tokens
+      → AreSame s s' r r'
+  one_report s s' r r' tokens x y =
+      let same = decided.one_refusal bytes tokens s s' x.place y.place x.why y.why x.refused
+      y.refused in (
+        same.0,
+        x.report_is ∙ (λ i. refusal_at file bytes tokens (same.1 i) (same.2 i))
+            ∙ sym y.report_is,
+      )
+
   module _ (shelf shelf' : Seen) (told : shelf.before.told name ≡ Some bytes)
       (told' : shelf'.before.told name ≡ Some bytes) where
-    one_report : (s s' : Status) (r r' : List ℕ) (tokens : List Token)
-        → IsReported file Refuses s r bytes tokens → IsReported file Refuses s' r' bytes tokens
-        → AreSame s s' r r'
-    one_report s s' r r' tokens x y =
-        let same = decided.one_refusal bytes tokens s s' x.place y.place x.why y.why x.refused
-        y.refused in (
-          same.0,
-          x.report_is ∙ (λ i. refusal_at file bytes tokens (same.1 i) (same.2 i))
-              ∙ sym y.report_is,
-        )
-
     one_stop : (s s' : Status) (r r' : List ℕ) → IsStopped shelf file name Refuses s r
         → IsStopped shelf' file name Refuses s' r' → AreSame s s' r r'
     one_stop s s' r r' (inl x) (inl y) =

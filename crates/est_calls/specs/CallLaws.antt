@@ -4,7 +4,7 @@ use Rattle.est_words.specs.declared.status.Status.{Status}
 use Rattle.est_files.specs.Seen.{Seen}
 use Rattle.est_files.specs.FileEnds.{reported}
 use Rattle.est_tool.specs.Ends.{Ends}
-use Rattle.est_words.specs.Requests.{Request, check, explain, replay, Asks}
+use Rattle.est_words.specs.Requests.{Request, check, explain, replay, selfrun, Asks}
 
 -- two shelves tell a file, and tell the same bytes of it
 abbrev pub TellAlike : Seen → Seen → List ℕ → Type 0
@@ -20,6 +20,8 @@ TellFilesAlike shelf shelf' (explain specification trace silent budget statement
 TellFilesAlike shelf shelf' (replay specification trace explanation silent statements) =
     TellAlike shelf shelf' specification × TellAlike shelf shelf' trace
     × TellAlike shelf shelf' explanation
+TellFilesAlike shelf shelf' (selfrun specification seed count) =
+    TellAlike shelf shelf' specification
 
 -- Two calls that ask for the same, and are told the same bytes of their files, have the same status
 -- and report, where both end with a report.

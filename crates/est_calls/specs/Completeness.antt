@@ -1,7 +1,11 @@
--- What a search answers of good texts whose start is ready.
+-- What a search answers of good texts whose start is ready, and what is answered of a good
+-- specification of which a trace is made.
 use Rattle.std.specs.Prelude.{◌≡◌, ◌≢◌, ◌↔◌, ℕ, List, Some, String}
 use Rattle.std.specs.Global.{Global}
 use Rattle.est_edge.specs.FaultCounts.{Rose}
+use Rattle.est_edge.specs.Pieces.{appended}
+use Rattle.est_syntax.specs.declared.specification.Spec.{Spec}
+use Rattle.est_make.specs.declared.made.Made.{Made}
 use Rattle.est_runs.specs.declared.run.Move.{Move}
 use Rattle.est_runs.specs.Order.{Mark}
 use Rattle.est_runs.specs.Run.{Setup, IsBegun, Explains}
@@ -10,9 +14,10 @@ use Rattle.est_words.specs.declared.status.Status.{Status}
 use Rattle.est_words.specs.declared.status.Status.TheVariants.{Fine, Refused, OverBudget}
 use Rattle.est_words.specs.declared.status.Status.TheVariants.{OutOfMemory}
 use Rattle.est_files.specs.Seen.{Seen, Sent}
-use Rattle.est_files.specs.FileEnds.{HoldsSpecification, HoldsTrace}
-use Rattle.est_words.specs.Requests.{Asks, explain, bytes_of}
+use Rattle.est_files.specs.FileEnds.{reported, HoldsSpecification, HoldsTrace}
+use Rattle.est_words.specs.Requests.{Asks, explain, selfrun, bytes_of}
 use Rattle.est_tool.specs.Result.{IsResult}
+use Rattle.est_tool.specs.SelfRuns.{IsMadeOf, MadeEnds}
 
 -- the file is told, and its count of faults did not rise
 pub record IsToldWell (shelf : Seen) (name : List ℕ) : Type 0 where
@@ -63,3 +68,30 @@ pub record SearchIsComplete : Type 0 where
       (budget : ℕ) (c : Setup) → IsSearchOf words shelf output budget c
       → IsResult words shelf output status → IsWithinLimits c budget → status ≢ OutOfMemory
       → Decides c status
+
+-- the words ask for a trace to be made of this specification: its file is told and holds it, and no
+-- count rose
+pub record IsSelfRunOf (words : List (String Global)) (shelf : Seen) (output : Sent)
+    (seed count : ℕ) (spec : Spec) : Type 0 where
+  pub name : List ℕ
+  pub asked : Asks (bytes_of words) (selfrun name seed count)
+  pub named : IsToldWell shelf name
+  pub written : Rose output.before.faults output.after.faults → ⊥
+  pub good : HoldsSpecification shelf name spec
+
+-- this is made of the specification, and the whole report that tells it is written
+pub record TellsMade (output : Sent) (status : Status) (seed count : ℕ) (spec : Spec)
+    : Type 0 where
+  pub made : Made
+  pub is : IsMadeOf spec seed count made
+  pub report : List ℕ
+  pub ends : MadeEnds spec made (reported status report)
+  pub whole : output.after.written ≡ appended output.before.written report
+
+-- of a good specification what is made of it is told, unless memory runs out
+abbrev pub SelfRunIsComplete : Type 0
+SelfRunIsComplete =
+    (words : List (String Global)) (shelf : Seen) (output : Sent) (status : Status)
+    (seed count : ℕ) (spec : Spec) → IsSelfRunOf words shelf output seed count spec
+    → IsResult words shelf output status → status ≢ OutOfMemory
+    → TellsMade output status seed count spec

@@ -1,6 +1,6 @@
 //! Laws of calls. Each function does nothing; its clause is the law.
 ghost use Rattle.est_calls.specs.CallLaws.{OneRequest, OneResult};
-ghost use Rattle.est_calls.specs.Completeness.{SearchIsComplete};
+ghost use Rattle.est_calls.specs.Completeness.{SearchIsComplete, SelfRunIsComplete};
 
 /// Words ask for one thing at most.
 pub fn one_request()
@@ -17,4 +17,9 @@ pub fn one_result()
 /// its limits suffice, this is whether a run explains the trace.
 pub fn search_is_complete()
     ensures { SearchIsComplete }
+{}
+
+/// Of a good specification the call that makes a trace tells what is made, unless memory runs out.
+pub fn self_run_is_complete()
+    ensures { SelfRunIsComplete }
 {}

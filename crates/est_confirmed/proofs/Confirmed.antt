@@ -34,7 +34,7 @@ use Rattle.est_reports.specs.SearchReports.{accepted_line, refused_line, faulted
 use Rattle.est_reports.specs.SearchReports.{over_action_line, verdict_report}
 use Rattle.est_reports.specs.SearchReports.{verdict_status}
 use Rattle.est_files.specs.FileEnds.{reported, HoldsSpecification, HoldsTrace, HoldsExplanation}
-use Rattle.est_tool.specs.Ends.{task_of}
+use Rattle.est_tool.specs.Tasks.{task_of}
 use Rattle.est_tool.specs.Ends.{ReplayEnds, replayed}
 use Rattle.est_words.specs.Requests.{replay}
 use Rattle.est_calls.proofs.OneResult.{result_one}

@@ -25,7 +25,7 @@ use Rattle.est_reports.specs.SearchReports.{over_start_line, verdict_report}
 use Rattle.est_reports.specs.SearchReports.{verdict_status}
 use Rattle.est_files.specs.Seen.{Seen}
 use Rattle.est_files.specs.FileEnds.{End, reported, EndsAt, longer, refused, failed}
-use Rattle.est_tool.specs.Ends.{task_of}
+use Rattle.est_tool.specs.Tasks.{task_of}
 use Rattle.est_files.specs.FileEnds.{HoldsSpecification, HoldsTrace}
 use Rattle.est_tool.specs.Ends.{ExplainEnds, ends_at_specification}
 use Rattle.est_tool.specs.Ends.{ends_at_trace, not_started, start_over, searched}

@@ -1,3 +1,4 @@
 pub mod ResultLaws
 pub mod SearchLaws
+pub mod SelfRunLaws
 pub mod WorkLaws

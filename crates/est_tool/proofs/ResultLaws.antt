@@ -30,15 +30,19 @@ use Rattle.est_reports.specs.SearchReports.{verdict_status}
 use Rattle.est_files.specs.FileTexts.{Holds, Refusals, RefusesSpecification, RefusesTrace}
 use Rattle.est_files.specs.FileTexts.{RefusesExplanation, SaysOfSpecification}
 use Rattle.est_files.specs.FileTexts.{SaysOfTrace, SaysOfExplanation, IsReported}
-use Rattle.est_words.specs.Requests.{Request, check, explain, replay}
+use Rattle.est_words.specs.Requests.{Request, check, explain, replay, selfrun}
 use Rattle.est_files.specs.Seen.{Seen, Sent}
 use Rattle.est_files.specs.FileEnds.{End, reported, unread, EndsAt, longer, refused}
-use Rattle.est_files.specs.FileEnds.{failed}
+use Rattle.est_files.specs.FileEnds.{failed, EndsAtText, text_longer, text_refused}
 use Rattle.est_tool.specs.Ends.{at_its_file, good, at_specification}
 use Rattle.est_tool.specs.Ends.{at_trace, at_explanation, replayed, Ends}
 use Rattle.est_tool.specs.Ends.{ends_at_specification, ends_at_trace, not_started}
 use Rattle.est_tool.specs.Ends.{start_over, searched}
 use Rattle.est_tool.specs.Result.{Reports, Writes, IsResult}
+use Rattle.est_make.specs.declared.made.Made.{Made}
+use Rattle.est_syntax.specs.declared.specification.Spec.{Spec}
+use Rattle.est_tool.specs.SelfRuns.{MadeEnds, faults, start_passes, passes, refuses, explains}
+use Rattle.est_tool.specs.SelfRuns.{stops_at_its_file, makes}
 use Rattle.est_files.specs.Reads.{IsQuiet}
 use Rattle.est_tool.specs.inside.Work.{IsMade, IsObeyed}
 use Rattle.est_tool.specs.inside.Written.{HasReport, IsReportable, IsSent, whole}
@@ -97,6 +101,20 @@ at_file {shelf} {file} {name} Refuses _ are (refused status report holds) = of_r
     (shelf.before.told name) status report are holds
 at_file Refuses _ are (failed rose) = tt
 
+at_text : {file : File} {text : List ℕ} (Refuses : Refusals) (end : End) → AreReportable Refuses
+    → EndsAtText file text Refuses end → IsReportable end
+at_text Refuses _ are (text_longer long) = tt
+at_text {text = text} Refuses _ are (text_refused status report is) = let at : _ = is.is in
+    are text is.tokens status at.place at.why at.refused
+
+of_made : (spec : Spec) (made : Made) (end : End) → MadeEnds spec made end → IsReportable end
+of_made spec _ _ (faults fault) = tt
+of_made spec _ _ start_passes = tt
+of_made spec _ _ (passes run) = tt
+of_made spec _ _ (refuses trace run end at) = at_text (RefusesTrace spec) end
+    (λ text tokens status place why refuses. of_trace refuses.0 status place why refuses.2) at
+of_made spec _ _ (explains trace run events s outs verdict reads begun is) = of_verdict verdict
+
 -- how what the words ask for ends, a report has such a status
 pub ends_reportable : (shelf : Seen) (request : Request) (end : End) → Ends shelf request end
     → IsReportable end
@@ -127,6 +145,11 @@ ends_reportable shelf (replay s t e silent statements) _ (at_explanation spec ev
     of_explanation refuses.0 status place why refuses.2) is
 ends_reportable shelf (replay s t e silent statements) _ (replayed spec events read answer holds
     traced explained is) = of_answer answer
+ends_reportable shelf (selfrun name seed count) _ (stops_at_its_file end is) =
+    at_file RefusesSpecification end (λ text tokens status place why refuses. of_specification
+    refuses.0 status place why refuses.2) is
+ends_reportable shelf (selfrun name seed count) _ (makes spec made end holds is ends) =
+    of_made spec made end ends
 
 -- WRITTEN REPORTS
 

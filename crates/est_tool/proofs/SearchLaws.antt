@@ -11,7 +11,7 @@ use Rattle.est_search.specs.declared.verdict.Verdict.{Verdict}
 use Rattle.est_search.specs.Verdict.{IsVerdict}
 use Rattle.est_tool.specs.declared.search.Searched.TheVariants as came
 use Rattle.est_tool.specs.inside.Searching.{IsSearched}
-use Rattle.est_tool.specs.Ends.{task_of}
+use Rattle.est_tool.specs.Tasks.{task_of}
 
 -- a verdict from the start
 pub found_searched : (limits : Limits) (spec : Spec) (events : List Event) (s : Situation)

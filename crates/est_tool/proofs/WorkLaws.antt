@@ -24,7 +24,7 @@ use Rattle.est_tool.specs.ReplayReports.{replay_status}
 use Rattle.est_files.specs.Seen.{Shelved, Seen, seen}
 use Rattle.est_files.specs.FileTexts.{Holds, Refusals, IsReported, OfSpecification}
 use Rattle.est_files.specs.FileTexts.{OfTrace, OfExplanation}
-use Rattle.est_words.specs.Requests.{Request, check, explain, replay}
+use Rattle.est_words.specs.Requests.{Request, check, explain, replay, selfrun}
 use Rattle.est_files.specs.FileEnds.{End, reported, IsTooLong, EndsAt, longer, refused, failed}
 use Rattle.est_files.specs.FileEnds.{HoldsSpecification, HoldsTrace}
 use Rattle.est_files.specs.FileEnds.{HoldsExplanation}
@@ -32,10 +32,11 @@ use Rattle.est_tool.specs.Ends.{CheckEnds, at_its_file, good, ReplayEnds, at_spe
 use Rattle.est_tool.specs.Ends.{at_trace, at_explanation, replayed, Ends}
 use Rattle.est_tool.specs.Ends.{ExplainEnds, ends_at_specification, ends_at_trace}
 use Rattle.est_tool.specs.Ends.{not_started, start_over, searched}
+use Rattle.est_tool.specs.SelfRuns.{stops_at_its_file, makes}
 use Rattle.est_tool.specs.Started.{ExplainStarts, first_alone, both}
 use Rattle.est_tool.specs.Started.{ReplayStarts, one, two, three, Starts}
 use Rattle.est_files.specs.Reads.{IsStop, IsQuiet, ReadsFile}
-use Rattle.est_tool.specs.inside.Work.{IsMade, Gives, IsCounted}
+use Rattle.est_tool.specs.inside.Work.{IsMade, Gives, IsReport, IsCounted}
 use Rattle.est_tool.specs.inside.Work.{IsAnswered, Tells, IsExplained, IsWork}
 use Rattle.est_tool.specs.inside.Searching.{IsSearched}
 use Rattle.est_files.proofs.ReadLaws.{stop_then, stops_for, quiet_any, quiet_stop}
@@ -55,6 +56,20 @@ pub made_then : {P Q : End → Type 0} (made : Result Report Stop) → ((end : E
     → IsMade P made → IsMade Q made
 made_then (Ok made) weaker holds = weaker _ holds
 made_then (Err e) weaker holds = stop_then e weaker holds
+
+-- a report of which this holds ends a command so
+pub given : (P : Status → List ℕ → Type 0) (Q : End → Type 0) (r : Result Report Stop)
+    → ((status : Status) (report : List ℕ) → P status report → Q (reported status report))
+    → Gives P r → IsMade Q r
+given P Q (Ok report) at gives = at _ _ gives
+given P Q (Err stop) at gives = subst (IsStop Q) (sym gives) tt
+
+-- and so where it is one report
+pub given_one : (Q : End → Type 0) (status : Status) (report : List ℕ) (r : Result Report Stop)
+    → Q (reported status report) → Gives (IsReport status report) r → IsMade Q r
+given_one Q status report r holds gives = given (IsReport status report) Q r
+    (λ a b is. subst (λ z. Q (reported z b)) (sym is.0)
+    (subst (λ z. Q (reported status z)) (sym is.1) holds)) gives
 
 -- The shelf told the same under each name, and its counts were the same, when this part of a call
 -- began.
@@ -113,6 +128,10 @@ module _ (before middle after : Shelved) (same : SameTold before.told middle.tol
       replayed spec events read answer (text_before s spec holds)
       (holds_before _ (OfTrace spec events) (same t) traced)
       (holds_before _ (OfExplanation read) (same e) explained) is
+  ends_before (selfrun s n m) _ (stops_at_its_file end at) = stops_at_its_file end
+      (file_before end at)
+  ends_before (selfrun s n m) _ (makes spec made end holds is ends) = makes spec made end
+      (text_before s spec holds) is ends
 
   replay_starts_before : (s t e : List ℕ) (names : List (List ℕ))
       → ReplayStarts (seen middle after) s t e names → ReplayStarts (seen before after) s t e names
@@ -132,6 +151,7 @@ module _ (before middle after : Shelved) (same : SameTold before.told middle.tol
   starts_before (check s) names starts = starts
   starts_before (explain s t n b m) names starts = explain_starts_before s t names starts
   starts_before (replay s t e n m) names starts = replay_starts_before s t e names starts
+  starts_before (selfrun s n m) names starts = starts
 
   quiet_before : {A : Type 0} (r : Result A Stop) → IsQuiet (seen middle after) r
       → IsQuiet (seen before after) r
@@ -181,24 +201,29 @@ module _
               work.ends;
         }
 
+    -- the last file was read, and the rest of the work was done
+    pub ends_made : (shelf : Seen) (x : A) (r : Result Report Stop) (Q : End → Type 0)
+        → ReadsFile file name Is Refuses shelf (Ok x) → IsMade Q r
+        → Starts shelf request (done ++ name ∷ [])
+        → ((end : End) → Q end → Ends shelf request end)
+        → IsWork done request shelf r
+    ends_made shelf x r Q reads made starts at = record {
+      told = reads.touches.told;
+      quiet = quiet_any shelf r reads.touches.quiet;
+      names = name ∷ [];
+      started = reads.touches.started;
+      starts = starts;
+      ends = made_then r at made;
+    }
+
     -- the last file was read, and the report was made
     pub ends_work : (shelf : Seen) (x : A) (r : Result Report Stop) (P : Status → List ℕ → Type 0)
         → ReadsFile file name Is Refuses shelf (Ok x) → Gives P r
         → Starts shelf request (done ++ name ∷ []) → ((status : Status) (report : List ℕ)
         → P status report → Ends shelf request (reported status report))
         → IsWork done request shelf r
-    ends_work shelf x r P reads gives starts at = record {
-      told = reads.touches.told;
-      quiet = quiet_any shelf r reads.touches.quiet;
-      names = name ∷ [];
-      started = reads.touches.started;
-      starts = starts;
-      ends = given r gives;
-    }
-      where
-        given : (r : Result Report Stop) → Gives P r → IsMade (Ends shelf request) r
-        given (Ok report) gives = at _ _ gives
-        given (Err stop) gives = subst (IsStop (Ends shelf request)) (sym gives) tt
+    ends_work shelf x r P reads gives starts at = ends_made shelf x r (Ends shelf request) reads
+        (given P (Ends shelf request) r at gives) starts (λ end ends. ends)
 
 -- REPORTS
 

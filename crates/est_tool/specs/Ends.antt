@@ -8,7 +8,6 @@ use Rattle.est_semantics.specs.Outcome.{Done, Fault, Limit}
 use Rattle.est_semantics.specs.TextByPlace.{text_of}
 use Rattle.est_choices.specs.declared.event.Event.{Event}
 use Rattle.est_choices.specs.FiringSteps.{start_of}
-use Rattle.est_runs.specs.Run.{Setup}
 use Rattle.est_search.specs.Verdict.{IsVerdict}
 use Rattle.est_search.specs.declared.verdict.Verdict.{Verdict}
 use Rattle.est_replay.specs.Replay.{IsReplay}
@@ -24,10 +23,12 @@ use Rattle.est_tool.specs.ReplayReports.{replay_line}
 use Rattle.est_reports.specs.SearchReports.{no_start_line, over_start_line, verdict_report}
 use Rattle.est_files.specs.Seen.{Seen}
 use Rattle.est_tool.specs.ReplayReports.{replay_status}
+use Rattle.est_tool.specs.SelfRuns.{SelfRunEnds}
+use Rattle.est_tool.specs.Tasks.{task_of}
 use Rattle.est_reports.specs.SearchReports.{verdict_status}
 use Rattle.est_files.specs.FileTexts.{RefusesSpecification}
 use Rattle.est_files.specs.FileTexts.{RefusesTrace, RefusesExplanation}
-use Rattle.est_words.specs.Requests.{Request, check, explain, replay}
+use Rattle.est_words.specs.Requests.{Request, check, explain, replay, selfrun}
 
 -- `check` ends at its file, or tells the numbers of a good specification
 pub data CheckEnds (shelf : Seen) (name : List ℕ) : End → Type 0 where
@@ -59,17 +60,6 @@ pub data ReplayEnds
       → IsReplay statements silent spec events read.moves read.claim answer
       → ReplayEnds shelf specification trace explanation silent statements
       (reported (replay_status answer) (replay_line (length events) answer))
-
--- the runs of a specification along a trace, from a start that is ready
-abbrev pub task_of : ℕ → ℕ → Spec → List Event → Situation → List Event → Setup
-task_of silent statements spec events s outs = record {
-  spec = spec;
-  limit = statements;
-  silent = silent;
-  trace = events;
-  start = s;
-  start_outs = outs;
-}
 
 -- `explain` ends at the first of its files that is refused, or at a start that faults or passes its
 -- limit, or tells the verdict, in a report whose numbers an explanation may have
@@ -112,3 +102,4 @@ Ends shelf (explain specification trace silent budget statements) end =
     ExplainEnds shelf specification trace silent budget statements end
 Ends shelf (replay specification trace explanation silent statements) end =
     ReplayEnds shelf specification trace explanation silent statements end
+Ends shelf (selfrun specification seed count) end = SelfRunEnds shelf specification seed count end

@@ -1,5 +1,7 @@
 pub mod Ends
 pub mod ReplayReports
 pub mod Result
+pub mod SelfRuns
 pub mod Started
+pub mod Tasks
 pub mod inside

@@ -4,9 +4,9 @@ use Rattle.est_syntax.specs.declared.specification.Spec.{Spec}
 use Rattle.est_choices.specs.declared.event.Event.{Event}
 use Rattle.est_files.specs.Seen.{Seen}
 use Rattle.est_files.specs.FileEnds.{HoldsSpecification, HoldsTrace}
-use Rattle.est_words.specs.Requests.{Request, check, explain, replay}
+use Rattle.est_words.specs.Requests.{Request, check, explain, replay, selfrun}
 
--- `check` starts its file, once
+-- `check` starts its file, once, and so does `selfrun`
 abbrev pub CheckStarts : List ℕ → List (List ℕ) → Type 0
 CheckStarts name names = names ≡ name ∷ []
 
@@ -35,3 +35,4 @@ Starts shelf (explain specification trace silent budget statements) names =
     ExplainStarts shelf specification trace names
 Starts shelf (replay specification trace explanation silent statements) names =
     ReplayStarts shelf specification trace explanation names
+Starts shelf (selfrun specification seed count) names = CheckStarts specification names

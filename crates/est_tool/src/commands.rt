@@ -7,7 +7,8 @@ ghost use Rattle.est_files.specs.Seen.{seen, shelved};
 ghost use Rattle.est_files.specs.FileTexts.{Holds, OfSpecification, OfTrace};
 ghost use Rattle.est_words.specs.Requests.{check, explain, replay};
 ghost use Rattle.est_tool.specs.inside.Work.{IsWork, Gives, IsCounted};
-ghost use Rattle.est_tool.specs.inside.Work.{IsAnswered, IsExplained, Tells};
+ghost use Rattle.est_tool.specs.inside.Work.{IsAnswered, IsExplained, IsReport, Tells};
+ghost use Rattle.est_reports.specs.SearchReports.{no_start_line, over_start_line};
 
 use crate::replay_report::{replay_report, replay_status};
 use crate::search::{Searched, search};
@@ -25,6 +26,7 @@ use est_reports::search_report::{
     no_start_report, over_start_report, verdict_report, verdict_status,
 };
 use est_runs::run::Limits;
+use est_semantics::fault::BlockFault;
 use est_words::status::Status;
 use std::alloc::Global;
 
@@ -133,21 +135,31 @@ fn told(alloc: Global, found: &Searched, events: u32, limit: u32) -> Result<Repo
                 text,
             })
         }
-        Searched::Fault(fault) => {
-            let text = no_start_report(alloc, *fault)?;
-            Ok(Report {
-                status: Status::NoStart,
-                text: text.into_bytes(),
-            })
-        }
-        Searched::Limit => {
-            let text = over_start_report(alloc, limit)?;
-            Ok(Report {
-                status: Status::OverBudget,
-                text: text.into_bytes(),
-            })
-        }
+        Searched::Fault(fault) => not_started(alloc, *fault),
+        Searched::Limit => start_over(alloc, limit),
     }
+}
+
+/// The report of a start that faults.
+pub(crate) fn not_started(alloc: Global, fault: BlockFault) -> Result<Report, Stop>
+    ensures { Gives (IsReport Status.NoStart (no_start_line fault)) result }
+{
+    let text = no_start_report(alloc, fault)?;
+    Ok(Report {
+        status: Status::NoStart,
+        text: text.into_bytes(),
+    })
+}
+
+/// The report of a start that passes the limit of statements.
+pub(crate) fn start_over(alloc: Global, limit: u32) -> Result<Report, Stop>
+    ensures { Gives (IsReport Status.OverBudget (over_start_line limit)) result }
+{
+    let text = over_start_report(alloc, limit)?;
+    Ok(Report {
+        status: Status::OverBudget,
+        text: text.into_bytes(),
+    })
 }
 
 /// Replays the explanation of a trace.

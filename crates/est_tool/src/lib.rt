@@ -4,4 +4,5 @@
 mod commands;
 mod replay_report;
 pub mod search;
+mod self_run;
 pub mod top;

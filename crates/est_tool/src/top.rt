@@ -6,6 +6,7 @@ ghost use Rattle.est_tool.specs.inside.Work.{IsMade, IsObeyed};
 ghost use Rattle.est_tool.specs.inside.Written.{HasReport, IsReportable, Delivers, Sends};
 
 use crate::commands::{ExplainFiles, ReplayFiles, check_file, explain_files, replay_files};
+use crate::self_run::self_run_file;
 use est_edge::{Shelf, Sink, write_whole};
 use est_files::{Report, Stop};
 use est_words::status::Status;
@@ -61,6 +62,9 @@ fn obey<S: Shelf>(
                 explanation: words[3].as_str(),
             };
             replay_files(alloc, shelf, &files, &limits)
+        }
+        Command::SelfRun { seed, count } => {
+            self_run_file(alloc, shelf, words[1].as_str(), seed, count)
         }
     }
 }

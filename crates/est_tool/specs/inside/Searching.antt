@@ -10,7 +10,7 @@ use Rattle.est_runs.specs.declared.run.Limits.{Limits}
 use Rattle.est_search.specs.Verdict.{IsVerdict}
 use Rattle.est_tool.specs.declared.search.Searched.{Searched}
 use Rattle.est_tool.specs.declared.search.Searched.TheVariants as searched
-use Rattle.est_tool.specs.Ends.{task_of}
+use Rattle.est_tool.specs.Tasks.{task_of}
 
 -- the verdict, where the start is ready, and else what comes of the start
 abbrev pub IsSearched : Limits → Spec → List Event → Searched → Type 0

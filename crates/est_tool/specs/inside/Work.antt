@@ -40,9 +40,13 @@ abbrev pub Gives : (Status → List ℕ → Type 0) → Result Report Stop → T
 Gives P (Ok report) = P report.status report.text.items
 Gives P (Err stop) = stop ≡ OutOfMemory
 
+-- this status, and this report
+abbrev pub IsReport : Status → List ℕ → Status → List ℕ → Type 0
+IsReport status report status' report' = (status' ≡ status) × (report' ≡ report)
+
 -- the report of a good specification
 abbrev pub IsCounted : Spec → Status → List ℕ → Type 0
-IsCounted spec status report = (status ≡ Fine) × (report ≡ ok_line (counts_of spec))
+IsCounted spec = IsReport Fine (ok_line (counts_of spec))
 
 -- the report of a replay within limits, by the one answer
 abbrev pub IsAnswered : ℕ → ℕ → Spec → List Event → Explanation → Status → List ℕ → Type 0
@@ -56,9 +60,9 @@ Tells limit events (searched.Found verdict) status report =
     (status ≡ verdict_status verdict) × (report ≡ verdict_report limit events verdict)
     × IsReadable limit events verdict
 Tells limit events (searched.Fault fault) status report =
-    (status ≡ NoStart) × (report ≡ no_start_line fault)
+    IsReport NoStart (no_start_line fault) status report
 Tells limit events searched.Limit status report =
-    (status ≡ OverBudget) × (report ≡ over_start_line limit)
+    IsReport OverBudget (over_start_line limit) status report
 
 -- the report of a search within limits, by the one thing that came of it
 abbrev pub IsExplained : Limits → Spec → List Event → Status → List ℕ → Type 0
