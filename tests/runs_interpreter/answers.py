@@ -5,9 +5,11 @@ import functools
 from rules_checker.tokens import tokens_of
 from rules_checker.verdict import judged
 
+from .generator import Generator
+from .making import LimitPassed, Maker
 from .modules import System
 from .search import OverFirings, Rejected, Replay, Search
-from .texts import ExplanationReader, Refused, TraceReader, written_explanation
+from .texts import ExplanationReader, Refused, TraceReader, written_explanation, written_trace
 from .values import Fault, Limit
 from .world import World
 
@@ -62,10 +64,8 @@ def explained(specification, trace, silent=SILENT, budget=BUDGET, statements=STA
     world = World(system, statements)
     try:
         situation, sent = world.start()
-    except Fault as fault:
-        return 11, f"no start: {fault}\n"
-    except Limit:
-        return 5, f"{{ over budget: the start passed the limit {statements} }}\n"
+    except (Fault, Limit) as cause:
+        return no_start(cause, statements)
     search = Search(world, events, silent, budget)
     try:
         moves = search.found(situation, sent)
@@ -75,6 +75,12 @@ def explained(specification, trace, silent=SILENT, budget=BUDGET, statements=STA
         total = len(events)
         return 0, f"{{ accepted: {total} events }}\n" + written_explanation(moves, total + 1)
     return over_action(search, statements) if search.passed else refused_at(search, len(events))
+
+
+def no_start(cause, statements=STATEMENTS):
+    if isinstance(cause, Fault):
+        return 11, f"no start: {cause}\n"
+    return 5, f"{{ over budget: the start passed the limit {statements} }}\n"
 
 
 def over_action(search, statements):
@@ -115,3 +121,38 @@ def replayed(specification, trace, explanation, silent=SILENT, statements=STATEM
         return 1, "rejected at move {}: {}\n".format(*rejected.args)
     total = len(events)
     return 0, f"confirmed: {f'all {total}' if claim > total else f'first {claim} of {total}'} events\n"
+
+
+def made(specification, seed, count):
+    """What makes a trace, after it was made, or the report where there is none."""
+    if answer := checked(specification):
+        return None, answer
+    maker = Maker(World(system_of(specification), STATEMENTS), Generator(seed), SILENT)
+    try:
+        maker.make(count)
+    except (Fault, Limit) as cause:
+        return None, no_start(cause)
+    except LimitPassed:
+        return None, (5, f"limit after {len(maker.moves)} moves\n")
+    return maker, None
+
+
+def self_run(specification, seed, count, budget=BUDGET):
+    """The answer of `selfrun`. OverFirings, where the search needs more, has its first line."""
+    maker, answer = made(specification, seed, count)
+    if answer:
+        return answer
+    system = maker.world.system
+    text = written_trace(system, maker.events).encode("latin-1")
+    events, answer = read(lambda text: TraceReader(system, text).trace(), "trace", text)
+    if answer:
+        return answer
+    first = f"made: {len(maker.events)} events, {len(text)} bytes, {len(maker.moves)} moves\n"
+    world = World(system, STATEMENTS)
+    try:
+        moves = Search(world, events, SILENT, budget).found(*world.start())
+    except OverFirings:
+        if budget < BUDGET:
+            raise OverFirings(first) from None
+        return 5, f"{first}over budget: {budget} firings tried\n"
+    return 0, f"{first}accepted: {len(moves)} moves\n"

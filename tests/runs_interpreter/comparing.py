@@ -46,13 +46,17 @@ class Call:
             return None, "out of time"
         return run.returncode, run.stdout.decode("latin-1")
 
+    def agrees(self, said, want):
+        """Whether what the program says is what it is to say."""
+        return said == want
+
     def differs(self, program, folder):
         """What the program says and what it is to say, where these differ."""
         said, want = self.said(program, folder), self.answer()
-        return None if said == want else (said, want)
+        return None if self.agrees(said, want) else (said, want)
 
     def with_text(self, name, text):
-        return Call(self.command, {**self.texts, name: text}, self.limits)
+        return dataclasses.replace(self, texts={**self.texts, name: text})
 
     def words(self, number):
         files = [f"{number}.{NAMES[name]}" for name in self.texts]
@@ -163,6 +167,8 @@ def told_as(answer):
     """What is counted of an answer."""
     status, report = answer
     first = re.sub(r"\d+", "N", report.split("\n")[0])
+    if found := re.search(r"^(accepted|over budget): \d+", report, re.MULTILINE):
+        first += f", {found[1]}"
     fault = re.search(r"\{ fault (.*) in ", report)
     return f"{status} {first}" + (f" with fault {fault[1]}" if fault else "")
 
@@ -182,7 +188,7 @@ class Comparison:
             self.told["too deep for the interpreter"] += 1
             return
         self.told[told_as(want)] += 1
-        if call.said(self.program, self.folder) != want:
+        if not call.agrees(call.said(self.program, self.folder), want):
             self.keep(call)
 
     def keep(self, call):
