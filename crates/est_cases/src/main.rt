@@ -24,7 +24,7 @@ use std::process::ExitCode;
 use std::str;
 
 // The files of cases, in the order in which they are run. The first has the texts that all share.
-const FILES: [&str; 24] = [
+const FILES: [&str; 25] = [
     "texts.cases",
     "words.cases",
     "tokens.cases",
@@ -49,6 +49,7 @@ const FILES: [&str; 24] = [
     "stations.cases",
     "servers.cases",
     "faults.cases",
+    "made.cases",
 ];
 
 // Runs the cases, and ends with 0 where none fails.
