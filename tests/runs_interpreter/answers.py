@@ -124,16 +124,16 @@ def replayed(specification, trace, explanation, silent=SILENT, statements=STATEM
 
 
 def made(specification, seed, count):
-    """What makes a trace, after it was made, or the report where there is none."""
+    """What makes a trace, after it was made, and the report where there is none."""
     if answer := checked(specification):
         return None, answer
     maker = Maker(World(system_of(specification), STATEMENTS), Generator(seed), SILENT)
     try:
         maker.make(count)
     except (Fault, Limit) as cause:
-        return None, no_start(cause)
+        return maker, no_start(cause)
     except LimitPassed:
-        return None, (5, f"limit after {len(maker.moves)} moves\n")
+        return maker, (5, f"limit after {len(maker.moves)} moves\n")
     return maker, None
 
 

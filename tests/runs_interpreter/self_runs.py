@@ -11,8 +11,9 @@ from .comparing import Call
 from .search import OverFirings
 from .texts import written_trace
 
-# How many firings the interpreter tries before it gives up: most searches need fewer.
-FIRINGS = 1000
+# How many firings the interpreter tries before it gives up, and how many statements it enters while it makes a trace,
+# before one of fewer events is asked for.
+FIRINGS, STATEMENTS = 300, 3000
 SEEDS = [0, 1, 2, 42, 2**31, 2**32, 2**63, 2**64 - 1]
 # What is known of a report where the interpreter gave up: its first line, and then one of these.
 EITHER = rf"accepted: \d+ moves\n|over budget: {BUDGET} firings tried\n"
@@ -22,24 +23,25 @@ EITHER = rf"accepted: \d+ moves\n|over budget: {BUDGET} firings tried\n"
 def self_run_of(text, seed, count):
     """The answer of `selfrun`, with None as its status where only its first line is known."""
     try:
-        return self_run(text.encode("latin-1"), seed, count, FIRINGS)
+        return self_run(text, seed, count, FIRINGS)
     except OverFirings as over:
         return None, over.args[0]
 
 
 @functools.lru_cache(20)
-def trace_of(text, seed, count):
-    """The trace that is made, as (0, its text), or what is answered in its place."""
-    maker, answer = made(text.encode("latin-1"), seed, count)
-    return answer or (0, written_trace(maker.world.system, maker.events))
+def made_of(text, seed, count):
+    return made(text, seed, count)
 
 
 @dataclasses.dataclass
 class SelfRun(Call):
     """A trace is made, and explained."""
 
+    def given(self):
+        return self.texts["specification"].encode("latin-1"), *map(int, self.limits)
+
     def answer(self):
-        return self_run_of(self.texts["specification"], *map(int, self.limits))
+        return self_run_of(*self.given())
 
     def agrees(self, said, want):
         if want[0] is not None:
@@ -47,20 +49,26 @@ class SelfRun(Call):
         is_told = said[1].startswith(want[1]) and re.fullmatch(EITHER, said[1][len(want[1]) :])
         return bool(is_told) and said[0] == (0 if "accepted" in said[1] else 5)
 
-    def is_known(self):
-        """Whether the interpreter knows the whole answer."""
-        try:
-            return self.answer()[0] is not None
-        except RecursionError:
-            return True
+    def is_made_soon(self):
+        """Whether the interpreter enters few statements while it makes the trace."""
+        maker, _ = made_of(*self.given())
+        return maker is None or maker.world.entered <= STATEMENTS
+
+    def is_soon(self):
+        """Whether the interpreter also finds how the trace comes about."""
+        return self.is_made_soon() and self.answer()[0] is not None
 
 
 @dataclasses.dataclass
-class Making(Call):
+class Making(SelfRun):
     """A trace is made, and its text written."""
 
     def answer(self):
-        return trace_of(self.texts["specification"], *map(int, self.limits))
+        maker, answer = made_of(*self.given())
+        return answer or (0, written_trace(maker.world.system, maker.events))
+
+    def agrees(self, said, want):
+        return said == want
 
 
 @dataclasses.dataclass
@@ -96,9 +104,9 @@ def seed_of(draw):
 
 
 def count_of(draw):
-    if draw.random() < 0.02:
-        return draw.randint(200, 2000)
-    return draw.choice([0, 1, 2, 3, 5, 10, 20, 30, 40, 60, 80, 100])
+    if draw.random() < 0.01:
+        return draw.randint(100, 1000)
+    return draw.choice([0, 1, 2, 3, 5, 8, 12, 20, 30, 40, 60])
 
 
 def spelled(draw, number):
@@ -108,18 +116,20 @@ def spelled(draw, number):
 
 
 def self_run_for(draw, text):
-    """A call, mostly with so few events that the interpreter finds how they come about."""
-    seed, count = seed_of(draw), count_of(draw)
-    call = SelfRun("selfrun", {"specification": text}, [seed, count])
-    while not call.is_known() and draw.random() < 0.95:
-        count //= 2
-        call = dataclasses.replace(call, limits=[seed, count])
-    return dataclasses.replace(call, limits=[spelled(draw, seed), spelled(draw, count)])
+    """A call, mostly with so few events that the interpreter does not take long."""
+    most, is_any = count_of(draw), draw.random() < 0.05
+    call = SelfRun("selfrun", {"specification": text}, [seed_of(draw), 0])
+    for count in [*(each for each in (8, 64) if each < most), most]:
+        longer = dataclasses.replace(call, limits=[call.limits[0], count])
+        if not (longer.is_made_soon() if is_any else longer.is_soon()):
+            break
+        call = longer
+    return dataclasses.replace(call, limits=[spelled(draw, number) for number in call.limits])
 
 
 def self_runs(draw, text):
     """Some calls for a specification."""
-    for _ in range(6):
+    for _ in range(10):
         yield self_run_for(draw, text)
 
 

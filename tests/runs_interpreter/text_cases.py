@@ -1,15 +1,15 @@
-"""Runs the cases of `explain` and `replay` that the gate has. How they are written is told in texts.cases."""
+"""Runs the cases of `explain`, `replay` and `selfrun` that the gate has. How they are written is told in texts.cases."""
 
 import re
 
-from .answers import Unknown, explained, replayed
+from .answers import Unknown, explained, replayed, self_run
 
 ESCAPES = {"n": b"\n", "t": b"\t", "r": b"\r", "s": b" ", "e": b"", "c": b"", "\\": b"\\"}
 ESCAPE = re.compile(r"\\(x[0-9A-Fa-f]{2}|.)|\$(\w+)|([^\\$]+)")
 # The columns in which the files of a call stand.
 FILES = {"a.est": "specification", "b": "trace", "c": "explanation"}
-# The most bytes of a trace that is looked at here: longer ones take long.
-LONGEST = 100000
+# The most bytes of a trace, and the most events of one that is made, that are looked at here: longer ones take long.
+LONGEST, MOST = 100000, 1000
 # Columns of what is not looked at here.
 LEFT_OUT = {"tokens", "then"}
 
@@ -77,6 +77,8 @@ def files_of(words, cells, folder):
 
 def answer(words, files, explanation=None):
     """(status, report) of a call."""
+    if words[0] == "selfrun":
+        return self_run(files.get(words[1], b""), *map(int, words[2:]))
     count = 3 if words[0] == "explain" else 4
     texts, limits = [files.get(name, b"") for name in words[1:count]], map(int, words[count:])
     if words[0] == "explain":
@@ -106,12 +108,12 @@ def difference(cells, folder):
 
 def is_looked_at(cells):
     words = cells.get("words", b"").split()
-    if not words or words[0] not in (b"explain", b"replay") or LEFT_OUT & set(cells):
+    if not words or words[0] not in (b"explain", b"replay", b"selfrun") or LEFT_OUT & set(cells):
         return False
     behaviour = cells.get("shelf", b"") + cells.get("sink", b"")
     if b"fails" in behaviour or "specification" not in cells and behaviour != b"files":
         return False
-    is_short = len(cells.get("trace", b"")) <= LONGEST
+    is_short = len(cells.get("trace", b"")) <= LONGEST and (words[0] != b"selfrun" or int(words[3]) <= MOST)
     return is_short and cells["gives"].split()[0] not in (b"7", b"8", b"9", b"10", b"12")
 
 

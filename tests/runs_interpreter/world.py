@@ -1,6 +1,7 @@
 """The start, the firings that are possible, and what each move makes of a situation."""
 
 import collections
+import contextlib
 
 from . import links
 from .frames import Frame, Run
@@ -24,16 +25,25 @@ class World:
 
     def __init__(self, system, limit):
         self.system, self.limit = system, limit
-        # The most statements that a start or a block has entered.
-        self.most = 0
+        # The most statements that a start or a block has entered, and how many were entered in all.
+        self.most = self.entered = 0
 
     def start(self):
         """The first situation, and what was sent."""
         run = Run(Situation(), self.limit)
-        self.system.start(run, Frame(0))
-        self.most = max(self.most, run.count)
+        with self.counted(run):
+            self.system.start(run, Frame(0))
         self.restamp(run.situation, {}, None)
         return run.situation, self.events(run)
+
+    @contextlib.contextmanager
+    def counted(self, run):
+        """Counts the statements that a start or a block enters."""
+        try:
+            yield
+        finally:
+            self.entered += run.count
+        self.most = max(self.most, run.count)
 
     def events(self, run):
         """What was sent out of the system."""
@@ -46,10 +56,13 @@ class World:
 
     def guard(self, situation, frame, part):
         """The value of a guard part, or None where it faults. Each has the limit for itself."""
+        run = Run(situation, self.limit)
         try:
-            return part(Run(situation, self.limit), frame)
+            return part(run, frame)
         except Fault:
             return None
+        finally:
+            self.entered += run.count
 
     def subscripts(self, situation, frame, when):
         """The subscripts of a `when`: all are evaluated, and None stands for them where one faults."""
@@ -165,8 +178,8 @@ class World:
             queue = links.queue_of(after, at)
             after.queues[queue] = after.queues[queue][1:]
         run = Run(after, self.limit)
-        transition.block(run, frame)
-        self.most = max(self.most, run.count)
+        with self.counted(run):
+            transition.block(run, frame)
         if transition.to:
             row.state = transition.to
         self.restamp(after, after.stamps, firing[:2])
