@@ -14,6 +14,7 @@ use Rattle.est_files.specs.FileEnds.{End, reported, unread}
 use Rattle.est_files.specs.FileEnds.{EndsAtText, text_longer, text_refused}
 use Rattle.est_files.specs.Seen.{Seen}
 use Rattle.est_words.specs.declared.status.Status.{Status}
+use Rattle.est_words.specs.declared.status.Status.TheVariants.{OverBudget, NoStart}
 use Rattle.est_words.specs.Requests.{usual_silent, usual_budget, usual_statements}
 use Rattle.est_reports.specs.SearchReports.{no_start_line, verdict_status}
 use Rattle.est_reports.specs.SelfRunReports.{limit_line}
@@ -99,7 +100,7 @@ module _ (spec : Spec) where
   ends_one : (a b : Made) (end end' : End) → a ≡ b → MadeEnds spec a end → MadeEnds spec b end'
       → end ≡ end'
   ends_one _ _ _ _ same (faults f) (faults g) =
-      let one : f ≡ g = cc in λ i. reported _ (no_start_line (one i))
+      let one : f ≡ g = cc in λ i. reported NoStart (no_start_line (one i))
   ends_one _ _ _ _ same (faults f) start_passes = absurd cc
   ends_one _ _ _ _ same (faults f) (passes run) = absurd cc
   ends_one _ _ _ _ same (faults f) (refuses t run end at) = absurd cc
@@ -114,7 +115,7 @@ module _ (spec : Spec) where
   ends_one _ _ _ _ same (passes run) (faults f) = absurd cc
   ends_one _ _ _ _ same (passes run) start_passes = absurd cc
   ends_one _ _ _ _ same (passes run) (passes run') =
-      let one : run ≡ run' = cc in λ i. reported _ (limit_line (length (one i)))
+      let one : run ≡ run' = cc in λ i. reported OverBudget (limit_line (length (one i)))
   ends_one _ _ _ _ same (passes run) (refuses t run' end at) = absurd cc
   ends_one _ _ _ _ same (passes run) (explains t run' events s outs verdict reads begun is) =
       absurd cc
