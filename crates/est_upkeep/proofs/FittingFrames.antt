@@ -72,11 +72,11 @@ module _ (Q : ℕ → Type 0) where
       (λ b e g. tt) (frame_at fs k) (frame_fits fs k h))
 
   -- what is found in frames
-  abbrev OnFound : Option Slot → Type 0
+  abbrev pub OnFound : Option Slot → Type 0
   OnFound None = Unit {0}
   OnFound (Some x) = OnSlot Q x
 
-  slot_fits : (d : ℕ) (f : Frame) → OnFrame Q f → OnFound (slot_of d f)
+  pub slot_fits : (d : ℕ) (f : Frame) → OnFrame Q f → OnFound (slot_of d f)
   slot_fits d [] h = tt
   slot_fits d (b ∷ f) h = one (is_declared d b) (slot_fits d f h.1)
     where

@@ -1,5 +1,5 @@
 -- What evaluations give: arguments name no instance, and nor do the frames of routines.
-use Rattle.std.proofs.Common.{ℕ, Bool, true, false, List, [], ◌∷◌, ◌++◌, Option, Some}
+use Rattle.std.proofs.Common.{◌≡◌, refl, ℕ, Bool, true, false, List, [], ◌∷◌, ◌++◌, Option, Some}
 use Rattle.std.proofs.Common.{None, Result, Ok, Err, length}
 use Rattle.std.specs.Prelude.{ℤ}
 use Rattle.std.specs.List.{AllByRecursion}
@@ -54,6 +54,20 @@ pub accessed_gives : {A : Type 0} (Q : A → Type 0) (a : Access) (go : ℕ → 
 accessed_gives Q a go v l h = then_gives Q (known (declared_at v.site.text.outline a.name) l) _
     (λ p m. then_gives Q
     (subscripts_in a.index (dims_at v.site.text.outline p) [] v m) (go p) (λ zs i. h p zs i))
+
+-- the same, with what is declared under the name
+pub named_gives : {A : Type 0} (Q : A → Type 0) (a : Access) (go : ℕ → List ℤ → Counts A)
+    (v : View) (l : ℕ) → ((p : ℕ) (zs : List ℤ) (m : ℕ)
+    → declared_at v.site.text.outline a.name ≡ Some p → Gives Q (go p zs m))
+    → Gives Q (accessed a go v l)
+named_gives Q a go v l h = one (declared_at v.site.text.outline a.name) refl
+  where
+    one : (o : Option ℕ) → declared_at v.site.text.outline a.name ≡ o
+        → Gives Q ((known o >>= λ p.
+        subscripts_in a.index (dims_at v.site.text.outline p) [] v >>= go p) l)
+    one None e = tt
+    one (Some p) e = then_gives Q
+        (subscripts_in a.index (dims_at v.site.text.outline p) [] v l) (go p) (λ zs i. h p zs i e)
 
 pub good_gives : {S A : Type 0} (Q : A → Type 0) (r : Result A BlockFault) (s : S) → OnGood Q r
     → Gives Q (lift r s)

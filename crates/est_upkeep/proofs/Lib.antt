@@ -1,5 +1,7 @@
+pub mod BlocksOfExecutions
 pub mod BlocksOfInstances
 pub mod ClimbsEnd
+pub mod Executions
 pub mod FittingFrames
 pub mod GivenThings
 pub mod GoodDelays

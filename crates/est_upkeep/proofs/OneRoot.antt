@@ -28,7 +28,8 @@ use Rattle.est_upkeep.proofs.RowLaws.{from_filtered, HasNumber, living_row, IsUp
 use Rattle.est_upkeep.proofs.RowLaws.{of_rows}
 use Rattle.est_upkeep.proofs.ParentsOlder.{good_if}
 use Rattle.est_upkeep.proofs.OrderlyBlocks.{own_row, state_mild, holds_mild}
-use Rattle.est_upkeep.proofs.BlocksOfInstances.{Upkeep, with_situation, held_child}
+use Rattle.est_upkeep.proofs.BlocksOfInstances.{Upkeep}
+use Rattle.est_upkeep.proofs.Executions.{with_situation, held_child}
 
 -- no instance but the first one is without a parent
 abbrev pub HasOneRoot : List Row → Type 0

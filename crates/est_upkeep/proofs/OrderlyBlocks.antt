@@ -57,8 +57,8 @@ use Rattle.est_upkeep.proofs.LivingLinks.{IsLinked, connected_living, attached_l
 use Rattle.est_upkeep.proofs.LivingLinks.{parted_living, end_living, each_living, sent_living}
 use Rattle.est_upkeep.proofs.LivingLinks.{stay_living, without_living}
 use Rattle.est_upkeep.proofs.ParentsOlder.{age_kept, good_if, ancestors_older, InAge}
-use Rattle.est_upkeep.proofs.BlocksOfInstances.{Upkeep, with_situation, with_sent, held_child}
-use Rattle.est_upkeep.proofs.BlocksOfInstances.{IsEnd, instance_keeps}
+use Rattle.est_upkeep.proofs.BlocksOfInstances.{Upkeep, instance_keeps}
+use Rattle.est_upkeep.proofs.Executions.{with_situation, with_sent, held_child, IsEnd}
 
 -- an instance that was begun is not above another one
 abbrev pub IsApart : ℕ → Situation → ℕ → Type 0
@@ -368,7 +368,7 @@ held_younger n e (x ∷ xs) h = one (is_holding e x) (held_younger n e xs h.1)
     one false g = g
 
 -- what an element of a module variable holds is younger than the instance
-reached_younger : (n : ℕ) (e : Element) (rs : List Row) → AreInAge rs
+pub reached_younger : (n : ℕ) (e : Element) (rs : List Row) → AreInAge rs
     → OnNumber (λ i. n < i) (option_and_then (λ (r : Row). held e r.children)
     (find (is_numbered n) rs))
 reached_younger n e [] h = tt
@@ -417,7 +417,7 @@ child_reached n s p e h = let x = s.situation in
     (λ i l. younger_apart x.rows n i h.age l) (held_in x n e) (reached_younger n e x.rows h.age)))
 
 -- children are younger
-child_younger : (o : Outline) (n header : ℕ) (rs : List Row) → AreInAge rs
+pub child_younger : (o : Outline) (n header : ℕ) (rs : List Row) → AreInAge rs
     → AllByRecursion (λ i. n < i) (map (λ (r : Row). r.number) (filter (is_child o n header) rs))
 child_younger o n header [] h = tt
 child_younger o n header (r ∷ rs) h =

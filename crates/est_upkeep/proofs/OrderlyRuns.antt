@@ -53,7 +53,7 @@ restamped_tree limit t u h = record {
   root = record { alive = h.root.alive; alone = h.root.alone };
 }
 
-start_next : (c : Setup) → BeginsWithInit c.spec
+pub start_next : (c : Setup) → BeginsWithInit c.spec
     → OnNext IsOneTree (start_of c.limit (text_of c.spec))
 unfolding start_of
 start_next c h = let t = text_of c.spec in

@@ -34,7 +34,8 @@ use Rattle.est_upkeep.proofs.ParentsOlder.{begun_age}
 use Rattle.est_upkeep.proofs.OrderlyBlocks.{Works, IsAtWork, Follows, Reached, order_kept}
 use Rattle.est_upkeep.proofs.OrderlyBlocks.{order_done}
 use Rattle.est_upkeep.proofs.OneRoot.{UnderRoot, Whatever, root_kept}
-use Rattle.est_upkeep.proofs.BlocksOfInstances.{with_situation, initialized_keeps, deeper_keep}
+use Rattle.est_upkeep.proofs.BlocksOfInstances.{initialized_keeps, deeper_keep}
+use Rattle.est_upkeep.proofs.Executions.{with_situation}
 
 none_some : {A : Type 0} (a : A) → None ≡ Some a → ⊥
 none_some a h = cc

@@ -65,12 +65,12 @@ bound_plain [] vs = tt
 bound_plain (p ∷ ps) [] = tt
 bound_plain (p ∷ ps) (v ∷ vs) = (tt, bound_plain ps vs)
 
-unset_plain : (o : Outline) (ps : List ℕ) → IsPlain (map (unset o) ps)
+pub unset_plain : (o : Outline) (ps : List ℕ) → IsPlain (map (unset o) ps)
 unset_plain o [] = tt
 unset_plain o (p ∷ ps) = (tt, unset_plain o ps)
 
 -- the choice of a firing is one of its instance, and its `any` variables have values
-choice_is : (t : Text) (s : Situation) (f : Firing) (c : Choice) → choice_of t s f ≡ Some c
+pub choice_is : (t : Text) (s : Situation) (f : Firing) (c : Choice) → choice_of t s f ≡ Some c
     → (row_of s f.instance ≡ Some c.row) × IsPlain c.chosen
 choice_is t s f c h =
     let a = then_some (choice_in t f) (row_of s f.instance) c h in
@@ -82,7 +82,7 @@ choice_is t s f c h =
           (bound_plain (any_places t.outline b.0) _),
     )
 
-found_number : (n : ℕ) (rs : List Row) (r : Row) → find (is_numbered n) rs ≡ Some r
+pub found_number : (n : ℕ) (rs : List Row) (r : Row) → find (is_numbered n) rs ≡ Some r
     → n ≡ r.number
 found_number n [] r e = absurd (none_some r e)
 found_number n (x ∷ xs) r e = one (nat_eq n x.number) refl e (found_number n xs r)
@@ -101,7 +101,7 @@ module _ (limit : ℕ) (t : Text) (s : Situation) (c : Choice) (plain : IsPlain 
       let a = map_some _ (awaited_item limit t s c w) frames e in
       subst NameNone a.2 (plain, (bound_plain _ a.0.values, tt))
 
-  seen_plain : (v : View) → view_of limit t s c ≡ Some v → NameNone v.frames
+  pub seen_plain : (v : View) → view_of limit t s c ≡ Some v → NameNone v.frames
   seen_plain v e = one (is_from t c) e
     where
       one : (b : Bool) → (if b

@@ -49,7 +49,8 @@ use Rattle.est_upkeep.proofs.ParentsOlder.{good_if, joined_all, kept_all}
 use Rattle.est_upkeep.proofs.OneRoot.{Whatever, any_good, any_all}
 use Rattle.est_upkeep.proofs.OrderlyRuns.{in_each}
 use Rattle.est_upkeep.proofs.OrderlySteps.{finished_next}
-use Rattle.est_upkeep.proofs.BlocksOfInstances.{Upkeep, with_situation, held_child, instance_keeps}
+use Rattle.est_upkeep.proofs.BlocksOfInstances.{Upkeep, instance_keeps}
+use Rattle.est_upkeep.proofs.Executions.{with_situation, held_child}
 
 -- QUEUES
 

@@ -39,8 +39,8 @@ use Rattle.est_upkeep.specs.AncestorLaws.{AncestorsAreOlder, NoneIsItsAncestor}
 use Rattle.est_upkeep.proofs.GivenThings.{OnGood}
 use Rattle.est_upkeep.proofs.SameRows.{HasSameRows, crossed_rows, parted_rows, end_rows}
 use Rattle.est_upkeep.proofs.SameRows.{each_rows}
-use Rattle.est_upkeep.proofs.BlocksOfInstances.{Upkeep, with_situation, instance_keeps}
-use Rattle.est_upkeep.proofs.BlocksOfInstances.{held_child}
+use Rattle.est_upkeep.proofs.BlocksOfInstances.{Upkeep, instance_keeps}
+use Rattle.est_upkeep.proofs.Executions.{with_situation, held_child}
 use Rattle.est_upkeep.proofs.RowLaws.{of_rows}
 
 -- ROWS
@@ -169,7 +169,7 @@ born_age : (t : Text) (n body : ℕ) (e : Element) (s : State) (r : Result Frame
 born_age t n body e s (Ok f) g = begun_age t n body e f s g
 born_age t n body e s (Err f) g = tt
 
-good_unit : {A : Type 0} (r : Result A BlockFault) → OnGood (λ x. Unit {0}) r
+pub good_unit : {A : Type 0} (r : Result A BlockFault) → OnGood (λ x. Unit {0}) r
 good_unit (Ok x) = tt
 good_unit (Err f) = tt
 

@@ -1,4 +1,5 @@
 pub mod AncestorLaws
+pub mod AttachTargets
 pub mod ClimbLaws
 pub mod OrderLaws
 pub mod RunOrder
