@@ -1,0 +1,4 @@
+pub mod OwnFrames
+pub mod YoungerBlocks
+pub mod YoungerLinks
+pub mod YoungerRuns

@@ -1,0 +1,2 @@
+pub mod InsideTargets
+pub mod YoungerLaws

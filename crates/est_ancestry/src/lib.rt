@@ -1,0 +1,4 @@
+//! Attachments lead from older instances to younger ones.
+#![tactic(auto)]
+
+pub mod laws;
