@@ -1,0 +1,4 @@
+pub mod PlainNames
+pub mod ReadableKinds
+pub mod ReadablePorts
+pub mod ReadBackLaws
