@@ -39,7 +39,8 @@ use Rattle.est_trace.proofs.SameTests.{same_head}
 use Rattle.est_written_values.specs.WrittenLists.{bracketed}
 use Rattle.est_written_values.specs.WrittenOrdinals.{ordinal_text}
 use Rattle.est_written_values.specs.WrittenValues.{value_text, value_texts}
-use Rattle.est_written_traces.specs.WrittenTraces.{ordinal_texts, index_text, signal_text, signal_at, signals_at}
+use Rattle.est_written_traces.specs.WrittenTraces.{ordinal_texts, index_text, signal_text}
+use Rattle.est_written_traces.specs.WrittenTraces.{signal_at, signals_at}
 use Rattle.est_written_traces.specs.WrittenTraces.{name_at, index_at, interaction_text, happening}
 use Rattle.est_read_back.specs.ReadablePorts.{IsReadableSignal, IsReadablePort, AreReadablePorts}
 use Rattle.est_explanation.proofs.Words.{Written}

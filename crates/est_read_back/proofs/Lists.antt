@@ -1,5 +1,6 @@
 -- Lists, as they are written.
-use Rattle.std.proofs.Common.{◌≡◌, ℕ, suc, ℤ, pos, ◌+ℤ◌, ◌≤ℤ◌, List, [], ◌∷◌, ◌++◌, length, refl, sym}
+use Rattle.std.proofs.Common.{◌≡◌, ℕ, suc, ℤ, pos, ◌+ℤ◌, ◌≤ℤ◌, List, [], ◌∷◌, ◌++◌, length, refl}
+use Rattle.std.proofs.Common.{sym}
 use Rattle.std.proofs.Common.{subst, arith, inl, inr, ◌↔◌, flat_map, Some}
 use Rattle.std.proofs.Common.{slice_get}
 use Rattle.std.specs.List.{AllZip}
@@ -170,4 +171,5 @@ module _ (base : Kind) (r : IsReadableOrdinal base) where
       (items_end (ordinal_text base) zs) (λ t u i j. (i, j)))
       (mark_written symbols.RightBracket 93 right_bracket done_written)
       (λ rest e. mark_ends symbols.RightBracket 93 right_bracket rest)
-      (λ t u i j. subst (λ v. AreClosedRun (z ∷ zs) (both t v)) (sym j) i)) _ (λ t i. run_shown (z ∷ zs) t m i))
+      (λ t u i j. subst (λ v. AreClosedRun (z ∷ zs) (both t v)) (sym j) i)) _
+      (λ t i. run_shown (z ∷ zs) t m i))

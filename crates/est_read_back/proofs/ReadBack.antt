@@ -101,7 +101,8 @@ texts spec events tokens readable allowed h =
     let ports = ports_of spec in
     let at : AreAtPorts ports events = λ i d l. at_ports spec (get_or events i d)
     (allowed.each i d l) in
-    written_text ports events (trace_written ports (good_ports spec) readable events at) allowed.few tokens h
+    let w = trace_written ports (good_ports spec) readable events at in
+    written_text ports events w allowed.few tokens h
 
 -- the answer to a text of the trace
 answered : (ports : List Port) (text : List ℕ) (tokens : List Token) (events : List Event)

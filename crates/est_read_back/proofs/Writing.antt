@@ -13,7 +13,8 @@ use Rattle.est_reader.specs.Tests.{Test, Kept, holds, kept_of, language}
 use Rattle.est_reader.specs.Going.{Shape}
 use Rattle.est_value_texts.specs.TraceGrammar.{Production, Rule, production}
 use Rattle.est_value_texts.proofs.Places.{some_same}
-use Rattle.est_explanation.proofs.Words.{Written, IsWhole, text_of, text_append, IsWritten, AreWritten}
+use Rattle.est_explanation.proofs.Words.{Written, IsWhole, text_of, text_append, IsWritten}
+use Rattle.est_explanation.proofs.Words.{AreWritten}
 use Rattle.est_read_back.proofs.Wholes.{AreWholeBefore, whole_append}
 
 -- A token that is a word meets a test.
