@@ -1,7 +1,7 @@
 -- Events, as they are written.
-use Rattle.std.proofs.Common.{◌≡◌, ℕ, Bool, true, false, ◌&&◌}
-use Rattle.std.proofs.Common.{List, [], ◌∷◌, ◌++◌, length, get_or, refl, sym, ap, ap₂, subst, ◌∙◌}
-use Rattle.std.proofs.Common.{arith, append_assoc, bytes_eq, eqb, Option, Some, slice_get}
+use Rattle.std.proofs.Common.{◌≡◌, ℕ, Bool, true, false, ◌&&◌, List, [], ◌∷◌, ◌++◌, length, get_or}
+use Rattle.std.proofs.Common.{refl, sym, ap, ap₂, subst, ◌∙◌, arith, append_assoc, bytes_eq, eqb}
+use Rattle.std.proofs.Common.{Option, Some, slice_get}
 use Rattle.std.specs.List.{AllZip}
 use Rattle.std.specs.Prelude.{codes}
 use Rattle.std.specs.Str.{str_to_ascii_lowercase}
@@ -13,8 +13,7 @@ use Rattle.est_lexer.specs.Between.{is_blank, opening}
 use Rattle.est_lexer.specs.Spellings.{is_identifier, is_identifier_part, name_kind, word_kind}
 use Rattle.est_lexer.specs.Words.{words}
 use Rattle.est_lexer.proofs.SymbolBytes.{one_period}
-use Rattle.est_language.specs.Grammar.{word, seq, when, one_of, Tree}
-use Rattle.est_language.specs.Grammar.{both, left, right, pick}
+use Rattle.est_language.specs.Grammar.{word, seq, when, one_of, Tree, both, left, right, pick}
 use Rattle.est_syntax.specs.Kinds.{maxint}
 use Rattle.est_syntax.specs.declared.kind.Kind.{Kind}
 use Rattle.est_syntax.specs.declared.ports.Direction.{Direction}
@@ -40,8 +39,8 @@ use Rattle.est_written_values.specs.WrittenLists.{bracketed}
 use Rattle.est_written_values.specs.WrittenOrdinals.{ordinal_text}
 use Rattle.est_written_values.specs.WrittenValues.{value_text, value_texts}
 use Rattle.est_written_traces.specs.WrittenTraces.{ordinal_texts, index_text, signal_text}
-use Rattle.est_written_traces.specs.WrittenTraces.{signal_at, signals_at}
-use Rattle.est_written_traces.specs.WrittenTraces.{name_at, index_at, interaction_text, happening}
+use Rattle.est_written_traces.specs.WrittenTraces.{signal_at, signals_at, name_at, index_at}
+use Rattle.est_written_traces.specs.WrittenTraces.{interaction_text, happening}
 use Rattle.est_read_back.specs.ReadablePorts.{IsReadableSignal, IsReadablePort, AreReadablePorts}
 use Rattle.est_explanation.proofs.Words.{Written}
 use Rattle.est_read_back.proofs.Wholes.{Ends, Stands, standing_whole, name_stands, symbol_stands}

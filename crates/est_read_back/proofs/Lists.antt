@@ -1,19 +1,16 @@
 -- Lists, as they are written.
 use Rattle.std.proofs.Common.{◌≡◌, ℕ, suc, ℤ, pos, ◌+ℤ◌, ◌≤ℤ◌, List, [], ◌∷◌, ◌++◌, length, refl}
-use Rattle.std.proofs.Common.{sym}
-use Rattle.std.proofs.Common.{subst, arith, inl, inr, ◌↔◌, flat_map, Some}
-use Rattle.std.proofs.Common.{slice_get}
+use Rattle.std.proofs.Common.{sym, subst, arith, inl, inr, ◌↔◌, flat_map, Some, slice_get}
 use Rattle.std.specs.List.{AllZip}
 use Rattle.std.specs.Prelude.{codes}
 use Rattle.std.proofs.lemmas.Int.{ints}
 use Rattle.est_lexer.specs.declared.kind.Symbol as mark
 use Rattle.est_lexer.specs.declared.kind.Symbol.TheVariants as symbols
-use Rattle.est_language.specs.Grammar.{done, rep, t_done, t_rep_out}
-use Rattle.est_language.specs.Grammar.{nothing, both, left, right}
+use Rattle.est_language.specs.Grammar.{done, rep, t_done, t_rep_out, nothing, both, left, right}
 use Rattle.est_syntax.specs.Least.{IsIn}
 use Rattle.est_syntax.specs.declared.kind.Kind.{Kind}
-use Rattle.est_values.specs.FittingValues.{AreMembersOf, AscendFrom, IsOrdinalOf}
-use Rattle.est_values.specs.FittingValues.{first_ordinal, last_ordinal}
+use Rattle.est_values.specs.FittingValues.{AreMembersOf, AscendFrom, IsOrdinalOf, first_ordinal}
+use Rattle.est_values.specs.FittingValues.{last_ordinal}
 use Rattle.est_reader.specs.Going.{Shape}
 use Rattle.est_value_texts.specs.TraceGrammar as grammar
 use Rattle.est_value_texts.specs.TraceGrammar.{Rule, symbol}
@@ -27,8 +24,8 @@ use Rattle.est_read_back.specs.ReadableKinds.{IsReadableOrdinal}
 use Rattle.est_read_back.proofs.Wholes.{Ends}
 use Rattle.est_read_back.proofs.Writing.{Writes, nothing_written, both_written, turn_written}
 use Rattle.est_read_back.proofs.Writing.{first_written, second_written, shown_written}
-use Rattle.est_read_back.proofs.Marks.{IsMark, mark_written, mark_ends, comma_written}
-use Rattle.est_read_back.proofs.Marks.{left_bracket, right_bracket}
+use Rattle.est_read_back.proofs.Marks.{IsMark, mark_written, mark_ends, comma_written, left_bracket}
+use Rattle.est_read_back.proofs.Marks.{right_bracket}
 use Rattle.est_read_back.proofs.Scalars.{done_written, ordinal_written}
 
 -- an item after a comma

@@ -1,6 +1,6 @@
 -- What is written of a trace is read as what it was written of.
-use Rattle.std.proofs.Common.{◌≡◌, ℕ, ◌≤◌, List, [], ◌∷◌, length, drop, get_or, refl}
-use Rattle.std.proofs.Common.{sym, subst, arith, length-drop}
+use Rattle.std.proofs.Common.{◌≡◌, ℕ, ◌≤◌, List, [], ◌∷◌, length, drop, get_or, refl, sym, subst}
+use Rattle.std.proofs.Common.{arith, length-drop}
 use Rattle.std.specs.Prelude.{Result, Ok, Err}
 use Rattle.std.proofs.lemmas.List.{append-nil}
 use Rattle.est_lexer.specs.declared.kind.Token.{Token}
@@ -15,8 +15,8 @@ use Rattle.est_ports.specs.PortList.{ports_of}
 use Rattle.est_port_names.proofs.GoodPorts.{good_ports}
 use Rattle.est_choices.specs.declared.event.Event.{Event}
 use Rattle.est_choices.specs.declared.event.Event.TheVariants.{Arrives, Leaves, Passes}
-use Rattle.est_choices.specs.AllowedEvents.{IsReceivable, IsSendable, IsAllowed}
-use Rattle.est_choices.specs.AllowedEvents.{most_events, IsAllowedTrace}
+use Rattle.est_choices.specs.AllowedEvents.{IsReceivable, IsSendable, IsAllowed, most_events}
+use Rattle.est_choices.specs.AllowedEvents.{IsAllowedTrace}
 use Rattle.est_value_texts.specs.TraceGrammar.{trace}
 use Rattle.est_trace.specs.declared.error.TraceError.{TraceError}
 use Rattle.est_trace.specs.declared.error.TraceError.TheVariants.{BadToken, TooMany, Memory}

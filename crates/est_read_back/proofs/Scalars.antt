@@ -1,9 +1,8 @@
 -- Ordinals, as they are written.
 use Rattle.std.proofs.Common.{◌≡◌, ℕ, zero, suc, ◌+◌, ◌<◌, ◌≤◌, ◌^◌, max, min, ℤ, pos, negsuc}
-use Rattle.std.proofs.Common.{neg_ℤ}
-use Rattle.std.proofs.Common.{◌≤ℤ◌, ◌<ℤ◌, ◌-ℤ◌, Bool, true, false, not, ◌||◌, List, [], ◌∷◌, ◌++◌}
-use Rattle.std.proofs.Common.{length, take, refl, sym, ap, ap₂, subst, ◌∙◌, arith, eqb, bytes_eq}
-use Rattle.std.proofs.Common.{Some, slice_get, if◌then◌else◌, le-leb}
+use Rattle.std.proofs.Common.{neg_ℤ, ◌≤ℤ◌, ◌<ℤ◌, ◌-ℤ◌, Bool, true, false, not, ◌||◌, List, [], ◌∷◌}
+use Rattle.std.proofs.Common.{◌++◌, length, take, refl, sym, ap, ap₂, subst, ◌∙◌, arith, eqb}
+use Rattle.std.proofs.Common.{bytes_eq, Some, slice_get, if◌then◌else◌, le-leb}
 use Rattle.std.specs.Fmt.{signed_decimal}
 use Rattle.std.specs.List.{list_any}
 use Rattle.std.specs.Option.{option_map_or}
@@ -16,15 +15,15 @@ use Rattle.est_lexer.specs.declared.kind.TokenKind.TheVariants.{Character}
 use Rattle.est_lexer.specs.declared.kind.Symbol.TheVariants as symbols
 use Rattle.est_lexer.specs.Spellings.{is_plain_character, word_kind}
 use Rattle.est_lexer.specs.Words.{words}
-use Rattle.est_language.specs.Grammar.{done, word, token, when, t_done}
-use Rattle.est_language.specs.Grammar.{nothing, leaf, both, left, right, pick, Tree}
+use Rattle.est_language.specs.Grammar.{done, word, token, when, t_done, nothing, leaf, both, left}
+use Rattle.est_language.specs.Grammar.{right, pick, Tree}
 use Rattle.est_syntax.specs.Kinds.{maxint, Holds, IsWellFormed, integers, booleans, characters}
 use Rattle.est_syntax.specs.Kinds.{constants, part, sets, arrays, records}
 use Rattle.est_syntax.specs.declared.name.Name.{Name}
 use Rattle.est_syntax.specs.declared.kind.Kind.{Kind, out-Kind}
 use Rattle.est_syntax.specs.declared.kind.Kind.TheOpen as kinds
-use Rattle.est_values.specs.FittingValues.{KindLayer, first_of, last_of, IsOrdinalOf}
-use Rattle.est_values.specs.FittingValues.{first_ordinal, last_ordinal}
+use Rattle.est_values.specs.FittingValues.{KindLayer, first_of, last_of, IsOrdinalOf, first_ordinal}
+use Rattle.est_values.specs.FittingValues.{last_ordinal}
 use Rattle.est_values.specs.OrdinalTuples.{ordinals_of}
 use Rattle.est_reader.specs.Tests.{named, character, value, code, language}
 use Rattle.est_reader.specs.Going.{Shape}

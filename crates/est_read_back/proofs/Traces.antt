@@ -1,7 +1,6 @@
 -- Whole traces, as they are written.
-use Rattle.std.proofs.Common.{◌≡◌, ℕ, zero, suc, ◌≤◌, true, List, [], ◌∷◌, ◌++◌}
-use Rattle.std.proofs.Common.{length, drop, refl, sym, ap, subst, ◌∙◌, arith, append_assoc}
-use Rattle.std.proofs.Common.{flat_map}
+use Rattle.std.proofs.Common.{◌≡◌, ℕ, zero, suc, ◌≤◌, true, List, [], ◌∷◌, ◌++◌, length, drop, refl}
+use Rattle.std.proofs.Common.{sym, ap, subst, ◌∙◌, arith, append_assoc, flat_map}
 use Rattle.std.specs.List.{list_all}
 use Rattle.std.specs.Prelude.{codes}
 use Rattle.std.proofs.lemmas.List.Elements.{All-head, All-tail}
@@ -11,8 +10,8 @@ use Rattle.est_lexer.specs.declared.kind.TokenKind.TheVariants.{Number}
 use Rattle.est_lexer.specs.Between.{is_blank}
 use Rattle.est_lexer.specs.Spellings.{word_kind}
 use Rattle.est_lexer.specs.Words.{words}
-use Rattle.est_language.specs.Grammar.{done, word, deeper, rule, t_done, t_opt_out}
-use Rattle.est_language.specs.Grammar.{t_deeper, t_rule, nothing, both, some}
+use Rattle.est_language.specs.Grammar.{done, word, deeper, rule, t_done, t_opt_out, t_deeper}
+use Rattle.est_language.specs.Grammar.{t_rule, nothing, both, some}
 use Rattle.est_syntax.specs.declared.ports.Port.{Port}
 use Rattle.est_choices.specs.declared.event.Event.{Event}
 use Rattle.est_choices.specs.declared.event.Event.TheVariants.{Arrives, Leaves, Passes}

@@ -1,7 +1,7 @@
 -- Values, as they are written.
 use Rattle.std.proofs.Common.{◌≡◌, ℕ, zero, suc, ℤ, pos, negsuc, ◌≤ℤ◌, List, [], ◌∷◌, length, refl}
-use Rattle.std.proofs.Common.{sym, ap}
-use Rattle.std.proofs.Common.{subst, ◌∙◌, arith, true, false, IsTrue, replicate, Some, slice_get}
+use Rattle.std.proofs.Common.{sym, ap, subst, ◌∙◌, arith, true, false, IsTrue, replicate, Some}
+use Rattle.std.proofs.Common.{slice_get}
 use Rattle.std.specs.List.{AllZip}
 use Rattle.std.specs.Prelude.{codes}
 use Rattle.std.proofs.lemmas.Int.{ints}
@@ -31,8 +31,8 @@ use Rattle.est_written_values.specs.WrittenOrdinals.{ordinal_text}
 use Rattle.est_written_values.specs.WrittenValues as written
 use Rattle.est_written_values.specs.WrittenValues.{value_text, value_texts, set_text, group_text}
 use Rattle.est_written_values.proofs.ValueTexts.{undefined_text, ordinal_is, set_is, group_is}
-use Rattle.est_read_back.specs.ReadableKinds.{IsReadableOrdinal, IsReadable, ordinals, sets}
-use Rattle.est_read_back.specs.ReadableKinds.{arrays, records}
+use Rattle.est_read_back.specs.ReadableKinds.{IsReadableOrdinal, IsReadable, ordinals, sets, arrays}
+use Rattle.est_read_back.specs.ReadableKinds.{records}
 use Rattle.est_read_back.proofs.Wholes.{Ends, standing_whole}
 use Rattle.est_read_back.proofs.Writing.{Writes, first_written, second_written, shown_written}
 use Rattle.est_read_back.proofs.Writing.{rule_written, word_written}

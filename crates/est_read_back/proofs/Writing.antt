@@ -1,14 +1,13 @@
 -- Texts that are written, put together from their parts: their words, and what is read of the
 -- tokens of these words.
-use Rattle.std.proofs.Common.{◌≡◌, ℕ, zero, suc, ◌<◌, ◌≤◌, true, false, List, [], ◌∷◌}
-use Rattle.std.proofs.Common.{◌++◌, length, drop, get_or, refl, sym, ap, subst, ◌∙◌, append_assoc}
-use Rattle.std.proofs.Common.{arith, eqb, Some, slice_get}
+use Rattle.std.proofs.Common.{◌≡◌, ℕ, zero, suc, ◌<◌, ◌≤◌, true, false, List, [], ◌∷◌, ◌++◌, length}
+use Rattle.std.proofs.Common.{drop, get_or, refl, sym, ap, subst, ◌∙◌, append_assoc, arith, eqb}
+use Rattle.std.proofs.Common.{Some, slice_get}
 use Rattle.est_lexer.specs.declared.kind.Token.{Token}
-use Rattle.est_language.specs.Grammar.{word, token, seq, alt, opt, rep, rule}
-use Rattle.est_language.specs.Grammar.{one_of, meets, Tree, KeptOf, t_word, t_token}
-use Rattle.est_language.specs.Grammar.{t_seq, t_left, t_right, t_opt_in}
-use Rattle.est_language.specs.Grammar.{t_rep_in, t_rule, nothing, leaf, both, left}
-use Rattle.est_language.specs.Grammar.{right, some, pick}
+use Rattle.est_language.specs.Grammar.{word, token, seq, alt, opt, rep, rule, one_of, meets, Tree}
+use Rattle.est_language.specs.Grammar.{KeptOf, t_word, t_token, t_seq, t_left, t_right, t_opt_in}
+use Rattle.est_language.specs.Grammar.{t_rep_in, t_rule, nothing, leaf, both, left, right, some}
+use Rattle.est_language.specs.Grammar.{pick}
 use Rattle.est_reader.specs.Tests.{Test, Kept, holds, kept_of, language}
 use Rattle.est_reader.specs.Going.{Shape}
 use Rattle.est_value_texts.specs.TraceGrammar.{Production, Rule, production}
