@@ -1,5 +1,5 @@
 -- What is made of a request, from what its steps answered.
-use Rattle.std.proofs.Common.{◌≡◌, ◌∙◌, ◌<◌, ℕ, List, [], ◌∷◌, ◌++◌, Option, Some, None, length}
+use Rattle.std.proofs.Common.{◌≡◌, ◌∙◌, ◌<◌, ℕ, List, [], ◌∷◌, ◌++◌, Option, length}
 use Rattle.std.proofs.Common.{sym, subst, ap, IfSome, Result, Ok, Err, append_assoc}
 use Rattle.std.specs.Result.{IsErr, IsErrAnd}
 use Rattle.est_lexer.specs.declared.kind.Token.{Token}
@@ -18,7 +18,7 @@ use Rattle.est_files.specs.declared.stop.Stop.{Stop}
 use Rattle.est_files.specs.declared.stop.Stop.TheVariants.{Refused, ReadFault, OutOfMemory}
 use Rattle.est_files.specs.declared.file.File.{File}
 use Rattle.est_words.specs.declared.status.Status.{Status}
-use Rattle.est_words.specs.declared.status.Status.TheVariants.{Fine, OverBudget, NoStart}
+use Rattle.est_words.specs.declared.status.Status.TheVariants.{Fine}
 use Rattle.est_files.specs.Files.{limit_of}
 use Rattle.est_tool.specs.ReplayReports.{replay_status}
 use Rattle.est_files.specs.Seen.{Shelved, Seen, seen}

@@ -1,5 +1,5 @@
 -- What came of a search from the start of a specification.
-use Rattle.std.specs.Prelude.{◌≡◌, ℕ, List}
+use Rattle.std.specs.Prelude.{◌≡◌, List}
 use Rattle.est_syntax.specs.declared.specification.Spec.{Spec}
 use Rattle.est_semantics.specs.GlobalSituation.{Situation}
 use Rattle.est_semantics.specs.Outcome.{Done, Fault, Limit}

@@ -1,6 +1,5 @@
 use Rattle.est_files.specs.FileTexts.{OfSpecification, RefusesSpecification}
 use Rattle.std.proofs.Common.{refl, []}
-use Rattle.est_files.specs.FileEnds.{End}
 use Rattle.est_tool.specs.SelfRuns.{stops_at_its_file, makes}
 use Rattle.est_tool.specs.inside.SelfRunning.{EndsMaking}
 use Rattle.est_tool.proofs.WorkLaws.{stops_at, ends_made}

@@ -1,5 +1,4 @@
-use Rattle.std.proofs.Common.{◌≡◌}
-use Rattle.est_words.proofs.WordLaws.{named, unnamed, is_check, is_check_of}
+use Rattle.est_words.proofs.WordLaws.{named, is_check}
 use Rattle.est_words.proofs.words.read_check.Goals as goal
 
 pub returns-in-len2-clause-asked : goal.returns-in-len2-clause-asked

@@ -1,4 +1,3 @@
-use Rattle.std.proofs.Common.{◌≡◌, ◌∷◌, []}
 use Rattle.est_words.proofs.WordLaws.{none_told, all_told, not_told, three_words}
 use Rattle.est_words.proofs.words.read_search_limits.Goals as goal
 
