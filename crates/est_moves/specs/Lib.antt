@@ -1,0 +1,3 @@
+pub mod MadeMoves
+pub mod TakenItems
+pub mod inside

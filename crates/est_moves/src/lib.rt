@@ -1,0 +1,6 @@
+//! Runs that are looked at move by move (ISO 9074, 5: computations).
+#![tactic(auto)]
+
+pub mod made;
+mod taking;
+pub mod walk;

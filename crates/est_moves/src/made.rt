@@ -1,0 +1,20 @@
+//! What is known of a firing.
+
+use est_choices::event::Events;
+use est_frames::system::System;
+use est_semantics::situation::Item;
+
+/// The interaction that is taken out of a queue, if one is, and the system without it.
+#[derive(Drop)]
+pub struct Taken {
+    pub item: Option<Item>,
+    pub system: System,
+}
+
+/// What a firing takes, with the system in which its block begins, and the events at the outside
+/// ports.
+#[derive(Drop)]
+pub struct Made {
+    pub taken: Taken,
+    pub outs: Events,
+}
