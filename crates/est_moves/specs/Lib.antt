@@ -1,3 +1,0 @@
-pub mod MadeMoves
-pub mod TakenItems
-pub mod inside
