@@ -1,10 +1,9 @@
 # shellcheck shell=bash
-# What the launcher, launcher/prove, dist/update and the tests of dist/ share: which crates the program is made of, the
-# sums of their sources, and the record of a program, a file hawkopal.sums beside it. It is sourced, and top is the
-# folder of the checkout. Sums alone tell what belongs to what; no date does.
+# What the launcher, launcher/prove, dist/update and the tests of dist/ share: which programs there are, which crates they
+# are made of, the sums of their sources, and the record of a program, a file NAME.sums beside it. It is sourced, and
+# top is the folder of the checkout. Sums alone tell what belongs to what; no date does.
 
 # shellcheck disable=SC2034,SC2154
-built=$top/crates/hawkopal/out
 dist=$top/dist
 dist_machine='x86_64 Linux with glibc 2.34 or later'
 sum_form='^[0-9a-f]{64}$'
@@ -13,9 +12,20 @@ say() {
     echo "hawkopal: $*" >&2
 }
 
-# lines_below CRATE: what crates.txt says of a crate and of all that it stands on, those that others stand on first.
+# built_of PROGRAM: the folder of the one that is built here.
+built_of() {
+    echo "$top/crates/$1/out"
+}
+
+# programs_here: the names of the programs: hawkopal, and the second one where crates.txt has it.
+programs_here() {
+    echo hawkopal
+    [ -z "$(cd "$top" && names_below companion)" ] || echo companion
+}
+
+# lines_below CRATE..: what crates.txt says of crates and of all that they stand on, those that others stand on first.
 lines_below() {
-    awk -F: -v wanted="$1" '
+    awk -F: -v wanted="$*" '
         /^#/ || NF < 2 { next }
         { split($1, words, " "); line[words[1]] = $0; below[words[1]] = $2 }
         function visit(name, parts, count, i) {
@@ -25,13 +35,16 @@ lines_below() {
             for (i = 1; i <= count; i++) visit(parts[i])
             print line[name]
         }
-        END { visit(wanted) }
+        END {
+            count = split(wanted, names, " ")
+            for (i = 1; i <= count; i++) visit(names[i])
+        }
     ' crates.txt
 }
 
-# names_below CRATE: their names alone, in that order.
+# names_below CRATE..: their names alone, in that order.
 names_below() {
-    lines_below "$1" | sed 's/[ :].*//'
+    lines_below "$@" | sed 's/[ :].*//'
 }
 
 # sum_of FILE: the SHA-256 of its bytes, or nothing.
@@ -54,54 +67,55 @@ sources_below() (
     } | sha256sum | cut -d ' ' -f 1
 )
 
-# read_record FOLDER: takes the record of the program in the folder, and fails where it is missing or has another form.
+# read_record FOLDER PROGRAM: takes the record of the program in the folder, and fails where it is missing or has another
+# form.
 read_record() {
     local name text
     declare -gA record=([program]='' [sources]='' [kit]='' [commit]='' [target]='')
-    [ -f "$1/hawkopal.sums" ] && [ -r "$1/hawkopal.sums" ] || return 1
+    [ -f "$1/$2.sums" ] && [ -r "$1/$2.sums" ] || return 1
     while IFS=' ' read -r name text; do
         case $name in
             program: | sources: | kit: | commit: | target:) record[${name%:}]=$text ;;
             *) return 1 ;;
         esac
-    done <"$1/hawkopal.sums"
+    done <"$1/$2.sums"
     [[ ${record[program]} =~ $sum_form && ${record[sources]} =~ $sum_form && ${record[kit]} == ?* ]] &&
         [[ ${record[commit]} =~ ^[0-9a-f]{40}$|^none$ && ${record[target]} == x86_64-linux ]]
 }
 
-# write_record FOLDER SOURCES KIT COMMIT: writes the record of the program in the folder, all of it or nothing.
+# write_record FOLDER PROGRAM SOURCES KIT COMMIT: writes the record of the program in the folder, all of it or nothing.
 write_record() {
-    local new=$1/hawkopal.sums.new
-    printf '%s\n' "program: $(sum_of "$1/hawkopal")" "sources: $2" "kit: $3" "commit: $4" 'target: x86_64-linux' >"$new" &&
-        mv -f "$new" "$1/hawkopal.sums"
+    local new=$1/$2.sums.new
+    printf '%s\n' "program: $(sum_of "$1/$2")" "sources: $3" "kit: $4" "commit: $5" 'target: x86_64-linux' >"$new" &&
+        mv -f "$new" "$1/$2.sums"
 }
 
-# fault_of FOLDER: takes the record, and sets fault to what is wrong with it or the program, or to nothing.
+# fault_of FOLDER PROGRAM: takes the record, and sets fault to what is wrong with it or the program, or to nothing.
 fault_of() {
     local sum
     fault=
-    if ! read_record "$1"; then
-        fault='hawkopal.sums is damaged: it is missing or has another form'
-    elif [ ! -f "$1/hawkopal" ]; then
-        fault='hawkopal is damaged: it is missing'
-    elif sum=$(sum_of "$1/hawkopal") && [ -z "$sum" ]; then
-        fault='hawkopal is damaged: its sum cannot be told (by sha256sum)'
+    if ! read_record "$1" "$2"; then
+        fault="$2.sums is damaged: it is missing or has another form"
+    elif [ ! -f "$1/$2" ]; then
+        fault="$2 is damaged: it is missing"
+    elif sum=$(sum_of "$1/$2") && [ -z "$sum" ]; then
+        fault="$2 is damaged: its sum cannot be told (by sha256sum)"
     elif [ "$sum" != "${record[program]}" ]; then
-        fault='hawkopal is damaged: its sum is not the one in hawkopal.sums'
-    elif [ ! -x "$1/hawkopal" ]; then
-        fault='hawkopal is damaged: it has no leave to run (chmod +x gives it)'
+        fault="$2 is damaged: its sum is not the one in $2.sums"
+    elif [ ! -x "$1/$2" ]; then
+        fault="$2 is damaged: it has no leave to run (chmod +x gives it)"
     fi
 }
 
-# is_built: whether the program that was built here is whole and of these sources, whose sum is in sources.
+# is_built PROGRAM SOURCES: whether the program that was built here is whole and of the sources with this sum.
 is_built() {
-    fault_of "$built"
-    [ -z "$fault" ] && [ "${record[sources]}" = "$sources" ]
+    fault_of "$(built_of "$1")" "$1"
+    [ -z "$fault" ] && [ "${record[sources]}" = "$2" ]
 }
 
-# has_dist: whether there is anything of a program in dist/.
+# has_dist PROGRAM: whether there is anything of the program in dist/.
 has_dist() {
-    [ -e "$dist/hawkopal" ] || [ -e "$dist/hawkopal.sums" ]
+    [ -e "$dist/$1" ] || [ -e "$dist/$1.sums" ]
 }
 
 # runs_here: whether a program of dist/ can run on this machine, which machine then names. It takes a C library that has
