@@ -1,0 +1,4 @@
+pub mod TraceEnds
+pub mod TraceResult
+pub mod TraceWords
+pub mod inside
