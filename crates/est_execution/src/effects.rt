@@ -27,7 +27,7 @@ use est_items::{Items, Twin};
 use est_links::births::set_state;
 use est_links::outputs::deliver;
 use est_links::{connections, inits, instances, releases};
-use est_names::declared::{first_state, interaction_of, places_of};
+use est_names::declared::{first_state, places_of};
 use est_scope::declaration::Sort;
 use est_semantics::fault::BlockFault;
 use est_semantics::frame::{Frame, Slot};
@@ -140,7 +140,7 @@ pub fn item_with(
 ) -> Result<Item, Stop>
     ensures { (n : ℕ) → Answers (item_by site.now.text.now.outline sending.now at slots n) result n }
 {
-    let Some(signal) = interaction_of(site.text.outline(), at.declared, &sending.signal) else {
+    let Some(signal) = site.text.interaction_of(at.declared, &sending.signal) else {
         drop(at);
         drop(slots);
         return Err(Stop::Fault(BlockFault::Undefined));

@@ -6,10 +6,9 @@ ghost use Rattle.est_semantics.specs.NamesInRuns.{head, dims_at, takes_place, de
 ghost use Rattle.est_names.specs.ShownNames.{head_of};
 
 use est_alike::types::Host;
-use est_names::declared::{declared_at, dims_at, takes_place};
+use est_names::declared::{dims_at, takes_place};
 use est_names::forms::host_of;
 use est_names::heads::Head;
-use est_names::names::head;
 use est_names::text::Text;
 use est_scope::declaration::Meant;
 use est_syntax::expression::Expr;
@@ -30,14 +29,14 @@ pub struct Site<'s, 't> {
 pub fn head_at<'t>(site: &Site<'_, 't>, used: &Used) -> Head<'t>
     ensures { head_of result ≡ head site.now.text.now.outline used.now }
 {
-    head(site.text.outline(), used)
+    site.text.head(used)
 }
 
 /// What a name means.
 pub fn meaning_at(site: &Site, used: &Used) -> Meant
     ensures { result ≡ meaning site.now.text.now.outline used.now }
 {
-    site.text.outline().meaning(used)
+    site.text.meaning(used)
 }
 
 /// The kinds of the subscripts of what is declared at a place.
@@ -65,5 +64,5 @@ pub fn host_at(site: &Site, e: &Expr) -> Option<Host>
 pub fn declared_of(site: &Site, used: &Used) -> Option<u32>
     ensures { result ≡ declared_at site.now.text.now.outline used.now }
 {
-    declared_at(site.text.outline(), used)
+    site.text.declared_at(used)
 }

@@ -11,7 +11,7 @@ use est_frames::system::System;
 use est_items::Twin;
 use est_links::heads::head_at;
 use est_links::points::is_point;
-use est_names::declared::{interaction_of, places_of};
+use est_names::declared::places_of;
 use est_names::text::Text;
 use est_scope::declaration::Sort;
 use est_scope::outline::Outline;
@@ -22,13 +22,13 @@ use est_values::value::{Value, Values};
 use std::alloc::{AllocError, Global};
 
 // Whether an item is the interaction of a name, and came through an interaction point.
-fn came_through(outline: &Outline, signal: &Used, point: &InteractionPoint, item: &Item) -> bool
-    ensures { result ≡ came_through outline.now signal.now point.now item.now }
+fn came_through(text: &Text, signal: &Used, point: &InteractionPoint, item: &Item) -> bool
+    ensures { result ≡ came_through text.now.outline signal.now point.now item.now }
 {
     if !is_point(point, &item.at) {
         return false;
     }
-    match interaction_of(outline, point.declared, signal) {
+    match text.interaction_of(point.declared, signal) {
         None => false,
         Some(declared) => item.signal == declared,
     }
@@ -47,7 +47,7 @@ pub fn arrived_through<'s>(
     match head_at(text, point, system) {
         None => None,
         Some(item) => {
-            if came_through(text.outline(), signal, point, item) {
+            if came_through(text, signal, point, item) {
                 Some(item)
             } else {
                 None

@@ -17,7 +17,6 @@ use crate::parts::site_at;
 use crate::subscripts::{is_some_past, ordinals_held, subscripts_at};
 use est_frames::system::Working;
 use est_items::Items;
-use est_names::declared::declared_at;
 use est_names::text::Text;
 use est_semantics::frame::Frame;
 use est_semantics::situation::InteractionPoint;
@@ -65,12 +64,14 @@ fn fits(states: &Option<Items<u32>>, state: Option<u32>) -> bool
     }
 }
 
-// The only frame is this one.
+// The only frame is this one; there is room for the parameters of an interaction beside it.
 fn begin(alloc: Global, chosen: Frame, working: &mut Working) -> Result<(), AllocError>
     ensures frames { OnOk result (working.new.frames ≡ chosen ∷ []) }
     ensures system { OnOk result (working.new.system ≡ working.old.system) }
 {
-    let mut frames = Items::new(alloc);
+    let mut frames = Items {
+        items: Vec::with_capacity(alloc, 2)?,
+    };
     frames.push(chosen)?;
     working.frames = frames;
     Ok(())
@@ -159,7 +160,7 @@ fn await_one(
             passes: false,
         });
     };
-    let Some(declared) = declared_at(text.outline(), &awaits.at.name) else {
+    let Some(declared) = text.declared_at(&awaits.at.name) else {
         return Ok(nothing(false));
     };
     let sight = await_at(alloc, text, limit, instance, &awaits, declared, working)?;

@@ -1,2 +1,3 @@
+pub mod KnownNames
 pub mod PartIndices
 pub mod ShownNames

@@ -133,7 +133,9 @@ fn places_in(
 ) -> Result<Places, AllocError>
     ensures { IfOk result (λ places. places ≡ places_in outline.now sort names.now) }
 {
-    let mut places = Items::new(alloc);
+    let mut places = Items {
+        items: Vec::with_capacity(alloc, names.len())?,
+    };
     for number in 0..names.len() {
         let (_, standing) = names.entry(number);
         add_place(&mut places, outline, sort, standing.place)?;

@@ -2,9 +2,13 @@
 #![tactic(auto)]
 
 pub mod declared;
+mod expression_names;
 pub mod forms;
 pub mod heads;
 mod indices;
 pub mod kinds;
+mod known;
 pub mod names;
+mod part_names;
+mod statement_names;
 pub mod text;

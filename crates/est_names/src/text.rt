@@ -2,23 +2,32 @@
 
 ghost use Rattle.std.specs.Prelude.{◌≡◌, IfOk};
 ghost use Rattle.std.specs.Option.{option_copied};
+ghost use Rattle.est_scope.specs.Uses.{meaning};
+ghost use Rattle.est_semantics.specs.NamesInRuns.{head, declared_at, interaction_of};
 ghost use Rattle.est_semantics.specs.TextByPlace.{routine_at, body_at, queue_told, discipline};
+ghost use Rattle.est_names.specs.ShownNames.{head_of};
 
+use crate::heads::Head;
 use crate::indices::{Index, index_of};
+use crate::known::KnownNames;
+use crate::part_names::names_known;
+use est_scope::declaration::Meant;
 use est_scope::outline::Outline;
 use est_syntax::body::Body;
 use est_syntax::header::Queue;
+use est_syntax::name::Used;
 use est_syntax::routine::Routine;
 use est_syntax::specification::Spec;
 use std::alloc::{AllocError, Global};
 use std::marker::Model;
 
 /// A specification and what it declares. No part of the tree is walked again where a routine or a
-/// body is looked up.
+/// body is looked up, and no name of a block is looked up twice.
 pub struct Text<'t> {
     spec: &'t Spec,
     outline: &'t Outline,
     index: Index<'t>,
+    known: KnownNames<'t>,
 }
 
 // In words, so that where it is let go of there is one call.
@@ -28,12 +37,15 @@ impl<'t> Drop for Text<'t> {
             spec: _,
             outline: _,
             index,
+            known,
         } = self;
         drop(index);
+        drop(known);
     }
 }
 
 impl<'t> Model for Text<'t> {
+    ghost use Rattle.std.specs.Prelude.{◌≡◌};
     ghost use Rattle.std.specs.Coded.{codes};
     ghost use Rattle.est_syntax.specs.contracts.specification.Spec as tree;
     ghost use Rattle.est_scope.specs.contracts.outline.Outline as declarations;
@@ -49,7 +61,8 @@ impl<'t> Model for Text<'t> {
     ghost view = { λ t. record { spec = t.spec.now; outline = t.outline.now } };
 
     ghost invariant = { λ t.
-        IsIndex (parts_of (record { spec = t.spec.now; outline = t.outline.now })) t.index };
+        IsIndex (parts_of (record { spec = t.spec.now; outline = t.outline.now })) t.index
+        × (t.known ≡ t.outline.now) };
 }
 
 impl<'t> Text<'t> {
@@ -59,10 +72,18 @@ impl<'t> Text<'t> {
             (λ text. text ≡ record { spec = spec.now; outline = outline.now }) }
     {
         let index = index_of(alloc, spec.parts.as_slice())?;
+        let known = match names_known(alloc, outline, spec.parts.as_slice()) {
+            Ok(known) => known,
+            Err(error) => {
+                drop(index);
+                return Err(error);
+            }
+        };
         Ok(Text {
             spec,
             outline,
             index,
+            known,
         })
     }
 
@@ -78,6 +99,37 @@ impl<'t> Text<'t> {
         ensures { result.now ≡ self.now.outline }
     {
         self.outline
+    }
+
+    /// What a name means at its place.
+    pub fn meaning(&self, used: &Used) -> Meant
+        ensures { result ≡ meaning self.now.outline used.now }
+    {
+        self.known.meaning(used)
+    }
+
+    /// What a name stands for at its place.
+    pub fn head(&self, used: &Used) -> Head<'t>
+        ensures { head_of result ≡ head self.now.outline used.now }
+    {
+        self.known.head(used)
+    }
+
+    /// Where a name is declared.
+    pub fn declared_at(&self, used: &Used) -> Option<u32>
+        ensures { result ≡ declared_at self.now.outline used.now }
+    {
+        match self.meaning(used) {
+            Meant::Seen(place) => Some(place),
+            _ => None,
+        }
+    }
+
+    /// Where the interaction is declared that a name means at the interaction point at a place.
+    pub fn interaction_of(&self, point: u32, used: &Used) -> Option<u32>
+        ensures { result ≡ interaction_of self.now.outline point used.now }
+    {
+        self.known.interaction_of(point, used)
     }
 
     /// The routine whose name stands at a place.

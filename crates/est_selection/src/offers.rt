@@ -14,7 +14,6 @@ use est_guards::candidate::Candidate;
 use est_guards::judging::judge;
 use est_semantics::frame::Frame;
 use est_transitions::behaviour::Behaviour;
-use est_transitions::choices::choice_frame;
 use est_worlds::answers::Offers;
 use std::alloc::{AllocError, Global};
 
@@ -107,9 +106,9 @@ fn add_choices(
     ensures system { OnOk result
         (situation_of working.new.system ≡ situation_of working.old.system) }
 {
-    let outline = behaviour.text().outline();
+    let any = candidate.transition.any;
     let mut choice: u32 = 1;
-    while let Some(chosen) = choice_frame(alloc, outline, candidate.transition.any, choice)? {
+    while let Some(chosen) = behaviour.choice_frame(alloc, any, choice)? {
         match add_choice(
             alloc, behaviour, limit, candidate, choice, chosen, working, offers,
         )? {

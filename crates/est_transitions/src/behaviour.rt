@@ -1,11 +1,17 @@
 //! A text with the transitions of its bodies.
-ghost use Rattle.std.specs.Prelude.{◌≡◌, IfOk};
+ghost use Rattle.std.specs.Prelude.{◌≡◌, [], ◌∷◌, IfOk};
+ghost use Rattle.std.specs.Option.{option_map};
+ghost use Rattle.est_choices.specs.ClauseContexts.{FullTransition, any_of};
+ghost use Rattle.est_choices.specs.TransitionChoices.{any_frame, any_tuples, numbered};
 ghost use Rattle.est_transitions.specs.FittingTransitions.{IsTransition, IsNextFitting};
 
+use crate::choices::choice_frame;
 use crate::tables::{Tables, tables_of};
 use crate::written::Written;
+use est_items::Twin;
 use est_names::text::Text;
 use est_scope::outline::Outline;
+use est_semantics::frame::Frame;
 use est_syntax::specification::Spec;
 use std::alloc::{AllocError, Global};
 use std::marker::Model;
@@ -15,14 +21,21 @@ use std::marker::Model;
 pub struct Behaviour<'t> {
     text: Text<'t>,
     tables: Tables<'t>,
+    // What a choice without `any` variables has, which all such choices share.
+    unbound: Frame,
 }
 
 // In words, so that where it is let go of there is one call.
 impl<'t> Drop for Behaviour<'t> {
     fn drop(self) {
-        let Behaviour { text, tables } = self;
+        let Behaviour {
+            text,
+            tables,
+            unbound,
+        } = self;
         drop(text);
         drop(tables);
+        drop(unbound);
     }
 }
 
@@ -31,6 +44,7 @@ impl<'t> Model for Behaviour<'t> {
     ghost use Rattle.est_syntax.specs.contracts.specification.Spec as tree;
     ghost use Rattle.est_scope.specs.contracts.outline.Outline as declarations;
     ghost use Rattle.est_semantics.specs.TextByPlace.{Text};
+    ghost use Rattle.std.specs.Prelude.{◌≡◌, []};
     ghost use Rattle.est_transitions.specs.inside.BodyTables.{HasTables};
 
     ghost Value = { Text };
@@ -39,7 +53,7 @@ impl<'t> Model for Behaviour<'t> {
 
     ghost view = { λ b. b.text };
 
-    ghost invariant = { λ b. HasTables b.text b.tables.entries };
+    ghost invariant = { λ b. HasTables b.text b.tables.entries × (b.unbound ≡ []) };
 }
 
 impl<'t> Behaviour<'t> {
@@ -53,8 +67,25 @@ impl<'t> Behaviour<'t> {
             (λ behaviour. behaviour ≡ record { spec = spec.now; outline = outline.now }) }
     {
         let text = Text::new(alloc, spec, outline)?;
-        let tables = tables_of(alloc, &text)?;
-        Ok(Behaviour { text, tables })
+        let tables = match tables_of(alloc, &text) {
+            Ok(tables) => tables,
+            Err(error) => {
+                drop(text);
+                return Err(error);
+            }
+        };
+        match Frame::new(alloc) {
+            Ok(unbound) => Ok(Behaviour {
+                text,
+                tables,
+                unbound,
+            }),
+            Err(error) => {
+                drop(text);
+                drop(tables);
+                Err(error)
+            }
+        }
     }
 
     /// The text.
@@ -81,6 +112,38 @@ impl<'t> Behaviour<'t> {
         match self.tables.get(&body) {
             None => None,
             Some(table) => table.next_fitting(state, after),
+        }
+    }
+
+    // What the choice of a number has where there are no `any` variables: the first one is the only
+    // one.
+    #[tactic(auto, using(crate::proofs::ChoiceLaws::one_alone))]
+    fn only_frame(&self, alloc: Global, number: u32) -> Result<Option<Frame>, AllocError>
+        ensures { IfOk result (λ frame. frame ≡ numbered ([] ∷ []) number) }
+    {
+        if number != 1 {
+            return Ok(None);
+        }
+        let frame = self.unbound.twin(alloc)?;
+        Ok(Some(frame))
+    }
+
+    /// The `any` variables of a region with their values in the choice of a number, which begins at
+    /// 1, if there are so many. Without a region there is one choice, without variables.
+    #[tactic(auto, using(crate::proofs::ChoiceLaws::unbound_choice))]
+    pub fn choice_frame(
+        &self,
+        alloc: Global,
+        any: Option<u32>,
+        number: u32,
+    ) -> Result<Option<Frame>, AllocError>
+        ensures { IfOk result (λ frame. (x : FullTransition) → any_of x ≡ any → frame
+            ≡ option_map (any_frame self.now.outline x)
+            (numbered (any_tuples self.now.outline x) number)) }
+    {
+        match any {
+            None => self.only_frame(alloc, number),
+            Some(_) => choice_frame(alloc, self.text.outline(), any, number),
         }
     }
 }
