@@ -12,6 +12,7 @@ pub mod FromStatements
 pub mod FromTexts
 pub mod Lasting
 pub mod Meanings
+pub mod OnceDeclared
 pub mod Placed
 pub mod PlacedBodies
 pub mod PlacedParts

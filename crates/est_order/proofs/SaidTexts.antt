@@ -5,6 +5,7 @@ use Rattle.std.proofs.Common.{[], ◌∷◌, refl, sym, ap, ◌∙◌, Option, S
 use Rattle.std.proofs.Common.{if◌then◌else◌, nat_eq, arith}
 use Rattle.std.specs.Map.{lookup}
 use Rattle.est_syntax.specs.declared.kind.Kind.TheVariants as kind
+use Rattle.est_syntax.specs.Names.{spelled}
 use Rattle.est_syntax.specs.declared.name.Used.{Used}
 use Rattle.est_syntax.specs.declared.constant.ConstDef.{ConstDef}
 use Rattle.est_syntax.specs.declared.type_text.TypeText.{TypeText, Row_of-TypeText, end_of-TypeText}
@@ -27,7 +28,8 @@ use Rattle.est_outline.specs.Declares.{kinds_given, enumeration_declares, names_
 use Rattle.est_outline.specs.Declares.{text_declares, row_declares, row_fields_declare}
 use Rattle.est_order.specs.Growth.{is_completed, IsLike, AreLike, Grows, IsBefore}
 use Rattle.est_order.specs.Later.{Later}
-use Rattle.est_order.specs.Said.{Each, ConstDefSaid, NumbersSaid, TextSaid, RowSaid, FieldsSaid}
+use Rattle.est_order.specs.Said.{Each, ConstDefSaid, NumbersSaid, DifferDeclared, TextSaid}
+use Rattle.est_order.specs.Said.{RowSaid, FieldsSaid}
 use Rattle.est_order.proofs.Following.{followed, like_then, like_present}
 use Rattle.est_order.specs.Growth.{Anywhere}
 use Rattle.est_order.proofs.Lasting.{later_then, later_weaker, later_grown, before_grown}
@@ -35,6 +37,8 @@ use Rattle.est_order.proofs.Lasting.{before_later, before_lying, grows_on}
 use Rattle.est_order.proofs.Declared.{entry_before, declared_entry, later_names, kinds_before}
 use Rattle.est_order.proofs.Declared.{none_like, no_entries, names_put_entries}
 use Rattle.est_order.proofs.Declared.{kinds_have, kinds_present, AreNumbered, numbers_entries}
+use Rattle.est_outline.proofs.Names.{once_differ}
+use Rattle.est_order.proofs.OnceDeclared.{numbers_once}
 use Rattle.est_order.proofs.Placed.{NamesPlaced, TextPlaced, RowPlaced, FieldsPlaced, names_on}
 use Rattle.est_order.proofs.Placed.{text_on, row_on, fields_on, constant_on}
 use Rattle.est_order.proofs.PlacedParts.{InOrder, ConstDefPlaced}
@@ -204,16 +208,21 @@ module _ (unfinished : Bool) (p : Outline) where
   enumeration_said : (w : Within) (names : List Used) (place : ℕ) (o : Outline) (j : ℕ)
       → NamesPlaced place j names → IsBefore place o
       → Keeps unfinished place j (enumeration_declares w names place o) p
-      → NumbersSaid p (enumeration p names place) 0 names
+      → NumbersSaid p (enumeration p names place) 0 names × DifferDeclared p names
   enumeration_said w names place o j h before keeps =
       let o1 = numbers_declare w names (names_last names place) 0 o in
       let k = enumeration o1 names place in
-      let o2 = kinds_given names k o1 in
-      numbers_said w names place o1 o2 place j names 0 h keeps
-      (enumeration_alike o1 o2 place j names place h keeps (λ q. kinds_present names k o1 q))
-      (λ q f at. kinds_before names k o1 q f at)
-      (numbers_entries w names (names_last names place) 0 o place j h
-      (λ q l. before.declarations q l)) (kinds_have names k o1)
+      let o2 = kinds_given names k o1 in (
+        numbers_said w names place o1 o2 place j names 0 h keeps
+            (enumeration_alike o1 o2 place j names place h keeps
+            (λ q. kinds_present names k o1 q))
+            (λ q f at. kinds_before names k o1 q f at)
+            (numbers_entries w names (names_last names place) 0 o place j h
+            (λ q l. before.declarations q l)) (kinds_have names k o1),
+        λ all. once_differ spelled names (numbers_once w names (names_last names place) 0 o place j
+            h (λ q l. before.declarations q l) (sym (declared_alike o1 o2 place j names h keeps
+            (λ q. kinds_present names k o1 q)) ∙ all)).1,
+      )
 
   -- the texts of types
   mutual

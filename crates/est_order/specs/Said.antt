@@ -1,5 +1,6 @@
 -- What an outline has of each declaration of a tree is what it says of it as a whole.
-use Rattle.std.specs.Prelude.{◌≡◌, ℕ, suc, ◌≤◌, List, [], ◌∷◌, Option, Some, None}
+use Rattle.std.specs.Prelude.{◌≡◌, ℕ, suc, ◌≤◌, true, List, [], ◌∷◌, Option, Some, None}
+use Rattle.est_syntax.specs.Names.{spelled}
 use Rattle.est_syntax.specs.declared.name.Used.{Used}
 use Rattle.est_syntax.specs.declared.constant.ConstDef.{ConstDef}
 use Rattle.est_syntax.specs.declared.type_text.TypeText.{TypeText, Row_of-TypeText, end_of-TypeText}
@@ -40,8 +41,9 @@ use Rattle.est_scope.specs.declared.declaration.Sort.TheVariants as sort
 use Rattle.est_scope.specs.Outline.{Outline, entry_at}
 use Rattle.est_scope.specs.Uses.{declaration_of}
 use Rattle.est_kinds.specs.Constants.{constant_value, value_with}
-use Rattle.est_kinds.specs.TypeTexts.{text_type, named_type, enumeration}
+use Rattle.est_kinds.specs.TypeTexts.{text_type, named_type, are_declared, enumeration}
 use Rattle.est_kinds.specs.Dims.{dims_of}
+use Rattle.est_outline.specs.Differing.{HaveDifferentNames}
 use Rattle.est_outline.specs.Entries.{ordinal_of}
 use Rattle.est_outline.specs.Declares.{side_of, states_named}
 use Rattle.est_outline.specs.Bodies.{over_header, body_header, outline_of}
@@ -81,12 +83,17 @@ NumbersSaid o k i [] = Unit {0}
 NumbersSaid o k i (u ∷ us) = IsSaid o (λ e. (e.declared.sort ≡ sort.Constant) × (e.kind ≡ k)
     × (e.ordinal ≡ ordinal_of i)) u × NumbersSaid o k (suc i) us
 
+-- where all names of an enumeration are declared, no two are one
+abbrev pub DifferDeclared : Outline → List Used → Type 0
+DifferDeclared o us = are_declared o us ≡ true → HaveDifferentNames spelled us
+
 -- the enumerations and the fields within the text of a type
 abbrev mutual
   pub TextSaid : Outline → TypeText → Type 0
   TextSaid o (text.Named u) = Unit {0}
   TextSaid o (text.Range low high) = Unit {0}
-  TextSaid o (text.Names names place) = NumbersSaid o (enumeration o names place) 0 names
+  TextSaid o (text.Names names place) =
+      NumbersSaid o (enumeration o names place) 0 names × DifferDeclared o names
   TextSaid o (text.Array' a index b of place) = RowSaid o index × RowSaid o of
   TextSaid o (text.Fields' a defs place) = FieldsSaid o defs
   TextSaid o (text.Set' a of place) = RowSaid o of
