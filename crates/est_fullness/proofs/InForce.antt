@@ -19,7 +19,7 @@ use Rattle.est_fullness.specs.FullDeclarations.{WhatIsInForceIsFull, PlaceByPlac
 use Rattle.est_fullness.proofs.SeenUses.{full_for}
 
 -- a name stands in a region for the declaration at a place, and is in force at another
-abbrev IsInForce : Outline → List ℕ → ℕ → ℕ → Type 0
+abbrev pub IsInForce : Outline → List ℕ → ℕ → ℕ → Type 0
 IsInForce o name place p = (r : ℕ) × (s : Standing) × (standing o r name ≡ Some s)
     × (s.place ≡ p) × (s.last < place)
 
@@ -72,7 +72,7 @@ within_stands o (Some e) name place p h =
     meant_stands o (predeclared_name name) (found o e.own name place) (found o e.around name place)
     name place p (found_stands o e.own name place) (found_stands o e.around name place) h
 
-meaning_stands : (o : Outline) (u : Used) (p : ℕ) → meaning o u ≡ meant.Seen p
+pub meaning_stands : (o : Outline) (u : Used) (p : ℕ) → meaning o u ≡ meant.Seen p
     → IsInForce o (spelled u) u.place p
 meaning_stands o u p h = within_stands o (extent_at o.extents u.place) (spelled u) u.place p h
 

@@ -51,21 +51,24 @@ use Rattle.est_fullness.proofs.Walk.{OfConstDef, OfPoint, OfModvar, OfState, OfS
 use Rattle.est_outline.specs.Lasts.{names_last, text_last}
 
 -- of declared names nothing is asked for here
-abbrev Any : ℕ → ℕ → Type 0
-Any place last = Unit {0}
+abbrev Any : Used → ℕ → Type 0
+Any u last = Unit {0}
 
 any : {A : Type 0} (P : A → Type 0) (f : (x : A) → P x) (xs : List A) → Each P xs
 any P f [] = tt
 any P f (x ∷ xs) = (f x, any P f xs)
 
-module _ (M : ℕ → Type 0) where
+module _ (M : Used → Type 0) where
   names_any : (last : ℕ) (us : List Used) → Each (Named Any M last) us
   names_any last us = any (Named Any M last) (λ u. tt) us
 
 module _ (o : Outline) where
   -- no declaration stands there
-  abbrev Free : ℕ → Type 0
-  Free place = entry_at o place ≡ None
+  abbrev FreeAt : ℕ → Type 0
+  FreeAt place = entry_at o place ≡ None
+
+  abbrev Free : Used → Type 0
+  Free u = FreeAt u.place
 
   members : (us : List Used) → Each (IsNoEntry o) us → Each (IsMember Any Free) us
   members us said = each_then (IsNoEntry o) (IsMember Any Free) (λ u h. h) us said
@@ -241,7 +244,7 @@ module _ (G : ℕ → Type 0) where
   amended_keeps None o f place h = h
   amended_keeps (Some e) o f place h = h
 
-  members_kept : IsKeptBy Any G (λ o. AllMembers o.members)
+  members_kept : IsKeptBy Any (λ u. G u.place) (λ o. AllMembers o.members)
   members_kept = record {
     begins = tt;
     declares = λ o w u last e d h. declared_keeps (taken o w (spelled u)) o w u last e h;
@@ -256,5 +259,6 @@ pub members_free : (s : Spec) → Each (PartSaid (outline_of s)) s.parts → (pl
 members_free s said place m is =
     let o = outline_of s in
     let tree = each_then (PartSaid o) (OfPart Any (Free o)) (part_members o) s.parts said in
-    found (Free o) o.members place m
-    (walked Any (Free o) (λ p. AllMembers (Free o) p.members) (members_kept (Free o)) s tree) is
+    found (FreeAt o) o.members place m
+    (walked Any (Free o) (λ p. AllMembers (FreeAt o) p.members) (members_kept (FreeAt o)) s tree)
+    is

@@ -88,15 +88,15 @@ module _ (o : Outline) where
   InTheEnd place = (e : Entry) → entry_at o place ≡ Some e → ((u : Used) → IsFullAt o u)
       → IsFull e
 
-  abbrev pub IsSoAt : ℕ → ℕ → Type 0
-  IsSoAt place last = InTime place last × InTheEnd place
+  abbrev pub IsSoAt : Used → ℕ → Type 0
+  IsSoAt u last = InTime u.place last × InTheEnd u.place
 
-  abbrev pub IsAMember : ℕ → Type 0
-  IsAMember place = InTime place place
+  abbrev pub IsAMember : Used → Type 0
+  IsAMember u = InTime u.place u.place
 
   -- a constant or a type
   soon : (Q : Entry → Type 0) (u : Used) (last : ℕ) → IsSaid o Q u
-      → ((e : Entry) → Q e → AreFullBefore o (suc last) → IsFull e) → IsSoAt u.place last
+      → ((e : Entry) → Q e → AreFullBefore o (suc last) → IsFull e) → IsSoAt u last
   soon Q u last said f = (
     λ e is full. full_for e.declared.sort e (f e (said e is) full),
     λ e is all. f e (said e is) (λ v lt. all v),
@@ -105,14 +105,14 @@ module _ (o : Outline) where
   -- another sort
   pub late : (s : Sort) (Q : Entry → Type 0) (u : Used) (last : ℕ) → IsSaid o Q u
       → ((e : Entry) → IsFullFor s e) → ((e : Entry) → Q e → e.declared.sort ≡ s)
-      → ((e : Entry) → Q e → ((v : Used) → IsFullAt o v) → IsFull e) → IsSoAt u.place last
+      → ((e : Entry) → Q e → ((v : Used) → IsFullAt o v) → IsFull e) → IsSoAt u last
   late s Q u last said other is_sort f = (
     λ e is full. subst (λ x. IsFullFor x e) (sym (is_sort e (said e is))) (other e),
     λ e is all. f e (said e is) all,
   )
 
   -- no declaration
-  no_entry : (u : Used) → IsNoEntry o u → IsAMember u.place
+  no_entry : (u : Used) → IsNoEntry o u → IsAMember u
   no_entry u none e is full = absurd (none-some e (sym none ∙ is))
 
   members_full : (us : List Used) → Each (IsNoEntry o) us → Each (IsMember IsSoAt IsAMember) us
@@ -155,7 +155,7 @@ module _ (o : Outline) where
         → OfText IsSoAt IsAMember t
     text_full (text.Named u) said c h = tt
     text_full (text.Range low high) said c h = tt
-    text_full (text.Names names place) said c h = names_full names place c.1 h said
+    text_full (text.Names names place) said c h = names_full names place c.1 h said.0
     text_full (text.Array' x index y (more_of-TypeText of end_of-TypeText) place) said c h =
         let k = parted (text_faults o of) (row_index_faults o index (text_type o of) place) h in (
           index_full index (text_type o of) place said.0 c.0 k.1,
@@ -240,7 +240,7 @@ module _ (o : Outline) where
   -- a declaration of which nothing is asked for
   plain_full : (s : Sort) → ((e : Entry) → IsFullFor s e)
       → ((e : Entry) → e.declared.sort ≡ s → IsFull e) → (u : Used) (last : ℕ)
-      → IsSaid o (IsOf s) u → IsSoAt u.place last
+      → IsSaid o (IsOf s) u → IsSoAt u last
   plain_full s other is_full u last said =
       late s (IsOf s) u last said other (λ e q. q) (λ e q all. is_full e q)
 

@@ -91,7 +91,7 @@ module _ (o : Outline) where
 
   all_full : (u : Used) (over : TypeText) (k : Option ℕ) → over_header o over ≡ k
       → IsSaid o (AllSaid o over k) u → HasConstants over → over_faults o over ≡ []
-      → IsSoAt o u.place (text_last over)
+      → IsSoAt o u (text_last over)
   all_full u over None is said c h =
       late o sort.Variable (AllSaid o over None) u (text_last over) said (λ e. tt) (λ e q. q.0)
       (λ e q all. of_sort sort.Variable e q.0
@@ -260,14 +260,14 @@ module _ (o : Outline) where
   -- bodies and routines
   body_name : (name header : Used) → IsSaid o (λ e. (e.declared.sort ≡ sort.Body)
       × (e.header ≡ body_header o header)) name → use_faults o sort.Header header ≡ []
-      → IsSoAt o name.place name.place
+      → IsSoAt o name name.place
   body_name name header said h =
       late o sort.Body _ name name.place said (λ e. tt) (λ e q. q.0)
       (λ e q all. of_sort sort.Body e q.0
       (same_there e.header (body_header o header) q.1 (use_seen o sort.Header header h)))
 
   routine_name : (name : Used) (result : Option Used) → IsSaid o (RoutineSaid o result) name
-      → types.result_faults o result ≡ [] → IsSoAt o name.place name.place
+      → types.result_faults o result ≡ [] → IsSoAt o name name.place
   routine_name name None said h =
       late o sort.Procedure (RoutineSaid o None) name name.place said (λ e. tt) (λ e q. q)
       (λ e q all. of_sort sort.Procedure e q tt)

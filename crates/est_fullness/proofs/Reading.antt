@@ -17,7 +17,7 @@ use Rattle.est_order.proofs.Ascending as order
 
 module _ (text : List ℕ) (tokens : List Token) where
   -- a tree of the tokens by a grammar
-  abbrev TreeOf : Rule → ℕ → ℕ → ℕ → Shape → Type 0
+  abbrev pub TreeOf : Rule → ℕ → ℕ → ℕ → Shape → Type 0
   TreeOf g d a b t = Tree (language production text) tokens (length tokens) g d a b t
 
   -- tokens have a tree by a grammar whose shape a view shows

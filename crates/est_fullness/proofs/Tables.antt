@@ -155,7 +155,7 @@ module _ (T : ℕ → ℕ → Type 0) (G : ℕ → Type 0) where
   amended_holds None o f place h = h
   amended_holds (Some e) o f place h = (set o.entries place (f e) h.0, h.1)
 
-  holds_kept : IsKeptBy (λ place last. T place last × G place) (λ place. T place place) Holds
+  holds_kept : IsKeptBy (λ u last. T u.place last × G u.place) (λ u. T u.place u.place) Holds
   holds_kept = record {
     begins = (tt, tt);
     declares = λ o w u last e d h. declared_holds (taken o w (spelled u)) o w u last e d.0 d.1 h;
@@ -167,12 +167,12 @@ module _ (T : ℕ → ℕ → Type 0) (G : ℕ → Type 0) where
   -- so it is at the end
   abbrev pub OfTree : Spec → Type 0
   OfTree s =
-      Each (OfPart (λ place last. T place last × G place) (λ place. T place place)) s.parts
+      Each (OfPart (λ u last. T u.place last × G u.place) (λ u. T u.place u.place)) s.parts
 
   pub each_stands : (s : Spec) → OfTree s → (region : ℕ) (name : List ℕ) (x : Standing)
       → standing (outline_of s) region name ≡ Some x → T x.place x.last
   each_stands s q region name x is =
-      let h = walked (λ place last. T place last × G place) (λ place. T place place) Holds
+      let h = walked (λ u last. T u.place last × G u.place) (λ u. T u.place u.place) Holds
       holds_kept s q in
       let rs = (outline_of s).regions in
       stands (lookup (nat_eq region) rs) rs region name x refl is h.1
@@ -180,6 +180,6 @@ module _ (T : ℕ → ℕ → Type 0) (G : ℕ → Type 0) where
   pub each_declared : (s : Spec) → OfTree s → (place : ℕ) (e : Entry)
       → entry_at (outline_of s) place ≡ Some e → G place
   each_declared s q place e is =
-      let h = walked (λ place last. T place last × G place) (λ place. T place place) Holds
+      let h = walked (λ u last. T u.place last × G u.place) (λ u. T u.place u.place) Holds
       holds_kept s q in
       found (outline_of s).entries place e h.0 is

@@ -84,12 +84,12 @@ use Rattle.est_order.specs.Said.{Each}
 
 -- What holds of each name that a tree declares, with the last place where it is not yet in force,
 -- and of each name of its channels and records.
-module _ (D : ℕ → ℕ → Type 0) (M : ℕ → Type 0) where
+module _ (D : Used → ℕ → Type 0) (M : Used → Type 0) where
   abbrev pub Named : ℕ → Used → Type 0
-  Named last u = D u.place last
+  Named last u = D u last
 
   abbrev pub IsMember : Used → Type 0
-  IsMember u = M u.place
+  IsMember u = M u
 
   abbrev pub OfConstDef : ConstDef → Type 0
   OfConstDef c = Named (constant_last c.value) c.name
@@ -210,17 +210,17 @@ module _ (D : ℕ → ℕ → Type 0) (M : ℕ → Type 0) where
         Each OfClause cs × OfParts parts × Each OfStatement statements × OfTransitions rest
 
 -- What a property of outlines has to bear: it is kept by each declaration of which that holds.
-pub record IsKeptBy (D : ℕ → ℕ → Type 0) (M : ℕ → Type 0) (P : Outline → Type 0) : Type 0 where
+pub record IsKeptBy (D : Used → ℕ → Type 0) (M : Used → Type 0) (P : Outline → Type 0) : Type 0 where
   pub begins : P empty
-  pub declares : (o : Outline) (w : Within) (u : Used) (last : ℕ) (e : Entry) → D u.place last
+  pub declares : (o : Outline) (w : Within) (u : Used) (last : ℕ) (e : Entry) → D u last
       → P o → P (declared w u last e o)
-  pub puts : (o : Outline) (region : ℕ) (u : Used) (m : Member) → M u.place → P o
+  pub puts : (o : Outline) (region : ℕ) (u : Used) (m : Member) → M u → P o
       → P (put region u m o)
   pub amends : (o : Outline) (f : Entry → Entry) (place : ℕ) → P o → P (amended f place o)
   pub lies : (o : Outline) (w : Within) (place : ℕ) → P o → P (lying w place o)
 
 -- so it holds of what each part declares
-module _ (D : ℕ → ℕ → Type 0) (M : ℕ → Type 0) (P : Outline → Type 0) (kept : IsKeptBy D M P) where
+module _ (D : Used → ℕ → Type 0) (M : Used → Type 0) (P : Outline → Type 0) (kept : IsKeptBy D M P) where
   names_kept : (w : Within) (us : List Used) (last : ℕ) (e : Entry) (o : Outline)
       → Each (Named D M last) us → P o → P (names_declare w us last e o)
   names_kept w [] last e o q p = p

@@ -1,6 +1,6 @@
 -- The declarations of a tree are written as sentences have them.
 use Rattle.std.specs.Prelude.{map}
-use Rattle.std.proofs.Common.{ℕ, suc, ◌+◌, ◌≤◌, ◌<◌, subst, List, [], ◌∷◌, length}
+use Rattle.std.proofs.Common.{◌≡◌, refl, ℕ, suc, ◌+◌, ◌≤◌, ◌<◌, subst, List, [], ◌∷◌, length}
 use Rattle.std.proofs.Common.{arith}
 use Rattle.est_lexer.specs.declared.kind.Token.{Token}
 use Rattle.est_lexer.specs.declared.kind.Symbol.TheVariants as symbols
@@ -21,22 +21,23 @@ use Rattle.est_syntax.specs.declared.type_text.TypeText.TheVariants as texts
 use Rattle.est_syntax.specs.declared.type_text.TypeDef.{TypeDef}
 use Rattle.est_syntax.specs.declared.type_text.VarDef.{VarDef}
 use Rattle.est_outline.specs.Lasts.{text_last}
-use Rattle.est_language.specs.Grammar.{rep, ended, rule}
-use Rattle.est_language.specs.Shown.{node, nodes}
-use Rattle.est_reader.specs.Tests.{kind}
+use Rattle.est_language.specs.Grammar.{word, here, seq, rep, ended, rule, t_word, t_here, t_seq}
+use Rattle.est_language.specs.Shown.{Shows, at, pair, node, nodes, s_at, s_pair, s_node, s_more}
+use Rattle.est_reader.specs.Tests.{Test, kind}
+use Rattle.est_reader.specs.Going.{Shape, identifier, used}
 use Rattle.est_order.specs.PlaceOrder.{Stands, o_none, o_more, o_node, o_at, o_kept}
 use Rattle.est_productions.specs.Productions as grammar
 use Rattle.est_productions.specs.Productions.{Rule, idents, several, listed, symbol, field, fields}
 use Rattle.est_productions.specs.Productions.{typetext, typedef, vardef}
-use Rattle.est_productions.specs.Nodes.{Node, layer, a_use, a_type, a_field, a_type_definition}
+use Rattle.est_productions.specs.Nodes.{Node, View, layer, a_use, a_type, a_field, a_type_definition}
 use Rattle.est_productions.specs.Nodes.{a_variable}
 use Rattle.est_order.specs.Said.{Each}
-use Rattle.est_fullness.specs.WrittenExpressions.{HasConstants, RowHas, FieldsHave}
+use Rattle.est_fullness.specs.WrittenExpressions.{FirstAfter, HasConstants, RowHas, FieldsHave}
 use Rattle.est_fullness.specs.WrittenParts.{TypeDefWritten, VarDefWritten}
 use Rattle.est_fullness.proofs.Places as places
 use Rattle.est_fullness.proofs.Uses.{text_then}
 use Rattle.est_fullness.proofs.UsesStand.{text_to_last}
-use Rattle.est_fullness.proofs.Reading.{Reads, reads_stands, in_word, in_here, in_deeper, in_rule}
+use Rattle.est_fullness.proofs.Reading.{TreeOf, Reads, reads_stands, in_word, in_here, in_deeper, in_rule}
 use Rattle.est_fullness.proofs.Reading.{in_node, in_seq, in_left, in_right, in_list, no_list}
 use Rattle.est_fullness.proofs.Reading.{in_rep, in_ended}
 
@@ -72,6 +73,32 @@ module _ (text : List ℕ) (tokens : List Token) (few : length tokens ≤ suc ma
       let n = names_count (u ∷ us) s.0 s.1 s.2 in
       let m = s.3 in (omega arith, omega arith)
 
+  -- the first of them stands right after the parenthesis
+  name_at : {u : Used} {d a b : ℕ} {t : Shape} → TreeOf text tokens identifier d a b t
+      → Shows layer (used u) t → u.place ≡ a
+  name_at (t_here x) (s_at place s) = refl
+
+  first_name : {g : Rule} {u : Used} (us : List Used) {d a b : ℕ} {t : Shape}
+      → TreeOf text tokens (seq identifier g) d a b t
+      → Shows layer (nodes (map a_use (u ∷ us))) t → u.place ≡ a
+  first_name us (t_seq x y) (s_more (s_node s) r) = name_at x s
+
+  first_in : {h : Rule} (us : List Used) {v : View} {d a b : ℕ} {t : Shape}
+      → TreeOf text tokens (seq idents h) d (suc a) b t
+      → Shows layer (pair (nodes (map a_use us)) v) t → FirstAfter a us
+  first_in [] x s = tt
+  first_in (u ∷ us) (t_seq x y) (s_pair s r) = first_name us x s
+
+  first_by : {k : Test} {h : Rule} (us : List Used) {v : View} {place d a b : ℕ} {t : Shape}
+      → TreeOf text tokens (here (word k (seq idents h))) d a b t
+      → Shows layer (at place (pair (nodes (map a_use us)) v)) t → FirstAfter place us
+  first_by us (t_here (t_word k l e x)) (s_at place s) = first_in us x s
+
+  first_after : {k : Test} {h : Rule} {v : View} (place : ℕ) (us : List Used)
+      → Reads text tokens (here (word k (seq idents h)))
+      (at place (pair (nodes (map a_use us)) v)) → FirstAfter place us
+  first_after place us r = first_by us r.4 r.5
+
   -- texts of types
   mutual
     unfolding out-TypeText denote.Hole.Carrier.out shape-the_row-TypeText-1
@@ -84,8 +111,9 @@ module _ (text : List ℕ) (tokens : List Token) (few : length tokens ≤ suc ma
     text_written (texts.Names names place) r =
         let q = in_left text tokens (in_right text tokens
         (in_node text tokens (in_rule text tokens r))) in
-        names_written names
-        (in_seq text tokens (in_word text tokens (in_here text tokens q))).0
+        let n = names_written names
+        (in_seq text tokens (in_word text tokens (in_here text tokens q))).0 in
+        (n.0, n.1, first_after place names q)
     text_written (texts.Array' x index y (more_of-TypeText of end_of-TypeText) place) r =
         let q = in_right text tokens (in_right text tokens
         (in_node text tokens (in_rule text tokens r))) in

@@ -1,6 +1,6 @@
 -- Trees as sentences have them: what their constants and the texts of their types use, and that
 -- their enumerations have constants (ISO 7185, 6.4.2.3).
-use Rattle.std.specs.Prelude.{suc, ◌<◌, ◌≤◌, length}
+use Rattle.std.specs.Prelude.{◌≡◌, ℕ, suc, ◌<◌, ◌≤◌, List, [], ◌∷◌, length}
 use Rattle.est_syntax.specs.Kinds.{maxint}
 use Rattle.est_syntax.specs.declared.name.Used.{Used}
 use Rattle.est_syntax.specs.declared.constant.Constant.{Constant}
@@ -33,12 +33,19 @@ module _ (Q : Used → Type 0) where
     FieldsUse end_of-VarDef = Unit {0}
     FieldsUse (more_of-VarDef names t rest) = EachUse t × FieldsUse rest
 
--- each enumeration within the text of a type has a constant, and not more than there are integers
+-- the first of these names stands right after a place
+abbrev pub FirstAfter : ℕ → List Used → Type 0
+FirstAfter place [] = Unit {0}
+FirstAfter place (u ∷ us) = u.place ≡ suc place
+
+-- each enumeration within the text of a type has a constant, and not more than there are integers;
+-- the first one stands right after the token that the enumeration begins with
 abbrev mutual
   pub HasConstants : TypeText → Type 0
   HasConstants (text.Named u) = Unit {0}
   HasConstants (text.Range low high) = Unit {0}
-  HasConstants (text.Names names place) = (0 < length names) × (length names ≤ suc maxint)
+  HasConstants (text.Names names place) =
+      (0 < length names) × (length names ≤ suc maxint) × FirstAfter place names
   HasConstants (text.Array' a index b of place) = RowHas index × RowHas of
   HasConstants (text.Fields' a defs place) = FieldsHave defs
   HasConstants (text.Set' a of place) = RowHas of
