@@ -51,6 +51,7 @@ mutual
       omega (arith, h.1, h.2, statements_on h.0 j turn h.3)
   statement_on i j (statement.All' name over a turn place) h =
       omega (arith, h.1, h.2, short_on (suc name.place) h.0 over h.3, statements_on h.0 j turn h.4)
+  statement_on i j (statement.Attach own child point place) h = omega (arith, h.0, h.1, h.2)
   statement_on i j _ h = omega (arith, h.0, h.1)
 
   pub statements_on : (i j : ℕ) {n : _} (row : Row_of-Statement n) → StatementsPlaced i j row

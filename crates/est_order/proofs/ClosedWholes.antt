@@ -248,4 +248,4 @@ routines_closed s n fits h =
     let q = t.2 in
     let r = t.3 in
     closed_list n fits (outline_of s) outermost s.parts empty (suc s.name.place) k t.1 (omega arith)
-    (before_empty (suc s.name.place)) (g_lying outermost (statement_place s.first) q)
+    (before_empty (suc s.name.place)) (g_lying outermost (statement_place s.first) q r)

@@ -58,7 +58,8 @@ use Rattle.est_order.specs.Growth.{g_lying}
 use Rattle.est_order.proofs.Placed.{NamesPlaced, TextPlaced, RowPlaced}
 use Rattle.est_order.proofs.Placed.{FieldsPlaced, names_on, constant_on, text_on, row_on}
 use Rattle.est_order.proofs.Placed.{fields_on, names_from, names_before, names_upto}
-use Rattle.est_order.proofs.Placed.{constant_from, text_from, text_begins, ShortPlaced, short_text}
+use Rattle.est_order.proofs.Placed.{constant_from, text_from, text_begins, text_within}
+use Rattle.est_order.proofs.Placed.{ShortPlaced, short_text}
 use Rattle.est_order.proofs.PlacedParts.{InOrder, ConstDefPlaced, TypeDefPlaced, VarDefPlaced}
 use Rattle.est_order.proofs.PlacedParts.{InteractionPlaced, ByPartPlaced, ChannelPlaced}
 use Rattle.est_order.proofs.PlacedParts.{PointPlaced, ModvarPlaced, HeaderPlaced, Merged}
@@ -219,7 +220,7 @@ module _ (R : ℕ → Type 0) (unfinished : Bool) (a b : ℕ) (fits : b ≤ 2 ^ 
       let f = (constant_from (suc c.name.place) j c.value (omega arith) h.1).1 in
       let q = h.0 in
       let o1 = lying w c.name.place o in
-      g_then (g_lying w c.name.place (omega arith))
+      g_then (g_lying w c.name.place (omega arith) (omega arith))
       (g_declared w own c.name (constant_last c.value) (constant w (constant_value o1 c.value))
       (omega arith) (omega arith) (omega arith))
 
@@ -330,7 +331,7 @@ module _ (R : ℕ → Type 0) (unfinished : Bool) (a b : ℕ) (fits : b ≤ 2 ^ 
       let o1 = lying w t.name.place o in
       let o2 = typedef_named w t o1 in
       let o3 = text_declares w t.text o2 in
-      g_then (g_lying w t.name.place (omega arith))
+      g_then (g_lying w t.name.place (omega arith) (omega arith))
       (g_then (g_declared w own t.name (text_last t.text) (plain w sort.TypeName) (omega arith)
       (omega arith) (omega arith))
       (g_then (text_grows w own t.text o2 (suc t.name.place) j h.1 (omega arith) m)
@@ -354,10 +355,11 @@ module _ (R : ℕ → Type 0) (unfinished : Bool) (a b : ℕ) (fits : b ≤ 2 ^ 
       let e = text_on h.0 j v.text h.2 in
       let f = text_from h.0 j v.text (omega arith) h.2 in
       let g = text_begins h.0 j v.text (omega arith) h.2 in
+      let q = text_within h.0 j v.text h.2 in
       let o1 = lying w (text_place v.text) o in
       let o2 = vardef_named w v o1 in
       let o3 = text_declares w v.text o2 in
-      g_then (g_lying w (text_place v.text) (omega arith))
+      g_then (g_lying w (text_place v.text) (omega arith) (omega arith))
       (g_then (names_grow w own v.names (text_last v.text) (plain w sort.Variable) o1 i h.0 h.1 l
       (omega arith) (omega arith))
       (g_then (text_grows w own v.text o2 h.0 j h.2 (omega arith) m)
@@ -433,7 +435,7 @@ module _ (R : ℕ → Type 0) (unfinished : Bool) (a b : ℕ) (fits : b ≤ 2 ^ 
       by_from place h.0 j place c.by (omega arith) h.3 (omega arith) (omega arith) in
       let o1 = lying w place o in
       let o2 = declared w c.name (channel_last c) (plain w sort.Channel) o1 in
-      g_then (g_lying w place (omega arith))
+      g_then (g_lying w place (omega arith) (omega arith))
       (g_then (g_declared w own c.name (channel_last c) (plain w sort.Channel) (omega arith)
       (omega arith) g)
       (g_then (roles_grow place (inr (omega arith)) c.roles First o2 (suc place) h.0 h.2 (omega
@@ -452,8 +454,9 @@ module _ (R : ℕ → Type 0) (unfinished : Bool) (a b : ℕ) (fits : b ≤ 2 ^ 
       let f = h.5 in
       let g = h.6 in
       let k = h.7 in
+      let r = h.8 in
       let q = h.2 in
-      g_then (g_lying w p.place (omega arith))
+      g_then (g_lying w p.place (omega arith) (omega arith))
       (names_grow w own p.names p.role.place
       (point w dims (dims_elements dims) (side_of o1 p) p.queue) o1 i h.0 h.3 l (omega arith) (omega arith))
 
@@ -476,8 +479,9 @@ module _ (R : ℕ → Type 0) (unfinished : Bool) (a b : ℕ) (fits : b ≤ 2 ^ 
       let e = dims_on h.0 h.1 v.dims h.4 in
       let f = h.5 in
       let g = h.6 in
+      let k = h.7 in
       let q = h.2 in
-      g_then (g_lying w v.place (omega arith))
+      g_then (g_lying w v.place (omega arith) (omega arith))
       (names_grow w own v.names v.header.place
       (module_variable w (dims_of o1 v.dims) (declaration_of o1 sort.Header v.header)) o1 i h.0
       h.3 l (omega arith) (omega arith))
@@ -521,7 +525,7 @@ module _ (R : ℕ → Type 0) (unfinished : Bool) (a b : ℕ) (fits : b ≤ 2 ^ 
       let place = x.name.place in
       let f : place ≤ vars_last x.params place =
       vars_from place (suc place) k place x.params few h (omega arith) (omega arith) in
-      g_then (g_lying w place l)
+      g_then (g_lying w place l (omega arith))
       (g_declared w own x.name (header_last x) (header w x.system (has_exports x.exports)) l m
       (omega arith))
 
@@ -538,7 +542,7 @@ module _ (R : ℕ → Type 0) (unfinished : Bool) (a b : ℕ) (fits : b ≤ 2 ^ 
       let e = header w x.system (has_exports x.exports) in
       let o1 = header_named w x o in
       let v = in_region section.Parameter w place in
-      g_then (g_lying w place (omega arith))
+      g_then (g_lying w place (omega arith) (omega arith))
       (g_then (g_declared w own x.name (header_last x) e (omega arith) (omega arith) (omega arith))
       (g_then (vars_grow v (inr (omega arith)) x.params o1 (suc place) h.0 h.2 (omega arith) (omega
       arith))
@@ -567,7 +571,7 @@ module _ (R : ℕ → Type 0) (unfinished : Bool) (a b : ℕ) (fits : b ≤ 2 ^ 
       let k = names_on (suc place) j s.states h.1 in
       let f : place ≤ names_last s.states place =
       names_from place (suc place) j place s.states h.1 (omega arith) (omega arith) in
-      g_then (g_lying w place (omega arith))
+      g_then (g_lying w place (omega arith) (omega arith))
       (g_declared w own s.name (names_last s.states place)
       (state_set w (states_named (lying w place o) s.states)) (omega arith) (omega arith) f)
 
@@ -590,7 +594,7 @@ module _ (R : ℕ → Type 0) (unfinished : Bool) (a b : ℕ) (fits : b ≤ 2 ^ 
       let f = h.3 in
       let o1 = lying w x.kind.place o in
       let o2 = formal_named v x o1 in
-      g_then (g_lying w x.kind.place (omega arith))
+      g_then (g_lying w x.kind.place (omega arith) (omega arith))
       (g_then (names_grow v own x.names x.kind.place (plain v sort.Variable) o1 i h.0 h.1 l
       (omega arith) (omega arith))
       (kinds_grow x.names (named_type o2 x.kind) o2 i h.0 h.1 l))

@@ -42,7 +42,7 @@ use Rattle.est_outline.specs.Bodies.{routine_named, result_given, head_declares,
 use Rattle.est_outline.specs.Bodies.{closed_by, part_declares, row_parts, first_declares}
 use Rattle.est_outline.specs.Bodies.{row_groups, row_transitions, parts_declare}
 use Rattle.est_order.specs.Growth.{IsOpen, Grows, g_not, g_then, g_declared, g_amended, g_lying}
-use Rattle.est_order.proofs.Placed.{ConstantPlaced, text_from, short_text}
+use Rattle.est_order.proofs.Placed.{ConstantPlaced, constant_within, text_from, short_text}
 use Rattle.est_order.proofs.PlacedParts.{InOrder, FormalPlaced}
 use Rattle.est_order.proofs.PlacedBodies.{NamePlaced, StatementPlaced, StatementsPlaced}
 use Rattle.est_order.proofs.PlacedBodies.{SecondPlaced, ArmsPlaced, ClausePlaced, PartPlaced}
@@ -67,6 +67,30 @@ statement_begins i j (statement.For' name from down to a turn place) h = h.1
 statement_begins i j (statement.All' name over a turn place) h = h.1
 statement_begins i j _ h = h.0
 
+pub statement_ends : (i j : ℕ) (s : Statement) → StatementPlaced i j s → statement_place s ≤ j
+statement_ends i j (statement.Compound' a turn place) h = statements_on place j turn h.1
+statement_ends i j (statement.If' condition a first second place) h =
+    let e = statements_on h.0 h.1 first h.4 in
+    let f = second_on h.1 j second h.5 in
+    let l = h.3 in omega arith
+statement_ends i j (statement.Case' value a arms place) h =
+    let e = arms_on h.0 j arms h.3 in let l = h.2 in omega arith
+statement_ends i j (statement.While' condition a turn place) h =
+    let e = statements_on h.0 j turn h.3 in let l = h.2 in omega arith
+statement_ends i j (statement.Repeat' a turn until place) h =
+    let e = statements_on place h.0 turn h.2 in
+    let l = h.3 in
+    let m = h.4 in omega arith
+statement_ends i j (statement.For' name from down to a turn place) h =
+    let e = statements_on h.0 j turn h.3 in let l = h.2 in omega arith
+statement_ends i j (statement.All' name over a turn place) h =
+    let e = short_on (suc name.place) h.0 over h.3 in
+    let f = statements_on h.0 j turn h.4 in
+    let l = h.2 in omega arith
+statement_ends i j (statement.Attach own child point place) h =
+    let l = h.1 in let m = h.2 in omega arith
+statement_ends i j _ h = h.1
+
 constant_begins : (i j : ℕ) (c : Constant) → ConstantPlaced i j c → i ≤ constant_place c
 constant_begins i j (constant.Number minus sign n place) h = h.0
 constant_begins i j (constant.Named minus sign name place) h = h.0
@@ -75,10 +99,14 @@ constant_begins i j (constant.Character code place) h = h.0
 module _ (R : ℕ → Type 0) (unfinished : Bool) (a b : ℕ) (fits : b ≤ 2 ^ 32) where
   -- statements
   pub arm_grows : (w : Within) (cs : List Constant) (o : Outline) (i j : ℕ)
-      → InOrder ConstantPlaced i j cs → a ≤ i → Grows R unfinished a b o (arm_lying w cs o)
-  arm_grows w [] o i j h l = g_not
-  arm_grows w (c ∷ cs) o i j h l =
-      let e = constant_begins i h.0 c h.1 in g_lying w (constant_place c) (omega arith)
+      → InOrder ConstantPlaced i j cs → a ≤ i → j ≤ b
+      → Grows R unfinished a b o (arm_lying w cs o)
+  arm_grows w [] o i j h l m = g_not
+  arm_grows w (c ∷ cs) o i j h l m =
+      let e = constant_begins i h.0 c h.1 in
+      let f = constant_within i h.0 c h.1 in
+      let g = order_on ConstantPlaced one_constant_on h.0 j cs h.2 in
+      g_lying w (constant_place c) (omega arith) (omega arith)
 
   mutual
     pub within_grows : (w : Within) (own : IsOpen R a w.region) (s : Statement) (o : Outline)
@@ -103,7 +131,7 @@ module _ (R : ℕ → Type 0) (unfinished : Bool) (a b : ℕ) (fits : b ≤ 2 ^ 
         let r = h.4 in
         let e = statements_on place h.0 turn h.2 in
         g_then (row_grows w own turn o place h.0 h.2 (omega arith) (omega arith))
-        (g_lying w (expr_place until) (omega arith))
+        (g_lying w (expr_place until) (omega arith) (omega arith))
     within_grows w own (statement.For' name from down to x turn place) o i j h l m =
         let p = h.1 in let q = h.2 in row_grows w own turn o h.0 j h.3 (omega arith) m
     within_grows w own (statement.All' name over x turn place) o i j h l m =
@@ -128,9 +156,10 @@ module _ (R : ℕ → Type 0) (unfinished : Bool) (a b : ℕ) (fits : b ≤ 2 ^ 
     row_grows w own (more_of-Statement s rest) o i j h l m =
         let o1 = lying w (statement_place s) o in
         let p = statement_begins i h.0 s h.1 in
+        let r = statement_ends i h.0 s h.1 in
         let e = statement_on i h.0 s h.1 in
         let f = statements_on h.0 j rest h.2 in
-        g_then (g_lying w (statement_place s) (omega arith))
+        g_then (g_lying w (statement_place s) (omega arith) (omega arith))
         (g_then (within_grows w own s o1 i h.0 h.1 l (omega arith))
         (row_grows w own rest (within_declares w s o1) h.0 j h.2 (omega arith) m))
 
@@ -149,10 +178,11 @@ module _ (R : ℕ → Type 0) (unfinished : Bool) (a b : ℕ) (fits : b ≤ 2 ^ 
         let o2 = lying w (statement_place s) o1 in
         let c = order_on ConstantPlaced one_constant_on i h.0 constants h.2 in
         let p = statement_begins h.0 h.1 s h.3 in
+        let r = statement_ends h.0 h.1 s h.3 in
         let e = statement_on h.0 h.1 s h.3 in
         let f = arms_on h.1 j rest h.4 in
-        g_then (arm_grows w constants o i h.0 h.2 l)
-        (g_then (g_lying w (statement_place s) (omega arith))
+        g_then (arm_grows w constants o i h.0 h.2 l (omega arith))
+        (g_then (g_lying w (statement_place s) (omega arith) (omega arith))
         (g_then (within_grows w own s o2 h.0 h.1 h.3 (omega arith) (omega arith))
         (arms_grow w own rest (within_declares w s o2) h.1 j h.4 (omega arith) m)))
 
@@ -162,9 +192,10 @@ module _ (R : ℕ → Type 0) (unfinished : Bool) (a b : ℕ) (fits : b ≤ 2 ^ 
   statements_grow w own [] o i j h l m = g_not
   statements_grow w own (s ∷ ss) o i j h l m =
       let p = statement_begins i h.0 s h.1 in
+      let r = statement_ends i h.0 s h.1 in
       let e = statement_on i h.0 s h.1 in
       let f = turn_on h.0 j ss h.2 in
-      g_then (g_lying w (statement_place s) (omega arith))
+      g_then (g_lying w (statement_place s) (omega arith) (omega arith))
       (g_then (within_grows w own s (lying w (statement_place s) o) i h.0 h.1 l (omega arith))
       (statements_grow w own ss (statement_declares w s o) h.0 j h.2 (omega arith) m))
 
@@ -173,27 +204,27 @@ module _ (R : ℕ → Type 0) (unfinished : Bool) (a b : ℕ) (fits : b ≤ 2 ^ 
       (o : Outline) (i j : ℕ) → ClausePlaced i j c → a ≤ i → j ≤ b
       → Grows R unfinished a b o (clause_declares w c (gs, o)).1
   clause_grows w own (clauses.From states place) gs o i j h l m =
-      let p = h.0 in g_lying (under w (dropped kind.From gs)) place (omega arith)
+      let p = h.0 in let q = h.1 in g_lying (under w (dropped kind.From gs)) place (omega arith) (omega arith)
   clause_grows w own (clauses.To state place) gs o i j h l m =
-      let p = h.0 in g_lying (under w (dropped kind.To gs)) place (omega arith)
+      let p = h.0 in let q = h.1 in g_lying (under w (dropped kind.To gs)) place (omega arith) (omega arith)
   clause_grows w own (clauses.When at signal place) gs o i j h l m =
-      let p = h.0 in g_lying (under w (dropped kind.When gs)) place (omega arith)
+      let p = h.0 in let q = h.1 in g_lying (under w (dropped kind.When gs)) place (omega arith) (omega arith)
   clause_grows w own (clauses.Provided condition place) gs o i j h l m =
-      let p = h.0 in g_lying (under w (dropped kind.Provided gs)) place (omega arith)
+      let p = h.0 in let q = h.1 in g_lying (under w (dropped kind.Provided gs)) place (omega arith) (omega arith)
   clause_grows w own (clauses.Otherwise place) gs o i j h l m =
-      let p = h.0 in g_lying (under w (dropped kind.Provided gs)) place (omega arith)
+      let p = h.0 in let q = h.1 in g_lying (under w (dropped kind.Provided gs)) place (omega arith) (omega arith)
   clause_grows w own (clauses.Any names place) gs o i j h l m =
       let p = h.0 in
       let e = vars_on place j names h.1 in
       let v = under w (given kind.Any (Some place) (dropped kind.Any gs)) in
-      g_then (g_lying v place (omega arith))
+      g_then (g_lying v place (omega arith) (omega arith))
       (vars_grow R unfinished a b fits (in_region section.Any v place) (inr (omega arith))
       names (lying v place o) place j
       h.1 (omega arith) m)
   clause_grows w own (clauses.Priority value place) gs o i j h l m =
-      let p = h.0 in g_lying (under w (dropped kind.Priority gs)) place (omega arith)
+      let p = h.0 in let q = h.1 in g_lying (under w (dropped kind.Priority gs)) place (omega arith) (omega arith)
   clause_grows w own (clauses.Delay least most place) gs o i j h l m =
-      let p = h.0 in g_lying (under w (dropped kind.Delay gs)) place (omega arith)
+      let p = h.0 in let q = h.1 in g_lying (under w (dropped kind.Delay gs)) place (omega arith) (omega arith)
 
   pub clauses_grow : (w : Within) (own : IsOpen R a w.region) (cs : List Clause) (s : Clausal)
       (i j : ℕ) → InOrder ClausePlaced i j cs → a ≤ i → j ≤ b
@@ -209,7 +240,7 @@ module _ (R : ℕ → Type 0) (unfinished : Bool) (a b : ℕ) (fits : b ≤ 2 ^ 
   pub body_named_grows : (w : Within) (own : IsOpen R a w.region) (name : Used) (o : Outline)
       → a ≤ name.place → name.place < b → Grows R unfinished a b o (body_named w name o)
   body_named_grows w own name o l m =
-      g_then (g_lying w name.place l)
+      g_then (g_lying w name.place l (omega arith))
       (g_declared w own name name.place (plain w sort.Body) l m (omega arith))
 
   pub named_grows : (w : Within) (own : IsOpen R a w.region) (name header : Used) (o : Outline)
@@ -217,7 +248,7 @@ module _ (R : ℕ → Type 0) (unfinished : Bool) (a b : ℕ) (fits : b ≤ 2 ^ 
       → Grows R unfinished a b o (header_given name header (body_named w name o))
   named_grows w own name header o l m =
       let o2 = body_named w name o in
-      g_then (g_lying w name.place l)
+      g_then (g_lying w name.place l (omega arith))
       (g_then (g_declared w own name name.place (plain w sort.Body) l m (omega arith))
       (g_amended (with_header (body_header o2 header)) name.place l (λ e. refl)))
 
@@ -225,23 +256,25 @@ module _ (R : ℕ → Type 0) (unfinished : Bool) (a b : ℕ) (fits : b ≤ 2 ^ 
       (result : Option Used) (o : Outline) → a ≤ name.place → name.place < b
       → Grows R unfinished a b o (routine_named w name result o)
   routine_named_grows w own name result o l m =
-      g_then (g_lying w name.place l)
+      g_then (g_lying w name.place l (omega arith))
       (g_declared w own name name.place (plain w (routine_sort result)) l m (omega arith))
 
   pub result_grows : (w : Within) (name : Used) (result : Option Used) (o : Outline) (i j : ℕ)
-      → NamePlaced i j result → a ≤ i → a ≤ name.place
+      → NamePlaced i j result → a ≤ i → j ≤ b → a ≤ name.place
       → Grows R unfinished a b o (result_given w name result o)
-  result_grows w name None o i j h l m = g_not
-  result_grows w name (Some u) o i j h l m =
+  result_grows w name None o i j h l n m = g_not
+  result_grows w name (Some u) o i j h l n m =
       let p = h.0 in
+      let q = h.1 in
       let o1 = lying w u.place o in
-      g_then (g_lying w u.place (omega arith))
+      g_then (g_lying w u.place (omega arith) (omega arith))
       (g_amended (with_kind (named_type o1 u)) name.place m (λ e. refl))
 
   pub to_grows : (w : Within) (to : Option Used) (o : Outline) (i j : ℕ) → NamePlaced i j to → a ≤ i
-      → Grows R unfinished a b o (to_lying w to o)
-  to_grows w None o i j h l = g_not
-  to_grows w (Some u) o i j h l = let p = h.0 in g_lying w u.place (omega arith)
+      → j ≤ b → Grows R unfinished a b o (to_lying w to o)
+  to_grows w None o i j h l m = g_not
+  to_grows w (Some u) o i j h l m =
+      let p = h.0 in let q = h.1 in g_lying w u.place (omega arith) (omega arith)
 
   pub closed_grows : (x : Part) (o : Outline) (i j : ℕ) → PartPlaced i j x → a ≤ i
       → Grows R unfinished a b o (closed_by x o)
@@ -302,7 +335,7 @@ module _ (R : ℕ → Type 0) (unfinished : Bool) (a b : ℕ) (fits : b ≤ 2 ^ 
         (g_then (formals_grow R unfinished a b fits v (inr (omega arith)) formals o1 (suc
         name.place) h.0 h.4 (omega arith)
         (omega arith))
-        (g_then (result_grows v name result o2 h.0 h.1 h.5 (omega arith) (omega arith))
+        (g_then (result_grows v name result o2 h.0 h.1 h.5 (omega arith) (omega arith) (omega arith))
         (g_then (parts_grow v (inr (omega arith)) parts o3 h.1 h.2 h.6 (omega arith) (omega arith))
         (statements_grow v (inr (omega arith)) statements (row_parts v parts o3) place j h.8 (omega
         arith) m))))
@@ -330,7 +363,7 @@ module _ (R : ℕ → Type 0) (unfinished : Bool) (a b : ℕ) (fits : b ≤ 2 ^ 
         let f = turn_on place j statements h.5 in
         let v = inner w place in
         let o1 = to_lying w to o in
-        g_then (to_grows w to o i h.0 h.2 l)
+        g_then (to_grows w to o i h.0 h.2 l (omega arith))
         (g_then (parts_grow v (inr (omega arith)) parts o1 h.0 h.1 h.3 (omega arith) (omega arith))
         (statements_grow v (inr (omega arith)) statements (row_parts v parts o1) place j h.5 (omega
         arith) m))

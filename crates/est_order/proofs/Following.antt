@@ -260,4 +260,4 @@ module _ (R : ℕ → Type 0) (unfinished : Bool) (a b : ℕ) where
       follow_put (standing o region (spelled u)) o region u m out l n
   followed (g_amended {o} f place l k) = follow_amended o f place l
   followed (g_completed {o} f place h k s) = follow_completed o f place h k s
-  followed (g_lying {o} w place l) = follow_lying o w place l
+  followed (g_lying {o} w place l m) = follow_lying o w place l

@@ -186,7 +186,8 @@ modvar_placed v i j (o_node (o_at l (o_pair {k = k} x (o_pair {k = m} d
     (o_pair (o_at c (o_kept c')) (o_empty e)))))) =
     let f = goes_on layer x in
     let dims = dims_placed v.place v.dims v.names i k m l (omega arith) d in
-    (k, m, dims.0, names_placed v.names (from_earlier layer i l x), dims.1, c, omega arith)
+    let names = names_placed v.names (from_earlier layer i l x) in
+    (k, m, dims.0, names, dims.1, c, omega arith, dims.2 (omega arith))
 
 pub modvars_placed : (vs : List ModvarDef) (i j : ℕ) → Stand (nodes (map a_module_variable vs)) i j
     → InOrder ModvarPlaced i j vs

@@ -116,8 +116,13 @@ mutual
   statement_placed (statement.Connect one other place) i j (o_node (o_at l x)) =
       (l, goes_on layer x)
   statement_placed (statement.Disconnect end place) i j (o_node (o_at l x)) = (l, goes_on layer x)
-  statement_placed (statement.Attach own child point place) i j (o_node (o_at l x)) =
-      (l, goes_on layer x)
+  statement_placed (statement.Attach own child point place) i j
+      (o_node (o_at l (o_given (o_second (o_second (o_second (o_second (o_second (o_second
+      (o_second (o_second (o_second (o_second (o_second (o_second (o_second (o_first
+      (o_pair x (o_pair (o_node (o_pair (o_at m (o_kept n)) y)) z))))))))))))))))))) =
+      let p = goes_on layer x in
+      let q = goes_on layer y in
+      let r = goes_on layer z in (l, omega arith, omega arith)
   statement_placed (statement.Detach end place) i j (o_node (o_at l x)) = (l, goes_on layer x)
 
   row_placed : {n : _} (row : Row_of-Statement n) (i j : ℕ)

@@ -100,7 +100,8 @@ grows_wider R unfinished a b i j l m (g_put region out u x p q) =
     g_put region (open_wider R a i region l out) u x (omega arith) (omega arith)
 grows_wider R unfinished a b i j l m (g_amended f place p k) = g_amended f place (omega arith) k
 grows_wider R unfinished a b i j l m (g_completed f place h k s) = g_completed f place h k s
-grows_wider R unfinished a b i j l m (g_lying w place p) = g_lying w place (omega arith)
+grows_wider R unfinished a b i j l m (g_lying w place p q) =
+    g_lying w place (omega arith) (omega arith)
 
 -- what grows where no text is unfinished may grow where one is
 pub grows_unfinished : (R : ℕ → Type 0) (a b : ℕ) {o p : Outline} → Grows R false a b o p
@@ -111,7 +112,7 @@ grows_unfinished R a b (g_declared w own u last e p q r) = g_declared w own u la
 grows_unfinished R a b (g_put region out u x p q) = g_put region out u x p q
 grows_unfinished R a b (g_amended f place p k) = g_amended f place p k
 grows_unfinished R a b (g_completed f place h k s) = absurd cc
-grows_unfinished R a b (g_lying w place p) = g_lying w place p
+grows_unfinished R a b (g_lying w place p q) = g_lying w place p q
 
 -- what is later up to one place is later up to an earlier one
 pub later_weaker : (a c i k : ℕ) (o p : Outline) → i ≤ a → k ≤ c → Later a c o p → Later i k o p
@@ -163,7 +164,7 @@ grows_open R S unfinished a b f (g_put region out u x p q) =
     g_put region (open_more R S a region f out) u x p q
 grows_open R S unfinished a b f (g_amended g place p k) = g_amended g place p k
 grows_open R S unfinished a b f (g_completed g place h k s) = g_completed g place h k s
-grows_open R S unfinished a b f (g_lying w place p) = g_lying w place p
+grows_open R S unfinished a b f (g_lying w place p q) = g_lying w place p q
 
 -- what grows where some regions are open grows where every one is
 pub anywhere : (R : ℕ → Type 0) (unfinished : Bool) (a b : ℕ) {o p : Outline}

@@ -157,6 +157,12 @@ mutual
       let f : h.0 ≤ text_last t = text_from h.0 h.1 t (omega arith) h.3 in
       fields_from m h.1 j (text_last t) rest fits h.4 (omega arith) (omega arith)
 
+-- a constant begins before its end
+pub constant_within : (i j : ℕ) (c : Constant) → ConstantPlaced i j c → constant_place c < j
+constant_within i j (constant.Number minus sign n place) h = h.1
+constant_within i j (constant.Named minus sign name place) h = omega (arith, h.1, h.2)
+constant_within i j (constant.Character code place) h = h.1
+
 -- the text of a type begins after what it stands after
 pub text_begins : (i j : ℕ) (t : TypeText) → j ≤ 2 ^ 32 → TextPlaced i j t → i ≤ text_place t
 text_begins i j (text.Named u) fits h = h.0
@@ -168,6 +174,17 @@ text_begins i j (text.Array' a index b of place) fits h = h.1
 text_begins i j (text.Fields' a defs place) fits h = h.0
 text_begins i j (text.Set' a of place) fits h = h.0
 
+-- and before its end
+pub text_within : (i j : ℕ) (t : TypeText) → TextPlaced i j t → text_place t ≤ j
+text_within i j (text.Named u) h = omega (arith, h.1)
+text_within i j (text.Range low high) h =
+    omega (arith, constant_within i h.0 low h.1, constant_on h.0 j high h.2)
+text_within i j (text.Names names place) h = names_on place j names h.1
+text_within i j (text.Array' a index b of place) h =
+    omega (arith, row_on place h.0 index h.2, row_on h.0 j of h.3)
+text_within i j (text.Fields' a defs place) h = fields_on place j defs h.1
+text_within i j (text.Set' a of place) h = row_on place j of h.1
+
 -- a row that has a text ends with it
 pub box_from : (i j d : ℕ) {n : _} (row : Row_of-TypeText n) → j ≤ 2 ^ 32 → RowPlaced i j row
     → IsMore row → i ≤ row_last row d
@@ -176,11 +193,6 @@ box_from i j d (more_of-TypeText t rest) fits h more =
     let e = row_on h.0 j rest h.2 in text_from i h.0 t (omega arith) h.1
 
 -- a short type begins before its end
-pub constant_within : (i j : ℕ) (c : Constant) → ConstantPlaced i j c → constant_place c < j
-constant_within i j (constant.Number minus sign n place) h = h.1
-constant_within i j (constant.Named minus sign name place) h = omega (arith, h.1, h.2)
-constant_within i j (constant.Character code place) h = h.1
-
 pub short_within : (i j : ℕ) (t : TypeText) → ShortPlaced i j t → text_place t < j
 short_within i j (text.Named u) h = h.1
 short_within i j (text.Range low high) h =

@@ -49,6 +49,8 @@ abbrev mutual
   StatementPlaced i j (statement.All' name over a turn place) =
       (k : ℕ) × (i ≤ place) × (place ≤ name.place) × ShortPlaced (suc name.place) k over
       × StatementsPlaced k j turn
+  StatementPlaced i j (statement.Attach own child point place) =
+      (i ≤ place) × (place ≤ child.name.place) × (child.name.place < j)
   StatementPlaced i j s = (i ≤ statement_place s) × (statement_place s ≤ j)
 
   pub StatementsPlaced : ℕ → ℕ → {n : _} → Row_of-Statement n → Type 0

@@ -52,6 +52,7 @@ PointPlaced i j p = (k : ℕ) × (m : ℕ) × (i ≤ p.place) × NamesPlaced i k
 abbrev pub ModvarPlaced : ℕ → ℕ → ModvarDef → Type 0
 ModvarPlaced i j v = (k : ℕ) × (m : ℕ) × (i ≤ v.place) × NamesPlaced i k v.names
     × InOrder ShortPlaced k m v.dims × (m ≤ v.header.place) × (v.header.place < j)
+    × (v.place ≤ m)
 
 -- headers, whose points and exports stand in any order
 pub data Merged : ℕ → ℕ → List Point → List VarDef → Type 0 where

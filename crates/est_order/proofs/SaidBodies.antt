@@ -149,7 +149,7 @@ module _ (unfinished : Bool) (b : ℕ) (fits : b ≤ 2 ^ 32) (p : Outline) where
         let o1 = row_statements w turn o in
         row_said w turn o place h.0 h.2 (omega arith) (before_later i place o h.1 before)
         (grows_on Anywhere unfinished h.0 j b o1 (lying w (expr_place until) o1) p (omega arith) l
-        (g_lying w (expr_place until) q) rest)
+        (g_lying w (expr_place until) q r) rest)
     within_said w (statement.For' name from down to x turn place) o i j h l before rest =
         let q = h.1 in
         let r = h.2 in
@@ -232,7 +232,8 @@ module _ (unfinished : Bool) (b : ℕ) (fits : b ≤ 2 ^ 32) (p : Outline) where
         let f = arms_on h.1 j more h.4 in
         let before1 : IsBefore h.0 o1 =
         before_grown Anywhere unfinished i h.0 o o1
-        (arm_grows Anywhere unfinished i h.0 (omega arith) w constants o i h.0 h.2 (omega arith))
+        (arm_grows Anywhere unfinished i h.0 (omega arith) w constants o i h.0 h.2 (omega arith)
+        (omega arith))
         before c in
         let before2 : IsBefore h.0 o2 = before_lying h.0 (statement_place s) w o1 before1 in
         let before3 : IsBefore h.1 o3 =

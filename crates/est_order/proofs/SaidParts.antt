@@ -428,7 +428,7 @@ module _ (unfinished : Bool) (b : ℕ) (fits : b ≤ 2 ^ 32) (p : Outline) where
       let o2 = declared w c.name (channel_last c) (plain w sort.Channel) o1 in
       let o3 = roles_put place c.roles First o2 in
       let grows : Grows Anywhere unfinished i h.0 o o3 =
-      g_then (g_lying w place q)
+      g_then (g_lying w place q (omega arith))
       (g_then (g_declared w (inl tt) c.name (channel_last c) (plain w sort.Channel) q (omega arith)
       g)
       (roles_grow Anywhere unfinished i h.0 (omega arith) place (inl tt) c.roles First o2 (suc

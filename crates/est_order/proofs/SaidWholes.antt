@@ -149,10 +149,12 @@ completed_result v name (Some u) o own = completed_amended (with_kind (named_typ
     o) u)) name.place (lying v u.place o) name.place (λ e. refl) own
 
 result_completes : (v : Within) (name : Used) (result : Option Used) (o : Outline) (k l b : ℕ)
-    → NamePlaced k l result → IsOfCompleted o name.place
+    → NamePlaced k l result → l ≤ b → IsOfCompleted o name.place
     → Grows Anywhere true k b o (result_given v name result o)
-result_completes v name None o k l b h own = g_not
-result_completes v name (Some u) o k l b h own = g_then (g_lying v u.place h.0)
+result_completes v name None o k l b h m own = g_not
+result_completes v name (Some u) o k l b h m own =
+    let q = h.1 in
+    g_then (g_lying v u.place h.0 (omega arith))
     (g_completed (with_kind (named_type (lying v u.place o) u)) name.place refl (λ e. refl) own)
 
 module _ (b : ℕ) (fits : b ≤ 2 ^ 32) (p : Outline) where
@@ -392,7 +394,7 @@ module _ (b : ℕ) (fits : b ≤ 2 ^ 32) (p : Outline) where
       (g_then (grows_wider Anywhere false name.place l (suc name.place) k (omega arith) (omega
       arith) grows2)
       (result_grows Anywhere false name.place l (omega arith) v name result o2 k l r (omega arith)
-      (omega arith))) in
+      (omega arith) (omega arith))) in
       let before3 : IsBefore l o3 =
       before_grown Anywhere false name.place l o o3 grows3 start (omega arith) in
       let text : Grows Anywhere false l j o3 o5 =
@@ -413,7 +415,7 @@ module _ (b : ℕ) (fits : b ≤ 2 ^ 32) (p : Outline) where
       g_then (g_completed (with_closed c) name.place refl (λ x. refl) own5)
       (grows_unfinished Anywhere j b rest) in
       let after : Grows Anywhere true k b o2 p =
-      g_then (result_completes v name result o2 k l b r own2)
+      g_then (result_completes v name result o2 k l b r (omega arith) own2)
       (grows_on Anywhere true k j b o3 o5 p (omega arith) few
       (grows_wider Anywhere true k j l j e (omega arith) (grows_unfinished Anywhere l j text))
       closing) in
@@ -437,7 +439,7 @@ module _ (b : ℕ) (fits : b ≤ 2 ^ 32) (p : Outline) where
       let o1 = to_lying w to o in
       block_said false (inner w place) parts statements place o1 h.0 h.1 j h.3 h.6 h.4 h.5 l
       (before_grown Anywhere false i h.0 o o1
-      (to_grows Anywhere false i h.0 (omega arith) w to o i h.0 h.2 (omega arith)) before e) rest
+      (to_grows Anywhere false i h.0 (omega arith) w to o i h.0 h.2 (omega arith) (omega arith)) before e) rest
 
   -- transitions
   mutual
@@ -654,4 +656,4 @@ declarations_said s n fits h =
     let o = parts_declare outermost s.parts empty in
     listed_parts_said n fits (outline_of s) IsOutermost outermost s.parts empty (suc s.name.place) k
     refl t.1 (omega arith) (before_empty (suc s.name.place)) (outermost_open (suc s.name.place)
-    (omega arith)) (g_lying outermost (statement_place s.first) q)
+    (omega arith)) (g_lying outermost (statement_place s.first) q r)

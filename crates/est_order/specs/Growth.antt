@@ -53,7 +53,8 @@ module _ (R : ℕ → Type 0) (unfinished : Bool) (a b : ℕ) where
         → Grows o (amended f place o)
     g_completed : {o : Outline} (f : Entry → Entry) (place : ℕ) → unfinished ≡ true → KeepsSort f
         → IsOfCompleted o place → Grows o (amended f place o)
-    g_lying : {o : Outline} (w : Within) (place : ℕ) → a ≤ place → Grows o (lying w place o)
+    g_lying : {o : Outline} (w : Within) (place : ℕ) → a ≤ place → place ≤ b
+        → Grows o (lying w place o)
 
 -- what is known of a declaration later: the same, or, while a text is unfinished, the same sort and
 -- body at least where it is of a sort that is completed
