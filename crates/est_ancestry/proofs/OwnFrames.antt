@@ -8,8 +8,8 @@ use Rattle.std.proofs.lemmas.List.{length-append}
 use Rattle.std.proofs.lemmas.Option.{same_Some}
 use Rattle.std.specs.Prelude.{if◌then◌else◌, ◌⊎◌, ◌-◌, slice_set, take}
 use Rattle.std.specs.Option.{option_map, option_or}
+use Rattle.est_syntax.specs.declared.specification.Spec.{Spec}
 use Rattle.est_values.specs.declared.value.Value.{Value}
-use Rattle.est_scope.specs.Outline.{Outline}
 use Rattle.est_semantics.specs.declared.frame.Binding.{Binding}
 use Rattle.est_semantics.specs.declared.frame.Slot.{Slot}
 use Rattle.est_semantics.specs.declared.frame.Slot.TheVariants as slot
@@ -26,7 +26,8 @@ use Rattle.est_upkeep.proofs.FittingFrames.{OnSlot, OnFrame, OnFrames, OnFound, 
 use Rattle.est_upkeep.proofs.FittingFrames.{plain_frame}
 use Rattle.est_upkeep.proofs.FittingFrames.{altered_frames, slot_fits, named_fits, weaker_frames}
 use Rattle.est_upkeep.proofs.ParentsOlder.{changed_all}
-use Rattle.est_ancestry.specs.InsideTargets.{is_of_all, IsOfAll, IsPlaceOf, IsInside}
+use Rattle.est_ancestry.specs.InsideTargets.{IsPlaceOf, IsInside}
+use Rattle.est_ancestry.specs.NamesOfAlls.{IsOfAll}
 
 none_some : {A : Type 0} (a : A) → None ≡ Some a → ⊥
 none_some a h = cc
@@ -313,25 +314,25 @@ found_younger (AllFrame q m e) fs n d other h s g =
 
 -- Around the statements of an instance stand `all`s with these names, which it executes itself;
 -- frames are those of `all`s.
-pub record StandsAround (o : Outline) (w : List ℕ) (n : Execution) : Type 0 where
-  pub apart : (p : ℕ) → (IsOfAll o p → ⊥) → Apart p n.stack
+pub record StandsAround (x : Spec) (w : List ℕ) (n : Execution) : Type 0 where
+  pub apart : (p : ℕ) → (IsOfAll x p → ⊥) → Apart p n.stack
   pub own : (p : ℕ) → IsPlaceOf w p → Sees n.instance p n.stack
 
-pub around_none : (o : Outline) (n : ℕ) → StandsAround o [] (alone n)
-around_none o n = record { apart = λ p h. tt; own = λ p h. absurd h }
+pub around_none : (x : Spec) (n : ℕ) → StandsAround x [] (alone n)
+around_none x n = record { apart = λ p h. tt; own = λ p h. absurd h }
 
-pub around_block : (o : Outline) (w : List ℕ) (n : Execution) → StandsAround o w n
-    → StandsAround o [] (within_block n)
-around_block o w n h = record { apart = λ p g. h.apart p g; own = λ p g. absurd g }
+pub around_block : (x : Spec) (w : List ℕ) (n : Execution) → StandsAround x w n
+    → StandsAround x [] (within_block n)
+around_block x w n h = record { apart = λ p g. h.apart p g; own = λ p g. absurd g }
 
-pub around_part : (o : Outline) (w : List ℕ) (n : Execution) (i : ℕ) → StandsAround o w n
-    → StandsAround o [] (within_block (of_child i n))
-around_part o w n i h = record { apart = λ p g. h.apart p g; own = λ p g. absurd g }
+pub around_part : (x : Spec) (w : List ℕ) (n : Execution) (i : ℕ) → StandsAround x w n
+    → StandsAround x [] (within_block (of_child i n))
+around_part x w n i h = record { apart = λ p g. h.apart p g; own = λ p g. absurd g }
 
-pub around_all : (o : Outline) (w : List ℕ) (n : Execution) (q : ℕ) → IsOfAll o q
-    → StandsAround o w n → StandsAround o (q ∷ w) (within_all q n)
-around_all o w n q e h = record {
-  apart = λ p g. ((λ z. g (subst (IsOfAll o) (sym z) e)), h.apart p g);
+pub around_all : (x : Spec) (w : List ℕ) (n : Execution) (q : ℕ) → IsOfAll x q
+    → StandsAround x w n → StandsAround x (q ∷ w) (within_all q n)
+around_all x w n q e h = record {
+  apart = λ p g. ((λ z. g (subst (IsOfAll x) (sym z) e)), h.apart p g);
   own = λ p g. one p g;
 }
   where
@@ -340,11 +341,7 @@ around_all o w n q e h = record {
     one p (inr i) = ((λ k. refl), λ k. h.own p i)
 
 -- the name of a child to which an `attach` leads
-pub sees_inside : (o : Outline) (w : List ℕ) (n : Execution) (p : ℕ) → StandsAround o w n
-    → IsInside o w p → Sees n.instance p n.stack
-sees_inside o w n p h g = one (is_of_all o p) refl
-  where
-    one : (b : Bool) → is_of_all o p ≡ b → Sees n.instance p n.stack
-    one true e = h.own p (g e)
-    one false e = apart_sees n.instance p n.stack
-        (h.apart p (λ k. true_false (sym k ∙ e)))
+pub sees_inside : (x : Spec) (w : List ℕ) (n : Execution) (p : ℕ) → StandsAround x w n
+    → IsInside x w p → Sees n.instance p n.stack
+sees_inside x w n p h (inl i) = h.own p i
+sees_inside x w n p h (inr g) = apart_sees n.instance p n.stack (h.apart p g)

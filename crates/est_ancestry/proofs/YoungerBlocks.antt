@@ -24,7 +24,8 @@ use Rattle.est_upkeep.proofs.FittingFrames.{OnNumber, plain_frames}
 use Rattle.est_upkeep.proofs.GivenThings.{OnGood}
 use Rattle.est_upkeep.proofs.OrderlyBlocks.{reached_younger, child_younger}
 use Rattle.est_upkeep.proofs.ParentsOlder.{InAge, Later, age_kept, good_unit}
-use Rattle.est_ancestry.specs.InsideTargets.{IsNamedByAll, IsInside}
+use Rattle.est_ancestry.specs.InsideTargets.{IsInside}
+use Rattle.est_ancestry.specs.NamesOfAlls.{IsOfAll}
 use Rattle.est_ancestry.specs.YoungerLaws.{BlocksLeadToYounger}
 use Rattle.est_ancestry.proofs.OwnFrames.{Younger, NoInstance, Matches, opened_block, opened_all}
 use Rattle.est_ancestry.proofs.OwnFrames.{closed_block, closed_all, altered_matches, found_younger}
@@ -81,21 +82,21 @@ living_younger n s (Some i) h = one (lives s i)
 module _ (t : Text) where
   -- an `attach` leads to a younger instance
   target_younger : (w : List ℕ) (n : Execution) (s : State) (p : ℕ) (e : Element)
-      → StandsAround t.outline w n → IsInside t.outline w p → IsInOrder n s
+      → StandsAround t.spec w n → IsInside t.spec w p → IsInOrder n s
       → OnGood (Younger n.instance) (held_child n.instance s p e)
   target_younger w n s p e a i h = let m = n.instance in
       living_younger m s.situation _
       (found_younger n.stack s.frames m p (held_in s.situation m e) h.frames
-      (sees_inside t.outline w n p a i) (reached_younger m e s.situation.rows h.age.1))
+      (sees_inside t.spec w n p a i) (reached_younger m e s.situation.rows h.age.1))
 
   younger_kept : FramedUpkeep t IsInOrder Later (λ n s i. Unit {0}) (λ n s i. n < i)
-      (λ n i. n < i) (IsNamedByAll t.outline) (IsInside t.outline) (StandsAround t.outline)
+      (λ n i. n < i) (IsOfAll t.spec) (IsInside t.spec) (StandsAround t.spec)
   younger_kept = let k = age_kept t in record {
     same = k.same;
     after = k.after;
-    blocks = λ w n h. around_block t.outline w n h;
-    alls = λ w n p e i h. around_all t.outline w n p (i e) h;
-    parts = λ w n i h. around_part t.outline w n i h;
+    blocks = λ w n h. around_block t.spec w n h;
+    alls = λ w n p e i h. around_all t.spec w n p i h;
+    parts = λ w n i h. around_part t.spec w n i h;
     counts = λ n s l h. record { age = h.age; younger = h.younger; frames = h.frames };
     opens = λ n s f e h. record {
       age = h.age;
@@ -176,10 +177,10 @@ younger_done n s Limit h = tt
 
 pub blocks_lead_to_younger : BlocksLeadToYounger
 blocks_lead_to_younger t n levels xs s inside fits begun age names younger =
-    let o = t.outline in
+    let o = t.spec in
     younger_done (alone n) s (statements_in xs (site t n false levels) s)
     (execution_keeps t IsInOrder Later (λ n s i. Unit {0}) (λ n s i. n < i) (λ n i. n < i)
-    (IsNamedByAll o) (IsInside o) (StandsAround o) inside.begun (younger_kept t) levels (alone n) xs
+    (IsOfAll o) (IsInside o) (StandsAround o) inside.begun (younger_kept t) levels (alone n) xs
     (around_none o n) fits s (record {
       age = (begun, age);
       younger = younger;

@@ -43,7 +43,8 @@ use Rattle.est_upkeep.proofs.OrderlySteps.{choice_is, found_number, seen_plain, 
 use Rattle.est_upkeep.proofs.OrderlySteps.{finished_next, firings_stay_orderly, events_stay_orderly}
 use Rattle.est_upkeep.proofs.ParentsOlder.{joined_all}
 use Rattle.est_upkeep.proofs.RowLaws.{living_number}
-use Rattle.est_ancestry.specs.InsideTargets.{IsNamedByAll, IsInside, TargetsStandInside}
+use Rattle.est_ancestry.specs.InsideTargets.{IsInside, TargetsStandInside}
+use Rattle.est_ancestry.specs.NamesOfAlls.{IsOfAll}
 use Rattle.est_ancestry.specs.YoungerLaws.{FiringsLeadToYounger, RunsLeadToYounger, RunsDescend}
 use Rattle.est_ancestry.proofs.YoungerBlocks.{blocks_lead_to_younger}
 
@@ -55,14 +56,14 @@ none_some a h = cc
 -- the block of a choice
 block_fits : (t : Text) (s : Situation) (f : Firing) (c : Choice) → TargetsStandInside t
     → choice_of t s f ≡ Some c
-    → BlockTargets t.outline (IsNamedByAll t.outline) (IsInside t.outline)
+    → BlockTargets t.outline (IsOfAll t.spec) (IsInside t.spec)
     (out-Block c.transition.block).statements
 block_fits t s f c inside h =
     let a = then_some (choice_in t f) _ c h in
     let b = then_some (choice_by t a.0 f.transition f.choice)
     (numbered (transitions_of t a.0.body) f.transition) c a.2 in
     let d = map_some _ (numbered (any_tuples t.outline b.0) f.choice) c b.2 in
-    subst (λ (x : Choice). BlockTargets t.outline (IsNamedByAll t.outline) (IsInside t.outline)
+    subst (λ (x : Choice). BlockTargets t.outline (IsOfAll t.spec) (IsInside t.spec)
     (out-Block x.transition.block).statements) d.2
     (inside.transitions a.0.body f.transition b.0 b.1)
 
@@ -81,7 +82,7 @@ left_leads (Fault f) h = tt
 left_leads Limit h = tt
 
 block_leads : (limit : ℕ) (t : Text) (s : Situation) (c : Choice) (v : View)
-    → TargetsStandInside t → BlockTargets t.outline (IsNamedByAll t.outline) (IsInside t.outline)
+    → TargetsStandInside t → BlockTargets t.outline (IsOfAll t.spec) (IsInside t.spec)
     (out-Block c.transition.block).statements → IsOrderly s → IsLiving s.rows c.row.number
     → LeadToYounger s → IsPlain c.chosen → view_of limit t s c ≡ Some v
     → OnSent LeadToYounger (performed_in limit t s c v)
@@ -132,7 +133,7 @@ event_leads t s (event.Passes units) h = h
 -- RUNS
 
 start_leads : (t : Text) (limit : ℕ) → TargetsStandInside t
-    → Targets t.outline (IsNamedByAll t.outline) (IsInside t.outline) [] t.spec.first
+    → Targets t.outline (IsOfAll t.spec) (IsInside t.spec) [] t.spec.first
     → OnSent LeadToYounger (start_before t limit)
 start_leads t limit inside fits =
     let s = beginning no_instances [] limit in
@@ -148,7 +149,7 @@ start_younger c h inside = let t = text_of c.spec in
     finished_next t (restamped c.limit t None) LeadToYounger LeadToYounger
     (start_before t c.limit) (λ u k. k)
     (start_leads t c.limit inside
-    (subst (λ (x : Statement). Targets t.outline (IsNamedByAll t.outline) (IsInside t.outline) [] x)
+    (subst (λ (x : Statement). Targets t.outline (IsOfAll t.spec) (IsInside t.spec) [] x)
     (sym h.4) tt))
 
 -- an orderly situation, in which attachments lead to younger instances

@@ -1,2 +1,3 @@
 pub mod InsideTargets
+pub mod NamesOfAlls
 pub mod YoungerLaws

@@ -20,14 +20,15 @@ use Rattle.est_upkeep.specs.ClimbLaws.{LeadToYounger}
 use Rattle.est_upkeep.specs.OrderLaws.{IsOrderly, NameNone}
 use Rattle.est_upkeep.specs.RunOrder.{BeginsWithInit}
 use Rattle.est_upkeep.specs.UpkeepLaws.{OnDone}
-use Rattle.est_ancestry.specs.InsideTargets.{IsNamedByAll, IsInside, TargetsStandInside}
+use Rattle.est_ancestry.specs.InsideTargets.{IsInside, TargetsStandInside}
+use Rattle.est_ancestry.specs.NamesOfAlls.{IsOfAll}
 
 -- A block of an instance that was begun keeps it that attachments lead to younger instances, where
 -- instances are in their age and no frame names one: each `attach` leads to a child of the instance
 -- that executes it, also within the initialize parts that a block begins, which see its frames.
 abbrev pub BlocksLeadToYounger : Type 0
 BlocksLeadToYounger = (t : Text) (n levels : ℕ) (xs : List Statement) (s : State)
-    → TargetsStandInside t → BlockTargets t.outline (IsNamedByAll t.outline) (IsInside t.outline) xs
+    → TargetsStandInside t → BlockTargets t.outline (IsOfAll t.spec) (IsInside t.spec) xs
     → n < s.situation.next → AreInAge s.situation.rows → NameNone s.frames
     → LeadToYounger s.situation
     → OnDone (λ u. LeadToYounger u.situation) (statements_in xs (site t n false levels) s)

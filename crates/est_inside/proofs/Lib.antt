@@ -1,0 +1,12 @@
+pub mod Beginnings
+pub mod Bodies
+pub mod EachBlock
+pub mod Homes
+pub mod InsideParts
+pub mod InsideRuns
+pub mod InsideSentences
+pub mod Meant
+pub mod NamesPlaced
+pub mod ReadBeginnings
+pub mod Regions
+pub mod Statements
