@@ -5,8 +5,6 @@ use Rattle.std.proofs.Common.{if◌then◌else◌}
 use Rattle.std.specs.Prelude.{◌⊎◌}
 use Rattle.est_syntax.specs.Names.{spelled}
 use Rattle.est_syntax.specs.declared.name.Used.{Used}
-use Rattle.est_syntax.specs.declared.transition.Clause.{Clause}
-use Rattle.est_syntax.specs.declared.statement.Statement.{Statement}
 use Rattle.est_syntax.specs.declared.body.Part.{Part, out-Part, Row_of-Part}
 use Rattle.est_syntax.specs.declared.body.Part.{end_of-Part, more_of-Part}
 use Rattle.est_syntax.specs.declared.body.Part.TheBlock as first
@@ -15,28 +13,26 @@ use Rattle.est_syntax.specs.declared.body.Body.{Body', Row_of-Group, end_of-Grou
 use Rattle.est_syntax.specs.declared.body.Body.{more_of-Group, Held-Body-first}
 use Rattle.est_syntax.specs.declared.transition.Group.{Group', Row_of-Transition}
 use Rattle.est_syntax.specs.declared.transition.Group.{end_of-Transition, more_of-Transition}
-use Rattle.est_scope.specs.declared.declaration.Entry.{Entry}
 use Rattle.est_scope.specs.declared.declaration.Sort.TheVariants as sort
 use Rattle.est_scope.specs.declared.declaration.Meant.{Meant}
 use Rattle.est_scope.specs.declared.declaration.Meant.TheVariants.{Nothing, Predeclared}
 use Rattle.est_scope.specs.declared.declaration.Meant.TheVariants.{Unseen, Seen}
-use Rattle.est_scope.specs.declared.declaration.Standing.{Standing}
 use Rattle.est_scope.specs.declared.declaration.Within.{Within}
-use Rattle.est_scope.specs.Outline.{Outline, entry_at, extent_at, standing}
+use Rattle.est_scope.specs.Outline.{Outline, entry_at, extent_at}
 use Rattle.est_scope.specs.Declaring.{lying, last_from, taken, with_closed, with_header}
-use Rattle.est_scope.specs.Uses.{is_sort, meant_as, meaning, declaration_of}
+use Rattle.est_scope.specs.Uses.{is_sort, meant_as, meaning}
 use Rattle.est_outline.specs.Entries.{plain, inner, body_regions}
 use Rattle.est_outline.specs.Contexts.{under}
 use Rattle.est_outline.specs.declared.context.Given.{Given}
 use Rattle.est_outline.specs.Declares.{formals_declare}
-use Rattle.est_outline.specs.Bodies.{Clausal, statements_declare, clauses_declare, body_named}
+use Rattle.est_outline.specs.Bodies.{statements_declare, clauses_declare, body_named}
 use Rattle.est_outline.specs.Bodies.{body_header, header_given, inside, routine_named}
 use Rattle.est_outline.specs.Bodies.{head_declares, to_lying, closed_by, part_declares, row_parts}
 use Rattle.est_outline.specs.Bodies.{first_declares, row_groups, row_transitions, parts_declare}
-use Rattle.est_order.specs.Growth.{Anywhere, Grows, g_then}
+use Rattle.est_order.specs.Growth.{Anywhere, g_then}
 use Rattle.est_order.proofs.PlacedParts.{InOrder, FormalPlaced}
 use Rattle.est_order.proofs.PlacedBodies.{PartPlaced, PartsPlaced, FirstPlaced, GroupsPlaced}
-use Rattle.est_order.proofs.PlacedBodies.{TransitionsPlaced, StatementPlaced}
+use Rattle.est_order.proofs.PlacedBodies.{TransitionsPlaced}
 use Rattle.est_order.proofs.Declaring.{order_on, formal_on, formals_grow}
 use Rattle.est_order.proofs.BodiesGoOn.{turn_on, name_on, clauses_on, part_on, parts_on, first_on}
 use Rattle.est_order.proofs.BodiesGoOn.{groups_on, transitions_on}
@@ -46,22 +42,21 @@ use Rattle.est_order.proofs.DeclaringBodies.{to_grows, closed_grows, part_grows,
 use Rattle.est_order.proofs.DeclaringBodies.{first_grows, groups_grow, transitions_grow}
 use Rattle.est_order.proofs.DeclaringBodies.{listed_parts_grow}
 use Rattle.est_ancestry.specs.InsideTargets.{IsPlaceOf}
-use Rattle.est_semantics.specs.NamesInRuns.{place_in, declared_at}
-use Rattle.est_upkeep.specs.AttachTargets.{BlockTargets}
+use Rattle.est_semantics.specs.NamesInRuns.{place_in}
 use Rattle.est_ancestry.specs.NamesOfAlls.{BlockNamesAll, PartNamesAll, PartsNameAll, FirstNamesAll}
 use Rattle.est_ancestry.specs.NamesOfAlls.{GroupsNameAll, TransitionsNameAll, ListedNameAll}
 use Rattle.est_inside.proofs.Homes.{declared_extents, step_then, Inside}
-use Rattle.est_inside.proofs.Homes.{none_some, Step, step_of, Onward, onward, Same, same_self}
+use Rattle.est_inside.proofs.Homes.{none_some, Step, step_of, onward, Same, same_self}
 use Rattle.est_inside.proofs.Homes.{same_amended, onward_same, Homed, Free, IsClean, Base, Covers}
-use Rattle.est_inside.proofs.Homes.{homed_self, homed_then, homed_wider, homed_same, homed_free}
-use Rattle.est_inside.proofs.Homes.{base_after, base_same, base_add, clean_fresh, clean_name}
+use Rattle.est_inside.proofs.Homes.{homed_self, homed_then, homed_same, homed_free}
+use Rattle.est_inside.proofs.Homes.{base_after, base_add, clean_fresh, clean_name}
 use Rattle.est_inside.proofs.Homes.{clean_free, clean_after, clean_same, covers_in, covers_left}
 use Rattle.est_inside.proofs.Homes.{covers_right, free_before}
 use Rattle.est_inside.proofs.NamesPlaced.{block_between, first_between, groups_between}
 use Rattle.est_inside.proofs.NamesPlaced.{transitions_between, part_between, parts_between}
 use Rattle.est_inside.proofs.NamesPlaced.{listed_between}
 use Rattle.est_inside.proofs.Meant.{regions_of, lies_in, declared_found}
-use Rattle.est_inside.proofs.Statements.{IsKnown, block_inside}
+use Rattle.est_inside.proofs.Statements.{block_inside}
 use Rattle.est_inside.proofs.Regions.{AreClean, regions_on, under_base, clauses_clean}
 use Rattle.est_inside.proofs.InsideParts.{FirstInside, TransitionsInside, GroupsInside}
 use Rattle.est_inside.proofs.InsideParts.{PartInside, PartsInside, ListedInside}

@@ -5,11 +5,11 @@ use Rattle.std.specs.Prelude.{if◌then◌else◌, find, slice_get}
 use Rattle.std.specs.List.{AllByRecursion, cons_option, filter_map, flat_map}
 use Rattle.std.specs.Option.{option_map_or}
 use Rattle.std.proofs.lemmas.Option.{same_Some}
-use Rattle.est_syntax.specs.declared.body.Block.{Block, out-Block}
+use Rattle.est_syntax.specs.declared.body.Block.{out-Block}
 use Rattle.est_syntax.specs.declared.body.Body.{Body, Body', out-Body, Row_of-Group, end_of-Group}
 use Rattle.est_syntax.specs.declared.body.Body.{more_of-Group, items-the_row-Group}
 use Rattle.est_syntax.specs.declared.body.Body.{items_shown-the_row-Group-1, Held-Body-first}
-use Rattle.est_syntax.specs.declared.body.FirstPart.{FirstPart, out-FirstPart}
+use Rattle.est_syntax.specs.declared.body.FirstPart.{FirstPart}
 use Rattle.est_syntax.specs.declared.body.Part.{Part, out-Part, Row_of-Part, end_of-Part}
 use Rattle.est_syntax.specs.declared.body.Part.{more_of-Part}
 use Rattle.est_syntax.specs.declared.body.Part.TheBlock as first
@@ -17,24 +17,21 @@ use Rattle.est_syntax.specs.declared.body.Part.TheBlock.{shown-the_row-Part-0}
 use Rattle.est_syntax.specs.declared.body.Part.TheBlock.{shown-the_row-Group-1}
 use Rattle.est_syntax.specs.declared.body.Part.TheVariants as part
 use Rattle.est_syntax.specs.declared.routine.Routine.{Routine, out-Routine}
-use Rattle.est_syntax.specs.declared.specification.Spec.{Spec}
 use Rattle.est_syntax.specs.declared.transition.Clause.{Clause}
 use Rattle.est_syntax.specs.declared.transition.Group.{Group', out-Group, Row_of-Transition}
 use Rattle.est_syntax.specs.declared.transition.Group.{end_of-Transition, more_of-Transition}
 use Rattle.est_syntax.specs.declared.transition.Group.{items-the_row-Transition}
 use Rattle.est_syntax.specs.declared.transition.Group.{items_shown-the_row-Transition-2}
-use Rattle.est_syntax.specs.declared.transition.Transition.{Transition, out-Transition}
+use Rattle.est_syntax.specs.declared.transition.Transition.{Transition}
 use Rattle.est_scope.specs.Outline.{Outline}
 use Rattle.est_semantics.specs.TextByPlace.{Text, parts_within, row_parts, parts_of, routine_in}
 use Rattle.est_semantics.specs.TextByPlace.{body_in, routine_at, statements_of, body_at}
 use Rattle.est_semantics.specs.TextByPlace.{first_statements}
-use Rattle.est_choices.specs.ClauseContexts.{FullTransition, GivenClause, full_after, clauses_of}
+use Rattle.est_choices.specs.ClauseContexts.{FullTransition, GivenClause, full_after}
 use Rattle.est_choices.specs.ClauseContexts.{context_after, group_transitions, transitions_of}
 use Rattle.est_choices.specs.TransitionChoices.{numbered}
-use Rattle.est_upkeep.specs.AttachTargets.{BlockTargets}
 use Rattle.est_upkeep.proofs.ParentsOlder.{joined_all}
 use Rattle.est_inside.proofs.Homes.{none_some}
-use Rattle.est_inside.proofs.Statements.{IsKnown}
 use Rattle.est_inside.proofs.InsideParts.{BlockInside, FirstInside, TransitionsInside}
 use Rattle.est_inside.proofs.InsideParts.{GroupsInside, PartInside, PartsInside, ListedInside}
 
@@ -188,7 +185,8 @@ module _ (X : ℕ → Type 0) (o : Outline) where
         → (out-Body b).first ≡ Some f → BlockInside X o (first_statements f)
     first_inside p b f e k = (body_found p b e).initialize_part f k
 
-    pub transition_inside : (p n : ℕ) (x : FullTransition) → numbered (transitions_of t p) n ≡ Some x
+    pub transition_inside : (p n : ℕ) (x : FullTransition)
+        → numbered (transitions_of t p) n ≡ Some x
         → BlockInside X o (out-Block x.block).statements
     transition_inside p n x e =
         numbered_one IsGood (transitions_of t p) n x (one (body_at t p) refl) e

@@ -15,13 +15,13 @@ use Rattle.est_outline.specs.Bodies.{statement_place, parts_declare, outline_of}
 use Rattle.est_productions.specs.Nodes as shown
 use Rattle.est_productions.specs.Nodes.{a_specification, layer}
 use Rattle.est_order.specs.Growth.{Anywhere, g_lying}
-use Rattle.est_order.specs.PlaceOrder.{Stands, o_node, o_pair, o_at}
+use Rattle.est_order.specs.PlaceOrder.{o_node, o_pair}
 use Rattle.est_order.proofs.Ascending.{specification_stands}
 use Rattle.est_order.proofs.Wholes.{spec_placed}
 use Rattle.est_order.proofs.FromTexts.{Stand}
 use Rattle.est_semantics.specs.TextByPlace.{text_of}
 use Rattle.est_upkeep.specs.RunOrder.{BeginsWithInit}
-use Rattle.est_ancestry.specs.NamesOfAlls.{IsOfAll, ListedNameAll}
+use Rattle.est_ancestry.specs.NamesOfAlls.{IsOfAll}
 use Rattle.est_inside.specs.InsideLaws.{SentencesBeginWithInit, SentencesStandInside}
 use Rattle.est_inside.proofs.Homes.{none_some, step_of, onward, onward_self, Base}
 use Rattle.est_inside.proofs.InsideParts.{ListedInside}

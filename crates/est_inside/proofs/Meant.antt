@@ -1,6 +1,6 @@
 -- What names mean where the text lies in given regions.
 use Rattle.std.proofs.Common.{◌≡◌, ℕ, ◌<◌, ◌≤◌, max, Bool, true, false, if◌then◌else◌}
-use Rattle.std.proofs.Common.{List, [], ◌∷◌, ◌++◌, refl, sym, subst, ap, ◌∙◌, Option, Some, None}
+use Rattle.std.proofs.Common.{List, [], ◌∷◌, ◌++◌, refl, sym, subst, ap, Option, Some, None}
 use Rattle.std.proofs.Common.{inl, inr, nat_lt, arith}
 use Rattle.std.specs.Prelude.{◌⊎◌}
 use Rattle.std.specs.Option.{option_or}
@@ -11,8 +11,8 @@ use Rattle.est_scope.specs.declared.declaration.Extent.{Extent}
 use Rattle.est_scope.specs.declared.declaration.Standing.{Standing}
 use Rattle.est_scope.specs.declared.declaration.Within.{Within}
 use Rattle.est_scope.specs.declared.predeclared.PredeclaredName.{PredeclaredName}
-use Rattle.est_scope.specs.Outline.{Outline, standing, entry_at, extent_at, from_or_before, in_force}
-use Rattle.est_scope.specs.Outline.{found, is_shared, seen_around, meant_by, meant_within}
+use Rattle.est_scope.specs.Outline.{Outline, standing, entry_at, extent_at, from_or_before}
+use Rattle.est_scope.specs.Outline.{in_force, found, is_shared, seen_around, meant_by, meant_within}
 use Rattle.est_scope.specs.Predeclared.{predeclared_name, undeclared}
 use Rattle.est_scope.specs.Declaring.{last_from, lying}
 use Rattle.est_scope.proofs.Extents.{some_if}

@@ -1,5 +1,5 @@
 -- The names of the `all`s of a piece of text stand between the places of that piece.
-use Rattle.std.proofs.Common.{◌≡◌, ℕ, suc, ◌<◌, ◌≤◌, List, [], ◌∷◌, inl, inr, arith}
+use Rattle.std.proofs.Common.{ℕ, suc, ◌<◌, ◌≤◌, List, [], ◌∷◌, inl, inr, arith}
 use Rattle.est_syntax.specs.declared.statement.Statement.{Statement, Row_of-Statement}
 use Rattle.est_syntax.specs.declared.statement.Statement.{end_of-Statement, more_of-Statement}
 use Rattle.est_syntax.specs.declared.statement.Statement.{Row_of-Arm, end_of-Arm, more_of-Arm}

@@ -1,6 +1,6 @@
 -- In a sentence the statements of a block begin after its `begin`.
 use Rattle.std.specs.Prelude.{map}
-use Rattle.std.proofs.Common.{ℕ, suc, ◌<◌, ◌≤◌, subst, List, [], ◌∷◌, length, Option, Some, None}
+use Rattle.std.proofs.Common.{ℕ, suc, ◌≤◌, subst, List, [], ◌∷◌, length}
 use Rattle.std.proofs.Common.{arith}
 use Rattle.est_lexer.specs.declared.kind.Token.{Token}
 use Rattle.est_syntax.specs.declared.statement.Statement.{Statement}
@@ -40,7 +40,6 @@ use Rattle.est_order.proofs.DeclaringBodies.{statement_begins}
 use Rattle.est_order.proofs.FromStatements.{statements_placed}
 use Rattle.est_fullness.proofs.Reading.{Reads, in_word, in_deeper, in_rule, in_node, in_seq}
 use Rattle.est_fullness.proofs.Reading.{in_left, in_right, in_opt, in_list, in_rep, no_list}
-use Rattle.est_fullness.proofs.Reading.{no_text}
 use Rattle.est_inside.proofs.Beginnings.{BeginAfter, FirstBegins, TransitionsBegin, GroupsBegin}
 use Rattle.est_inside.proofs.Beginnings.{PartBegins, PartsBegin, ListedBegin}
 

@@ -1,7 +1,7 @@
 -- The regions in which the blocks of transitions lie.
-use Rattle.std.proofs.Common.{◌≡◌, ℕ, suc, ◌<◌, ◌≤◌, ◌^◌, Bool, true, false, if◌then◌else◌}
-use Rattle.std.proofs.Common.{List, [], ◌∷◌, ◌++◌, refl, sym, subst, ap, ◌∙◌, Option, Some, None}
-use Rattle.std.proofs.Common.{inl, inr, arith}
+use Rattle.std.proofs.Common.{◌≡◌, ℕ, ◌<◌, ◌≤◌, ◌^◌, Bool, true, false, if◌then◌else◌}
+use Rattle.std.proofs.Common.{List, [], ◌∷◌, refl, sym, ◌∙◌, Option, Some, None}
+use Rattle.std.proofs.Common.{inl, arith}
 use Rattle.est_syntax.specs.Names.{spelled}
 use Rattle.est_syntax.specs.declared.name.Used.{Used}
 use Rattle.est_syntax.specs.declared.transition.Clause.{Clause}
@@ -22,13 +22,13 @@ use Rattle.est_outline.specs.Contexts.{is_same, dropped, given, region_of, under
 use Rattle.est_outline.specs.Entries.{with_region}
 use Rattle.est_outline.specs.Bodies.{Clausal, interaction_in, interaction_by, interaction_at}
 use Rattle.est_outline.specs.Bodies.{side_meant, awaited, clause_declares, clauses_declare}
-use Rattle.est_order.specs.Growth.{Anywhere, Grows}
+use Rattle.est_order.specs.Growth.{Anywhere}
 use Rattle.est_order.proofs.PlacedParts.{InOrder}
 use Rattle.est_order.proofs.PlacedBodies.{ClausePlaced}
 use Rattle.est_order.proofs.Declaring.{vars_on}
 use Rattle.est_order.proofs.BodiesGoOn.{clause_on, clauses_on}
-use Rattle.est_order.proofs.DeclaringBodies.{clause_grows, clauses_grow}
-use Rattle.est_inside.proofs.Homes.{none_some, Step, step_of, Homed, Free, IsClean, Base}
+use Rattle.est_order.proofs.DeclaringBodies.{clause_grows}
+use Rattle.est_inside.proofs.Homes.{none_some, Step, step_of, Free, IsClean, Base}
 use Rattle.est_inside.proofs.Homes.{homed_free, base_after, base_add, clean_fresh, clean_name}
 use Rattle.est_inside.proofs.Homes.{clean_free}
 use Rattle.est_inside.proofs.Meant.{regions_of}

@@ -1,6 +1,6 @@
 -- The targets of `attach` in statements, while their outline grows and when it is whole.
 use Rattle.std.proofs.Common.{◌≡◌, ℕ, suc, ◌<◌, ◌≤◌, ◌^◌, Bool, true, false, if◌then◌else◌}
-use Rattle.std.proofs.Common.{List, [], ◌∷◌, ◌++◌, refl, sym, subst, ap, ◌∙◌, Option, Some, None}
+use Rattle.std.proofs.Common.{List, [], ◌∷◌, refl, sym, subst, ap, ◌∙◌, Option, Some, None}
 use Rattle.std.proofs.Common.{inl, inr, nat_eq, arith}
 use Rattle.std.specs.Prelude.{◌⊎◌}
 use Rattle.std.specs.Option.{option_or}
@@ -8,7 +8,6 @@ use Rattle.std.proofs.lemmas.Option.{same_Some}
 use Rattle.est_syntax.specs.Names.{spelled, is_name}
 use Rattle.est_syntax.specs.declared.name.Used.{Used}
 use Rattle.est_syntax.specs.declared.constant.Constant.{Constant}
-use Rattle.est_syntax.specs.declared.type_text.TypeText.{TypeText}
 use Rattle.est_syntax.specs.declared.expression.Access.{Access}
 use Rattle.est_syntax.specs.declared.statement.Statement.{Statement, Row_of-Statement}
 use Rattle.est_syntax.specs.declared.statement.Statement.{end_of-Statement, more_of-Statement}
@@ -20,14 +19,14 @@ use Rattle.est_scope.specs.declared.declaration.Entry.{Entry}
 use Rattle.est_scope.specs.declared.declaration.Section.TheVariants as section
 use Rattle.est_scope.specs.declared.declaration.Standing.{Standing}
 use Rattle.est_scope.specs.declared.declaration.Within.{Within}
-use Rattle.est_scope.specs.Outline.{Outline, standing, member_at, extent_at}
+use Rattle.est_scope.specs.Outline.{Outline, standing, member_at}
 use Rattle.est_scope.specs.Declaring.{declared_by, declared, taken, lying, last_from}
 use Rattle.est_outline.specs.Entries.{inner, in_section}
 use Rattle.est_outline.specs.Lasts.{text_last}
 use Rattle.est_outline.specs.Bodies.{statement_place, expr_place, all_by, over_header, all_named}
 use Rattle.est_outline.specs.Bodies.{arm_lying, within_declares, row_statements, held_declares}
 use Rattle.est_outline.specs.Bodies.{row_arms, statements_declare}
-use Rattle.est_order.specs.Growth.{Anywhere, Grows, g_declared, g_lying}
+use Rattle.est_order.specs.Growth.{Anywhere, g_declared, g_lying}
 use Rattle.est_order.proofs.Placed.{ConstantPlaced, short_text, text_from}
 use Rattle.est_order.proofs.PlacedParts.{InOrder}
 use Rattle.est_order.proofs.PlacedBodies.{StatementPlaced, StatementsPlaced, SecondPlaced}
@@ -38,16 +37,16 @@ use Rattle.est_order.proofs.BodiesGoOn.{arms_on, turn_on}
 use Rattle.est_order.proofs.DeclaringBodies.{statement_begins, statement_ends, arm_grows}
 use Rattle.est_order.proofs.DeclaringBodies.{within_grows, row_grows, second_grows, arms_grow}
 use Rattle.est_order.proofs.DeclaringBodies.{statements_grow}
-use Rattle.est_order.proofs.Tables.{one_more, one_number, tested}
+use Rattle.est_order.proofs.Tables.{one_more, one_number}
 use Rattle.est_ancestry.specs.InsideTargets.{IsPlaceOf}
-use Rattle.est_semantics.specs.NamesInRuns.{declared_at}
 use Rattle.est_upkeep.specs.AttachTargets.{Target, Targets, RowTargets}
 use Rattle.est_upkeep.specs.AttachTargets.{SecondTargets, ArmTargets, BlockTargets}
 use Rattle.est_ancestry.specs.NamesOfAlls.{NamesAll, RowNamesAll, SecondNamesAll, ArmsNameAll}
 use Rattle.est_ancestry.specs.NamesOfAlls.{BlockNamesAll}
 use Rattle.est_inside.proofs.Homes.{none_some, EachNew, Step, step_of, Onward, onward, Homed}
-use Rattle.est_inside.proofs.Homes.{IsAlone, IsClean, Base, Covers, homed_self, homed_then}
-use Rattle.est_inside.proofs.Homes.{Inside, base_lying, homed_wider, base_after, base_later, old_or_new, covers_in}
+use Rattle.est_inside.proofs.Homes.{IsAlone, Base, Covers, homed_self, homed_then}
+use Rattle.est_inside.proofs.Homes.{Inside, base_lying, homed_wider, base_after, base_later}
+use Rattle.est_inside.proofs.Homes.{old_or_new, covers_in}
 use Rattle.est_inside.proofs.Homes.{covers_left, covers_right}
 use Rattle.est_inside.proofs.NamesPlaced.{names_between, row_between, second_between}
 use Rattle.est_inside.proofs.NamesPlaced.{arms_between, block_between}

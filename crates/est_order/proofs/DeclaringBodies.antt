@@ -204,15 +204,25 @@ module _ (R : ℕ → Type 0) (unfinished : Bool) (a b : ℕ) (fits : b ≤ 2 ^ 
       (o : Outline) (i j : ℕ) → ClausePlaced i j c → a ≤ i → j ≤ b
       → Grows R unfinished a b o (clause_declares w c (gs, o)).1
   clause_grows w own (clauses.From states place) gs o i j h l m =
-      let p = h.0 in let q = h.1 in g_lying (under w (dropped kind.From gs)) place (omega arith) (omega arith)
+      let p = h.0 in
+      let q = h.1 in
+      g_lying (under w (dropped kind.From gs)) place (omega arith) (omega arith)
   clause_grows w own (clauses.To state place) gs o i j h l m =
-      let p = h.0 in let q = h.1 in g_lying (under w (dropped kind.To gs)) place (omega arith) (omega arith)
+      let p = h.0 in
+      let q = h.1 in
+      g_lying (under w (dropped kind.To gs)) place (omega arith) (omega arith)
   clause_grows w own (clauses.When at signal place) gs o i j h l m =
-      let p = h.0 in let q = h.1 in g_lying (under w (dropped kind.When gs)) place (omega arith) (omega arith)
+      let p = h.0 in
+      let q = h.1 in
+      g_lying (under w (dropped kind.When gs)) place (omega arith) (omega arith)
   clause_grows w own (clauses.Provided condition place) gs o i j h l m =
-      let p = h.0 in let q = h.1 in g_lying (under w (dropped kind.Provided gs)) place (omega arith) (omega arith)
+      let p = h.0 in
+      let q = h.1 in
+      g_lying (under w (dropped kind.Provided gs)) place (omega arith) (omega arith)
   clause_grows w own (clauses.Otherwise place) gs o i j h l m =
-      let p = h.0 in let q = h.1 in g_lying (under w (dropped kind.Provided gs)) place (omega arith) (omega arith)
+      let p = h.0 in
+      let q = h.1 in
+      g_lying (under w (dropped kind.Provided gs)) place (omega arith) (omega arith)
   clause_grows w own (clauses.Any names place) gs o i j h l m =
       let p = h.0 in
       let e = vars_on place j names h.1 in
@@ -222,9 +232,13 @@ module _ (R : ℕ → Type 0) (unfinished : Bool) (a b : ℕ) (fits : b ≤ 2 ^ 
       names (lying v place o) place j
       h.1 (omega arith) m)
   clause_grows w own (clauses.Priority value place) gs o i j h l m =
-      let p = h.0 in let q = h.1 in g_lying (under w (dropped kind.Priority gs)) place (omega arith) (omega arith)
+      let p = h.0 in
+      let q = h.1 in
+      g_lying (under w (dropped kind.Priority gs)) place (omega arith) (omega arith)
   clause_grows w own (clauses.Delay least most place) gs o i j h l m =
-      let p = h.0 in let q = h.1 in g_lying (under w (dropped kind.Delay gs)) place (omega arith) (omega arith)
+      let p = h.0 in
+      let q = h.1 in
+      g_lying (under w (dropped kind.Delay gs)) place (omega arith) (omega arith)
 
   pub clauses_grow : (w : Within) (own : IsOpen R a w.region) (cs : List Clause) (s : Clausal)
       (i j : ℕ) → InOrder ClausePlaced i j cs → a ≤ i → j ≤ b
@@ -335,7 +349,8 @@ module _ (R : ℕ → Type 0) (unfinished : Bool) (a b : ℕ) (fits : b ≤ 2 ^ 
         (g_then (formals_grow R unfinished a b fits v (inr (omega arith)) formals o1 (suc
         name.place) h.0 h.4 (omega arith)
         (omega arith))
-        (g_then (result_grows v name result o2 h.0 h.1 h.5 (omega arith) (omega arith) (omega arith))
+        (g_then (result_grows v name result o2 h.0 h.1 h.5 (omega arith) (omega arith)
+        (omega arith))
         (g_then (parts_grow v (inr (omega arith)) parts o3 h.1 h.2 h.6 (omega arith) (omega arith))
         (statements_grow v (inr (omega arith)) statements (row_parts v parts o3) place j h.8 (omega
         arith) m))))

@@ -439,7 +439,8 @@ module _ (b : ℕ) (fits : b ≤ 2 ^ 32) (p : Outline) where
       let o1 = to_lying w to o in
       block_said false (inner w place) parts statements place o1 h.0 h.1 j h.3 h.6 h.4 h.5 l
       (before_grown Anywhere false i h.0 o o1
-      (to_grows Anywhere false i h.0 (omega arith) w to o i h.0 h.2 (omega arith) (omega arith)) before e) rest
+      (to_grows Anywhere false i h.0 (omega arith) w to o i h.0 h.2 (omega arith) (omega arith))
+      before e) rest
 
   -- transitions
   mutual

@@ -66,4 +66,5 @@ outlines_grow s n fits h =
     let f = p.3 in
     g_then (listed_parts_grow IsOutermost false 0 n fits outermost (inl refl) s.parts empty (suc
     s.name.place) p.0 p.1
-    (omega arith) (omega arith)) (g_lying outermost (statement_place s.first) (omega arith) (omega arith))
+    (omega arith) (omega arith)) (g_lying outermost (statement_place s.first) (omega arith)
+    (omega arith))
