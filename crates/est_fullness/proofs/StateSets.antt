@@ -1,5 +1,5 @@
 -- The states of a state set that breaks no rule.
-use Rattle.std.proofs.Common.{◌≡◌, refl, ap, ◌∙◌, List, [], ◌∷◌, ◌++◌, Option, Some, map}
+use Rattle.std.proofs.Common.{◌≡◌, refl, ap, ◌∙◌, List, [], ◌∷◌, Option, Some, map}
 use Rattle.est_syntax.specs.declared.name.Used.{Used}
 use Rattle.est_syntax.specs.declared.body.StateSet.{StateSet}
 use Rattle.est_scope.specs.declared.declaration.Sort.TheVariants as sort

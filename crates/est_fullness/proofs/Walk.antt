@@ -210,7 +210,8 @@ module _ (D : Used → ℕ → Type 0) (M : Used → Type 0) where
         Each OfClause cs × OfParts parts × Each OfStatement statements × OfTransitions rest
 
 -- What a property of outlines has to bear: it is kept by each declaration of which that holds.
-pub record IsKeptBy (D : Used → ℕ → Type 0) (M : Used → Type 0) (P : Outline → Type 0) : Type 0 where
+pub record IsKeptBy (D : Used → ℕ → Type 0) (M : Used → Type 0) (P : Outline → Type 0)
+    : Type 0 where
   pub begins : P empty
   pub declares : (o : Outline) (w : Within) (u : Used) (last : ℕ) (e : Entry) → D u last
       → P o → P (declared w u last e o)
@@ -220,7 +221,8 @@ pub record IsKeptBy (D : Used → ℕ → Type 0) (M : Used → Type 0) (P : Out
   pub lies : (o : Outline) (w : Within) (place : ℕ) → P o → P (lying w place o)
 
 -- so it holds of what each part declares
-module _ (D : Used → ℕ → Type 0) (M : Used → Type 0) (P : Outline → Type 0) (kept : IsKeptBy D M P) where
+module _ (D : Used → ℕ → Type 0) (M : Used → Type 0) (P : Outline → Type 0)
+    (kept : IsKeptBy D M P) where
   names_kept : (w : Within) (us : List Used) (last : ℕ) (e : Entry) (o : Outline)
       → Each (Named D M last) us → P o → P (names_declare w us last e o)
   names_kept w [] last e o q p = p

@@ -29,17 +29,17 @@ use Rattle.est_order.specs.PlaceOrder.{Stands, o_none, o_more, o_node, o_at, o_k
 use Rattle.est_productions.specs.Productions as grammar
 use Rattle.est_productions.specs.Productions.{Rule, idents, several, listed, symbol, field, fields}
 use Rattle.est_productions.specs.Productions.{typetext, typedef, vardef}
-use Rattle.est_productions.specs.Nodes.{Node, View, layer, a_use, a_type, a_field, a_type_definition}
-use Rattle.est_productions.specs.Nodes.{a_variable}
+use Rattle.est_productions.specs.Nodes.{Node, View, layer, a_use, a_type, a_field}
+use Rattle.est_productions.specs.Nodes.{a_type_definition, a_variable}
 use Rattle.est_order.specs.Said.{Each}
 use Rattle.est_fullness.specs.WrittenExpressions.{FirstAfter, HasConstants, RowHas, FieldsHave}
 use Rattle.est_fullness.specs.WrittenParts.{TypeDefWritten, VarDefWritten}
 use Rattle.est_fullness.proofs.Places as places
 use Rattle.est_fullness.proofs.Uses.{text_then}
 use Rattle.est_fullness.proofs.UsesStand.{text_to_last}
-use Rattle.est_fullness.proofs.Reading.{TreeOf, Reads, reads_stands, in_word, in_here, in_deeper, in_rule}
-use Rattle.est_fullness.proofs.Reading.{in_node, in_seq, in_left, in_right, in_list, no_list}
-use Rattle.est_fullness.proofs.Reading.{in_rep, in_ended}
+use Rattle.est_fullness.proofs.Reading.{TreeOf, Reads, reads_stands, in_word, in_here, in_deeper}
+use Rattle.est_fullness.proofs.Reading.{in_rule, in_node, in_seq, in_left, in_right, in_list}
+use Rattle.est_fullness.proofs.Reading.{no_list, in_rep, in_ended}
 
 -- each name of a list takes a place
 names_count : (us : List Used) (a b : ℕ) → Stands layer (nodes (map a_use us)) a b

@@ -2,10 +2,10 @@
 use Rattle.std.specs.Prelude.{◌&&◌}
 use Rattle.std.proofs.Common.{◌≡◌, ℕ, suc, ◌≤◌, Bool, true, false, if◌then◌else◌}
 use Rattle.std.proofs.Common.{List, [], ◌∷◌, refl, sym, ap, ◌∙◌, true≢false, Option}
-use Rattle.std.proofs.Common.{Some, None, is_some, nat_eq, arith}
+use Rattle.std.proofs.Common.{Some, None, is_some, arith}
 use Rattle.std.proofs.lemmas.Slice.Eq.{bytes_eq-Decides}
 use Rattle.std.specs.Option.{option_or}
-use Rattle.est_syntax.specs.Names.{spelled, is_name}
+use Rattle.est_syntax.specs.Names.{spelled}
 use Rattle.est_syntax.specs.declared.name.Used.{Used}
 use Rattle.est_scope.specs.declared.declaration.Entry.{Entry}
 use Rattle.est_scope.specs.declared.declaration.Standing.{Standing}

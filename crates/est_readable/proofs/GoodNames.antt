@@ -1,0 +1,403 @@
+-- Each name that declarations without statements declare is good: in time where it is a constant or
+-- a type, and in the end where it is a variable or an interaction point.
+use Rattle.std.specs.Prelude.{if◌then◌else◌, nat_le, is_some}
+use Rattle.std.proofs.Common.{◌≡◌, refl, sym, subst, ap, ◌∙◌, true≢false, ℕ, suc, ◌+◌, ◌≤◌}
+use Rattle.std.proofs.Common.{◌<◌, pos, Bool, true, false, List, [], ◌∷◌, ◌++◌, length}
+use Rattle.std.proofs.Common.{Option, Some, None, arith}
+use Rattle.std.proofs.lemmas.Bool.{and_parts}
+use Rattle.std.proofs.lemmas.Int.{ints}
+use Rattle.std.proofs.lemmas.Option.{same_Some, none-some}
+use Rattle.est_syntax.specs.Kinds.{maxint, is_ordinal}
+use Rattle.est_syntax.specs.declared.constant.ConstDef.{ConstDef}
+use Rattle.est_syntax.specs.declared.kind.Kind.{Kind, out-Kind}
+use Rattle.est_syntax.specs.declared.kind.Kind.TheVariants as kind
+use Rattle.est_syntax.specs.declared.name.Used.{Used}
+use Rattle.est_syntax.specs.declared.type_text.TypeText.{TypeText, Row_of-TypeText, end_of-TypeText}
+use Rattle.est_syntax.specs.declared.type_text.TypeText.{more_of-TypeText, Row_of-VarDef}
+use Rattle.est_syntax.specs.declared.type_text.TypeText.{end_of-VarDef, more_of-VarDef}
+use Rattle.est_syntax.specs.declared.type_text.TypeText.TheVariants as text
+use Rattle.est_syntax.specs.declared.type_text.TypeDef.{TypeDef}
+use Rattle.est_syntax.specs.declared.type_text.VarDef.{VarDef}
+use Rattle.est_syntax.specs.declared.channel.InteractionDef.{InteractionDef}
+use Rattle.est_syntax.specs.declared.channel.ByPart.{ByPart}
+use Rattle.est_syntax.specs.declared.channel.Channel.{Channel}
+use Rattle.est_syntax.specs.declared.header.Point.{Point}
+use Rattle.est_syntax.specs.declared.header.Header.{Header}
+use Rattle.est_syntax.specs.declared.header.ModvarDef.{ModvarDef}
+use Rattle.est_syntax.specs.declared.routine.Formal.{Formal}
+use Rattle.est_syntax.specs.declared.body.StateSet.{StateSet}
+use Rattle.est_scope.specs.declared.declaration.Entry.{Entry}
+use Rattle.est_scope.specs.declared.declaration.Measured.{Measured}
+use Rattle.est_scope.specs.declared.declaration.Sort.{Sort}
+use Rattle.est_scope.specs.declared.declaration.Sort.TheVariants as sort
+use Rattle.est_scope.specs.Outline.{Outline, entry_at}
+use Rattle.est_kinds.specs.declared.value.Valued.{Valued}
+use Rattle.est_kinds.specs.Constants.{valued, value_with, constant_last}
+use Rattle.est_kinds.specs.TypeTexts.{scalar, are_declared, enumeration, text_type}
+use Rattle.est_kinds.specs.Dims.{with_dim, dims_after}
+use Rattle.est_outline.specs.Entries.{ordinal_of}
+use Rattle.est_outline.specs.Lasts.{names_last, text_last, channel_last, header_last}
+use Rattle.est_order.specs.Said.{Each, IsSaid, IsOf, HasKind, IsNoEntry, ConstDefSaid, NumbersSaid}
+use Rattle.est_order.specs.Said.{TextSaid, RowSaid, FieldsSaid, TypeDefSaid, VarDefSaid}
+use Rattle.est_order.specs.Said.{DifferDeclared, InteractionSaid, ByPartSaid, ChannelSaid}
+use Rattle.est_order.specs.Said.{PointSaid, ModvarSaid, HeaderSaid, StateSetSaid, FormalSaid}
+use Rattle.est_fullness.specs.WrittenExpressions.{HasConstants, RowHas, FieldsHave}
+use Rattle.est_fullness.specs.WrittenParts.{TypeDefWritten, VarDefWritten, InteractionWritten}
+use Rattle.est_fullness.specs.WrittenParts.{ByPartWritten, ChannelWritten, HeaderWritten}
+use Rattle.est_fullness.proofs.Names.{each_then}
+use Rattle.est_fullness.proofs.Uses.{constant_then, text_then, of_text}
+use Rattle.est_fullness.proofs.UsesStand.{name_to_last}
+use Rattle.est_fullness.proofs.Walk.{Named, IsMember, OfConstDef, OfText, OfRow, OfFields}
+use Rattle.est_fullness.proofs.Walk.{OfTypeDef, OfVarDef, OfInteraction, OfByPart, OfChannel}
+use Rattle.est_fullness.proofs.Walk.{OfPoint, OfModvar, OfHeader, OfStateSet, OfState, OfFormal}
+use Rattle.est_readable.proofs.Spelt.{IsSpelt, ConstDefSpelt, TextSpelt, RowSpelt, FieldsSpelt}
+use Rattle.est_readable.proofs.Spelt.{ShortSpelt, TypeDefSpelt, VarDefSpelt, InteractionSpelt}
+use Rattle.est_readable.proofs.Spelt.{ByPartSpelt, ChannelSpelt, PointSpelt, HeaderSpelt}
+use Rattle.est_readable.proofs.SpeltTexts.{short_text}
+use Rattle.est_readable.proofs.SpeltParts.{joined}
+use Rattle.est_readable.proofs.GoodKinds.{IsGoodOrdinal, IsGoodKind, good_ordinal}
+use Rattle.est_readable.proofs.GoodValues.{IsGoodValue, HasGoodKind, IsGoodFor, IsGoodAt}
+use Rattle.est_readable.proofs.GoodValues.{value_good}
+use Rattle.est_readable.proofs.GoodTexts.{names_of, count_names, enumerated_good}
+use Rattle.est_readable.proofs.GoodTexts.{named_good, text_good}
+
+-- what is there
+there : (x : Option Entry) → is_some x ≡ true → (e : Entry) × (x ≡ Some e)
+there None h = absurd (true≢false (sym h))
+there (Some e) h = (e, refl)
+
+module _ (o : Outline) where
+  -- the constants and types that are in force before a place are good
+  abbrev pub AreGoodBefore : ℕ → Type 0
+  AreGoodBefore b = (u : Used) → u.place < b → IsGoodAt o u
+
+  abbrev pub InTime : ℕ → ℕ → Type 0
+  InTime place last = (e : Entry) → entry_at o place ≡ Some e → AreGoodBefore (suc last)
+      → IsGoodFor o e.declared.sort e
+
+  -- the subscripts of an interaction point, and what else is good in the end
+  abbrev pub HasGoodDims : Entry → Type 0
+  HasGoodDims e = (ks : List Kind) → e.dims ≡ Some ks → Each IsGoodOrdinal ks
+
+  abbrev pub IsGoodInTheEnd : Sort → Entry → Type 0
+  IsGoodInTheEnd sort.Variable e = HasGoodKind o e
+  IsGoodInTheEnd sort.Point e = HasGoodDims e
+  IsGoodInTheEnd _ e = Unit {0}
+
+  abbrev pub InTheEnd : ℕ → Type 0
+  InTheEnd place = (e : Entry) → entry_at o place ≡ Some e → ((u : Used) → IsGoodAt o u)
+      → IsGoodInTheEnd e.declared.sort e
+
+  abbrev pub IsSoAt : Used → ℕ → Type 0
+  IsSoAt u last = InTime u.place last × InTheEnd u.place
+
+  abbrev pub IsAMember : Used → Type 0
+  IsAMember u = InTime u.place u.place
+
+  -- a declaration of a sort
+  pub of_sort : (s : Sort) (Q : Entry → Type 0) (u : Used) (last : ℕ) → IsSaid o Q u
+      → ((e : Entry) → Q e → e.declared.sort ≡ s)
+      → ((e : Entry) → Q e → AreGoodBefore (suc last) → IsGoodFor o s e)
+      → ((e : Entry) → Q e → ((v : Used) → IsGoodAt o v) → IsGoodInTheEnd s e) → IsSoAt u last
+  of_sort s Q u last said is soon late = (
+    λ e at before. subst (λ x. IsGoodFor o x e) (sym (is e (said e at)))
+        (soon e (said e at) before),
+    λ e at all. subst (λ x. IsGoodInTheEnd x e) (sym (is e (said e at))) (late e (said e at) all),
+  )
+
+  -- no declaration
+  no_entry : (u : Used) → IsNoEntry o u → IsAMember u
+  no_entry u none e at before = absurd (none-some e (sym none ∙ at))
+
+  members_good : (us : List Used) → Each (IsNoEntry o) us → Each (IsMember IsSoAt IsAMember) us
+  members_good us said = each_then (IsNoEntry o) (IsMember IsSoAt IsAMember) no_entry us said
+
+  -- CONSTANTS
+
+  constdef_good : (c : ConstDef) → ConstDefSaid o c → ConstDefSpelt c
+      → OfConstDef IsSoAt IsAMember c
+  constdef_good c said plain =
+      let last = constant_last c.value in
+      of_sort sort.Constant _ c.name last said (λ e q. q.0)
+      (λ e q before v h. value_good o c.value v
+      (constant_then (λ u. u.place < suc last) (IsGoodAt o) before c.value (name_to_last c.value))
+      plain.1 (sym q.1 ∙ h)) (λ e q all. tt)
+
+  pub consts_good : (cs : List ConstDef) → Each (ConstDefSaid o) cs → Each ConstDefSpelt cs
+      → Each (OfConstDef IsSoAt IsAMember) cs
+  consts_good [] said plain = tt
+  consts_good (c ∷ cs) said plain =
+      (constdef_good c said.0 plain.0, consts_good cs said.1 plain.1)
+
+  -- ENUMERATIONS
+
+  enumeration_is : (u : Used) (us : List Used) (place : ℕ) (m : Measured)
+      → enumeration o (u ∷ us) place ≡ Some m → (are_declared o (u ∷ us) ≡ true)
+      × (scalar (kind.Enumeration place (names_of (u ∷ us))) ≡ m)
+  enumeration_is u us place m h = by (are_declared o (u ∷ us)) h
+    where
+      by : (b : Bool)
+          → (if b then Some (scalar (kind.Enumeration place (names_of (u ∷ us)))) else None)
+          ≡ Some m → (b ≡ true) × (scalar (kind.Enumeration place (names_of (u ∷ us))) ≡ m)
+      by true q = (refl, same_Some (scalar (kind.Enumeration place (names_of (u ∷ us)))) m q)
+      by false q = absurd (none-some m q)
+
+  -- the first constant of an enumeration is of its kind
+  first_known : (u : Used) (us : List Used) (place : ℕ) (m : Measured)
+      → NumbersSaid o (enumeration o (u ∷ us) place) 0 (u ∷ us) → u.place ≡ suc place
+      → enumeration o (u ∷ us) place ≡ Some m
+      → (e : Entry) × (entry_at o (suc place) ≡ Some e) × (e.kind ≡ Some m)
+  first_known u us place m said after h =
+      let all = (enumeration_is u us place m h).0 in
+      let e = there (entry_at o u.place)
+      (and_parts (is_some (entry_at o u.place)) (are_declared o us) all).0 in
+      (e.0, ap (entry_at o) (sym after) ∙ e.1, (said.0 e.0 e.1).1 ∙ h)
+
+  -- a constant by its number
+  number_held : (place i : ℕ) (ns : List _) → i < length ns
+      → IsGoodOrdinal (kind.Enumeration place ns)
+      → ((e : Entry) × (entry_at o (suc place) ≡ Some e)
+      × (e.kind ≡ Some (scalar (kind.Enumeration place ns))))
+      → IsGoodValue o (valued (kind.Enumeration place ns) (pos i))
+  unfolding out-Kind denote.Hole.Carrier.out
+  number_held place i ns below good known = record {
+    holds = (omega (arith, ints), omega (arith, ints, below));
+    host = good;
+    known = known;
+  }
+
+  number_good : (u : Used) (us : List Used) (place i : ℕ) (v : Valued) → Each IsSpelt (u ∷ us)
+      → DifferDeclared o (u ∷ us) → HasConstants (text.Names (u ∷ us) place)
+      → NumbersSaid o (enumeration o (u ∷ us) place) 0 (u ∷ us) → i < length (u ∷ us)
+      → (k : Option Measured) → enumeration o (u ∷ us) place ≡ k
+      → value_with k (ordinal_of i) ≡ Some v → IsGoodValue o v
+  number_good u us place i v plain differ c said below None is h = absurd (none-some v h)
+  number_good u us place i v plain differ c said below (Some m) is h = by (nat_le i maxint) h
+    where
+      by : (b : Bool) → value_with (Some m) (if b then Some (pos i) else None) ≡ Some v
+          → IsGoodValue o v
+      by true q =
+          let same = (enumeration_is u us place m is).1 in
+          let n = count_names (u ∷ us) in
+          let good = enumerated_good o (u ∷ us) place m plain differ c.1 is in
+          let known = first_known u us place m said c.2 is in
+          subst (IsGoodValue o) (ap (λ (x : Measured). valued x.kind (pos i)) same
+          ∙ same_Some (valued m.kind (pos i)) v q)
+          (number_held place i (names_of (u ∷ us)) (omega (arith, n, below))
+          (subst (λ (x : Measured). IsGoodOrdinal x.kind) (sym same) good)
+          (known.0, known.1, known.2 ∙ ap (λ (x : Measured). Some x) (sym same)))
+      by false q = absurd (none-some v q)
+
+  numbers_good : (v : Used) (vs : List Used) (place last i : ℕ) (us : List Used)
+      → Each IsSpelt (v ∷ vs) → DifferDeclared o (v ∷ vs)
+      → HasConstants (text.Names (v ∷ vs) place)
+      → NumbersSaid o (enumeration o (v ∷ vs) place) 0 (v ∷ vs)
+      → i + length us ≡ length (v ∷ vs) → NumbersSaid o (enumeration o (v ∷ vs) place) i us
+      → Each (Named IsSoAt IsAMember last) us
+  numbers_good v vs place last i [] plain differ c all le said = tt
+  numbers_good v vs place last i (u ∷ us) plain differ c all le said = (
+    of_sort sort.Constant _ u last said.0 (λ e q. q.0)
+        (λ e q before x h. number_good v vs place i x plain differ c all (omega (arith, le))
+        (enumeration o (v ∷ vs) place) refl
+        (sym (λ j. value_with (q.1 j) (q.2 j)) ∙ h)) (λ e q all. tt),
+    numbers_good v vs place last (suc i) us plain differ c all (omega (arith, le)) said.1,
+  )
+
+  names_good : (us : List Used) (place : ℕ) → Each IsSpelt us → HasConstants (text.Names us place)
+      → NumbersSaid o (enumeration o us place) 0 us → DifferDeclared o us
+      → Each (Named IsSoAt IsAMember (names_last us place)) us
+  names_good [] place plain c said differ = tt
+  names_good (u ∷ us) place plain c said differ =
+      numbers_good u us place (names_last (u ∷ us) place) 0 (u ∷ us) plain differ c said
+      (omega arith) said
+
+  -- THE TEXTS OF TYPES
+
+  mutual
+    pub names_in : (t : TypeText) → TextSaid o t → TextSpelt t → HasConstants t
+        → OfText IsSoAt IsAMember t
+    names_in (text.Named u) said plain c = tt
+    names_in (text.Range low high) said plain c = tt
+    names_in (text.Names names place) said plain c = names_good names place plain c said.0 said.1
+    names_in (text.Array' a index b of place) said plain c =
+        (row_names index said.0 plain.0 c.0, row_names of said.1 plain.1 c.1)
+    names_in (text.Fields' a defs place) said plain c = fields_names defs said plain c
+    names_in (text.Set' a of place) said plain c = row_names of said plain c
+
+    row_names : {n : _} (row : Row_of-TypeText n) → RowSaid o row → RowSpelt row → RowHas row
+        → OfRow IsSoAt IsAMember row
+    row_names end_of-TypeText said plain c = tt
+    row_names (more_of-TypeText t rest) said plain c =
+        (names_in t said.0 plain.0 c.0, row_names rest said.1 plain.1 c.1)
+
+    fields_names : {n : _} (row : Row_of-VarDef n) → FieldsSaid o row → FieldsSpelt row
+        → FieldsHave row → OfFields IsSoAt IsAMember row
+    fields_names end_of-VarDef said plain c = tt
+    fields_names (more_of-VarDef names t rest) said plain c = (
+      members_good names said.0,
+      names_in t said.1 plain.1 c.0,
+      fields_names rest said.2 plain.2 c.1,
+    )
+
+  -- TYPES AND VARIABLES
+
+  typedef_good : (t : TypeDef) → TypeDefSaid o t → TypeDefSpelt t → TypeDefWritten t
+      → OfTypeDef IsSoAt IsAMember t
+  typedef_good t said plain written =
+      let last = text_last t.text in (
+        of_sort sort.TypeName _ t.name last said.0 (λ e q. q.0)
+            (λ e q before m h. text_good o t.text m
+            (text_then (λ u. u.place ≤ last) (IsGoodAt o) (λ u le. before u (omega (arith, le)))
+            t.text written.0) said.1 plain.1 written.1 (sym q.1 ∙ h)) (λ e q all. tt),
+        names_in t.text said.1 plain.1 written.1,
+      )
+
+  pub types_good : (ts : List TypeDef) → Each (TypeDefSaid o) ts → Each TypeDefSpelt ts
+      → Each TypeDefWritten ts → Each (OfTypeDef IsSoAt IsAMember) ts
+  types_good [] said plain written = tt
+  types_good (t ∷ ts) said plain written =
+      (typedef_good t said.0 plain.0 written.0, types_good ts said.1 plain.1 written.1)
+
+  vardef_good : (v : VarDef) → VarDefSaid o v → VarDefSpelt v → VarDefWritten v
+      → OfVarDef IsSoAt IsAMember v
+  vardef_good v said plain c = (
+    each_then (IsSaid o (HasKind sort.Variable (text_type o v.text)))
+        (Named IsSoAt IsAMember (text_last v.text))
+        (λ u is. of_sort sort.Variable (HasKind sort.Variable (text_type o v.text)) u
+        (text_last v.text) is (λ e q. q.0) (λ e q before. tt)
+        (λ e q all m h. text_good o v.text m (of_text (IsGoodAt o) all v.text) said.1 plain.1 c
+        (sym q.1 ∙ h))) v.names said.0,
+    names_in v.text said.1 plain.1 c,
+  )
+
+  pub vars_good : (vs : List VarDef) → Each (VarDefSaid o) vs → Each VarDefSpelt vs
+      → Each VarDefWritten vs → Each (OfVarDef IsSoAt IsAMember) vs
+  vars_good [] said plain written = tt
+  vars_good (v ∷ vs) said plain written =
+      (vardef_good v said.0 plain.0 written.0, vars_good vs said.1 plain.1 written.1)
+
+  -- SHORT TYPES
+
+  pub short_said : (t : TypeText) → ShortSpelt t → TextSaid o t
+  short_said (text.Named u) h = tt
+  short_said (text.Range low high) h = tt
+  short_said (text.Names names place) h = absurd h
+  short_said (text.Array' a index b of place) h = absurd h
+  short_said (text.Fields' a defs place) h = absurd h
+  short_said (text.Set' a of place) h = absurd h
+
+  short_has : (t : TypeText) → ShortSpelt t → HasConstants t
+  short_has (text.Named u) h = tt
+  short_has (text.Range low high) h = tt
+  short_has (text.Names names place) h = absurd h
+  short_has (text.Array' a index b of place) h = absurd h
+  short_has (text.Fields' a defs place) h = absurd h
+  short_has (text.Set' a of place) h = absurd h
+
+  pub short_good : (t : TypeText) (m : Measured) → ShortSpelt t → ((u : Used) → IsGoodAt o u)
+      → text_type o t ≡ Some m → IsGoodKind m.kind
+  short_good t m plain all h = text_good o t m (of_text (IsGoodAt o) all t) (short_said t plain)
+      (short_text t plain) (short_has t plain) h
+
+  -- CHANNELS
+
+  interactions_good : (is : List InteractionDef) → Each (InteractionSaid o) is
+      → Each InteractionSpelt is → Each InteractionWritten is
+      → Each (OfInteraction IsSoAt IsAMember) is
+  interactions_good [] said plain written = tt
+  interactions_good (i ∷ is) said plain written = (
+    (no_entry i.name said.0.0, vars_good i.params said.0.1 plain.0.1 written.0),
+    interactions_good is said.1 plain.1 written.1,
+  )
+
+  by_parts_good : (bs : List ByPart) → Each (ByPartSaid o) bs → Each ByPartSpelt bs
+      → Each ByPartWritten bs → Each (OfByPart IsSoAt IsAMember) bs
+  by_parts_good [] said plain written = tt
+  by_parts_good (b ∷ bs) said plain written = (
+    interactions_good b.interactions said.0 plain.0 written.0,
+    by_parts_good bs said.1 plain.1 written.1,
+  )
+
+  pub channel_good : (c : Channel) → ChannelSaid o c → ChannelSpelt c → ChannelWritten c
+      → OfChannel IsSoAt IsAMember c
+  channel_good c said plain written = (
+    of_sort sort.Channel (IsOf sort.Channel) c.name (channel_last c) said.0 (λ e q. q)
+        (λ e q before. tt) (λ e q all. tt),
+    members_good c.roles said.1,
+    by_parts_good c.by said.2 plain.2 written,
+  )
+
+  -- INTERACTION POINTS
+
+  dim_good : (k : Option (List Kind)) (m : Option Measured) (ks : List Kind)
+      → ((js : List Kind) → k ≡ Some js → Each IsGoodOrdinal js)
+      → ((j : Measured) → m ≡ Some j → IsGoodKind j.kind) → with_dim k m ≡ Some ks
+      → Each IsGoodOrdinal ks
+  dim_good None m ks good kinds h = absurd (none-some ks h)
+  dim_good (Some js) None ks good kinds h = absurd (none-some ks h)
+  dim_good (Some js) (Some j) ks good kinds h = by (is_ordinal j.kind) refl h
+    where
+      by : (b : Bool) → is_ordinal j.kind ≡ b
+          → (if b then Some (js ++ j.kind ∷ []) else None) ≡ Some ks → Each IsGoodOrdinal ks
+      by true e q = subst (Each IsGoodOrdinal) (same_Some (js ++ j.kind ∷ []) ks q)
+          (joined IsGoodOrdinal js (j.kind ∷ []) (good js refl)
+          (good_ordinal j.kind e (kinds j refl), tt))
+      by false e q = absurd (none-some ks q)
+
+  dims_good : (ts : List TypeText) (k : Option (List Kind)) (ks : List Kind)
+      → Each ShortSpelt ts → ((u : Used) → IsGoodAt o u)
+      → ((js : List Kind) → k ≡ Some js → Each IsGoodOrdinal js)
+      → dims_after o k ts ≡ Some ks → Each IsGoodOrdinal ks
+  dims_good [] k ks plain all good h = good ks h
+  dims_good (t ∷ ts) k ks plain all good h =
+      dims_good ts (with_dim k (text_type o t)) ks plain.1 all
+      (λ js e. dim_good k (text_type o t) js good (λ j q. short_good t j plain.0 all q) e) h
+
+  point_good : (p : Point) → PointSaid o p → PointSpelt p → OfPoint IsSoAt IsAMember p
+  point_good p said plain = each_then _ (Named IsSoAt IsAMember p.role.place)
+      (λ u is. of_sort sort.Point _ u p.role.place is (λ e q. q.0) (λ e q before. tt)
+      (λ e q all ks h. dims_good p.dims (Some []) ks plain.1 all
+      (λ js r. subst (Each IsGoodOrdinal) (same_Some [] js r) tt) (sym q.1 ∙ h))) p.names said
+
+  pub points_good : (ps : List Point) → Each (PointSaid o) ps → Each PointSpelt ps
+      → Each (OfPoint IsSoAt IsAMember) ps
+  points_good [] said plain = tt
+  points_good (p ∷ ps) said plain = (point_good p said.0 plain.0, points_good ps said.1 plain.1)
+
+  -- MODULE VARIABLES, HEADERS, STATES AND FORMALS
+
+  pub modvars_good : (ms : List ModvarDef) → Each (ModvarSaid o) ms
+      → Each (OfModvar IsSoAt IsAMember) ms
+  modvars_good ms said = each_then (ModvarSaid o) (OfModvar IsSoAt IsAMember)
+      (λ m is. each_then _ (Named IsSoAt IsAMember m.header.place)
+      (λ u one. of_sort sort.ModuleVariable _ u m.header.place one (λ e q. q.0)
+      (λ e q before. tt) (λ e q all. tt)) m.names is) ms said
+
+  pub header_good : (x : Header) → HeaderSaid o x → HeaderSpelt x → HeaderWritten x
+      → OfHeader IsSoAt IsAMember x
+  header_good x said plain written = (
+    of_sort sort.Header (IsOf sort.Header) x.name (header_last x) said.0 (λ e q. q)
+        (λ e q before. tt) (λ e q all. tt),
+    vars_good x.params said.1 plain.1 written.0,
+    points_good x.points said.2 plain.2,
+    vars_good x.exports said.3 plain.3 written.2,
+  )
+
+  pub states_good : (us : List Used) → Each (IsSaid o (IsOf sort.State)) us
+      → Each (OfState IsSoAt IsAMember) us
+  states_good us said = each_then (IsSaid o (IsOf sort.State)) (OfState IsSoAt IsAMember)
+      (λ u is. of_sort sort.State (IsOf sort.State) u u.place is (λ e q. q) (λ e q before. tt)
+      (λ e q all. tt)) us said
+
+  pub statesets_good : (ss : List StateSet) → Each (StateSetSaid o) ss
+      → Each (OfStateSet IsSoAt IsAMember) ss
+  statesets_good ss said = each_then (StateSetSaid o) (OfStateSet IsSoAt IsAMember)
+      (λ s is. of_sort sort.StateSet _ s.name (names_last s.states s.name.place) is (λ e q. q.0)
+      (λ e q before. tt) (λ e q all. tt)) ss said
+
+  pub formals_good : (fs : List Formal) → Each (FormalSaid o) fs
+      → Each (OfFormal IsSoAt IsAMember) fs
+  formals_good fs said = each_then (FormalSaid o) (OfFormal IsSoAt IsAMember)
+      (λ f is. each_then _ (Named IsSoAt IsAMember f.kind.place)
+      (λ u one. of_sort sort.Variable _ u f.kind.place one (λ e q. q.0) (λ e q before. tt)
+      (λ e q all m h. named_good o f.kind m (all f.kind) (sym q.1 ∙ h))) f.names is) fs said

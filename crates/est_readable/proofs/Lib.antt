@@ -1,0 +1,17 @@
+pub mod Spells
+pub mod PlainTokens
+pub mod PlainTrees
+pub mod Spelt
+pub mod SpeltTexts
+pub mod SpeltParts
+pub mod SpeltBodies
+pub mod PlainWalk
+pub mod PlainOutlines
+pub mod GoodKinds
+pub mod GoodValues
+pub mod GoodTexts
+pub mod GoodNames
+pub mod GoodParts
+pub mod GoodOutlines
+pub mod GoodPorts
+pub mod Sentences

@@ -1,0 +1,38 @@
+-- The ports of a sentence are readable, and so its traces are read back.
+use Rattle.std.proofs.Common.{length, arith}
+use Rattle.est_lexer.proofs.TokenLaws.{token_kinds}
+use Rattle.est_outline.specs.Bodies.{outline_of}
+use Rattle.est_statements.specs.Modules.{started_header}
+use Rattle.est_ports.specs.PortList.{ports_of}
+use Rattle.est_order.proofs.Ascending.{specification_stands}
+use Rattle.est_order.proofs.SaidWholes.{declarations_said}
+use Rattle.est_fullness.proofs.Sentences.{sentence_written}
+use Rattle.est_read_back.proofs.ReadBack as read
+use Rattle.est_readable.specs.ReadableLaws.{PortsOfSentencesAreReadable}
+use Rattle.est_readable.specs.ReadableLaws.{TracesOfSentencesAreTexts, TracesOfSentencesAreRead}
+use Rattle.est_readable.proofs.PlainTrees.{specification_says}
+use Rattle.est_readable.proofs.SpeltBodies.{all_spelt}
+use Rattle.est_readable.proofs.PlainOutlines.{region_plain}
+use Rattle.est_readable.proofs.GoodOutlines.{outline_good}
+use Rattle.est_readable.proofs.GoodPorts.{header_readable}
+
+pub ports_readable : PortsOfSentencesAreReadable
+unfolding ports_of
+ports_readable text tokens spec h =
+    let few = h.few in
+    let said = declarations_said spec (length tokens) (omega (arith, few))
+    (specification_stands text tokens spec h.tree) in
+    let written = sentence_written text tokens spec few h.tree in
+    let plain = all_spelt spec
+    (specification_says text tokens spec (token_kinds text 0 tokens h.listed) h.tree) in
+    header_readable (outline_of spec) (region_plain spec plain)
+    (outline_good spec said plain written) (started_header (outline_of spec) spec.first)
+
+pub texts : TracesOfSentencesAreTexts
+texts text tokens spec events written h allowed listed =
+    read.texts spec events written (ports_readable text tokens spec h) allowed listed
+
+pub read_back : TracesOfSentencesAreRead
+read_back text tokens spec events written answer h allowed listed reads =
+    read.read_back spec events written answer (ports_readable text tokens spec h) allowed listed
+    reads
