@@ -13,8 +13,8 @@ use Rattle.est_readable.specs.ReadableLaws.{TracesOfSentencesAreTexts, TracesOfS
 use Rattle.est_readable.proofs.PlainTrees.{specification_says}
 use Rattle.est_readable.proofs.SpeltBodies.{all_spelt}
 use Rattle.est_readable.proofs.PlainOutlines.{region_plain}
-use Rattle.est_readable.proofs.GoodOutlines.{outline_good}
-use Rattle.est_readable.proofs.GoodPorts.{header_readable}
+use Rattle.est_readable.proofs.SoundOutlines.{outline_sound}
+use Rattle.est_readable.proofs.SoundPorts.{header_readable}
 
 pub ports_readable : PortsOfSentencesAreReadable
 unfolding ports_of
@@ -26,7 +26,7 @@ ports_readable text tokens spec h =
     let plain = all_spelt spec
     (specification_says text tokens spec (token_kinds text 0 tokens h.listed) h.tree) in
     header_readable (outline_of spec) (region_plain spec plain)
-    (outline_good spec said plain written) (started_header (outline_of spec) spec.first)
+    (outline_sound spec said plain written) (started_header (outline_of spec) spec.first)
 
 pub texts : TracesOfSentencesAreTexts
 texts text tokens spec events written h allowed listed =

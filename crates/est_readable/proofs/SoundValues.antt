@@ -1,4 +1,4 @@
--- The values of constants are held by their hosts, which are kinds whose values are read.
+-- The values of constants are sound: they are held by their hosts, which are sound kinds.
 use Rattle.std.specs.Prelude.{if◌then◌else◌, nat_eq, nat_le}
 use Rattle.std.proofs.Common.{◌≡◌, refl, sym, subst, ap, ◌∙◌, true≢false, ℕ, suc, ◌≤◌, ℤ, pos}
 use Rattle.std.proofs.Common.{neg_ℤ, ◌≤ℤ◌, ◌-ℤ◌, int_lt, Bool, true, false, List, Option, Some}
@@ -31,8 +31,8 @@ use Rattle.est_kinds.specs.TypeTexts.{scalar, same_host}
 use Rattle.est_values.specs.FittingValues.{KindLayer}
 use Rattle.est_fullness.specs.WrittenExpressions.{OfConstant}
 use Rattle.est_read_back.proofs.Scalars.{IsHeld}
-use Rattle.est_readable.proofs.GoodKinds.{IsGoodOrdinal, IsGoodKind, held_as, holds_as}
-use Rattle.est_readable.proofs.GoodKinds.{integer_good, boolean_good, char_good}
+use Rattle.est_readable.proofs.SoundKinds.{IsSoundOrdinal, IsSoundKind, held_as, holds_as}
+use Rattle.est_readable.proofs.SoundKinds.{integer_sound, boolean_sound, char_sound}
 use Rattle.est_readable.proofs.Spelt.{CodeFits}
 
 module _ (o : Outline) where
@@ -44,36 +44,36 @@ module _ (o : Outline) where
   IsKnown _ k = Unit {0}
 
   -- A value that its host holds, where the values of the host are read.
-  pub record IsGoodValue (v : Valued) : Type 0 where
+  pub record IsSoundValue (v : Valued) : Type 0 where
     pub holds : Holds v.host v.ordinal
-    pub host : IsGoodOrdinal v.host
+    pub host : IsSoundOrdinal v.host
     pub known : IsKnown (out-Kind v.host) v.host
 
   -- what is known of a constant, and of a type
-  abbrev pub IsGoodConstant : Entry → Type 0
-  IsGoodConstant e = (v : Valued) → value_with e.kind e.ordinal ≡ Some v → IsGoodValue v
+  abbrev pub IsSoundConstant : Entry → Type 0
+  IsSoundConstant e = (v : Valued) → value_with e.kind e.ordinal ≡ Some v → IsSoundValue v
 
-  abbrev pub HasGoodKind : Entry → Type 0
-  HasGoodKind e = (m : Measured) → e.kind ≡ Some m → IsGoodKind m.kind
+  abbrev pub HasSoundKind : Entry → Type 0
+  HasSoundKind e = (m : Measured) → e.kind ≡ Some m → IsSoundKind m.kind
 
-  abbrev pub IsGoodFor : Sort → Entry → Type 0
-  IsGoodFor sort.Constant e = IsGoodConstant e
-  IsGoodFor sort.TypeName e = HasGoodKind e
-  IsGoodFor _ e = Unit {0}
+  abbrev pub IsSoundFor : Sort → Entry → Type 0
+  IsSoundFor sort.Constant e = IsSoundConstant e
+  IsSoundFor sort.TypeName e = HasSoundKind e
+  IsSoundFor _ e = Unit {0}
 
   -- what a name means is so, where it is a constant or a type
-  abbrev pub IsGoodAt : Used → Type 0
-  IsGoodAt u = (place : ℕ) (e : Entry) → meaning o u ≡ meant.Seen place
-      → entry_at o place ≡ Some e → IsGoodFor e.declared.sort e
+  abbrev pub IsSoundAt : Used → Type 0
+  IsSoundAt u = (place : ℕ) (e : Entry) → meaning o u ≡ meant.Seen place
+      → entry_at o place ≡ Some e → IsSoundFor e.declared.sort e
 
   -- ONE HOST
 
-  same_enumeration : (a b : Valued) (p q : ℕ) (ns ms : List _) → IsGoodValue a → IsGoodValue b
+  same_enumeration : (a b : Valued) (p q : ℕ) (ns ms : List _) → IsSoundValue a → IsSoundValue b
       → out-Kind a.host ≡ kinds.Enumeration p ns → out-Kind b.host ≡ kinds.Enumeration q ms
       → p ≡ q → a.host ≡ b.host
-  same_enumeration a b p q ns ms good other e f same =
+  same_enumeration a b p q ns ms sound other e f same =
       let x : IsKnown (kinds.Enumeration p ns) a.host =
-      subst (λ (l : KindLayer). IsKnown l a.host) e good.known in
+      subst (λ (l : KindLayer). IsKnown l a.host) e sound.known in
       let y : IsKnown (kinds.Enumeration q ms) b.host =
       subst (λ (l : KindLayer). IsKnown l b.host) f other.known in
       let one : x.0 ≡ y.0 =
@@ -83,10 +83,10 @@ module _ (o : Outline) where
       (sym x.2 ∙ ap (λ (t : Entry). t.kind) one ∙ y.2) in
       ap (λ (m : Measured). m.kind) kind_is
 
-  pub one_host : (a b : Valued) → IsGoodValue a → IsGoodValue b → same_host a.host b.host ≡ true
+  pub one_host : (a b : Valued) → IsSoundValue a → IsSoundValue b → same_host a.host b.host ≡ true
       → Holds a.host b.ordinal
-  one_host a b good other h = by (out-Kind a.host) (out-Kind b.host) refl refl h
-      (held_as a.host a.ordinal good.holds) (held_as b.host b.ordinal other.holds)
+  one_host a b sound other h = by (out-Kind a.host) (out-Kind b.host) refl refl h
+      (held_as a.host a.ordinal sound.holds) (held_as b.host b.ordinal other.holds)
     where
       by : (x y : KindLayer) → out-Kind a.host ≡ x → out-Kind b.host ≡ y
           → same_host a.host b.host ≡ true → IsHeld x a.ordinal → IsHeld y b.ordinal
@@ -97,7 +97,7 @@ module _ (o : Outline) where
       by (kinds.Enumeration p ns) (kinds.Enumeration q ms) e f h k l =
           let t : nat_eq p q ≡ true = rw (e, f) at h in
           subst (λ (j : Kind). Holds j b.ordinal)
-          (sym (same_enumeration a b p q ns ms good other e f ((Decides-eqb p q).0 t))) other.holds
+          (sym (same_enumeration a b p q ns ms sound other e f ((Decides-eqb p q).0 t))) other.holds
       by kinds.Integer kinds.Boolean e f h k l =
           let no : false ≡ true = rw (e, f) at h in absurd (true≢false (sym no))
       by kinds.Integer kinds.Char e f h k l =
@@ -134,57 +134,57 @@ module _ (o : Outline) where
   -- VALUES
 
   integer_value : (z : ℤ) → neg_ℤ (pos maxint) ≤ℤ z → z ≤ℤ pos maxint
-      → IsGoodValue (valued kind.Integer z)
+      → IsSoundValue (valued kind.Integer z)
   unfolding out-Kind denote.Hole.Carrier.out
-  integer_value z l h = record { holds = (l, h); host = integer_good; known = tt }
+  integer_value z l h = record { holds = (l, h); host = integer_sound; known = tt }
 
-  boolean_value : (z : ℤ) → pos 0 ≤ℤ z → z ≤ℤ pos 1 → IsGoodValue (valued kind.Boolean z)
+  boolean_value : (z : ℤ) → pos 0 ≤ℤ z → z ≤ℤ pos 1 → IsSoundValue (valued kind.Boolean z)
   unfolding out-Kind denote.Hole.Carrier.out
-  boolean_value z l h = record { holds = (l, h); host = boolean_good; known = tt }
+  boolean_value z l h = record { holds = (l, h); host = boolean_sound; known = tt }
 
-  char_value : (n : ℕ) → n ≤ 127 → IsGoodValue (valued kind.Char (pos n))
+  char_value : (n : ℕ) → n ≤ 127 → IsSoundValue (valued kind.Char (pos n))
   unfolding out-Kind denote.Hole.Carrier.out
   char_value n h = record {
     holds = (omega (arith, ints), omega (arith, ints, h));
-    host = char_good;
+    host = char_sound;
     known = tt;
   }
 
-  is_value : (v w : Valued) → ◌≡◌ {A = Option Valued} (Some v) (Some w) → IsGoodValue v
-      → IsGoodValue w
-  is_value v w e good = subst IsGoodValue (same_Some v w e) good
+  is_value : (v w : Valued) → ◌≡◌ {A = Option Valued} (Some v) (Some w) → IsSoundValue v
+      → IsSoundValue w
+  is_value v w e sound = subst IsSoundValue (same_Some v w e) sound
 
-  predeclared_good : (n : PredeclaredName) (v : Valued) → predeclared_constant n ≡ Some v
-      → IsGoodValue v
-  predeclared_good known.False v h =
+  predeclared_sound : (n : PredeclaredName) (v : Valued) → predeclared_constant n ≡ Some v
+      → IsSoundValue v
+  predeclared_sound known.False v h =
       is_value (valued kind.Boolean (pos 0)) v h
       (boolean_value (pos 0) (omega (arith, ints)) (omega (arith, ints)))
-  predeclared_good known.True v h =
+  predeclared_sound known.True v h =
       is_value (valued kind.Boolean (pos 1)) v h
       (boolean_value (pos 1) (omega (arith, ints)) (omega (arith, ints)))
-  predeclared_good known.Maxint v h =
+  predeclared_sound known.Maxint v h =
       is_value (valued kind.Integer (pos maxint)) v h
       (integer_value (pos maxint) (omega (arith, ints)) (omega (arith, ints)))
-  predeclared_good _ v h = absurd (none-some v h)
+  predeclared_sound _ v h = absurd (none-some v h)
 
   -- numbers
   at_most : (n m : ℕ) → nat_le n m ≡ true → n ≤ m
   at_most n m h = grind (arith, nat_tests)
 
   number_of : (minus : Bool) (n : ℕ) → n ≤ maxint
-      → IsGoodValue (valued kind.Integer (if minus then pos 0 -ℤ pos n else pos n))
+      → IsSoundValue (valued kind.Integer (if minus then pos 0 -ℤ pos n else pos n))
   number_of true n h =
       integer_value (pos 0 -ℤ pos n) (omega (arith, ints, h)) (omega (arith, ints, h))
   number_of false n h = integer_value (pos n) (omega (arith, ints, h)) (omega (arith, ints, h))
 
-  number_good : (minus : Bool) (n : ℕ) (v : Valued) → number_value minus n ≡ Some v
-      → IsGoodValue v
-  number_good minus n v h = by (nat_le n maxint) refl h
+  number_sound : (minus : Bool) (n : ℕ) (v : Valued) → number_value minus n ≡ Some v
+      → IsSoundValue v
+  number_sound minus n v h = by (nat_le n maxint) refl h
     where
       by : (b : Bool) → nat_le n maxint ≡ b
           → (if b then Some (valued kind.Integer (if minus then pos 0 -ℤ pos n else pos n))
           else None)
-          ≡ Some v → IsGoodValue v
+          ≡ Some v → IsSoundValue v
       by true e q = is_value _ v q (number_of minus n (at_most n maxint e))
       by false e q = absurd (none-some v q)
 
@@ -211,74 +211,74 @@ module _ (o : Outline) where
   opposite : (z : ℤ) → IsHeld kinds.Integer z → IsHeld kinds.Integer (pos 0 -ℤ z)
   opposite z h = (omega (arith, ints, h.0, h.1), omega (arith, ints, h.0, h.1))
 
-  negated_good : (v : Valued) → is_integer v.host ≡ true → IsGoodValue v
-      → IsGoodValue (valued v.host (pos 0 -ℤ v.ordinal))
-  negated_good v is good =
+  negated_sound : (v : Valued) → is_integer v.host ≡ true → IsSoundValue v
+      → IsSoundValue (valued v.host (pos 0 -ℤ v.ordinal))
+  negated_sound v is sound =
       let e = is_an_integer v.host is in
       let held : IsHeld kinds.Integer v.ordinal =
-      subst (λ (l : KindLayer). IsHeld l v.ordinal) e (held_as v.host v.ordinal good.holds) in
+      subst (λ (l : KindLayer). IsHeld l v.ordinal) e (held_as v.host v.ordinal sound.holds) in
       record {
         holds = holds_as v.host (pos 0 -ℤ v.ordinal) kinds.Integer e (opposite v.ordinal held);
-        host = good.host;
-        known = good.known;
+        host = sound.host;
+        known = sound.known;
       }
 
-  minus_good : (v w : Valued) → is_integer v.host ≡ true → IsGoodValue v → negated v ≡ Some w
-      → IsGoodValue w
-  minus_good v w is good h = by (int_lt (pos maxint) (pos 0 -ℤ v.ordinal)) h
+  minus_sound : (v w : Valued) → is_integer v.host ≡ true → IsSoundValue v → negated v ≡ Some w
+      → IsSoundValue w
+  minus_sound v w is sound h = by (int_lt (pos maxint) (pos 0 -ℤ v.ordinal)) h
     where
       by : (b : Bool) → (if b then None else Some (valued v.host (pos 0 -ℤ v.ordinal))) ≡ Some w
-          → IsGoodValue w
+          → IsSoundValue w
       by true q = absurd (none-some w q)
-      by false q = is_value _ w q (negated_good v is good)
+      by false q = is_value _ w q (negated_sound v is sound)
 
-  with_good : (minus : Bool) (v w : Valued) → IsGoodValue v → with_sign minus v ≡ Some w
-      → IsGoodValue w
-  with_good minus v w good h = by (is_integer v.host) minus refl h
+  with_sound : (minus : Bool) (v w : Valued) → IsSoundValue v → with_sign minus v ≡ Some w
+      → IsSoundValue w
+  with_sound minus v w sound h = by (is_integer v.host) minus refl h
     where
       by : (b m : Bool) → is_integer v.host ≡ b
-          → (if b then (if m then negated v else Some v) else None) ≡ Some w → IsGoodValue w
-      by true true e q = minus_good v w e good q
-      by true false e q = is_value v w q good
+          → (if b then (if m then negated v else Some v) else None) ≡ Some w → IsSoundValue w
+      by true true e q = minus_sound v w e sound q
+      by true false e q = is_value v w q sound
       by false m e q = absurd (none-some w q)
 
-  signed_good : (minus sign : Bool) (k : Option Valued) (w : Valued)
-      → ((v : Valued) → k ≡ Some v → IsGoodValue v) → signed_value minus sign k ≡ Some w
-      → IsGoodValue w
-  signed_good minus sign None w good h = absurd (none-some w h)
-  signed_good minus false (Some v) w good h = is_value v w h (good v refl)
-  signed_good minus true (Some v) w good h = with_good minus v w (good v refl) h
+  signed_sound : (minus sign : Bool) (k : Option Valued) (w : Valued)
+      → ((v : Valued) → k ≡ Some v → IsSoundValue v) → signed_value minus sign k ≡ Some w
+      → IsSoundValue w
+  signed_sound minus sign None w sound h = absurd (none-some w h)
+  signed_sound minus false (Some v) w sound h = is_value v w h (sound v refl)
+  signed_sound minus true (Some v) w sound h = with_sound minus v w (sound v refl) h
 
   -- names
-  for_constant : (s : Sort) (e : Entry) → same_sort sort.Constant s ≡ true → IsGoodFor s e
-      → IsGoodConstant e
-  for_constant sort.Constant e h good = good
-  for_constant _ e h good = absurd (true≢false (sym h))
+  for_constant : (s : Sort) (e : Entry) → same_sort sort.Constant s ≡ true → IsSoundFor s e
+      → IsSoundConstant e
+  for_constant sort.Constant e h sound = sound
+  for_constant _ e h sound = absurd (true≢false (sym h))
 
-  entry_good : (x : Option Entry) (v : Valued)
-      → ((e : Entry) → x ≡ Some e → IsGoodFor e.declared.sort e) → value_by x ≡ Some v
-      → IsGoodValue v
-  entry_good None v good h = absurd (none-some v h)
-  entry_good (Some e) v good h = by (same_sort sort.Constant e.declared.sort) refl h
+  entry_sound : (x : Option Entry) (v : Valued)
+      → ((e : Entry) → x ≡ Some e → IsSoundFor e.declared.sort e) → value_by x ≡ Some v
+      → IsSoundValue v
+  entry_sound None v sound h = absurd (none-some v h)
+  entry_sound (Some e) v sound h = by (same_sort sort.Constant e.declared.sort) refl h
     where
       by : (b : Bool) → same_sort sort.Constant e.declared.sort ≡ b
-          → (if b then value_with e.kind e.ordinal else None) ≡ Some v → IsGoodValue v
-      by true s q = for_constant e.declared.sort e s (good e refl) v q
+          → (if b then value_with e.kind e.ordinal else None) ≡ Some v → IsSoundValue v
+      by true s q = for_constant e.declared.sort e s (sound e refl) v q
       by false s q = absurd (none-some v q)
 
-  meant_good : (u : Used) (m : Meant) (v : Valued) → meaning o u ≡ m → IsGoodAt u
-      → value_meant o m ≡ Some v → IsGoodValue v
-  meant_good u meant.Nothing v is good h = absurd (none-some v h)
-  meant_good u (meant.Predeclared n) v is good h = predeclared_good n v h
-  meant_good u (meant.Unseen p) v is good h = absurd (none-some v h)
-  meant_good u (meant.Seen p) v is good h =
-      entry_good (entry_at o p) v (λ e there. good p e is there) h
+  meant_sound : (u : Used) (m : Meant) (v : Valued) → meaning o u ≡ m → IsSoundAt u
+      → value_meant o m ≡ Some v → IsSoundValue v
+  meant_sound u meant.Nothing v is sound h = absurd (none-some v h)
+  meant_sound u (meant.Predeclared n) v is sound h = predeclared_sound n v h
+  meant_sound u (meant.Unseen p) v is sound h = absurd (none-some v h)
+  meant_sound u (meant.Seen p) v is sound h =
+      entry_sound (entry_at o p) v (λ e there. sound p e is there) h
 
-  pub value_good : (c : Constant) (v : Valued) → OfConstant IsGoodAt c → CodeFits c
-      → constant_value o c ≡ Some v → IsGoodValue v
-  value_good (constant.Number minus sign n place) v good code h = number_good minus n v h
-  value_good (constant.Named minus sign u place) v good code h =
-      signed_good minus sign (named_value o u) v
-      (λ w e. meant_good u (meaning o u) w refl good e) h
-  value_good (constant.Character code place) v good fits h =
+  pub value_sound : (c : Constant) (v : Valued) → OfConstant IsSoundAt c → CodeFits c
+      → constant_value o c ≡ Some v → IsSoundValue v
+  value_sound (constant.Number minus sign n place) v sound code h = number_sound minus n v h
+  value_sound (constant.Named minus sign u place) v sound code h =
+      signed_sound minus sign (named_value o u) v
+      (λ w e. meant_sound u (meaning o u) w refl sound e) h
+  value_sound (constant.Character code place) v sound fits h =
       is_value (valued kind.Char (pos code)) v h (char_value code fits)

@@ -1,4 +1,5 @@
--- Kinds whose values are read as they are written, with no more constants than there are integers.
+-- Sound kinds: their values are read as they are written, and an enumeration has no more constants
+-- than there are integers.
 use Rattle.std.proofs.Common.{◌≡◌, refl, sym, subst, true≢false, ℕ, suc, ◌<◌, ◌≤◌, ℤ}
 use Rattle.std.proofs.Common.{◌≤ℤ◌, true, false, List, length, Some, slice_get}
 use Rattle.est_syntax.specs.Kinds.{maxint, Holds, is_ordinal, integers, booleans, characters}
@@ -19,11 +20,11 @@ abbrev pub HasFew : KindLayer → Type 0
 HasFew (kinds.Enumeration declared names) = length names ≤ suc maxint
 HasFew _ = Unit {0}
 
-pub record IsGoodOrdinal (k : Kind) : Type 0 where
+pub record IsSoundOrdinal (k : Kind) : Type 0 where
   pub readable : IsReadableOrdinal k
   pub few : HasFew (out-Kind k)
 
-pub record IsGoodKind (k : Kind) : Type 0 where
+pub record IsSoundKind (k : Kind) : Type 0 where
   pub readable : IsReadable k
   pub few : HasFew (out-Kind k)
 
@@ -68,32 +69,32 @@ host_alone host z h = by (out-Kind host) (held_as host z h)
 
 -- ORDINAL KINDS
 
-pub integer_good : IsGoodOrdinal kind.Integer
+pub integer_sound : IsSoundOrdinal kind.Integer
 unfolding out-Kind denote.Hole.Carrier.out
-integer_good = record {
+integer_sound = record {
   readable = record { ordinal = refl; well_formed = integers refl; constants = tt };
   few = tt;
 }
 
-pub boolean_good : IsGoodOrdinal kind.Boolean
+pub boolean_sound : IsSoundOrdinal kind.Boolean
 unfolding out-Kind denote.Hole.Carrier.out
-boolean_good = record {
+boolean_sound = record {
   readable = record { ordinal = refl; well_formed = booleans refl; constants = tt };
   few = tt;
 }
 
-pub char_good : IsGoodOrdinal kind.Char
+pub char_sound : IsSoundOrdinal kind.Char
 unfolding out-Kind denote.Hole.Carrier.out
-char_good = record {
+char_sound = record {
   readable = record { ordinal = refl; well_formed = characters refl; constants = tt };
   few = tt;
 }
 
-pub enumeration_good : (place : ℕ) (names : List Name) → 0 < length names
+pub enumeration_sound : (place : ℕ) (names : List Name) → 0 < length names
     → length names ≤ suc maxint → ArePlainNames names
-    → IsGoodOrdinal (kind.Enumeration place names)
+    → IsSoundOrdinal (kind.Enumeration place names)
 unfolding out-Kind denote.Hole.Carrier.out
-enumeration_good place names some few plain = record {
+enumeration_sound place names some few plain = record {
   readable = record {
     ordinal = refl;
     well_formed = constants place names refl some;
@@ -102,13 +103,13 @@ enumeration_good place names some few plain = record {
   few = few;
 }
 
-pub part_good : (host : Kind) (low high : ℤ) → IsGoodOrdinal host → Holds host low
-    → Holds host high → low ≤ℤ high → IsGoodOrdinal (kind.Part host low high)
-part_good host low high good l h order =
+pub part_sound : (host : Kind) (low high : ℤ) → IsSoundOrdinal host → Holds host low
+    → Holds host high → low ≤ℤ high → IsSoundOrdinal (kind.Part host low high)
+part_sound host low high sound l h order =
     let k = kind.Part host low high in
     let e = kind.outs-Part host low high in
     let alone = subst (λ (j : Kind). HasPlainConstants (out-Kind j)) (host_alone host low l)
-    good.readable.constants in
+    sound.readable.constants in
     record {
       readable = record {
         ordinal = rw e refl;
@@ -121,11 +122,11 @@ part_good host low high good l h order =
 
 -- ALL KINDS
 
-pub good_kind : (k : Kind) → IsGoodOrdinal k → IsGoodKind k
-good_kind k good = record { readable = ordinals good.readable; few = good.few }
+pub sound_kind : (k : Kind) → IsSoundOrdinal k → IsSoundKind k
+sound_kind k sound = record { readable = ordinals sound.readable; few = sound.few }
 
-pub good_ordinal : (k : Kind) → is_ordinal k ≡ true → IsGoodKind k → IsGoodOrdinal k
-good_ordinal k is good = record { readable = by good.readable; few = good.few }
+pub sound_ordinal : (k : Kind) → is_ordinal k ≡ true → IsSoundKind k → IsSoundOrdinal k
+sound_ordinal k is sound = record { readable = by sound.readable; few = sound.few }
   where
     by : IsReadable k → IsReadableOrdinal k
     by (ordinals r) = r
@@ -133,20 +134,20 @@ good_ordinal k is good = record { readable = by good.readable; few = good.few }
     by (arrays index of e r) = let no : false ≡ true = rw e at is in absurd (true≢false (sym no))
     by (records fields e r) = let no : false ≡ true = rw e at is in absurd (true≢false (sym no))
 
-pub array_good : (index of : Kind) → IsGoodKind of → IsGoodKind (kind.ArrayOf index of)
-array_good index of good =
+pub array_sound : (index of : Kind) → IsSoundKind of → IsSoundKind (kind.ArrayOf index of)
+array_sound index of sound =
     let e = kind.outs-ArrayOf index of in
-    record { readable = arrays index of e good.readable; few = subst HasFew (sym e) tt }
+    record { readable = arrays index of e sound.readable; few = subst HasFew (sym e) tt }
 
-pub set_good : (base : Kind) → IsGoodOrdinal base → IsGoodKind (kind.SetOf base)
-set_good base good =
+pub set_sound : (base : Kind) → IsSoundOrdinal base → IsSoundKind (kind.SetOf base)
+set_sound base sound =
     let e = kind.outs-SetOf base in
-    record { readable = sets base e good.readable; few = subst HasFew (sym e) tt }
+    record { readable = sets base e sound.readable; few = subst HasFew (sym e) tt }
 
-pub record_good : (fields : List FieldKind)
-    → ((i : ℕ) (field : FieldKind) → slice_get fields i ≡ Some field → IsGoodKind field.kind)
-    → IsGoodKind (kind.Fields fields)
-record_good fields each =
+pub record_sound : (fields : List FieldKind)
+    → ((i : ℕ) (field : FieldKind) → slice_get fields i ≡ Some field → IsSoundKind field.kind)
+    → IsSoundKind (kind.Fields fields)
+record_sound fields each =
     let e = kind.outs-Fields fields in
     record {
       readable = records fields e (λ i field h. (each i field h).readable);

@@ -1,5 +1,5 @@
 -- The ports of a specification are readable, where the names of its outline are plain and what is
--- declared in it is good.
+-- declared in it is sound.
 use Rattle.std.specs.Prelude.{if◌then◌else◌, flat_map, option_to_list}
 use Rattle.std.specs.List.{AllZip}
 use Rattle.std.specs.Option.{option_map}
@@ -35,11 +35,11 @@ use Rattle.est_ports.proofs.Tuples.{values_number}
 use Rattle.est_read_back.specs.PlainNames.{IsPlainName}
 use Rattle.est_read_back.specs.ReadableKinds.{IsReadable}
 use Rattle.est_read_back.specs.ReadablePorts.{IsReadableSignal, IsReadablePort, AreReadablePorts}
-use Rattle.est_readable.proofs.GoodKinds.{HasFew, IsGoodOrdinal}
-use Rattle.est_readable.proofs.GoodValues.{HasGoodKind}
-use Rattle.est_readable.proofs.GoodTexts.{each_at}
+use Rattle.est_readable.proofs.SoundKinds.{HasFew, IsSoundOrdinal}
+use Rattle.est_readable.proofs.SoundValues.{HasSoundKind}
+use Rattle.est_readable.proofs.SoundTexts.{each_at}
 use Rattle.est_readable.proofs.SpeltParts.{joined}
-use Rattle.est_readable.proofs.GoodNames.{HasGoodDims, IsGoodInTheEnd}
+use Rattle.est_readable.proofs.SoundNames.{HasSoundDims, IsSoundInTheEnd}
 use Rattle.est_readable.proofs.PlainOutlines.{ArePlain}
 
 -- LISTS
@@ -108,37 +108,37 @@ value_by k n z (kinds.ArrayOf index of) e is few lt same =
 value_by k n z (kinds.Fields fields) e is few lt same =
     let no : false ≡ true = rw e at is in absurd (true≢false (sym no))
 
-value_in : (k : Kind) → IsGoodOrdinal k → (n : ℕ) (z : ℤ) → slice_get (values_of k) n ≡ Some z
+value_in : (k : Kind) → IsSoundOrdinal k → (n : ℕ) (z : ℤ) → slice_get (values_of k) n ≡ Some z
     → IsOrdinalOf k z
-value_in k good n z e =
+value_in k sound n z e =
     let w = within (values_of k) n z e in
     let c = values_number k in
     let lt : n < count k = omega (arith, w, c) in
     let there = offset_is k (first_value k +ℤ pos n) n lt refl in
-    value_by k n z (out-Kind k) refl good.readable.ordinal good.few lt
+    value_by k n z (out-Kind k) refl sound.readable.ordinal sound.few lt
     (same_Some z (first_value k +ℤ pos n) (sym e ∙ there))
 
-tuples_in : (ks : List Kind) → Each IsGoodOrdinal ks → Each (AllZip IsOrdinalOf ks) (tuples_of ks)
-tuples_in [] good = (tt, tt)
-tuples_in (k ∷ ks) good =
+tuples_in : (ks : List Kind) → Each IsSoundOrdinal ks → Each (AllZip IsOrdinalOf ks) (tuples_of ks)
+tuples_in [] sound = (tt, tt)
+tuples_in (k ∷ ks) sound =
     each_flat (λ (z : ℤ). map (λ (t : List ℤ). z ∷ t) (tuples_of ks)) (IsOrdinalOf k)
     (AllZip IsOrdinalOf (k ∷ ks))
     (λ z h. each_map (λ (t : List ℤ). z ∷ t) (AllZip IsOrdinalOf ks)
-    (AllZip IsOrdinalOf (k ∷ ks)) (λ t g. (h, g)) (tuples_of ks) (tuples_in ks good.1))
-    (values_of k) (each_by (IsOrdinalOf k) (values_of k) (value_in k good.0))
+    (AllZip IsOrdinalOf (k ∷ ks)) (λ t g. (h, g)) (tuples_of ks) (tuples_in ks sound.1))
+    (values_of k) (each_by (IsOrdinalOf k) (values_of k) (value_in k sound.0))
 
 module _ (o : Outline) (plain : (region : ℕ) → ArePlain (names_of o region))
-    (good : (place : ℕ) (e : Entry) → entry_at o place ≡ Some e
-    → IsGoodInTheEnd o e.declared.sort e) where
+    (sound : (place : ℕ) (e : Entry) → entry_at o place ≡ Some e
+    → IsSoundInTheEnd o e.declared.sort e) where
   -- PARAMETERS
 
   for_variable : (s : Sort) (e : Entry) → same_sort sort.Variable s ≡ true
-      → IsGoodInTheEnd o s e → HasGoodKind o e
+      → IsSoundInTheEnd o s e → HasSoundKind o e
   for_variable sort.Variable e h g = g
   for_variable _ e h g = absurd (true≢false (sym h))
 
   kinds_by : (x : Option Entry)
-      → ((e : Entry) → x ≡ Some e → IsGoodInTheEnd o e.declared.sort e)
+      → ((e : Entry) → x ≡ Some e → IsSoundInTheEnd o e.declared.sort e)
       → Each IsReadable (kind_by x)
   kinds_by None g = tt
   kinds_by (Some e) g = by (same_sort sort.Variable e.declared.sort) e.kind refl refl
@@ -154,7 +154,7 @@ module _ (o : Outline) (plain : (region : ℕ) → ArePlain (names_of o region))
   kinds_readable : (names : Region) → Each IsReadable (kinds_in o names)
   kinds_readable names = each_flat_all
       (λ (n : List ℕ × Standing). kind_by (entry_at o n.1.place)) IsReadable
-      (λ n. kinds_by (entry_at o n.1.place) (good n.1.place)) names
+      (λ n. kinds_by (entry_at o n.1.place) (sound n.1.place)) names
 
   -- SIGNALS
 
@@ -182,25 +182,25 @@ module _ (o : Outline) (plain : (region : ℕ) → ArePlain (names_of o region))
 
   -- PORTS
 
-  for_point : (s : Sort) (e : Entry) → same_sort sort.Point s ≡ true → IsGoodInTheEnd o s e
-      → HasGoodDims o e
+  for_point : (s : Sort) (e : Entry) → same_sort sort.Point s ≡ true → IsSoundInTheEnd o s e
+      → HasSoundDims o e
   for_point sort.Point e h g = g
   for_point _ e h g = absurd (true≢false (sym h))
 
   elements_readable : (name : List ℕ) (signals : List Signal) (ks : List Kind) → IsPlainName name
-      → Each IsReadableSignal signals → Each IsGoodOrdinal ks
+      → Each IsReadableSignal signals → Each IsSoundOrdinal ks
       → Each IsReadablePort (elements_with name signals (Some ks))
   elements_readable name signals ks p s g =
       each_map (element name ks signals) (AllZip IsOrdinalOf ks) IsReadablePort
       (λ t z. record {
         name = p;
-        index_kinds = λ i k e. (each_at IsGoodOrdinal ks i k g e).readable;
+        index_kinds = λ i k e. (each_at IsSoundOrdinal ks i k g e).readable;
         index = z;
         signals = λ i x e. each_at IsReadableSignal signals i x s e;
       }) (tuples_of ks) (tuples_in ks g)
 
   point_readable : (name : List ℕ) (x : Option Entry) → IsPlainName name
-      → ((e : Entry) → x ≡ Some e → IsGoodInTheEnd o e.declared.sort e)
+      → ((e : Entry) → x ≡ Some e → IsSoundInTheEnd o e.declared.sort e)
       → Each IsReadablePort (elements_by o name x)
   point_readable name None p g = tt
   point_readable name (Some e) p g =
@@ -218,7 +218,7 @@ module _ (o : Outline) (plain : (region : ℕ) → ArePlain (names_of o region))
   ports_readable names p = each_flat
       (λ (n : List ℕ × Standing). elements_by o n.0 (entry_at o n.1.place))
       (λ n. IsPlainName n.0) IsReadablePort
-      (λ n q. point_readable n.0 (entry_at o n.1.place) q (good n.1.place)) names p
+      (λ n q. point_readable n.0 (entry_at o n.1.place) q (sound n.1.place)) names p
 
   pub header_readable : (x : Option ℕ) → AreReadablePorts (header_ports o x)
   header_readable None i port e = absurd (none-some port e)

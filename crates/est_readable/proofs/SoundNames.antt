@@ -1,5 +1,5 @@
--- Each name that declarations without statements declare is good: in time where it is a constant or
--- a type, and in the end where it is a variable or an interaction point.
+-- Each name that declarations without statements declare is sound: in time where it is a constant
+-- or a type, and in the end where it is a variable or an interaction point.
 use Rattle.std.specs.Prelude.{if◌then◌else◌, nat_le, is_some}
 use Rattle.std.proofs.Common.{◌≡◌, refl, sym, subst, ap, ◌∙◌, true≢false, ℕ, suc, ◌+◌, ◌≤◌}
 use Rattle.std.proofs.Common.{◌<◌, pos, Bool, true, false, List, [], ◌∷◌, ◌++◌, length}
@@ -55,11 +55,11 @@ use Rattle.est_readable.proofs.Spelt.{ShortSpelt, TypeDefSpelt, VarDefSpelt, Int
 use Rattle.est_readable.proofs.Spelt.{ByPartSpelt, ChannelSpelt, PointSpelt, HeaderSpelt}
 use Rattle.est_readable.proofs.SpeltTexts.{short_text}
 use Rattle.est_readable.proofs.SpeltParts.{joined}
-use Rattle.est_readable.proofs.GoodKinds.{IsGoodOrdinal, IsGoodKind, good_ordinal}
-use Rattle.est_readable.proofs.GoodValues.{IsGoodValue, HasGoodKind, IsGoodFor, IsGoodAt}
-use Rattle.est_readable.proofs.GoodValues.{value_good}
-use Rattle.est_readable.proofs.GoodTexts.{names_of, count_names, enumerated_good}
-use Rattle.est_readable.proofs.GoodTexts.{named_good, text_good}
+use Rattle.est_readable.proofs.SoundKinds.{IsSoundOrdinal, IsSoundKind, sound_ordinal}
+use Rattle.est_readable.proofs.SoundValues.{IsSoundValue, HasSoundKind, IsSoundFor, IsSoundAt}
+use Rattle.est_readable.proofs.SoundValues.{value_sound}
+use Rattle.est_readable.proofs.SoundTexts.{names_of, count_names, enumerated_sound}
+use Rattle.est_readable.proofs.SoundTexts.{named_sound, text_sound}
 
 -- what is there
 there : (x : Option Entry) → is_some x ≡ true → (e : Entry) × (x ≡ Some e)
@@ -67,26 +67,26 @@ there None h = absurd (true≢false (sym h))
 there (Some e) h = (e, refl)
 
 module _ (o : Outline) where
-  -- the constants and types that are in force before a place are good
-  abbrev pub AreGoodBefore : ℕ → Type 0
-  AreGoodBefore b = (u : Used) → u.place < b → IsGoodAt o u
+  -- the constants and types that are in force before a place are sound
+  abbrev pub AreSoundBefore : ℕ → Type 0
+  AreSoundBefore b = (u : Used) → u.place < b → IsSoundAt o u
 
   abbrev pub InTime : ℕ → ℕ → Type 0
-  InTime place last = (e : Entry) → entry_at o place ≡ Some e → AreGoodBefore (suc last)
-      → IsGoodFor o e.declared.sort e
+  InTime place last = (e : Entry) → entry_at o place ≡ Some e → AreSoundBefore (suc last)
+      → IsSoundFor o e.declared.sort e
 
-  -- the subscripts of an interaction point, and what else is good in the end
-  abbrev pub HasGoodDims : Entry → Type 0
-  HasGoodDims e = (ks : List Kind) → e.dims ≡ Some ks → Each IsGoodOrdinal ks
+  -- the subscripts of an interaction point, and what else is sound in the end
+  abbrev pub HasSoundDims : Entry → Type 0
+  HasSoundDims e = (ks : List Kind) → e.dims ≡ Some ks → Each IsSoundOrdinal ks
 
-  abbrev pub IsGoodInTheEnd : Sort → Entry → Type 0
-  IsGoodInTheEnd sort.Variable e = HasGoodKind o e
-  IsGoodInTheEnd sort.Point e = HasGoodDims e
-  IsGoodInTheEnd _ e = Unit {0}
+  abbrev pub IsSoundInTheEnd : Sort → Entry → Type 0
+  IsSoundInTheEnd sort.Variable e = HasSoundKind o e
+  IsSoundInTheEnd sort.Point e = HasSoundDims e
+  IsSoundInTheEnd _ e = Unit {0}
 
   abbrev pub InTheEnd : ℕ → Type 0
-  InTheEnd place = (e : Entry) → entry_at o place ≡ Some e → ((u : Used) → IsGoodAt o u)
-      → IsGoodInTheEnd e.declared.sort e
+  InTheEnd place = (e : Entry) → entry_at o place ≡ Some e → ((u : Used) → IsSoundAt o u)
+      → IsSoundInTheEnd e.declared.sort e
 
   abbrev pub IsSoAt : Used → ℕ → Type 0
   IsSoAt u last = InTime u.place last × InTheEnd u.place
@@ -97,37 +97,37 @@ module _ (o : Outline) where
   -- a declaration of a sort
   pub of_sort : (s : Sort) (Q : Entry → Type 0) (u : Used) (last : ℕ) → IsSaid o Q u
       → ((e : Entry) → Q e → e.declared.sort ≡ s)
-      → ((e : Entry) → Q e → AreGoodBefore (suc last) → IsGoodFor o s e)
-      → ((e : Entry) → Q e → ((v : Used) → IsGoodAt o v) → IsGoodInTheEnd s e) → IsSoAt u last
+      → ((e : Entry) → Q e → AreSoundBefore (suc last) → IsSoundFor o s e)
+      → ((e : Entry) → Q e → ((v : Used) → IsSoundAt o v) → IsSoundInTheEnd s e) → IsSoAt u last
   of_sort s Q u last said is soon late = (
-    λ e at before. subst (λ x. IsGoodFor o x e) (sym (is e (said e at)))
+    λ e at before. subst (λ x. IsSoundFor o x e) (sym (is e (said e at)))
         (soon e (said e at) before),
-    λ e at all. subst (λ x. IsGoodInTheEnd x e) (sym (is e (said e at))) (late e (said e at) all),
+    λ e at all. subst (λ x. IsSoundInTheEnd x e) (sym (is e (said e at))) (late e (said e at) all),
   )
 
   -- no declaration
   no_entry : (u : Used) → IsNoEntry o u → IsAMember u
   no_entry u none e at before = absurd (none-some e (sym none ∙ at))
 
-  members_good : (us : List Used) → Each (IsNoEntry o) us → Each (IsMember IsSoAt IsAMember) us
-  members_good us said = each_then (IsNoEntry o) (IsMember IsSoAt IsAMember) no_entry us said
+  members_sound : (us : List Used) → Each (IsNoEntry o) us → Each (IsMember IsSoAt IsAMember) us
+  members_sound us said = each_then (IsNoEntry o) (IsMember IsSoAt IsAMember) no_entry us said
 
   -- CONSTANTS
 
-  constdef_good : (c : ConstDef) → ConstDefSaid o c → ConstDefSpelt c
+  constdef_sound : (c : ConstDef) → ConstDefSaid o c → ConstDefSpelt c
       → OfConstDef IsSoAt IsAMember c
-  constdef_good c said plain =
+  constdef_sound c said plain =
       let last = constant_last c.value in
       of_sort sort.Constant _ c.name last said (λ e q. q.0)
-      (λ e q before v h. value_good o c.value v
-      (constant_then (λ u. u.place < suc last) (IsGoodAt o) before c.value (name_to_last c.value))
+      (λ e q before v h. value_sound o c.value v
+      (constant_then (λ u. u.place < suc last) (IsSoundAt o) before c.value (name_to_last c.value))
       plain.1 (sym q.1 ∙ h)) (λ e q all. tt)
 
-  pub consts_good : (cs : List ConstDef) → Each (ConstDefSaid o) cs → Each ConstDefSpelt cs
+  pub consts_sound : (cs : List ConstDef) → Each (ConstDefSaid o) cs → Each ConstDefSpelt cs
       → Each (OfConstDef IsSoAt IsAMember) cs
-  consts_good [] said plain = tt
-  consts_good (c ∷ cs) said plain =
-      (constdef_good c said.0 plain.0, consts_good cs said.1 plain.1)
+  consts_sound [] said plain = tt
+  consts_sound (c ∷ cs) said plain =
+      (constdef_sound c said.0 plain.0, consts_sound cs said.1 plain.1)
 
   -- ENUMERATIONS
 
@@ -155,60 +155,60 @@ module _ (o : Outline) where
 
   -- a constant by its number
   number_held : (place i : ℕ) (ns : List _) → i < length ns
-      → IsGoodOrdinal (kind.Enumeration place ns)
+      → IsSoundOrdinal (kind.Enumeration place ns)
       → ((e : Entry) × (entry_at o (suc place) ≡ Some e)
       × (e.kind ≡ Some (scalar (kind.Enumeration place ns))))
-      → IsGoodValue o (valued (kind.Enumeration place ns) (pos i))
+      → IsSoundValue o (valued (kind.Enumeration place ns) (pos i))
   unfolding out-Kind denote.Hole.Carrier.out
-  number_held place i ns below good known = record {
+  number_held place i ns below sound known = record {
     holds = (omega (arith, ints), omega (arith, ints, below));
-    host = good;
+    host = sound;
     known = known;
   }
 
-  number_good : (u : Used) (us : List Used) (place i : ℕ) (v : Valued) → Each IsSpelt (u ∷ us)
+  number_sound : (u : Used) (us : List Used) (place i : ℕ) (v : Valued) → Each IsSpelt (u ∷ us)
       → DifferDeclared o (u ∷ us) → HasConstants (text.Names (u ∷ us) place)
       → NumbersSaid o (enumeration o (u ∷ us) place) 0 (u ∷ us) → i < length (u ∷ us)
       → (k : Option Measured) → enumeration o (u ∷ us) place ≡ k
-      → value_with k (ordinal_of i) ≡ Some v → IsGoodValue o v
-  number_good u us place i v plain differ c said below None is h = absurd (none-some v h)
-  number_good u us place i v plain differ c said below (Some m) is h = by (nat_le i maxint) h
+      → value_with k (ordinal_of i) ≡ Some v → IsSoundValue o v
+  number_sound u us place i v plain differ c said below None is h = absurd (none-some v h)
+  number_sound u us place i v plain differ c said below (Some m) is h = by (nat_le i maxint) h
     where
       by : (b : Bool) → value_with (Some m) (if b then Some (pos i) else None) ≡ Some v
-          → IsGoodValue o v
+          → IsSoundValue o v
       by true q =
           let same = (enumeration_is u us place m is).1 in
           let n = count_names (u ∷ us) in
-          let good = enumerated_good o (u ∷ us) place m plain differ c.1 is in
+          let sound = enumerated_sound o (u ∷ us) place m plain differ c.1 is in
           let known = first_known u us place m said c.2 is in
-          subst (IsGoodValue o) (ap (λ (x : Measured). valued x.kind (pos i)) same
+          subst (IsSoundValue o) (ap (λ (x : Measured). valued x.kind (pos i)) same
           ∙ same_Some (valued m.kind (pos i)) v q)
           (number_held place i (names_of (u ∷ us)) (omega (arith, n, below))
-          (subst (λ (x : Measured). IsGoodOrdinal x.kind) (sym same) good)
+          (subst (λ (x : Measured). IsSoundOrdinal x.kind) (sym same) sound)
           (known.0, known.1, known.2 ∙ ap (λ (x : Measured). Some x) (sym same)))
       by false q = absurd (none-some v q)
 
-  numbers_good : (v : Used) (vs : List Used) (place last i : ℕ) (us : List Used)
+  numbers_sound : (v : Used) (vs : List Used) (place last i : ℕ) (us : List Used)
       → Each IsSpelt (v ∷ vs) → DifferDeclared o (v ∷ vs)
       → HasConstants (text.Names (v ∷ vs) place)
       → NumbersSaid o (enumeration o (v ∷ vs) place) 0 (v ∷ vs)
       → i + length us ≡ length (v ∷ vs) → NumbersSaid o (enumeration o (v ∷ vs) place) i us
       → Each (Named IsSoAt IsAMember last) us
-  numbers_good v vs place last i [] plain differ c all le said = tt
-  numbers_good v vs place last i (u ∷ us) plain differ c all le said = (
+  numbers_sound v vs place last i [] plain differ c all le said = tt
+  numbers_sound v vs place last i (u ∷ us) plain differ c all le said = (
     of_sort sort.Constant _ u last said.0 (λ e q. q.0)
-        (λ e q before x h. number_good v vs place i x plain differ c all (omega (arith, le))
+        (λ e q before x h. number_sound v vs place i x plain differ c all (omega (arith, le))
         (enumeration o (v ∷ vs) place) refl
         (sym (λ j. value_with (q.1 j) (q.2 j)) ∙ h)) (λ e q all. tt),
-    numbers_good v vs place last (suc i) us plain differ c all (omega (arith, le)) said.1,
+    numbers_sound v vs place last (suc i) us plain differ c all (omega (arith, le)) said.1,
   )
 
-  names_good : (us : List Used) (place : ℕ) → Each IsSpelt us → HasConstants (text.Names us place)
+  names_sound : (us : List Used) (place : ℕ) → Each IsSpelt us → HasConstants (text.Names us place)
       → NumbersSaid o (enumeration o us place) 0 us → DifferDeclared o us
       → Each (Named IsSoAt IsAMember (names_last us place)) us
-  names_good [] place plain c said differ = tt
-  names_good (u ∷ us) place plain c said differ =
-      numbers_good u us place (names_last (u ∷ us) place) 0 (u ∷ us) plain differ c said
+  names_sound [] place plain c said differ = tt
+  names_sound (u ∷ us) place plain c said differ =
+      numbers_sound u us place (names_last (u ∷ us) place) 0 (u ∷ us) plain differ c said
       (omega arith) said
 
   -- THE TEXTS OF TYPES
@@ -218,7 +218,7 @@ module _ (o : Outline) where
         → OfText IsSoAt IsAMember t
     names_in (text.Named u) said plain c = tt
     names_in (text.Range low high) said plain c = tt
-    names_in (text.Names names place) said plain c = names_good names place plain c said.0 said.1
+    names_in (text.Names names place) said plain c = names_sound names place plain c said.0 said.1
     names_in (text.Array' a index b of place) said plain c =
         (row_names index said.0 plain.0 c.0, row_names of said.1 plain.1 c.1)
     names_in (text.Fields' a defs place) said plain c = fields_names defs said plain c
@@ -234,47 +234,47 @@ module _ (o : Outline) where
         → FieldsHave row → OfFields IsSoAt IsAMember row
     fields_names end_of-VarDef said plain c = tt
     fields_names (more_of-VarDef names t rest) said plain c = (
-      members_good names said.0,
+      members_sound names said.0,
       names_in t said.1 plain.1 c.0,
       fields_names rest said.2 plain.2 c.1,
     )
 
   -- TYPES AND VARIABLES
 
-  typedef_good : (t : TypeDef) → TypeDefSaid o t → TypeDefSpelt t → TypeDefWritten t
+  typedef_sound : (t : TypeDef) → TypeDefSaid o t → TypeDefSpelt t → TypeDefWritten t
       → OfTypeDef IsSoAt IsAMember t
-  typedef_good t said plain written =
+  typedef_sound t said plain written =
       let last = text_last t.text in (
         of_sort sort.TypeName _ t.name last said.0 (λ e q. q.0)
-            (λ e q before m h. text_good o t.text m
-            (text_then (λ u. u.place ≤ last) (IsGoodAt o) (λ u le. before u (omega (arith, le)))
+            (λ e q before m h. text_sound o t.text m
+            (text_then (λ u. u.place ≤ last) (IsSoundAt o) (λ u le. before u (omega (arith, le)))
             t.text written.0) said.1 plain.1 written.1 (sym q.1 ∙ h)) (λ e q all. tt),
         names_in t.text said.1 plain.1 written.1,
       )
 
-  pub types_good : (ts : List TypeDef) → Each (TypeDefSaid o) ts → Each TypeDefSpelt ts
+  pub types_sound : (ts : List TypeDef) → Each (TypeDefSaid o) ts → Each TypeDefSpelt ts
       → Each TypeDefWritten ts → Each (OfTypeDef IsSoAt IsAMember) ts
-  types_good [] said plain written = tt
-  types_good (t ∷ ts) said plain written =
-      (typedef_good t said.0 plain.0 written.0, types_good ts said.1 plain.1 written.1)
+  types_sound [] said plain written = tt
+  types_sound (t ∷ ts) said plain written =
+      (typedef_sound t said.0 plain.0 written.0, types_sound ts said.1 plain.1 written.1)
 
-  vardef_good : (v : VarDef) → VarDefSaid o v → VarDefSpelt v → VarDefWritten v
+  vardef_sound : (v : VarDef) → VarDefSaid o v → VarDefSpelt v → VarDefWritten v
       → OfVarDef IsSoAt IsAMember v
-  vardef_good v said plain c = (
+  vardef_sound v said plain c = (
     each_then (IsSaid o (HasKind sort.Variable (text_type o v.text)))
         (Named IsSoAt IsAMember (text_last v.text))
         (λ u is. of_sort sort.Variable (HasKind sort.Variable (text_type o v.text)) u
         (text_last v.text) is (λ e q. q.0) (λ e q before. tt)
-        (λ e q all m h. text_good o v.text m (of_text (IsGoodAt o) all v.text) said.1 plain.1 c
+        (λ e q all m h. text_sound o v.text m (of_text (IsSoundAt o) all v.text) said.1 plain.1 c
         (sym q.1 ∙ h))) v.names said.0,
     names_in v.text said.1 plain.1 c,
   )
 
-  pub vars_good : (vs : List VarDef) → Each (VarDefSaid o) vs → Each VarDefSpelt vs
+  pub vars_sound : (vs : List VarDef) → Each (VarDefSaid o) vs → Each VarDefSpelt vs
       → Each VarDefWritten vs → Each (OfVarDef IsSoAt IsAMember) vs
-  vars_good [] said plain written = tt
-  vars_good (v ∷ vs) said plain written =
-      (vardef_good v said.0 plain.0 written.0, vars_good vs said.1 plain.1 written.1)
+  vars_sound [] said plain written = tt
+  vars_sound (v ∷ vs) said plain written =
+      (vardef_sound v said.0 plain.0 written.0, vars_sound vs said.1 plain.1 written.1)
 
   -- SHORT TYPES
 
@@ -294,110 +294,110 @@ module _ (o : Outline) where
   short_has (text.Fields' a defs place) h = absurd h
   short_has (text.Set' a of place) h = absurd h
 
-  pub short_good : (t : TypeText) (m : Measured) → ShortSpelt t → ((u : Used) → IsGoodAt o u)
-      → text_type o t ≡ Some m → IsGoodKind m.kind
-  short_good t m plain all h = text_good o t m (of_text (IsGoodAt o) all t) (short_said t plain)
+  pub short_sound : (t : TypeText) (m : Measured) → ShortSpelt t → ((u : Used) → IsSoundAt o u)
+      → text_type o t ≡ Some m → IsSoundKind m.kind
+  short_sound t m plain all h = text_sound o t m (of_text (IsSoundAt o) all t) (short_said t plain)
       (short_text t plain) (short_has t plain) h
 
   -- CHANNELS
 
-  interactions_good : (is : List InteractionDef) → Each (InteractionSaid o) is
+  interactions_sound : (is : List InteractionDef) → Each (InteractionSaid o) is
       → Each InteractionSpelt is → Each InteractionWritten is
       → Each (OfInteraction IsSoAt IsAMember) is
-  interactions_good [] said plain written = tt
-  interactions_good (i ∷ is) said plain written = (
-    (no_entry i.name said.0.0, vars_good i.params said.0.1 plain.0.1 written.0),
-    interactions_good is said.1 plain.1 written.1,
+  interactions_sound [] said plain written = tt
+  interactions_sound (i ∷ is) said plain written = (
+    (no_entry i.name said.0.0, vars_sound i.params said.0.1 plain.0.1 written.0),
+    interactions_sound is said.1 plain.1 written.1,
   )
 
-  by_parts_good : (bs : List ByPart) → Each (ByPartSaid o) bs → Each ByPartSpelt bs
+  by_parts_sound : (bs : List ByPart) → Each (ByPartSaid o) bs → Each ByPartSpelt bs
       → Each ByPartWritten bs → Each (OfByPart IsSoAt IsAMember) bs
-  by_parts_good [] said plain written = tt
-  by_parts_good (b ∷ bs) said plain written = (
-    interactions_good b.interactions said.0 plain.0 written.0,
-    by_parts_good bs said.1 plain.1 written.1,
+  by_parts_sound [] said plain written = tt
+  by_parts_sound (b ∷ bs) said plain written = (
+    interactions_sound b.interactions said.0 plain.0 written.0,
+    by_parts_sound bs said.1 plain.1 written.1,
   )
 
-  pub channel_good : (c : Channel) → ChannelSaid o c → ChannelSpelt c → ChannelWritten c
+  pub channel_sound : (c : Channel) → ChannelSaid o c → ChannelSpelt c → ChannelWritten c
       → OfChannel IsSoAt IsAMember c
-  channel_good c said plain written = (
+  channel_sound c said plain written = (
     of_sort sort.Channel (IsOf sort.Channel) c.name (channel_last c) said.0 (λ e q. q)
         (λ e q before. tt) (λ e q all. tt),
-    members_good c.roles said.1,
-    by_parts_good c.by said.2 plain.2 written,
+    members_sound c.roles said.1,
+    by_parts_sound c.by said.2 plain.2 written,
   )
 
   -- INTERACTION POINTS
 
-  dim_good : (k : Option (List Kind)) (m : Option Measured) (ks : List Kind)
-      → ((js : List Kind) → k ≡ Some js → Each IsGoodOrdinal js)
-      → ((j : Measured) → m ≡ Some j → IsGoodKind j.kind) → with_dim k m ≡ Some ks
-      → Each IsGoodOrdinal ks
-  dim_good None m ks good kinds h = absurd (none-some ks h)
-  dim_good (Some js) None ks good kinds h = absurd (none-some ks h)
-  dim_good (Some js) (Some j) ks good kinds h = by (is_ordinal j.kind) refl h
+  dim_sound : (k : Option (List Kind)) (m : Option Measured) (ks : List Kind)
+      → ((js : List Kind) → k ≡ Some js → Each IsSoundOrdinal js)
+      → ((j : Measured) → m ≡ Some j → IsSoundKind j.kind) → with_dim k m ≡ Some ks
+      → Each IsSoundOrdinal ks
+  dim_sound None m ks sound kinds h = absurd (none-some ks h)
+  dim_sound (Some js) None ks sound kinds h = absurd (none-some ks h)
+  dim_sound (Some js) (Some j) ks sound kinds h = by (is_ordinal j.kind) refl h
     where
       by : (b : Bool) → is_ordinal j.kind ≡ b
-          → (if b then Some (js ++ j.kind ∷ []) else None) ≡ Some ks → Each IsGoodOrdinal ks
-      by true e q = subst (Each IsGoodOrdinal) (same_Some (js ++ j.kind ∷ []) ks q)
-          (joined IsGoodOrdinal js (j.kind ∷ []) (good js refl)
-          (good_ordinal j.kind e (kinds j refl), tt))
+          → (if b then Some (js ++ j.kind ∷ []) else None) ≡ Some ks → Each IsSoundOrdinal ks
+      by true e q = subst (Each IsSoundOrdinal) (same_Some (js ++ j.kind ∷ []) ks q)
+          (joined IsSoundOrdinal js (j.kind ∷ []) (sound js refl)
+          (sound_ordinal j.kind e (kinds j refl), tt))
       by false e q = absurd (none-some ks q)
 
-  dims_good : (ts : List TypeText) (k : Option (List Kind)) (ks : List Kind)
-      → Each ShortSpelt ts → ((u : Used) → IsGoodAt o u)
-      → ((js : List Kind) → k ≡ Some js → Each IsGoodOrdinal js)
-      → dims_after o k ts ≡ Some ks → Each IsGoodOrdinal ks
-  dims_good [] k ks plain all good h = good ks h
-  dims_good (t ∷ ts) k ks plain all good h =
-      dims_good ts (with_dim k (text_type o t)) ks plain.1 all
-      (λ js e. dim_good k (text_type o t) js good (λ j q. short_good t j plain.0 all q) e) h
+  dims_sound : (ts : List TypeText) (k : Option (List Kind)) (ks : List Kind)
+      → Each ShortSpelt ts → ((u : Used) → IsSoundAt o u)
+      → ((js : List Kind) → k ≡ Some js → Each IsSoundOrdinal js)
+      → dims_after o k ts ≡ Some ks → Each IsSoundOrdinal ks
+  dims_sound [] k ks plain all sound h = sound ks h
+  dims_sound (t ∷ ts) k ks plain all sound h =
+      dims_sound ts (with_dim k (text_type o t)) ks plain.1 all
+      (λ js e. dim_sound k (text_type o t) js sound (λ j q. short_sound t j plain.0 all q) e) h
 
-  point_good : (p : Point) → PointSaid o p → PointSpelt p → OfPoint IsSoAt IsAMember p
-  point_good p said plain = each_then _ (Named IsSoAt IsAMember p.role.place)
+  point_sound : (p : Point) → PointSaid o p → PointSpelt p → OfPoint IsSoAt IsAMember p
+  point_sound p said plain = each_then _ (Named IsSoAt IsAMember p.role.place)
       (λ u is. of_sort sort.Point _ u p.role.place is (λ e q. q.0) (λ e q before. tt)
-      (λ e q all ks h. dims_good p.dims (Some []) ks plain.1 all
-      (λ js r. subst (Each IsGoodOrdinal) (same_Some [] js r) tt) (sym q.1 ∙ h))) p.names said
+      (λ e q all ks h. dims_sound p.dims (Some []) ks plain.1 all
+      (λ js r. subst (Each IsSoundOrdinal) (same_Some [] js r) tt) (sym q.1 ∙ h))) p.names said
 
-  pub points_good : (ps : List Point) → Each (PointSaid o) ps → Each PointSpelt ps
+  pub points_sound : (ps : List Point) → Each (PointSaid o) ps → Each PointSpelt ps
       → Each (OfPoint IsSoAt IsAMember) ps
-  points_good [] said plain = tt
-  points_good (p ∷ ps) said plain = (point_good p said.0 plain.0, points_good ps said.1 plain.1)
+  points_sound [] said plain = tt
+  points_sound (p ∷ ps) said plain = (point_sound p said.0 plain.0, points_sound ps said.1 plain.1)
 
   -- MODULE VARIABLES, HEADERS, STATES AND FORMALS
 
-  pub modvars_good : (ms : List ModvarDef) → Each (ModvarSaid o) ms
+  pub modvars_sound : (ms : List ModvarDef) → Each (ModvarSaid o) ms
       → Each (OfModvar IsSoAt IsAMember) ms
-  modvars_good ms said = each_then (ModvarSaid o) (OfModvar IsSoAt IsAMember)
+  modvars_sound ms said = each_then (ModvarSaid o) (OfModvar IsSoAt IsAMember)
       (λ m is. each_then _ (Named IsSoAt IsAMember m.header.place)
       (λ u one. of_sort sort.ModuleVariable _ u m.header.place one (λ e q. q.0)
       (λ e q before. tt) (λ e q all. tt)) m.names is) ms said
 
-  pub header_good : (x : Header) → HeaderSaid o x → HeaderSpelt x → HeaderWritten x
+  pub header_sound : (x : Header) → HeaderSaid o x → HeaderSpelt x → HeaderWritten x
       → OfHeader IsSoAt IsAMember x
-  header_good x said plain written = (
+  header_sound x said plain written = (
     of_sort sort.Header (IsOf sort.Header) x.name (header_last x) said.0 (λ e q. q)
         (λ e q before. tt) (λ e q all. tt),
-    vars_good x.params said.1 plain.1 written.0,
-    points_good x.points said.2 plain.2,
-    vars_good x.exports said.3 plain.3 written.2,
+    vars_sound x.params said.1 plain.1 written.0,
+    points_sound x.points said.2 plain.2,
+    vars_sound x.exports said.3 plain.3 written.2,
   )
 
-  pub states_good : (us : List Used) → Each (IsSaid o (IsOf sort.State)) us
+  pub states_sound : (us : List Used) → Each (IsSaid o (IsOf sort.State)) us
       → Each (OfState IsSoAt IsAMember) us
-  states_good us said = each_then (IsSaid o (IsOf sort.State)) (OfState IsSoAt IsAMember)
+  states_sound us said = each_then (IsSaid o (IsOf sort.State)) (OfState IsSoAt IsAMember)
       (λ u is. of_sort sort.State (IsOf sort.State) u u.place is (λ e q. q) (λ e q before. tt)
       (λ e q all. tt)) us said
 
-  pub statesets_good : (ss : List StateSet) → Each (StateSetSaid o) ss
+  pub statesets_sound : (ss : List StateSet) → Each (StateSetSaid o) ss
       → Each (OfStateSet IsSoAt IsAMember) ss
-  statesets_good ss said = each_then (StateSetSaid o) (OfStateSet IsSoAt IsAMember)
+  statesets_sound ss said = each_then (StateSetSaid o) (OfStateSet IsSoAt IsAMember)
       (λ s is. of_sort sort.StateSet _ s.name (names_last s.states s.name.place) is (λ e q. q.0)
       (λ e q before. tt) (λ e q all. tt)) ss said
 
-  pub formals_good : (fs : List Formal) → Each (FormalSaid o) fs
+  pub formals_sound : (fs : List Formal) → Each (FormalSaid o) fs
       → Each (OfFormal IsSoAt IsAMember) fs
-  formals_good fs said = each_then (FormalSaid o) (OfFormal IsSoAt IsAMember)
+  formals_sound fs said = each_then (FormalSaid o) (OfFormal IsSoAt IsAMember)
       (λ f is. each_then _ (Named IsSoAt IsAMember f.kind.place)
       (λ u one. of_sort sort.Variable _ u f.kind.place one (λ e q. q.0) (λ e q before. tt)
-      (λ e q all m h. named_good o f.kind m (all f.kind) (sym q.1 ∙ h))) f.names is) fs said
+      (λ e q all m h. named_sound o f.kind m (all f.kind) (sym q.1 ∙ h))) f.names is) fs said
