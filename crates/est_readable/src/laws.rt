@@ -7,7 +7,7 @@ ghost use Rattle.est_readable.specs.ReadableLaws.{TracesOfSentencesAreRead};
 
 /// The ports of each sentence are readable: names of ports, of signals and of the constants of
 /// enumerations are spelled as the lexer reads them, subscripts are ordinals of their kinds, and
-/// the kinds of parameters are well formed.
+/// the kinds of the ordinals that parameters are made of are well formed.
 pub fn ports_of_sentences_are_readable()
     ensures { PortsOfSentencesAreReadable }
 {}
