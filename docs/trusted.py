@@ -3,8 +3,8 @@
 
     python3 docs/trusted.py [NAME..]
 
-Definitions of these names are not followed: without `ReplayEnds`, `ExplainEnds` and `HoldsTrace` what is left is read
-to trust `check` alone. The lines are those of each definition that the contracts of `run` and of `Status::code` reach,
+Definitions of these names are not followed: without `ReplayEnds`, `ExplainEnds`, `HoldsTrace` and `SelfRunEnds` what is left is
+read to trust `check` alone. The lines are those of each definition that the contracts of `run` and of `Status::code` reach,
 without comments, blank lines and imports. Types of `src` are not counted. A variable with the name of a definition
 counts as that definition, so the true number is a little smaller.
 """
