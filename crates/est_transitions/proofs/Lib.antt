@@ -1,5 +1,4 @@
 pub mod BodyLaws
-pub mod ChoiceLaws
 pub mod ContextLaws
 pub mod FrameLaws
 pub mod KeyLaws

@@ -117,7 +117,6 @@ impl<'t> Behaviour<'t> {
 
     // What the choice of a number has where there are no `any` variables: the first one is the only
     // one.
-    #[tactic(auto, using(crate::proofs::ChoiceLaws::one_alone))]
     fn only_frame(&self, alloc: Global, number: u32) -> Result<Option<Frame>, AllocError>
         ensures { IfOk result (λ frame. frame ≡ numbered ([] ∷ []) number) }
     {
@@ -130,7 +129,6 @@ impl<'t> Behaviour<'t> {
 
     /// The `any` variables of a region with their values in the choice of a number, which begins at
     /// 1, if there are so many. Without a region there is one choice, without variables.
-    #[tactic(auto, using(crate::proofs::ChoiceLaws::unbound_choice))]
     pub fn choice_frame(
         &self,
         alloc: Global,
