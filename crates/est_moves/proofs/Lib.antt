@@ -1,0 +1,2 @@
+pub mod SentItems
+pub mod TakenItems

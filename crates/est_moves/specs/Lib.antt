@@ -1,0 +1,4 @@
+pub mod MadeMoves
+pub mod SentItems
+pub mod TakenItems
+pub mod inside
