@@ -4,6 +4,7 @@
 
 use est_edge::{FileShelf, OutSink};
 use est_made_traces::call::write_made;
+use est_show::top::show;
 use est_words::status::Status;
 use std::process::ExitCode;
 use std::rt::{Env, Files};
@@ -18,6 +19,12 @@ fn words<R: Env + AllocGlobal>(rt: &R) -> io::Result<Vec<String>> {
 fn obey<R: Env + AllocGlobal + Files + Input + Print>(rt: &R, words: &[String]) -> Status {
     match words {
         [command, ..] if command.as_str() == "trace" => write_made(
+            rt.alloc(),
+            words,
+            &mut FileShelf::new(rt),
+            &mut OutSink::new(rt),
+        ),
+        [command, ..] if command.as_str() == "show" || command.as_str() == "chart" => show(
             rt.alloc(),
             words,
             &mut FileShelf::new(rt),
