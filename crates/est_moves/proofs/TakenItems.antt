@@ -14,7 +14,7 @@ use Rattle.est_semantics.specs.QueueEffects.{head_at, without_head}
 use Rattle.est_choices.specs.declared.firing.Firing.{Firing}
 use Rattle.est_choices.specs.ClauseContexts.{FullTransition, transitions_of}
 use Rattle.est_choices.specs.TransitionChoices.{Choice, numbered, any_tuples, any_frame, choice_by}
-use Rattle.est_choices.specs.TransitionChoices.{choice_in, choice_of}
+use Rattle.est_choices.specs.TransitionChoices.{choice_in}
 use Rattle.est_choices.specs.GuardParts.{view_of}
 use Rattle.est_choices.specs.FiringSteps.{taking_point}
 use Rattle.est_choices.proofs.Options.{map_some, then_some, some_is}

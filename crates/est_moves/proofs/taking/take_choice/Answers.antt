@@ -1,5 +1,4 @@
 use Rattle.std.proofs.Common.{◌≡◌, sym, subst, ◌∙◌}
-use Rattle.std.proofs.Common.{Some}
 use Rattle.std.specs.Option.{option_map}
 use Rattle.est_scope.specs.declared.outline.Outline.{Outline}
 use Rattle.est_frames.specs.HeldSystems.{situation_of}
