@@ -47,8 +47,8 @@ pub declared_entry : (o : Outline) (w : Within) (u : Used) (last : ℕ) (e f : E
     → entry_at o u.place ≡ None → entry_at (declared w u last e o) u.place ≡ Some f → f ≡ e
 declared_entry o w u last e f h k = declared_is (taken o w (spelled u)) o w u last e f h k
 
-pub declared_other : (t : Option Standing) (o : Outline) (w : Within) (u : Used) (last : ℕ) (e : Entry)
-    (q : ℕ) → (q ≡ u.place → ⊥) → entry_at (declared_by t w u last e o) q ≡ entry_at o q
+pub declared_other : (t : Option Standing) (o : Outline) (w : Within) (u : Used) (last : ℕ)
+    (e : Entry) (q : ℕ) → (q ≡ u.place → ⊥) → entry_at (declared_by t w u last e o) q ≡ entry_at o q
 declared_other (Some s) o w u last e q h = refl
 declared_other None o w u last e q h =
     inserted_apart u.place e q o.entries (two_numbers q u.place h)
@@ -72,8 +72,8 @@ names_other w (u ∷ us) last e o i j q h l =
     names_other w us last e (declared w u last e o) (suc u.place) j q h.1 (omega arith)
     ∙ declared_other (taken o w (spelled u)) o w u last e q (λ k. omega arith)
 
-pub declared_stands : (t : Option Standing) (o : Outline) (w : Within) (u : Used) (last : ℕ) (e : Entry)
-    (region : ℕ) (name : List ℕ) (s : Standing) → standing o region name ≡ Some s
+pub declared_stands : (t : Option Standing) (o : Outline) (w : Within) (u : Used) (last : ℕ)
+    (e : Entry) (region : ℕ) (name : List ℕ) (s : Standing) → standing o region name ≡ Some s
     → standing (declared_by t w u last e o) region name ≡ Some s
 declared_stands (Some t) o w u last e region name s h = h
 declared_stands None o w u last e region name s h = named_stays o w.region (spelled u) record {

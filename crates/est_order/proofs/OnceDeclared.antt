@@ -1,8 +1,8 @@
 -- The constants of an enumeration that are all declared have different names.
-use Rattle.std.specs.Prelude.{◌&&◌}
-use Rattle.std.proofs.Common.{◌≡◌, ℕ, suc, ◌≤◌, Bool, true, false, if◌then◌else◌}
+use Rattle.std.proofs.Common.{◌≡◌, ℕ, suc, ◌≤◌, true, if◌then◌else◌}
 use Rattle.std.proofs.Common.{List, [], ◌∷◌, refl, sym, ap, ◌∙◌, true≢false, Option}
 use Rattle.std.proofs.Common.{Some, None, is_some, arith}
+use Rattle.std.proofs.lemmas.Bool.{and_parts}
 use Rattle.std.proofs.lemmas.Slice.Eq.{bytes_eq-Decides}
 use Rattle.std.specs.Option.{option_or}
 use Rattle.est_syntax.specs.Names.{spelled}
@@ -26,10 +26,6 @@ no_first : {A : Type 0} (x y : Option A) → option_or x y ≡ None → x ≡ No
 no_first None y h = refl
 no_first (Some x) y h = cc
 
-both_true : (a b : Bool) → (a && b) ≡ true → (a ≡ true) × (b ≡ true)
-both_true true b h = (refl, h)
-both_true false b h = absurd (true≢false (sym h))
-
 -- a name at whose place nothing was declared, and something is then, was not taken
 was_free : (o : Outline) (w : Within) (u : Used) (last : ℕ) (e : Entry)
     → entry_at o u.place ≡ None
@@ -41,7 +37,7 @@ was_free o w u last e none some = by (taken o w (spelled u)) some
     by None h = refl
     by (Some s) h = absurd (true≢false (sym h ∙ ap is_some none))
 
--- and does not stand in its region before, but then
+-- such a name does not stand in its region before, and stands there then
 stood_not : (o : Outline) (w : Within) (name : List ℕ) → taken o w name ≡ None
     → standing o w.region name ≡ None
 stood_not o w name h = no_first (standing o w.region name) (standing_of o w.header name) h
@@ -106,7 +102,7 @@ numbers_once w (u ∷ us) last n o i j h none all =
     let e = numbered w n in
     let o1 = declared w u last e o in
     let o2 = numbers_declare w us last (suc n) o1 in
-    let k = both_true (is_some (entry_at o2 u.place)) (are_declared o2 us) all in
+    let k = and_parts (is_some (entry_at o2 u.place)) (are_declared o2 us) all in
     let here = numbers_other w us last (suc n) o1 (suc u.place) j u.place h.1 (omega arith) in
     let free = was_free o w u last e (none u.place m) (sym (ap is_some here) ∙ k.0) in
     let rest = numbers_once w us last (suc n) o1 (suc u.place) j h.1

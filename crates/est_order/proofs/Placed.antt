@@ -174,7 +174,7 @@ text_begins i j (text.Array' a index b of place) fits h = h.1
 text_begins i j (text.Fields' a defs place) fits h = h.0
 text_begins i j (text.Set' a of place) fits h = h.0
 
--- and before its end
+-- the text of a type begins no later than its end
 pub text_within : (i j : ℕ) (t : TypeText) → TextPlaced i j t → text_place t ≤ j
 text_within i j (text.Named u) h = omega (arith, h.1)
 text_within i j (text.Range low high) h =

@@ -38,8 +38,8 @@ abbrev pub IsOpen : (ℕ → Type 0) → ℕ → ℕ → Type 0
 IsOpen R a region = R region ⊎ (a ≤ region)
 
 -- An outline grows by declarations that stand from place a on and before place b, in regions that
--- are open; while a text is unfinished, what is known of a routine or a body around it may be
--- completed too.
+-- are open, and the text lies anew from places between them; while a text is unfinished, what is
+-- known of a routine or a body around it may be completed too.
 module _ (R : ℕ → Type 0) (unfinished : Bool) (a b : ℕ) where
   pub data Grows : Outline → Outline → Type 0 where
     g_not : {o : Outline} → Grows o o
