@@ -10,8 +10,9 @@ use Rattle.est_fullness.specs.Full.{AreFull}
 use Rattle.est_order.specs.Said.{Each, PartSaid}
 use Rattle.est_fullness.specs.WrittenParts.{PartWritten}
 
--- the declarations of a sentence are written so: enumerations have constants, no more than there
--- are integers, since there are no more tokens, and no type uses a name after its last place
+-- the declarations of a sentence are written so: enumerations have constants, the first right after
+-- the token that the enumeration begins with, and no more than there are integers, since there are
+-- no more tokens; and no type uses a name after its last place
 abbrev pub SentencesAreWritten : Type 0
 SentencesAreWritten = (text : List ℕ) (tokens : List Token) (s : Spec)
     → length tokens ≤ suc maxint → HasOneTree text tokens s → Each PartWritten s.parts

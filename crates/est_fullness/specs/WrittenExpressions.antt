@@ -1,5 +1,6 @@
 -- Trees as sentences have them: what their constants and the texts of their types use, and that
--- their enumerations have constants (ISO 7185, 6.4.2.3).
+-- their enumerations have constants, the first right after the token that the enumeration begins
+-- with (ISO 7185, 6.4.2.3).
 use Rattle.std.specs.Prelude.{◌≡◌, ℕ, suc, ◌<◌, ◌≤◌, List, [], ◌∷◌, length}
 use Rattle.est_syntax.specs.Kinds.{maxint}
 use Rattle.est_syntax.specs.declared.name.Used.{Used}
