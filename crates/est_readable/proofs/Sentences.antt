@@ -18,21 +18,20 @@ use Rattle.est_readable.proofs.SoundPorts.{header_readable}
 
 pub ports_readable : PortsOfSentencesAreReadable
 unfolding ports_of
-ports_readable text tokens spec h =
+ports_readable spec h =
     let few = h.few in
-    let said = declarations_said spec (length tokens) (omega (arith, few))
-    (specification_stands text tokens spec h.tree) in
-    let written = sentence_written text tokens spec few h.tree in
+    let said = declarations_said spec (length h.tokens) (omega (arith, few))
+    (specification_stands h.text h.tokens spec h.tree) in
+    let written = sentence_written h.text h.tokens spec few h.tree in
     let plain = all_spelt spec
-    (specification_says text tokens spec (token_kinds text 0 tokens h.listed) h.tree) in
+    (specification_says h.text h.tokens spec (token_kinds h.text 0 h.tokens h.listed) h.tree) in
     header_readable (outline_of spec) (region_plain spec plain)
     (outline_sound spec said plain written) (started_header (outline_of spec) spec.first)
 
 pub texts : TracesOfSentencesAreTexts
-texts text tokens spec events written h allowed listed =
-    read.texts spec events written (ports_readable text tokens spec h) allowed listed
+texts spec events written h allowed listed =
+    read.texts spec events written (ports_readable spec h) allowed listed
 
 pub read_back : TracesOfSentencesAreRead
-read_back text tokens spec events written answer h allowed listed reads =
-    read.read_back spec events written answer (ports_readable text tokens spec h) allowed listed
-    reads
+read_back spec events written answer h allowed listed reads =
+    read.read_back spec events written answer (ports_readable spec h) allowed listed reads

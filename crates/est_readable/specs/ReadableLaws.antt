@@ -1,10 +1,9 @@
 -- The ports of sentences are readable, so what is written of a trace at them is read as this trace.
-use Rattle.std.specs.Prelude.{ℕ, suc, ◌≤◌, List, length, Result}
+use Rattle.std.specs.Prelude.{List, Result}
 use Rattle.est_lexer.specs.declared.kind.Token.{Token}
 use Rattle.est_lexer.specs.TokenList.{IsTokenList}
-use Rattle.est_syntax.specs.Kinds.{maxint}
 use Rattle.est_syntax.specs.declared.specification.Spec.{Spec}
-use Rattle.est_grammar.specs.Answer.{HasOneTree}
+use Rattle.est_fullness.specs.SentenceOf.{IsSentence}
 use Rattle.est_ports.specs.PortList.{ports_of}
 use Rattle.est_choices.specs.declared.event.Event.{Event}
 use Rattle.est_choices.specs.AllowedEvents.{IsAllowedTrace}
@@ -14,31 +13,22 @@ use Rattle.est_written_traces.specs.WrittenTraces.{trace_text}
 use Rattle.est_read_back.specs.ReadablePorts.{AreReadablePorts}
 use Rattle.est_read_back.specs.ReadBackLaws.{AreReadBack}
 
--- The tokens of a text have the tree of this specification and no other, and are no more than there
--- are integers from 0 on.
-pub record IsSentenceOf (text : List ℕ) (tokens : List Token) (spec : Spec) : Type 0 where
-  pub listed : IsTokenList text tokens
-  pub few : length tokens ≤ suc maxint
-  pub tree : HasOneTree text tokens spec
-
 -- the ports of a sentence are readable
 abbrev pub PortsOfSentencesAreReadable : Type 0
-PortsOfSentencesAreReadable = (text : List ℕ) (tokens : List Token) (spec : Spec)
-    → IsSentenceOf text tokens spec → AreReadablePorts (ports_of spec)
+PortsOfSentencesAreReadable = (spec : Spec) → IsSentence spec → AreReadablePorts (ports_of spec)
 
 -- the text that is written of an allowed trace of a sentence is a text of this trace
 abbrev pub TracesOfSentencesAreTexts : Type 0
-TracesOfSentencesAreTexts = (text : List ℕ) (tokens : List Token) (spec : Spec)
-    (events : List Event) (written : List Token)
-    → IsSentenceOf text tokens spec → IsAllowedTrace spec events
+TracesOfSentencesAreTexts = (spec : Spec) (events : List Event) (written : List Token)
+    → IsSentence spec → IsAllowedTrace spec events
     → IsTokenList (trace_text (ports_of spec) events) written
     → IsTraceText (ports_of spec) (trace_text (ports_of spec) events) written events
 
 -- what is read of it are its events, or memory runs out
 abbrev pub TracesOfSentencesAreRead : Type 0
-TracesOfSentencesAreRead = (text : List ℕ) (tokens : List Token) (spec : Spec)
-    (events : List Event) (written : List Token) (answer : Result (List Event) TraceError)
-    → IsSentenceOf text tokens spec → IsAllowedTrace spec events
+TracesOfSentencesAreRead = (spec : Spec) (events : List Event) (written : List Token)
+    (answer : Result (List Event) TraceError)
+    → IsSentence spec → IsAllowedTrace spec events
     → IsTokenList (trace_text (ports_of spec) events) written
     → ReadsTrace (ports_of spec) (trace_text (ports_of spec) events) written answer
     → AreReadBack events answer
