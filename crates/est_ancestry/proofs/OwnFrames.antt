@@ -5,7 +5,7 @@ use Rattle.std.proofs.Common.{inl, inr, length, is_some}
 use Rattle.std.proofs.Math.Seq.{take-append_seam}
 use Rattle.std.proofs.lemmas.Bool.{eqb-true, eq-eqb}
 use Rattle.std.proofs.lemmas.List.{length-append}
-use Rattle.std.proofs.lemmas.Option.{same_Some}
+use Rattle.std.proofs.lemmas.Option.{same_Some, none-some}
 use Rattle.std.specs.Prelude.{if◌then◌else◌, ◌⊎◌, ◌-◌, slice_set, take}
 use Rattle.std.specs.Option.{option_map, option_or}
 use Rattle.est_syntax.specs.declared.specification.Spec.{Spec}
@@ -28,9 +28,6 @@ use Rattle.est_upkeep.proofs.FittingFrames.{altered_frames, slot_fits, named_fit
 use Rattle.est_upkeep.proofs.ParentsOlder.{changed_all}
 use Rattle.est_ancestry.specs.InsideTargets.{IsPlaceOf, IsInside}
 use Rattle.est_ancestry.specs.NamesOfAlls.{IsOfAll}
-
-none_some : {A : Type 0} (a : A) → None ≡ Some a → ⊥
-none_some a h = cc
 
 true_false : true ≡ false → ⊥
 true_false h = cc
@@ -275,14 +272,14 @@ only_slot d b x e = one (nat_eq d b.declared) refl e
         → option_map (λ (y : Binding). y.slot) (if c then Some b else None) ≡ Some x
         → (d ≡ b.declared) × (b.slot ≡ x)
     one true z e = (eqb-true d b.declared z, same_Some b.slot x e)
-    one false z e = absurd (none_some x e)
+    one false z e = absurd (none-some x e)
 
 only_none : (d : ℕ) (b : Binding) → slot_of d (b ∷ []) ≡ None → d ≡ b.declared → ⊥
 only_none d b e z = one (nat_eq d b.declared) (eq-eqb d b.declared z) e
   where
     one : (c : Bool) → c ≡ true
         → option_map (λ (y : Binding). y.slot) (if c then Some b else None) ≡ None → ⊥
-    one true k e = none_some b.slot (sym e)
+    one true k e = none-some b.slot (sym e)
     one false k e = true_false (sym k)
 
 -- An instance that a name stands for is younger than the one that sees it, or it is what the name

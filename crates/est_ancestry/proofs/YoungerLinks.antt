@@ -2,7 +2,7 @@
 use Rattle.std.proofs.Common.{◌≡◌, refl, subst, ◌<◌, ℕ, nat_eq, nat_lt, Bool, true, false, ◌||◌}
 use Rattle.std.proofs.Common.{List, [], ◌∷◌, ◌++◌, Option, Some, None, Result, Ok, Err, is_some}
 use Rattle.std.specs.Prelude.{if◌then◌else◌, option_and_then}
-use Rattle.std.proofs.lemmas.Option.{same_Some}
+use Rattle.std.proofs.lemmas.Option.{same_Some, none-some}
 use Rattle.est_semantics.specs.declared.fault.BlockFault.{BlockFault}
 use Rattle.est_semantics.specs.declared.situation.Element.{Element}
 use Rattle.est_semantics.specs.declared.situation.InteractionPoint.{InteractionPoint}
@@ -26,9 +26,6 @@ use Rattle.est_semantics.proofs.MutualPeers.{point_same}
 use Rattle.est_upkeep.specs.ClimbLaws.{LeadToYounger}
 use Rattle.est_upkeep.proofs.GivenThings.{OnGood}
 use Rattle.est_upkeep.proofs.ParentsOlder.{good_if}
-
-none_some : {A : Type 0} (a : A) → None ≡ Some a → ⊥
-none_some a h = cc
 
 -- links lead to younger instances
 abbrev Leads : Map InteractionPoint InteractionPoint → Type 0
@@ -81,7 +78,7 @@ disconnected_leads p s h = parted_leads p (s.peer p) s h
 loosened_leads : (t : Text) (e : InteractionPoint) (o : Option InteractionPoint) (s : Situation)
     → LeadToYounger s → LeadToYounger (loosened t e o s)
 loosened_leads t e None s h = h
-loosened_leads t e (Some c) s h = point_leads e None s.down (λ q k. absurd (none_some q k)) h
+loosened_leads t e (Some c) s h = point_leads e None s.down (λ q k. absurd (none-some q k)) h
 
 from_leads : (t : Text) (o : Option InteractionPoint) (s : Situation) → LeadToYounger s
     → LeadToYounger (detached_from t o s)
@@ -109,18 +106,18 @@ without_leads : (ns : List ℕ) (m : Map InteractionPoint InteractionPoint) → 
 without_leads ns m h p q k = one (is_among ns p.instance) k
   where
     kept : (x : InteractionPoint) (b : Bool) → (if b then None else Some x) ≡ Some q → x ≡ q
-    kept x true e = absurd (none_some q e)
+    kept x true e = absurd (none-some q e)
     kept x false e = same_Some x q e
 
     other : (o : Option InteractionPoint) → m p ≡ o → option_and_then (point_without ns) o ≡ Some q
         → p.instance < q.instance
-    other None z e = absurd (none_some q e)
+    other None z e = absurd (none-some q e)
     other (Some x) z e = subst (λ (y : InteractionPoint). p.instance < y.instance)
         (kept x (is_among ns x.instance) e) (h p x z)
 
     one : (b : Bool) → (if b then None else option_and_then (point_without ns) (m p)) ≡ Some q
         → p.instance < q.instance
-    one true e = absurd (none_some q e)
+    one true e = absurd (none-some q e)
     one false e = other (m p) refl e
 
 pub released_leads : (t : Text) (n : ℕ) (s : Situation) → LeadToYounger s

@@ -2,6 +2,7 @@
 use Rattle.std.proofs.Common.{◌≡◌, sym, ap, subst, arith, ℕ, ◌<◌, [], ◌∷◌, ◌++◌, Option}
 use Rattle.std.proofs.Common.{Some, None, is_some, false}
 use Rattle.std.specs.Option.{option_map_or}
+use Rattle.std.proofs.lemmas.Option.{none-some}
 use Rattle.est_syntax.specs.declared.body.Block.{out-Block}
 use Rattle.est_syntax.specs.declared.statement.Statement.{Statement}
 use Rattle.est_semantics.specs.declared.fault.BlockFault.TheVariants.{Undefined}
@@ -47,9 +48,6 @@ use Rattle.est_ancestry.specs.InsideTargets.{IsInside, TargetsStandInside}
 use Rattle.est_ancestry.specs.NamesOfAlls.{IsOfAll}
 use Rattle.est_ancestry.specs.YoungerLaws.{FiringsLeadToYounger, RunsLeadToYounger, RunsDescend}
 use Rattle.est_ancestry.proofs.YoungerBlocks.{blocks_lead_to_younger}
-
-none_some : {A : Type 0} (a : A) → None ≡ Some a → ⊥
-none_some a h = cc
 
 -- FIRINGS
 
@@ -140,7 +138,7 @@ start_leads t limit inside fits =
     let xs = t.spec.first ∷ [] in
     left_leads (statements_in xs (site t 0 false most_levels) s)
     (blocks_lead_to_younger t 0 most_levels xs s inside (fits, tt) (omega arith) tt tt
-    (λ p q k. absurd (none_some q k)))
+    (λ p q k. absurd (none-some q k)))
 
 start_younger : (c : Setup) → BeginsWithInit c.spec → TargetsStandInside (text_of c.spec)
     → OnNext LeadToYounger (start_of c.limit (text_of c.spec))
