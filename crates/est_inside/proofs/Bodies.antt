@@ -3,6 +3,7 @@ use Rattle.std.proofs.Common.{◌≡◌, ℕ, suc, ◌<◌, ◌≤◌, ◌^◌, 
 use Rattle.std.proofs.Common.{sym, subst, ap, ◌∙◌, Option, Some, None, inl, inr, arith, Bool}
 use Rattle.std.proofs.Common.{if◌then◌else◌}
 use Rattle.std.specs.Prelude.{◌⊎◌}
+use Rattle.std.proofs.lemmas.Option.{none-some}
 use Rattle.est_syntax.specs.Names.{spelled}
 use Rattle.est_syntax.specs.declared.name.Used.{Used}
 use Rattle.est_syntax.specs.declared.body.Part.{Part, out-Part, Row_of-Part}
@@ -41,12 +42,12 @@ use Rattle.est_order.proofs.DeclaringBodies.{named_grows, routine_named_grows, r
 use Rattle.est_order.proofs.DeclaringBodies.{to_grows, closed_grows, part_grows, parts_grow}
 use Rattle.est_order.proofs.DeclaringBodies.{first_grows, groups_grow, transitions_grow}
 use Rattle.est_order.proofs.DeclaringBodies.{listed_parts_grow}
-use Rattle.est_ancestry.specs.InsideTargets.{IsPlaceOf}
+use Rattle.est_ancestry.specs.InsideTargets.{IsAroundOrNone}
 use Rattle.est_semantics.specs.NamesInRuns.{place_in}
 use Rattle.est_ancestry.specs.NamesOfAlls.{BlockNamesAll, PartNamesAll, PartsNameAll, FirstNamesAll}
 use Rattle.est_ancestry.specs.NamesOfAlls.{GroupsNameAll, TransitionsNameAll, ListedNameAll}
 use Rattle.est_inside.proofs.Homes.{declared_extents, step_then, Inside}
-use Rattle.est_inside.proofs.Homes.{none_some, Step, step_of, onward, Same, same_self}
+use Rattle.est_inside.proofs.Homes.{Step, step_of, onward, Same, same_self}
 use Rattle.est_inside.proofs.Homes.{same_amended, onward_same, Homed, Free, IsClean, Base, Covers}
 use Rattle.est_inside.proofs.Homes.{homed_self, homed_then, homed_same, homed_free}
 use Rattle.est_inside.proofs.Homes.{base_after, base_add, clean_fresh, clean_name}
@@ -67,14 +68,14 @@ use Rattle.est_inside.proofs.Beginnings.{PartsBegin, ListedBegin, after_place}
 
 as_place : (o : Outline) (m : Meant) (p : ℕ) → meant_as o sort.Header m ≡ Some p
     → place_in m ≡ Some p
-as_place o Nothing p h = absurd (none_some p h)
-as_place o (Predeclared n) p h = absurd (none_some p h)
-as_place o (Unseen q) p h = absurd (none_some p h)
+as_place o Nothing p h = absurd (none-some p h)
+as_place o (Predeclared n) p h = absurd (none-some p h)
+as_place o (Unseen q) p h = absurd (none-some p h)
 as_place o (Seen q) p h = by (is_sort sort.Header (entry_at o q)) h
   where
     by : (b : Bool) → (if b then Some q else None) ≡ Some p → Some q ≡ Some p
     by true e = e
-    by false e = absurd (none_some p e)
+    by false e = absurd (none-some p e)
 
 closed_same : (x : Part) (o : Outline) → Same o (closed_by x o)
 unfolding out-Part denote.Hole.Carrier.out
@@ -270,7 +271,7 @@ module _ (X : ℕ → Type 0) (b : ℕ) (fits : b ≤ 2 ^ 32) (p : Outline) wher
             (base1.known f.region (spelled header) s f.stands f.inside) x),
       )
     where
-      not_all : (q r : ℕ) → q ≡ r → IsPlaceOf [] q ⊎ (X q → ⊥) → X r → ⊥
+      not_all : (q r : ℕ) → q ≡ r → IsAroundOrNone X [] q → X r → ⊥
       not_all q r z (inl y) x = y
       not_all q r z (inr y) x = y (subst X (sym z) x)
 

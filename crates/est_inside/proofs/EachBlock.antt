@@ -4,7 +4,7 @@ use Rattle.std.proofs.Common.{List, [], ◌∷◌, Option, Some, None}
 use Rattle.std.specs.Prelude.{if◌then◌else◌, find, slice_get}
 use Rattle.std.specs.List.{AllByRecursion, cons_option, filter_map, flat_map}
 use Rattle.std.specs.Option.{option_map_or}
-use Rattle.std.proofs.lemmas.Option.{same_Some}
+use Rattle.std.proofs.lemmas.Option.{same_Some, none-some}
 use Rattle.est_syntax.specs.declared.body.Block.{out-Block}
 use Rattle.est_syntax.specs.declared.body.Body.{Body, Body', out-Body, Row_of-Group, end_of-Group}
 use Rattle.est_syntax.specs.declared.body.Body.{more_of-Group, items-the_row-Group}
@@ -31,7 +31,6 @@ use Rattle.est_choices.specs.ClauseContexts.{FullTransition, GivenClause, full_a
 use Rattle.est_choices.specs.ClauseContexts.{context_after, group_transitions, transitions_of}
 use Rattle.est_choices.specs.TransitionChoices.{numbered}
 use Rattle.est_upkeep.proofs.ParentsOlder.{joined_all}
-use Rattle.est_inside.proofs.Homes.{none_some}
 use Rattle.est_inside.proofs.InsideParts.{BlockInside, FirstInside, TransitionsInside}
 use Rattle.est_inside.proofs.InsideParts.{GroupsInside, PartInside, PartsInside, ListedInside}
 
@@ -40,7 +39,7 @@ use Rattle.est_inside.proofs.InsideParts.{GroupsInside, PartInside, PartsInside,
 -- what holds of each item holds of the one that is found
 found_one : {A : Type 0} (P : A → Type 0) (test : A → Bool) (xs : List A) (y : A)
     → AllByRecursion P xs → find test xs ≡ Some y → P y
-found_one P test [] y h e = absurd (none_some y e)
+found_one P test [] y h e = absurd (none-some y e)
 found_one P test (x ∷ xs) y h e = one (test x) e (found_one P test xs y h.1)
   where
     one : (b : Bool) → (if b then Some x else find test xs) ≡ Some y
@@ -61,106 +60,107 @@ of_sort P of (x ∷ xs) h = one (of x) h.0 (of_sort P of xs h.1)
 
 at_number : {A : Type 0} (P : A → Type 0) (xs : List A) (n : ℕ) (y : A) → AllByRecursion P xs
     → slice_get xs n ≡ Some y → P y
-at_number P [] n y h e = absurd (none_some y e)
+at_number P [] n y h e = absurd (none-some y e)
 at_number P (x ∷ xs) zero y h e = subst P (same_Some x y e) h.0
 at_number P (x ∷ xs) (suc n) y h e = at_number P xs n y h.1 e
 
 numbered_one : {A : Type 0} (P : A → Type 0) (xs : List A) (n : ℕ) (y : A) → AllByRecursion P xs
     → numbered xs n ≡ Some y → P y
-numbered_one P xs zero y h e = absurd (none_some y e)
+numbered_one P xs zero y h e = absurd (none-some y e)
 numbered_one P xs (suc n) y h e = at_number P xs n y h e
 
 module _ (X : ℕ → Type 0) (o : Outline) where
   -- a transition
-  abbrev IsGood : FullTransition → Type 0
-  IsGood x = BlockInside X o (out-Block x.block).statements
+  abbrev HasTargetsInside : FullTransition → Type 0
+  HasTargetsInside x = BlockInside X o (out-Block x.block).statements
 
-  transitions_good : (gs : List GivenClause) (cs : List Clause) {n : _} (row : Row_of-Transition n)
-      → TransitionsInside X o row
-      → AllByRecursion IsGood (full_after gs cs (items-the_row-Transition n row))
+  transitions_inside : (gs : List GivenClause) (cs : List Clause) {n : _}
+      (row : Row_of-Transition n) → TransitionsInside X o row
+      → AllByRecursion HasTargetsInside (full_after gs cs (items-the_row-Transition n row))
   unfolding out-Part denote.Hole.Carrier.out denote.Hole.Carrier.shown
-  transitions_good gs cs end_of-Transition h = tt
-  transitions_good gs cs (more_of-Transition ds name a parts ss place rest) h =
-      (h.0, transitions_good gs (context_after cs ds) rest h.1)
+  transitions_inside gs cs end_of-Transition h = tt
+  transitions_inside gs cs (more_of-Transition ds name a parts ss place rest) h =
+      (h.0, transitions_inside gs (context_after cs ds) rest h.1)
 
-  groups_good : {n : _} (row : Row_of-Group n) → GroupsInside X o row
-      → AllByRecursion IsGood (flat_map group_transitions (items-the_row-Group n row))
+  groups_inside : {n : _} (row : Row_of-Group n) → GroupsInside X o row
+      → AllByRecursion HasTargetsInside (flat_map group_transitions (items-the_row-Group n row))
   unfolding out-Group denote.Hole.Carrier.out denote.Hole.Carrier.shown
-  groups_good end_of-Group h = tt
-  groups_good (more_of-Group (Group' a transitions) rest) h =
-      joined_all IsGood _ _
+  groups_inside end_of-Group h = tt
+  groups_inside (more_of-Group (Group' a transitions) rest) h =
+      joined_all HasTargetsInside _ _
       (subst (λ (xs : List Transition). (gs : List GivenClause)
-      → AllByRecursion IsGood (full_after gs [] xs))
+      → AllByRecursion HasTargetsInside (full_after gs [] xs))
       (sym (items_shown-the_row-Transition-2 a transitions))
-      (λ gs. transitions_good gs [] transitions h.0) _)
-      (groups_good rest h.1)
+      (λ gs. transitions_inside gs [] transitions h.0) _)
+      (groups_inside rest h.1)
 
   -- an initialize part
-  first_good : (f : Held-Body-first) (g : FirstPart) → FirstInside X o f
+  first_part_inside : (f : Held-Body-first) (g : FirstPart) → FirstInside X o f
       → first.view-Body-first f ≡ Some g → BlockInside X o (first_statements g)
   unfolding out-Part denote.Hole.Carrier.out denote.Hole.Carrier.shown
-  first_good first.None' g h e = absurd (none_some g e)
-  first_good (first.Some' to a parts ss place) g h e =
+  first_part_inside first.None' g h e = absurd (none-some g e)
+  first_part_inside (first.Some' to a parts ss place) g h e =
       subst (λ (z : FirstPart). BlockInside X o (first_statements z)) (same_Some _ g e) h
 
   -- a body
-  pub record IsGoodBody (b : Body) : Type 0 where
+  pub record BodyHasTargetsInside (b : Body) : Type 0 where
     pub initialize_part : (f : FirstPart) → (out-Body b).first ≡ Some f
         → BlockInside X o (first_statements f)
-    pub transitions : AllByRecursion IsGood (flat_map group_transitions (out-Body b).groups)
+    pub transitions : AllByRecursion HasTargetsInside
+        (flat_map group_transitions (out-Body b).groups)
 
   -- a part that is a body or a routine
-  abbrev IsBodyGood : Part → Type 0
-  IsBodyGood x = (b : Body) → body_in x ≡ Some b → IsGoodBody b
+  abbrev HasBodyInside : Part → Type 0
+  HasBodyInside x = (b : Body) → body_in x ≡ Some b → BodyHasTargetsInside b
 
-  abbrev IsRoutineGood : Part → Type 0
-  IsRoutineGood x = (r : Routine) → routine_in x ≡ Some r → BlockInside X o (statements_of r)
+  abbrev HasRoutineInside : Part → Type 0
+  HasRoutineInside x = (r : Routine) → routine_in x ≡ Some r → BlockInside X o (statements_of r)
 
-  body_good : (x : Part) → PartInside X o x → IsBodyGood x
+  body_inside : (x : Part) → PartInside X o x → HasBodyInside x
   unfolding out-Part out-Body denote.Hole.Carrier.out denote.Hole.Carrier.shown
-  body_good (part.Body (Body' name header a parts f c groups)) h b e =
-      subst IsGoodBody (same_Some _ b e) record {
-        initialize_part = λ g k. first_good f g h.1 k;
-        transitions = subst (λ gs. AllByRecursion IsGood (flat_map group_transitions gs))
-            (sym (items_shown-the_row-Group-1 c groups)) (groups_good groups h.2);
+  body_inside (part.Body (Body' name header a parts f c groups)) h b e =
+      subst BodyHasTargetsInside (same_Some _ b e) record {
+        initialize_part = λ g k. first_part_inside f g h.1 k;
+        transitions = subst (λ gs. AllByRecursion HasTargetsInside (flat_map group_transitions gs))
+            (sym (items_shown-the_row-Group-1 c groups)) (groups_inside groups h.2);
       }
-  body_good _ h b e = absurd (none_some b e)
+  body_inside _ h b e = absurd (none-some b e)
 
-  routine_good : (x : Part) → PartInside X o x → IsRoutineGood x
+  routine_part_inside : (x : Part) → PartInside X o x → HasRoutineInside x
   unfolding out-Part denote.Hole.Carrier.out denote.Hole.Carrier.shown
-  routine_good (part.Routine' name formals result a parts ss place) h r e =
+  routine_part_inside (part.Routine' name formals result a parts ss place) h r e =
       subst (λ (z : Routine). BlockInside X o (statements_of z)) (same_Some _ r e) h
-  routine_good _ h r e = absurd (none_some r e)
+  routine_part_inside _ h r e = absurd (none-some r e)
 
   -- a part, and those within it
-  module _ (P : Part → Type 0) (good : (x : Part) → PartInside X o x → P x) where
+  module _ (P : Part → Type 0) (holds : (x : Part) → PartInside X o x → P x) where
     mutual
-      within_good : (x : Part) → PartInside X o x → AllByRecursion P (parts_within x)
-      within_good (part.Body (Body' name header a parts f b groups)) h =
-          (good (part.Body (Body' name header a parts f b groups)) h, row_good parts h.0)
-      within_good (part.Consts x) h = (good (part.Consts x) h, tt)
-      within_good (part.Types x) h = (good (part.Types x) h, tt)
-      within_good (part.Channel x) h = (good (part.Channel x) h, tt)
-      within_good (part.Header x) h = (good (part.Header x) h, tt)
-      within_good (part.Modvars x) h = (good (part.Modvars x) h, tt)
-      within_good (part.Points x) h = (good (part.Points x) h, tt)
-      within_good (part.Vars x) h = (good (part.Vars x) h, tt)
-      within_good (part.States x) h = (good (part.States x) h, tt)
-      within_good (part.StateSets x) h = (good (part.StateSets x) h, tt)
-      within_good (part.Routine' name formals result a parts ss place) h =
-          (good (part.Routine' name formals result a parts ss place) h, tt)
+      within_holds : (x : Part) → PartInside X o x → AllByRecursion P (parts_within x)
+      within_holds (part.Body (Body' name header a parts f b groups)) h =
+          (holds (part.Body (Body' name header a parts f b groups)) h, row_holds parts h.0)
+      within_holds (part.Consts x) h = (holds (part.Consts x) h, tt)
+      within_holds (part.Types x) h = (holds (part.Types x) h, tt)
+      within_holds (part.Channel x) h = (holds (part.Channel x) h, tt)
+      within_holds (part.Header x) h = (holds (part.Header x) h, tt)
+      within_holds (part.Modvars x) h = (holds (part.Modvars x) h, tt)
+      within_holds (part.Points x) h = (holds (part.Points x) h, tt)
+      within_holds (part.Vars x) h = (holds (part.Vars x) h, tt)
+      within_holds (part.States x) h = (holds (part.States x) h, tt)
+      within_holds (part.StateSets x) h = (holds (part.StateSets x) h, tt)
+      within_holds (part.Routine' name formals result a parts ss place) h =
+          (holds (part.Routine' name formals result a parts ss place) h, tt)
 
-      row_good : {n : _} (row : Row_of-Part n) → PartsInside X o row
+      row_holds : {n : _} (row : Row_of-Part n) → PartsInside X o row
           → AllByRecursion P (row_parts row)
-      row_good end_of-Part h = tt
-      row_good (more_of-Part x rest) h = joined_all P (parts_within x) (row_parts rest)
-          (within_good x h.0) (row_good rest h.1)
+      row_holds end_of-Part h = tt
+      row_holds (more_of-Part x rest) h = joined_all P (parts_within x) (row_parts rest)
+          (within_holds x h.0) (row_holds rest h.1)
 
-    parts_good : (xs : List Part) → ListedInside X o xs
+    parts_hold : (xs : List Part) → ListedInside X o xs
         → AllByRecursion P (flat_map parts_within xs)
-    parts_good [] h = tt
-    parts_good (x ∷ xs) h = joined_all P (parts_within x) (flat_map parts_within xs)
-        (within_good x h.0) (parts_good xs h.1)
+    parts_hold [] h = tt
+    parts_hold (x ∷ xs) h = joined_all P (parts_within x) (flat_map parts_within xs)
+        (within_holds x h.0) (parts_hold xs h.1)
 
   -- each block that runs
   module _ (t : Text) (all : ListedInside X o t.spec.parts) where
@@ -171,15 +171,16 @@ module _ (X : ℕ → Type 0) (o : Outline) where
         (λ (z : Routine). nat_eq p (out-Routine z).name.place)
         (filter_map routine_in (parts_of t)) r
         (of_sort (λ (z : Routine). BlockInside X o (statements_of z)) routine_in (parts_of t)
-        (parts_good IsRoutineGood routine_good t.spec.parts all)) e
+        (parts_hold HasRoutineInside routine_part_inside t.spec.parts all)) e
 
-    bodies_good : AllByRecursion IsGoodBody (filter_map body_in (parts_of t))
-    bodies_good = of_sort IsGoodBody body_in (parts_of t)
-        (parts_good IsBodyGood body_good t.spec.parts all)
+    bodies_inside : AllByRecursion BodyHasTargetsInside (filter_map body_in (parts_of t))
+    bodies_inside = of_sort BodyHasTargetsInside body_in (parts_of t)
+        (parts_hold HasBodyInside body_inside t.spec.parts all)
 
-    body_found : (p : ℕ) (b : Body) → body_at t p ≡ Some b → IsGoodBody b
-    body_found p b e = found_one IsGoodBody (λ (z : Body). nat_eq p (out-Body z).name.place)
-        (filter_map body_in (parts_of t)) b bodies_good e
+    body_found : (p : ℕ) (b : Body) → body_at t p ≡ Some b → BodyHasTargetsInside b
+    body_found p b e = found_one BodyHasTargetsInside
+        (λ (z : Body). nat_eq p (out-Body z).name.place)
+        (filter_map body_in (parts_of t)) b bodies_inside e
 
     pub first_inside : (p : ℕ) (b : Body) (f : FirstPart) → body_at t p ≡ Some b
         → (out-Body b).first ≡ Some f → BlockInside X o (first_statements f)
@@ -189,9 +190,9 @@ module _ (X : ℕ → Type 0) (o : Outline) where
         → numbered (transitions_of t p) n ≡ Some x
         → BlockInside X o (out-Block x.block).statements
     transition_inside p n x e =
-        numbered_one IsGood (transitions_of t p) n x (one (body_at t p) refl) e
+        numbered_one HasTargetsInside (transitions_of t p) n x (one (body_at t p) refl) e
       where
-        one : (y : Option Body) → body_at t p ≡ y → AllByRecursion IsGood
+        one : (y : Option Body) → body_at t p ≡ y → AllByRecursion HasTargetsInside
             (option_map_or (λ (b : Body). flat_map group_transitions (out-Body b).groups) y [])
         one None k = tt
         one (Some b) k = (body_found p b k).transitions

@@ -2,7 +2,7 @@
 use Rattle.std.proofs.Common.{◌≡◌, ℕ, ◌<◌, ◌≤◌, max, Bool, false, refl, sym, subst, ap, ◌∙◌}
 use Rattle.std.proofs.Common.{List, [], ◌∷◌, ◌++◌, Option, Some, None, inl, inr, nat_lt, arith}
 use Rattle.std.specs.Prelude.{◌⊎◌}
-use Rattle.std.proofs.lemmas.Option.{same_Some}
+use Rattle.std.proofs.lemmas.Option.{same_Some, none-some}
 use Rattle.std.proofs.lemmas.Bool.Decides.{nat_tests}
 use Rattle.est_syntax.specs.Names.{spelled}
 use Rattle.est_syntax.specs.declared.name.Used.{Used}
@@ -19,10 +19,7 @@ use Rattle.est_order.specs.Growth.{g_completed, g_lying}
 use Rattle.est_order.proofs.Following.{followed}
 use Rattle.est_order.proofs.Meanings.{below}
 use Rattle.est_order.proofs.Tables.{tested, two_numbers, inserted_apart}
-use Rattle.est_ancestry.specs.InsideTargets.{IsPlaceOf}
-
-pub none_some : {A : Type 0} (a : A) → None ≡ Some a → ⊥
-none_some a h = cc
+use Rattle.est_ancestry.specs.InsideTargets.{IsPlaceOf, IsAroundOrNone}
 
 not_below : (x y : ℕ) → nat_lt x y ≡ false → y ≤ x
 not_below x y h = grind (arith, nat_tests)
@@ -95,7 +92,7 @@ put_members None o region u m i j q l n (inl h) =
 put_members None o region u m i j q l n (inr h) =
     inserted_apart u.place m q o.members (two_numbers q u.place (λ e. omega arith))
 
-declared_members : (t : Option Standing) (o : Outline) (w : Within) (u : Used) (last : ℕ)
+pub declared_members : (t : Option Standing) (o : Outline) (w : Within) (u : Used) (last : ℕ)
     (e : Entry) (q : ℕ) → member_at (declared_by t w u last e o) q ≡ member_at o q
 declared_members (Some s) o w u last e q = refl
 declared_members None o w u last e q = refl
@@ -170,7 +167,7 @@ module _ (R : ℕ → Type 0) (unfinished : Bool) (i j : ℕ) where
 pub step_self : (i j : ℕ) (o : Outline) → Step i j o o
 step_self i j o = record {
   stays = λ r name s h. h;
-  news = λ r name s e h. absurd (none_some s (sym e ∙ h));
+  news = λ r name s e h. absurd (none-some s (sym e ∙ h));
   extents = λ q l. refl;
   members = λ q h. refl;
   reached = λ c few h. h;
@@ -203,7 +200,7 @@ pub record Onward (j : ℕ) (o p : Outline) : Type 0 where
 pub onward_self : (j : ℕ) (o : Outline) → Onward j o o
 onward_self j o = record {
   stays = λ r name s h. h;
-  news = λ r name s e h. absurd (none_some s (sym e ∙ h));
+  news = λ r name s e h. absurd (none-some s (sym e ∙ h));
   extents = λ q l. refl;
 }
 
@@ -274,14 +271,14 @@ module _ (X : ℕ → Type 0) where
   pub record Base (rs ws : List ℕ) (i : ℕ) (o : Outline) : Type 0 where
     pub names : EachName o (λ r s. s.place < i)
     pub homes : EachName o (λ r s. X s.place → (r < i) × IsAlone o r)
-    pub known : EachName o (λ r s. IsPlaceOf rs r → IsPlaceOf ws s.place ⊎ (X s.place → ⊥))
+    pub known : EachName o (λ r s. IsPlaceOf rs r → IsAroundOrNone X ws s.place)
     pub regions : (r : ℕ) → IsPlaceOf rs r → r < i
     pub members : (q : ℕ) → X q → member_at o q ≡ None
     pub unused : (q : ℕ) → i ≤ q → member_at o q ≡ None
 
   pub homed_self : (i j : ℕ) (o : Outline) → Homed i j o o
   homed_self i j o = record {
-    homes = λ r name s e h x. absurd (none_some s (sym e ∙ h));
+    homes = λ r name s e h x. absurd (none-some s (sym e ∙ h));
     members = λ q x h. h;
   }
 
@@ -340,7 +337,7 @@ module _ (X : ℕ → Type 0) where
         let m : r < i = n.0 in (omega arith, alone_on i j r o p m f n.1))
         (λ r name s e h z. let n = g.homes r name s e h z in (n.1, n.2));
     known = old_or_new o p
-        (λ r s. IsPlaceOf rs r → IsPlaceOf ws s.place ⊎ (X s.place → ⊥)) f.stays b.known
+        (λ r s. IsPlaceOf rs r → IsAroundOrNone X ws s.place) f.stays b.known
         (λ r name s e h y. inr (λ z. let n = g.homes r name s e h z in
         let m = b.regions r y in
         let c : i ≤ r = n.0 in absurd (omega arith)));
@@ -390,7 +387,7 @@ module _ (X : ℕ → Type 0) where
   }
     where
       one : (q : ℕ) (name : List ℕ) (s : Standing) → standing o q name ≡ Some s
-          → (r ≡ q) ⊎ IsPlaceOf rs q → IsPlaceOf ws s.place ⊎ (X s.place → ⊥)
+          → (r ≡ q) ⊎ IsPlaceOf rs q → IsAroundOrNone X ws s.place
       one q name s h (inl e) =
           inr (λ z. clean name s (ap (λ v. standing o v name) e ∙ h) z)
       one q name s h (inr y) = b.known q name s h y

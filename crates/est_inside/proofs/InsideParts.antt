@@ -11,12 +11,12 @@ use Rattle.est_syntax.specs.declared.transition.Group.{Group', Row_of-Transition
 use Rattle.est_syntax.specs.declared.transition.Group.{end_of-Transition, more_of-Transition}
 use Rattle.est_scope.specs.Outline.{Outline}
 use Rattle.est_upkeep.specs.AttachTargets.{BlockTargets}
-use Rattle.est_inside.proofs.Statements.{IsKnown}
+use Rattle.est_ancestry.specs.InsideTargets.{IsAroundOrNone}
 
 module _ (X : ℕ → Type 0) (p : Outline) where
-  -- the blocks of a body and those within it
+  -- a block: each `attach` of it names a child by the name of an `all` around it, or by none
   abbrev pub BlockInside : List Statement → Type 0
-  BlockInside ss = BlockTargets p X (IsKnown X) ss
+  BlockInside ss = BlockTargets p X (IsAroundOrNone X) ss
 
   abbrev pub FirstInside : Held-Body-first → Type 0
   FirstInside first.None' = Unit {0}

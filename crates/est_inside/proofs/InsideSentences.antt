@@ -2,6 +2,7 @@
 use Rattle.std.proofs.Common.{◌≡◌, ℕ, suc, ◌<◌, ◌≤◌, List, [], ◌∷◌, length, true, refl, inl, inr}
 use Rattle.std.proofs.Common.{arith, ◌^◌}
 use Rattle.std.specs.Prelude.{◌⊎◌}
+use Rattle.std.proofs.lemmas.Option.{none-some}
 use Rattle.est_syntax.specs.declared.statement.Statement.{Statement, out-Statement}
 use Rattle.est_syntax.specs.declared.statement.Statement.TheVariants as statement
 use Rattle.est_syntax.specs.declared.expression.Access.{Access}
@@ -23,7 +24,7 @@ use Rattle.est_semantics.specs.TextByPlace.{text_of}
 use Rattle.est_upkeep.specs.RunOrder.{BeginsWithInit}
 use Rattle.est_ancestry.specs.NamesOfAlls.{IsOfAll}
 use Rattle.est_inside.specs.InsideLaws.{SentencesBeginWithInit, SentencesStandInside}
-use Rattle.est_inside.proofs.Homes.{none_some, step_of, onward, onward_self, Base}
+use Rattle.est_inside.proofs.Homes.{step_of, onward, onward_self, Base}
 use Rattle.est_inside.proofs.InsideParts.{ListedInside}
 use Rattle.est_inside.proofs.Bodies.{listed_inside}
 use Rattle.est_inside.proofs.Beginnings.{ListedBegin}
@@ -66,9 +67,9 @@ sentences_begin_with_init s h = spec_begins s (length h.tokens)
 
 empty_base : (X : ℕ → Type 0) (i : ℕ) → 0 < i → Base X (0 ∷ []) [] i empty
 empty_base X i l = record {
-  names = λ r name s h. absurd (none_some s h);
-  homes = λ r name s h x. absurd (none_some s h);
-  known = λ r name s h y. absurd (none_some s h);
+  names = λ r name s h. absurd (none-some s h);
+  homes = λ r name s h x. absurd (none-some s h);
+  known = λ r name s h y. absurd (none-some s h);
   regions = λ r y. one r y;
   members = λ q x. refl;
   unused = λ q n. refl;
@@ -97,7 +98,8 @@ parts_inside s n few h begins =
 
 pub sentences_stand_inside : SentencesStandInside
 sentences_stand_inside s h =
-    let all = parts_inside s (length h.tokens) h.few
+    let few = h.few in
+    let all = parts_inside s (length h.tokens) (omega (arith, few))
     (specification_stands h.text h.tokens s h.tree) (sentence_begins h.text h.tokens s h.tree) in
     let t = text_of s in
     let X = IsOfAll s in

@@ -4,7 +4,7 @@ use Rattle.std.proofs.Common.{List, [], ◌∷◌, ◌++◌, refl, sym, subst, a
 use Rattle.std.proofs.Common.{inl, inr, nat_lt, arith}
 use Rattle.std.specs.Prelude.{◌⊎◌}
 use Rattle.std.specs.Option.{option_or}
-use Rattle.std.proofs.lemmas.Option.{same_Some}
+use Rattle.std.proofs.lemmas.Option.{same_Some, none-some}
 use Rattle.est_syntax.specs.Names.{spelled}
 use Rattle.est_syntax.specs.declared.name.Used.{Used}
 use Rattle.est_scope.specs.declared.declaration.Extent.{Extent}
@@ -19,7 +19,7 @@ use Rattle.est_scope.proofs.Extents.{some_if}
 use Rattle.est_order.proofs.Meanings.{below}
 use Rattle.est_ancestry.specs.InsideTargets.{IsPlaceOf}
 use Rattle.est_semantics.specs.NamesInRuns.{place_in, declared_at}
-use Rattle.est_inside.proofs.Homes.{none_some, last_is}
+use Rattle.est_inside.proofs.Homes.{last_is}
 
 -- PLACES OF LISTS
 
@@ -84,7 +84,7 @@ pub record Found (o : Outline) (rs : List ℕ) (name : List ℕ) (q p : ℕ) : T
 
 pub found_name : (o : Outline) (rs : List ℕ) (name : List ℕ) (q p : ℕ)
     → found o rs name q ≡ Some p → Found o rs name q p
-found_name o [] name q p h = absurd (none_some p h)
+found_name o [] name q p h = absurd (none-some p h)
 found_name o (r ∷ rs) name q p h =
     by (standing o r name) refl h (found_name o rs name q p)
   where
@@ -119,12 +119,12 @@ found_name o (r ∷ rs) name q p h =
 
 around_place : (b : Bool) (x p : ℕ) → place_in (seen_around b x) ≡ Some p → x ≡ p
 around_place true x p h = same_Some x p h
-around_place false x p h = absurd (none_some p h)
+around_place false x p h = absurd (none-some p h)
 
 undeclared_place : (known : Option PredeclaredName) (p : ℕ)
     → place_in (undeclared known) ≡ Some p → ⊥
-undeclared_place None p h = none_some p h
-undeclared_place (Some n) p h = none_some p h
+undeclared_place None p h = none-some p h
+undeclared_place (Some n) p h = none-some p h
 
 -- where what is meant by a name is declared, it is found
 meant_found : (o : Outline) (known : Option PredeclaredName) (x y : Option ℕ) (p : ℕ)

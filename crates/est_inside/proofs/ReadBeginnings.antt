@@ -22,7 +22,7 @@ use Rattle.est_syntax.specs.declared.body.Body.{Body, Body', out-Body, Row_of-Gr
 use Rattle.est_syntax.specs.declared.body.Body.{more_of-Group, items-the_row-Group}
 use Rattle.est_syntax.specs.declared.body.Body.{items_shown-the_row-Group-1, Held-Body-first}
 use Rattle.est_syntax.specs.declared.specification.Spec.{Spec}
-use Rattle.est_language.specs.Grammar.{Tree, word, here, seq, rep, rule, t_here, t_word, t_seq}
+use Rattle.est_language.specs.Grammar.{word, here, seq, rep, rule, t_here, t_word, t_seq}
 use Rattle.est_language.specs.Shown.{Shows, at, pair, node, nodes, s_at, s_pair}
 use Rattle.est_language.proofs.Trees.{tree_forward}
 use Rattle.est_reader.specs.Tests.{Test, language}
@@ -38,22 +38,19 @@ use Rattle.est_grammar.specs.Answer.{levels, HasOneTree}
 use Rattle.est_order.proofs.Ascending as order
 use Rattle.est_order.proofs.DeclaringBodies.{statement_begins}
 use Rattle.est_order.proofs.FromStatements.{statements_placed}
-use Rattle.est_fullness.proofs.Reading.{Reads, in_word, in_deeper, in_rule, in_node, in_seq}
-use Rattle.est_fullness.proofs.Reading.{in_left, in_right, in_opt, in_list, in_rep, no_list}
+use Rattle.est_fullness.proofs.Reading.{TreeOf, Reads, in_word, in_deeper, in_rule, in_node}
+use Rattle.est_fullness.proofs.Reading.{in_seq, in_left, in_right, in_opt, in_list, in_rep, no_list}
 use Rattle.est_inside.proofs.Beginnings.{BeginAfter, FirstBegins, TransitionsBegin, GroupsBegin}
 use Rattle.est_inside.proofs.Beginnings.{PartBegins, PartsBegin, ListedBegin}
 
 module _ (text : List ℕ) (tokens : List Token) where
-  abbrev TreeOf : Rule → ℕ → ℕ → ℕ → Shape → Type 0
-  TreeOf g d a b t = Tree (language production text) tokens (length tokens) g d a b t
-
   -- what is read from a place on
   abbrev From : ℕ → Rule → View → Type 0
-  From i g v = (d : ℕ) × (b : ℕ) × (t : Shape) × TreeOf g d i b t × Shows layer v t
+  From i g v = (d : ℕ) × (b : ℕ) × (t : Shape) × TreeOf text tokens g d i b t × Shows layer v t
       × (b ≤ length tokens)
 
   after_word : {k : Test} {g h : Rule} {w x : View} {p d a b : ℕ} {t : Shape}
-      → TreeOf (here (word k (seq g h))) d a b t → Shows layer (at p (pair w x)) t
+      → TreeOf text tokens (here (word k (seq g h))) d a b t → Shows layer (at p (pair w x)) t
       → b ≤ length tokens → From (suc p) g w
   after_word (t_here (t_word k l e (t_seq x y))) (s_at p (s_pair s u)) few =
       let f = tree_forward (language production text) tokens (length tokens) y in

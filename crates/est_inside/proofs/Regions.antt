@@ -2,6 +2,7 @@
 use Rattle.std.proofs.Common.{◌≡◌, ℕ, ◌<◌, ◌≤◌, ◌^◌, Bool, true, false, if◌then◌else◌}
 use Rattle.std.proofs.Common.{List, [], ◌∷◌, refl, sym, ◌∙◌, Option, Some, None}
 use Rattle.std.proofs.Common.{inl, arith}
+use Rattle.std.proofs.lemmas.Option.{none-some}
 use Rattle.est_syntax.specs.Names.{spelled}
 use Rattle.est_syntax.specs.declared.name.Used.{Used}
 use Rattle.est_syntax.specs.declared.transition.Clause.{Clause}
@@ -28,7 +29,7 @@ use Rattle.est_order.proofs.PlacedBodies.{ClausePlaced}
 use Rattle.est_order.proofs.Declaring.{vars_on}
 use Rattle.est_order.proofs.BodiesGoOn.{clause_on, clauses_on}
 use Rattle.est_order.proofs.DeclaringBodies.{clause_grows}
-use Rattle.est_inside.proofs.Homes.{none_some, Step, step_of, Free, IsClean, Base}
+use Rattle.est_inside.proofs.Homes.{Step, step_of, Free, IsClean, Base}
 use Rattle.est_inside.proofs.Homes.{homed_free, base_after, base_add, clean_fresh, clean_name}
 use Rattle.est_inside.proofs.Homes.{clean_free}
 use Rattle.est_inside.proofs.Meant.{regions_of}
@@ -105,7 +106,7 @@ module _ (X : ℕ → Type 0) where
       let l = base.names channel (spelled u) s e in (
         omega arith,
         clean_name X rs [] i s.place channel (spelled u) s o base e refl
-            (λ x. none_some (member.Interaction senders) (sym (base.members s.place x) ∙ k)),
+            (λ x. none-some (member.Interaction senders) (sym (base.members s.place x) ∙ k)),
       )
 
   awaited_clean : (rs : List ℕ) (i : ℕ) (o : Outline) (side : Option Side) (u : Used)

@@ -4,7 +4,7 @@ use Rattle.std.proofs.Common.{List, [], ◌∷◌, refl, sym, subst, ap, ◌∙�
 use Rattle.std.proofs.Common.{inl, inr, nat_eq, arith}
 use Rattle.std.specs.Prelude.{◌⊎◌}
 use Rattle.std.specs.Option.{option_or}
-use Rattle.std.proofs.lemmas.Option.{same_Some}
+use Rattle.std.proofs.lemmas.Option.{same_Some, none-some}
 use Rattle.est_syntax.specs.Names.{spelled, is_name}
 use Rattle.est_syntax.specs.declared.name.Used.{Used}
 use Rattle.est_syntax.specs.declared.constant.Constant.{Constant}
@@ -38,15 +38,15 @@ use Rattle.est_order.proofs.DeclaringBodies.{statement_begins, statement_ends, a
 use Rattle.est_order.proofs.DeclaringBodies.{within_grows, row_grows, second_grows, arms_grow}
 use Rattle.est_order.proofs.DeclaringBodies.{statements_grow}
 use Rattle.est_order.proofs.Tables.{one_more, one_number}
-use Rattle.est_ancestry.specs.InsideTargets.{IsPlaceOf}
+use Rattle.est_ancestry.specs.InsideTargets.{IsPlaceOf, IsAroundOrNone}
 use Rattle.est_upkeep.specs.AttachTargets.{Target, Targets, RowTargets}
 use Rattle.est_upkeep.specs.AttachTargets.{SecondTargets, ArmTargets, BlockTargets}
 use Rattle.est_ancestry.specs.NamesOfAlls.{NamesAll, RowNamesAll, SecondNamesAll, ArmsNameAll}
 use Rattle.est_ancestry.specs.NamesOfAlls.{BlockNamesAll}
-use Rattle.est_inside.proofs.Homes.{none_some, EachNew, Step, step_of, Onward, onward, Homed}
+use Rattle.est_inside.proofs.Homes.{EachNew, Step, step_of, Onward, onward, Homed}
 use Rattle.est_inside.proofs.Homes.{IsAlone, Base, Covers, homed_self, homed_then}
 use Rattle.est_inside.proofs.Homes.{Inside, base_lying, homed_wider, base_after, base_later}
-use Rattle.est_inside.proofs.Homes.{old_or_new, covers_in}
+use Rattle.est_inside.proofs.Homes.{old_or_new, covers_in, declared_members}
 use Rattle.est_inside.proofs.Homes.{covers_left, covers_right}
 use Rattle.est_inside.proofs.NamesPlaced.{names_between, row_between, second_between}
 use Rattle.est_inside.proofs.NamesPlaced.{arms_between, block_between}
@@ -58,24 +58,19 @@ use Rattle.est_inside.proofs.Meant.{regions_of, LiesIn, lies_in, lying_reached, 
 new_name : (x : Option Standing) (b c : Bool) (s t : Standing) → x ≡ None
     → option_or x (if b then (if c then Some s else None) else None) ≡ Some t
     → (b ≡ true) × (s ≡ t)
-new_name (Some x) b c s t e h = absurd (none_some x (sym e))
+new_name (Some x) b c s t e h = absurd (none-some x (sym e))
 new_name None true true s t e h = (refl, same_Some s t h)
-new_name None true false s t e h = absurd (none_some t h)
-new_name None false c s t e h = absurd (none_some t h)
+new_name None true false s t e h = absurd (none-some t h)
+new_name None false c s t e h = absurd (none-some t h)
 
 declared_new : (t : Option Standing) (o : Outline) (w : Within) (u : Used) (last : ℕ) (e : Entry)
     → EachNew o (declared_by t w u last e o) (λ r s. (r ≡ w.region) × (s.place ≡ u.place))
-declared_new (Some x) o w u last e r name s none h = absurd (none_some s (sym none ∙ h))
+declared_new (Some x) o w u last e r name s none h = absurd (none-some s (sym none ∙ h))
 declared_new None o w u last e r name s none h =
     let new : Standing = record { place = u.place; last = last } in
     let n = new_name (standing o r name) (nat_eq r w.region) (is_name name (spelled u)) new s none
     (sym (one_more o.regions w.region (spelled u) new r name) ∙ h) in
     (one_number r w.region n.0, ap (λ (z : Standing). z.place) (sym n.1))
-
-declared_member : (t : Option Standing) (o : Outline) (w : Within) (u : Used) (last : ℕ)
-    (e : Entry) (q : ℕ) → member_at (declared_by t w u last e o) q ≡ member_at o q
-declared_member (Some x) o w u last e q = refl
-declared_member None o w u last e q = refl
 
 arm_same : (w : Within) (cs : List Constant) (o : Outline) (r : ℕ) (name : List ℕ)
     → standing (arm_lying w cs o) r name ≡ standing o r name
@@ -91,7 +86,7 @@ module _ (X : ℕ → Type 0) where
   arm_homed : (i j : ℕ) (w : Within) (cs : List Constant) (o : Outline)
       → Homed X i j o (arm_lying w cs o)
   arm_homed i j w cs o = record {
-    homes = λ r name s e h x. absurd (none_some s (sym e ∙ (sym (arm_same w cs o r name) ∙ h)));
+    homes = λ r name s e h x. absurd (none-some s (sym e ∙ (sym (arm_same w cs o r name) ∙ h)));
     members = λ q x h. arm_members w cs o q ∙ h;
   }
 
@@ -101,7 +96,7 @@ module _ (X : ℕ → Type 0) where
       → X u.place → Step i k o (declared v u last e o) → Homed X i k o (declared v u last e o)
   all_homed rs ws i k v u last e o b l m n named f = record {
     homes = λ r name s none h x. home r (new r name s none h).0;
-    members = λ q x h. declared_member (taken o v (spelled u)) o v u last e q ∙ h;
+    members = λ q x h. declared_members (taken o v (spelled u)) o v u last e q ∙ h;
   }
     where
       new : EachNew o (declared v u last e o) (λ r s. (r ≡ v.region) × (s.place ≡ u.place))
@@ -128,7 +123,7 @@ module _ (X : ℕ → Type 0) where
         names = c.names;
         homes = c.homes;
         known = old_or_new o (declared v u last e o) (λ r s. IsPlaceOf (v.region ∷ rs) r
-            → IsPlaceOf (u.place ∷ ws) s.place ⊎ (X s.place → ⊥)) f.stays
+            → IsAroundOrNone X (u.place ∷ ws) s.place) f.stays
             (λ r name s h y. old r name s h y)
             (λ r name s d h y. inl (inl (sym (declared_new (taken o v (spelled u)) o v u last e r
             name s d h).1)));
@@ -137,13 +132,13 @@ module _ (X : ℕ → Type 0) where
         unused = c.unused;
       }
     where
-      more : (s : Standing) → IsPlaceOf ws s.place ⊎ (X s.place → ⊥)
-          → IsPlaceOf (u.place ∷ ws) s.place ⊎ (X s.place → ⊥)
+      more : (s : Standing) → IsAroundOrNone X ws s.place
+          → IsAroundOrNone X (u.place ∷ ws) s.place
       more s (inl y) = inl (inr y)
       more s (inr y) = inr y
 
       old : (r : ℕ) (name : List ℕ) (s : Standing) → standing o r name ≡ Some s
-          → (v.region ≡ r) ⊎ IsPlaceOf rs r → IsPlaceOf (u.place ∷ ws) s.place ⊎ (X s.place → ⊥)
+          → (v.region ≡ r) ⊎ IsPlaceOf rs r → IsAroundOrNone X (u.place ∷ ws) s.place
       old r name s h (inl z) = inr (λ x. let a = b.homes r name s h x in
           let d : r < i = a.0 in absurd (omega arith))
       old r name s h (inr y) = more s (b.known r name s h y)
@@ -155,23 +150,19 @@ module _ (X : ℕ → Type 0) where
 
 -- TARGETS
 
--- a name is that of an `all` around it, or of none
-abbrev pub IsKnown : (ℕ → Type 0) → List ℕ → ℕ → Type 0
-IsKnown X ws p = IsPlaceOf ws p ⊎ (X p → ⊥)
-
 module _ (X : ℕ → Type 0) (b : ℕ) (fits : b ≤ 2 ^ 32) (p : Outline) where
   -- the name of a child
   target_inside : (w : Within) (ws : List ℕ) (a : Access) (place i j : ℕ) (o : Outline)
       → place ≤ a.name.place → a.name.place < j → Base X (regions_of w) ws i o
-      → LiesIn w place o → Onward j o p → Target p X (IsKnown X) ws a
+      → LiesIn w place o → Onward j o p → Target p X (IsAroundOrNone X) ws a
   target_inside w ws a place i j o l m base lies on q h =
       let e = lies a.name.place l in
       let f = declared_found p w.own w.around a.name q e.0 (on.extents a.name.place m ∙ e.1) e.2 e.3
       h in
       let s = f.standing_is in
       let early = f.early in
-      subst (IsKnown X ws) f.here
-      (old_or_new o p (λ r t. (r ≡ f.region) → t.last < a.name.place → IsKnown X ws t.place)
+      subst (IsAroundOrNone X ws) f.here
+      (old_or_new o p (λ r t. (r ≡ f.region) → t.last < a.name.place → IsAroundOrNone X ws t.place)
       on.stays
       (λ r name t k z c. base.known r name t k (subst (IsPlaceOf (regions_of w)) (sym z) f.inside))
       (λ r name t d k z c. let n = on.news r name t d k in absurd (omega arith))
@@ -182,7 +173,7 @@ module _ (X : ℕ → Type 0) (b : ℕ) (fits : b ≤ 2 ^ 32) (p : Outline) wher
         → StatementPlaced i j s → j ≤ b → Base X (regions_of w) ws i o
         → last_from o.extents 0 ≤ statement_place s → LiesIn w (statement_place s) o
         → Covers X i j (NamesAll s)
-        → Inside X p i j o (within_declares w s o) (Targets p X (IsKnown X) ws s)
+        → Inside X p i j o (within_declares w s o) (Targets p X (IsAroundOrNone X) ws s)
     within_inside w ws (statement.Compound' x turn place) o i j h l base reached lies cov =
         let q = h.0 in
         let r = row_inside w ws turn o place j h.1 l
@@ -300,7 +291,7 @@ module _ (X : ℕ → Type 0) (b : ℕ) (fits : b ≤ 2 ^ 32) (p : Outline) wher
     pub row_inside : (w : Within) (ws : List ℕ) {n : _} (row : Row_of-Statement n) (o : Outline)
         (i j : ℕ) → StatementsPlaced i j row → j ≤ b → Base X (regions_of w) ws i o
         → last_from o.extents 0 ≤ i → Covers X i j (RowNamesAll row)
-        → Inside X p i j o (row_statements w row o) (RowTargets p X (IsKnown X) ws row)
+        → Inside X p i j o (row_statements w row o) (RowTargets p X (IsAroundOrNone X) ws row)
     row_inside w ws end_of-Statement o i j h l base reached cov = (homed_self X i j o, λ on. tt)
     row_inside w ws (more_of-Statement s more) o i j h l base reached cov =
         let place = statement_place s in
@@ -338,7 +329,7 @@ module _ (X : ℕ → Type 0) (b : ℕ) (fits : b ≤ 2 ^ 32) (p : Outline) wher
     pub second_inside : (w : Within) (ws : List ℕ) (s : Held-Statement-If-2) (o : Outline)
         (i j : ℕ) → SecondPlaced i j s → j ≤ b → Base X (regions_of w) ws i o
         → last_from o.extents 0 ≤ i → Covers X i j (SecondNamesAll s)
-        → Inside X p i j o (held_declares w s o) (SecondTargets p X (IsKnown X) ws s)
+        → Inside X p i j o (held_declares w s o) (SecondTargets p X (IsAroundOrNone X) ws s)
     second_inside w ws held.None' o i j h l base reached cov = (homed_self X i j o, λ on. tt)
     second_inside w ws (held.Some' x second) o i j h l base reached cov =
         row_inside w ws second o i j h l base reached cov
@@ -346,7 +337,7 @@ module _ (X : ℕ → Type 0) (b : ℕ) (fits : b ≤ 2 ^ 32) (p : Outline) wher
     pub arms_inside : (w : Within) (ws : List ℕ) {n : _} (row : Row_of-Arm n) (o : Outline)
         (i j : ℕ) → ArmsPlaced i j row → j ≤ b → Base X (regions_of w) ws i o
         → last_from o.extents 0 ≤ i → Covers X i j (ArmsNameAll row)
-        → Inside X p i j o (row_arms w row o) (ArmTargets p X (IsKnown X) ws row)
+        → Inside X p i j o (row_arms w row o) (ArmTargets p X (IsAroundOrNone X) ws row)
     arms_inside w ws end_of-Arm o i j h l base reached cov = (homed_self X i j o, λ on. tt)
     arms_inside w ws (more_of-Arm constants s more) o i j h l base reached cov =
         let place = statement_place s in
@@ -401,7 +392,7 @@ module _ (X : ℕ → Type 0) (b : ℕ) (fits : b ≤ 2 ^ 32) (p : Outline) wher
   pub block_inside : (w : Within) (ss : List Statement) (o : Outline) (i j : ℕ)
       → InOrder StatementPlaced i j ss → j ≤ b → Base X (regions_of w) [] i o
       → last_from o.extents 0 ≤ i → Covers X i j (BlockNamesAll ss)
-      → Inside X p i j o (statements_declare w ss o) (BlockTargets p X (IsKnown X) ss)
+      → Inside X p i j o (statements_declare w ss o) (BlockTargets p X (IsAroundOrNone X) ss)
   block_inside w [] o i j h l base reached cov = (homed_self X i j o, λ on. tt)
   block_inside w (s ∷ ss) o i j h l base reached cov =
       let place = statement_place s in

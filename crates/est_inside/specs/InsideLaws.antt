@@ -1,9 +1,7 @@
 -- What holds of the specification of each sentence, and so of its runs.
-use Rattle.std.specs.Prelude.{◌≡◌, ℕ, ◌≤◌, List, length, None}
-use Rattle.est_lexer.specs.declared.kind.Token.{Token}
+use Rattle.std.specs.Prelude.{◌≡◌, List, None}
 use Rattle.est_syntax.specs.declared.specification.Spec.{Spec}
-use Rattle.est_grammar.specs.Answer.{HasOneTree}
-use Rattle.est_order.specs.Grown.{most_places}
+use Rattle.est_fullness.specs.SentenceOf.{IsSentence}
 use Rattle.est_semantics.specs.declared.situation.InteractionPoint.{InteractionPoint}
 use Rattle.est_semantics.specs.Attachments.{bottom}
 use Rattle.est_semantics.specs.TextByPlace.{text_of}
@@ -13,39 +11,32 @@ use Rattle.est_upkeep.specs.ClimbLaws.{LeadToYounger}
 use Rattle.est_upkeep.specs.RunOrder.{BeginsWithInit, StandsInOrder}
 use Rattle.est_ancestry.specs.InsideTargets.{TargetsStandInside}
 
--- a specification is that of a sentence, of no more tokens than there are places
-pub record IsOfSentence (s : Spec) : Type 0 where
-  pub text : List ℕ
-  pub tokens : List Token
-  pub few : length tokens ≤ most_places
-  pub tree : HasOneTree text tokens s
-
 -- SENTENCES
 
 -- the initialize part of a sentence is one `init`
 abbrev pub SentencesBeginWithInit : Type 0
-SentencesBeginWithInit = (s : Spec) → IsOfSentence s → BeginsWithInit s
+SentencesBeginWithInit = (s : Spec) → IsSentence s → BeginsWithInit s
 
 -- Each `attach` of a sentence names a child by the name of an `all` around it, or by none of an
 -- `all`. An `all` is one region, in which its name alone is declared: so a name that is declared
--- by an `all` is seen within that alone.
+-- by an `all` is seen within that `all` alone.
 abbrev pub SentencesStandInside : Type 0
-SentencesStandInside = (s : Spec) → IsOfSentence s → TargetsStandInside (text_of s)
+SentencesStandInside = (s : Spec) → IsSentence s → TargetsStandInside (text_of s)
 
 -- RUNS
 
 -- In each situation of a run of a sentence the instances are one orderly tree, connections lead
 -- both ways, and climbs along attachments end.
 abbrev pub SentencesStayOrderly : Type 0
-SentencesStayOrderly = (c : Setup) (run : List Move) (p : Place) → IsOfSentence c.spec → IsBegun c
+SentencesStayOrderly = (c : Setup) (run : List Move) (p : Place) → IsSentence c.spec → IsBegun c
     → IsRun c run p → StandsInOrder (text_of c.spec) p.situation
 
 -- attachments lead to younger instances in it
 abbrev pub SentencesLeadToYounger : Type 0
-SentencesLeadToYounger = (c : Setup) (run : List Move) (p : Place) → IsOfSentence c.spec
+SentencesLeadToYounger = (c : Setup) (run : List Move) (p : Place) → IsSentence c.spec
     → IsBegun c → IsRun c run p → LeadToYounger p.situation
 
 -- so each descent ends at an interaction point to which none of a child is attached
 abbrev pub SentencesDescend : Type 0
-SentencesDescend = (c : Setup) (run : List Move) (p : Place) → IsOfSentence c.spec → IsBegun c
+SentencesDescend = (c : Setup) (run : List Move) (p : Place) → IsSentence c.spec → IsBegun c
     → IsRun c run p → (q : InteractionPoint) → p.situation.down (bottom p.situation q) ≡ None
