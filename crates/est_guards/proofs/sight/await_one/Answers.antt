@@ -1,7 +1,5 @@
-use Rattle.std.proofs.Common.{◌≡◌, sym, ap, subst, ◌∙◌, Option, Some}
+use Rattle.std.proofs.Common.{◌≡◌, sym, subst, Option, Some}
 use Rattle.std.specs.Option.{option_map}
-use Rattle.est_scope.specs.Outline.{Outline}
-use Rattle.est_semantics.specs.NamesInRuns.{declared_at}
 use Rattle.est_frames.specs.HeldSystems.{situation_of}
 use Rattle.est_transitions.specs.WrittenTransitions.{awaited_of}
 use Rattle.est_transitions.specs.declared.written.Awaits.{Awaits}
@@ -14,6 +12,4 @@ returns-clause-sight c = λ ch b.
     subst (λ (w : Option Awaits). IsArrival c.args.limit c.args.text.now
     (situation_of c.args.working.now.system) ch (option_map awaited_of w)
     c.await_at.new.working.frames c.in_ok-sight.sight) (sym e)
-    (c.in_ok-sight.ensures.sight ch b
-    (sym (c.in-Some-declared_at.ensures
-    ∙ ap (λ (o : Outline). declared_at o c.in-Some.awaits.at.now.name) c.outline.ensures)))
+    (c.in_ok-sight.ensures.sight ch b (sym c.in-Some-declared_at.ensures))

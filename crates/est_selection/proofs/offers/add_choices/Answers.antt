@@ -1,8 +1,6 @@
-use Rattle.std.proofs.Common.{◌≡◌, sym, ap, subst, ◌∙◌}
-use Rattle.std.specs.Option.{option_map}
+use Rattle.std.proofs.Common.{sym, subst, ◌∙◌}
 use Rattle.est_frames.specs.HeldSystems.{situation_of}
 use Rattle.est_semantics.specs.GlobalSituation.{Situation}
-use Rattle.est_semantics.specs.TextByPlace.{Text}
 use Rattle.est_choices.specs.TransitionChoices.{any_frame, any_tuples, numbered}
 use Rattle.est_selection.specs.inside.InstanceOffers.{HasChoice}
 use Rattle.est_selection.proofs.Candidates.{has_choice, choices_end, unmapped}
@@ -14,10 +12,7 @@ add_choice-requires-clause-choice c = (let d = c.requires.candidate in
     c.loop-chosen.choice c.in-Some.chosen) (sym c.loop-chosen.invariant.0)
     (has_choice c.args.behaviour.now (situation_of c.args.working.now.system)
     c.args.candidate.now c.loop-chosen.choice c.in-Some.chosen d (sym c.in-Some.is
-    ∙ subst (λ o. c.in_ok-chosen.field-0 ≡ option_map (any_frame o d.transition)
-    (numbered (any_tuples o d.transition) c.loop-chosen.choice))
-    (c.outline-outline.ensures ∙ ap (λ (t : Text). t.outline) c.text.ensures)
-    (c.in_ok-chosen.ensures d.transition (sym d.written.any)))))
+    ∙ c.in_ok-chosen.ensures d.transition (sym d.written.any))))
 
 pub returns-clause-survey : goal.returns-clause-survey
 returns-clause-survey c = (let d = c.requires.candidate in
@@ -25,8 +20,5 @@ returns-clause-survey c = (let d = c.requires.candidate in
     c.args.candidate.now c.loop-chosen.choice c.loop-chosen.offers.items d
     c.loop-chosen.invariant.1 (unmapped (any_frame c.args.behaviour.now.outline d.transition)
     (numbered (any_tuples c.args.behaviour.now.outline d.transition) c.loop-chosen.choice)
-    (sym (subst (λ o. c.in_ok-chosen.field-0 ≡ option_map (any_frame o d.transition)
-    (numbered (any_tuples o d.transition) c.loop-chosen.choice))
-    (c.outline-outline.ensures ∙ ap (λ (t : Text). t.outline) c.text.ensures)
-    (c.in_ok-chosen.ensures d.transition (sym d.written.any))) ∙ c.in_default.is))
+    (sym (c.in_ok-chosen.ensures d.transition (sym d.written.any)) ∙ c.in_default.is))
     c.loop-chosen.invariant.2)
