@@ -1,8 +1,20 @@
-use Rattle.std.proofs.Common.{sym, refl}
+use Rattle.std.proofs.Common.{sym, refl, None}
 use Rattle.est_frames.specs.HeldSystems.{situation_of}
 use Rattle.est_guards.specs.declared.candidate.Candidate.{Candidate}
-use Rattle.est_moves.proofs.TakenItems.{transition_there}
+use Rattle.est_moves.proofs.TakenItems.{row_missing, transition_missing, transition_there}
 use Rattle.est_moves.proofs.taking.take.Goals as goal
+
+pub returns-in_default : goal.returns-in_default
+returns-in_default c =
+    let s = situation_of c.args.working.now.system in
+    row_missing c.args.limit c.args.behaviour.now s s c.args.firing.now None
+    (sym c.in_default.ensures) refl
+
+pub returns-in_default-transition : goal.returns-in_default-transition
+returns-in_default-transition c =
+    let s = situation_of c.args.working.now.system in
+    transition_missing c.args.limit c.args.behaviour.now s s c.args.firing.now None
+    c.in-Some.row.now (sym c.in-Some.ensures) c.in_default-transition.ensures refl
 
 pub returns : goal.returns
 returns c =
