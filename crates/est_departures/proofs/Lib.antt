@@ -1,0 +1,6 @@
+pub mod Climbs
+pub mod FaultlessBlocks
+pub mod JoinedLinks
+pub mod NamedEnds
+pub mod SendingBlocks
+pub mod TakenArguments

@@ -1,0 +1,1 @@
+//! What leaves in each step of a run of a good specification.

@@ -1,0 +1,4 @@
+//! What leaves a system was sent there.
+#![tactic(auto)]
+
+pub mod laws;
