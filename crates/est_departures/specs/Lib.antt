@@ -1,1 +1,2 @@
+pub mod DepartureLaws
 pub mod SentInteractions

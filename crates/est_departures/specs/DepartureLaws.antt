@@ -1,0 +1,66 @@
+-- What leaves a system in its start and in each step is what its ports send (ISO 9074, 5:
+-- next-situation relation; 7: channel-definition, output-statement and attach-statement).
+use Rattle.std.specs.Prelude.{◌≡◌, ℕ, ◌≤◌, suc, List, length}
+use Rattle.std.specs.List.{AllByRecursion, AllZip}
+use Rattle.est_syntax.specs.Kinds.{maxint}
+use Rattle.est_syntax.specs.declared.specification.Spec.{Spec}
+use Rattle.est_lexer.specs.declared.kind.Token.{Token}
+use Rattle.est_grammar.specs.Answer.{HasOneTree}
+use Rattle.est_values.specs.FittingValues.{Fits}
+use Rattle.est_outline.specs.Bodies.{outline_of}
+use Rattle.est_check.specs.LeastFault.{IsGood}
+use Rattle.est_semantics.specs.Outcome.{Done}
+use Rattle.est_semantics.specs.TextByPlace.{text_of}
+use Rattle.est_semantics.specs.GlobalSituation.{Situation}
+use Rattle.est_choices.specs.declared.event.Event.{Event}
+use Rattle.est_choices.specs.declared.event.Event.TheVariants as event
+use Rattle.est_choices.specs.declared.event.Interaction.{Interaction}
+use Rattle.est_choices.specs.declared.firing.Firing.{Firing}
+use Rattle.est_choices.specs.AllowedEvents.{IsAllowed}
+use Rattle.est_choices.specs.FiringSteps.{outcome, start_of}
+use Rattle.est_runs.specs.declared.run.Move.{Move}
+use Rattle.est_runs.specs.Run.{Setup, Place, IsBegun, IsRun}
+use Rattle.est_fullness.specs.Full.{AreFull}
+use Rattle.est_departures.specs.SentInteractions.{IsSentAt, LeavesAsSent, JoinOneSide}
+
+-- a specification breaks no rule, and nothing is missing of what it declares
+pub record IsSound (spec : Spec) : Type 0 where
+  pub good : IsGood spec
+  pub full : AreFull (outline_of spec)
+
+-- STEPS
+
+-- attachments join interaction points of one side, and each of these events leaves as it was sent
+pub record HasSent (spec : Spec) (s : Situation) (events : List Event) : Type 0 where
+  pub attachments : JoinOneSide (outline_of spec) s
+  pub departures : AllByRecursion (LeavesAsSent spec) events
+
+-- so it is after the start
+abbrev pub StartsSend : Type 0
+StartsSend = (limit : ℕ) (spec : Spec) (s : Situation) (outs : List Event) → IsSound spec
+    → start_of limit (text_of spec) ≡ Done outs s → HasSent spec s outs
+
+-- and after each firing in a situation in which attachments join such points
+abbrev pub FiringsSend : Type 0
+FiringsSend = (limit : ℕ) (spec : Spec) (s next : Situation) (f : Firing) (outs : List Event)
+    → IsSound spec → outcome limit (text_of spec) s f ≡ Done outs next
+    → JoinOneSide (outline_of spec) s → HasSent spec next outs
+
+-- RUNS
+
+-- so it is in each situation of a run, for all of its events
+abbrev pub RunsSend : Type 0
+RunsSend = (c : Setup) (run : List Move) (p : Place) → IsSound c.spec → IsBegun c → IsRun c run p
+    → HasSent c.spec p.situation p.events
+
+-- a sentence that breaks no rule is sound
+abbrev pub SentencesAreSound : Type 0
+SentencesAreSound = (text : List ℕ) (tokens : List Token) (spec : Spec)
+    → length tokens ≤ suc maxint → HasOneTree text tokens spec → IsGood spec → IsSound spec
+
+-- ALLOWED EVENTS
+
+-- what leaves as it was sent may stand in a trace, where its values fit
+abbrev pub FittingDeparturesAreAllowed : Type 0
+FittingDeparturesAreAllowed = (spec : Spec) (i : Interaction) (sent : IsSentAt spec i)
+    → AllZip Fits sent.signal.kinds i.values → IsAllowed spec (event.Leaves i)
