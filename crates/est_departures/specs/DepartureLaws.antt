@@ -1,12 +1,15 @@
 -- What leaves a system in its start and in each step is what its ports send (ISO 9074, 5:
 -- next-situation relation; 7: channel-definition, output-statement and attach-statement).
-use Rattle.std.specs.Prelude.{◌≡◌, ℕ, ◌≤◌, suc, List, length}
+use Rattle.std.specs.Prelude.{◌≡◌, ℕ, ◌≤◌, suc, ℤ, IsTrue, List, length}
 use Rattle.std.specs.List.{AllByRecursion, AllZip}
 use Rattle.est_syntax.specs.Kinds.{maxint}
+use Rattle.est_syntax.specs.declared.kind.Kind.{Kind}
 use Rattle.est_syntax.specs.declared.specification.Spec.{Spec}
 use Rattle.est_lexer.specs.declared.kind.Token.{Token}
 use Rattle.est_grammar.specs.Answer.{HasOneTree}
-use Rattle.est_values.specs.FittingValues.{Fits}
+use Rattle.est_values.specs.declared.value.Value.{Value}
+use Rattle.est_values.specs.declared.value.Value.TheVariants.{Undefined, Ordinal}
+use Rattle.est_values.specs.FittingValues.{is_scalar, Fits}
 use Rattle.est_outline.specs.Bodies.{outline_of}
 use Rattle.est_check.specs.LeastFault.{IsGood}
 use Rattle.est_semantics.specs.Outcome.{Done}
@@ -19,9 +22,10 @@ use Rattle.est_choices.specs.declared.firing.Firing.{Firing}
 use Rattle.est_choices.specs.AllowedEvents.{IsAllowed}
 use Rattle.est_choices.specs.FiringSteps.{outcome, start_of}
 use Rattle.est_runs.specs.declared.run.Move.{Move}
-use Rattle.est_runs.specs.Run.{Setup, Place, IsBegun, IsRun}
+use Rattle.est_runs.specs.Run.{Setup, Place, IsBegun, IsRun, Explains}
 use Rattle.est_fullness.specs.Full.{AreFull}
-use Rattle.est_departures.specs.SentInteractions.{IsSentAt, LeavesAsSent, JoinOneSide}
+use Rattle.est_departures.specs.SentInteractions.{Takes, IsSentAt, LeavesAsSent}
+use Rattle.est_departures.specs.SentInteractions.{JoinOneSide}
 
 -- a specification breaks no rule, and nothing is missing of what it declares
 pub record IsSound (spec : Spec) : Type 0 where
@@ -58,9 +62,28 @@ abbrev pub SentencesAreSound : Type 0
 SentencesAreSound = (text : List ℕ) (tokens : List Token) (spec : Spec)
     → length tokens ≤ suc maxint → HasOneTree text tokens spec → IsGood spec → IsSound spec
 
+-- so what leaves in a trace that a run of a sound specification explains, leaves as it was sent
+abbrev pub ExplainedTracesSend : Type 0
+ExplainedTracesSend = (c : Setup) (run : List Move) → IsSound c.spec → IsBegun c → Explains c run
+    → AllByRecursion (LeavesAsSent c.spec) c.trace
+
 -- ALLOWED EVENTS
+
+-- a value is an ordinal, or undefined where the kind is one of scalars
+pub data IsScalarFor : Kind → Value → Type 0 where
+  undefined : {k : Kind} {v : Value} → v ≡ Undefined → IsTrue (is_scalar k) → IsScalarFor k v
+  ordinal : {k : Kind} {v : Value} (z : ℤ) → v ≡ Ordinal z → IsScalarFor k v
+
+-- what a kind takes of these fits
+abbrev pub TakenScalarsFit : Type 0
+TakenScalarsFit = (k : Kind) (v : Value) → IsScalarFor k v → Takes k v → Fits k v
 
 -- what leaves as it was sent may stand in a trace, where its values fit
 abbrev pub FittingDeparturesAreAllowed : Type 0
 FittingDeparturesAreAllowed = (spec : Spec) (i : Interaction) (sent : IsSentAt spec i)
     → AllZip Fits sent.signal.kinds i.values → IsAllowed spec (event.Leaves i)
+
+-- and so where they are ordinals, or undefined scalars
+abbrev pub ScalarDeparturesAreAllowed : Type 0
+ScalarDeparturesAreAllowed = (spec : Spec) (i : Interaction) (sent : IsSentAt spec i)
+    → AllZip IsScalarFor sent.signal.kinds i.values → IsAllowed spec (event.Leaves i)

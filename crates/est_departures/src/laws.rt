@@ -1,1 +1,32 @@
 //! What leaves in each step of a run of a good specification.
+ghost use Rattle.est_departures.specs.DepartureLaws.{StartsSend, FiringsSend, RunsSend};
+ghost use Rattle.est_departures.specs.DepartureLaws.{ExplainedTracesSend, SentencesAreSound};
+ghost use Rattle.est_departures.specs.DepartureLaws.{TakenScalarsFit};
+ghost use Rattle.est_departures.specs.DepartureLaws.{FittingDeparturesAreAllowed};
+ghost use Rattle.est_departures.specs.DepartureLaws.{ScalarDeparturesAreAllowed};
+
+/// What leaves in the start and in each firing is a signal that its port sends, and the parameters
+/// of that take its values; attachments join interaction points of one channel and one role.
+pub fn steps_send()
+    ensures starts { StartsSend }
+    ensures firings { FiringsSend }
+{}
+
+/// So it is for all events of a run, and for those of each trace that a run explains.
+pub fn runs_send()
+    ensures events { RunsSend }
+    ensures traces { ExplainedTracesSend }
+{}
+
+/// Each sentence that breaks no rule is sound.
+pub fn sentences_are_sound()
+    ensures { SentencesAreSound }
+{}
+
+/// What leaves so may stand in a trace where its values fit the kinds of its parameters; what is
+/// taken of an ordinal does, and what is undefined of a scalar.
+pub fn departures_are_allowed()
+    ensures fitting { FittingDeparturesAreAllowed }
+    ensures taken { TakenScalarsFit }
+    ensures scalars { ScalarDeparturesAreAllowed }
+{}
