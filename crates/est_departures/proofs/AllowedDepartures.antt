@@ -13,26 +13,26 @@ use Rattle.est_semantics.proofs.FittingTaken.{taken_fit}
 use Rattle.est_choices.specs.AllowedEvents.{IsSendable}
 use Rattle.est_runs.proofs.RunLaws.{bounded_is_run}
 use Rattle.est_departures.specs.SentInteractions.{Takes, LeavesAsSent}
-use Rattle.est_departures.specs.DepartureLaws.{IsScalarFor, undefined, ordinal, TakenScalarsFit}
+use Rattle.est_departures.specs.DepartureLaws.{IsSimpleFor, undefined, ordinal, TakenSimpleFit}
 use Rattle.est_departures.specs.DepartureLaws.{FittingDeparturesAreAllowed}
-use Rattle.est_departures.specs.DepartureLaws.{ScalarDeparturesAreAllowed, ExplainedTracesSend}
+use Rattle.est_departures.specs.DepartureLaws.{SimpleDeparturesAreAllowed, ExplainedTracesSend}
 use Rattle.est_departures.proofs.SendingRuns.{runs_send}
 
 undefined_fits : (k : Kind) → is_scalar k ≡ true → Fits k value.Undefined
 unfolding out-Value denote.Hole.Carrier.out
 undefined_fits k h = fitting.undefined {v = value.Undefined} refl h
 
-pub taken_scalars_fit : TakenScalarsFit
-taken_scalars_fit k v (undefined e h) g = subst (Fits k) (sym e) (undefined_fits k h)
-taken_scalars_fit k v (ordinal z e) g = taken_fit k z v (subst (λ w. taken k w ≡ Ok v) e g)
+pub taken_simple_fit : TakenSimpleFit
+taken_simple_fit k v (undefined e h) g = subst (Fits k) (sym e) (undefined_fits k h)
+taken_simple_fit k v (ordinal z e) g = taken_fit k z v (subst (λ w. taken k w ≡ Ok v) e g)
 
-scalars_fit : (ks : List Kind) (vs : List Value) → AllZip IsScalarFor ks vs → AllZip Takes ks vs
+simple_fit : (ks : List Kind) (vs : List Value) → AllZip IsSimpleFor ks vs → AllZip Takes ks vs
     → AllZip Fits ks vs
-scalars_fit [] [] h g = tt
-scalars_fit (k ∷ ks) (v ∷ vs) h g =
-    (taken_scalars_fit k v h.0 g.0, scalars_fit ks vs h.1 g.1)
-scalars_fit [] (v ∷ vs) h g = absurd h
-scalars_fit (k ∷ ks) [] h g = absurd h
+simple_fit [] [] h g = tt
+simple_fit (k ∷ ks) (v ∷ vs) h g =
+    (taken_simple_fit k v h.0 g.0, simple_fit ks vs h.1 g.1)
+simple_fit [] (v ∷ vs) h g = absurd h
+simple_fit (k ∷ ks) [] h g = absurd h
 
 pub fitting_departures_are_allowed : FittingDeparturesAreAllowed
 unfolding IsSendable
@@ -43,9 +43,9 @@ fitting_departures_are_allowed spec i sent fits = (
   sent.sends,
 )
 
-pub scalar_departures_are_allowed : ScalarDeparturesAreAllowed
-scalar_departures_are_allowed spec i sent h =
-    fitting_departures_are_allowed spec i sent (scalars_fit sent.signal.kinds i.values h sent.values)
+pub simple_departures_are_allowed : SimpleDeparturesAreAllowed
+simple_departures_are_allowed spec i sent h =
+    fitting_departures_are_allowed spec i sent (simple_fit sent.signal.kinds i.values h sent.values)
 
 pub explained_traces_send : ExplainedTracesSend
 explained_traces_send c run sound begun e =

@@ -186,6 +186,16 @@ module _ (spec : Spec) where
             (ap (λ d. kinds_in o (names_of o d)) (sym f.2) ∙ sym is.kinds) h.values);
       }
 
+  -- what an item is made of
+  made_of : (q : InteractionPoint) (d : ℕ) (vs : List Value) (i : Item)
+      → record { at = q; signal = d; values = vs } ≡ i
+      → (q ≡ i.at) × (d ≡ i.signal) × (vs ≡ i.values)
+  made_of q d vs i e = (
+    ap (λ (y : Item). y.at) e,
+    ap (λ (y : Item). y.signal) e,
+    ap (λ (y : Item). y.values) e,
+  )
+
   arrival_sent : (x : Interaction) (i : Item) → arrival (text_of spec) x ≡ Some i → IsSent o i
       → IsSentAt spec x
   arrival_sent x i h g =
@@ -194,10 +204,9 @@ module _ (spec : Spec) where
       let b = then_some _ (port_point t a.0) i a.2 in
       let c = then_some (item_by t x b.0) (slice_get a.0.signals x.signal) i b.2 in
       let d = map_some _ (signal_place t b.0 c.0) i c.2 in
-      let at : b.0 ≡ i.at = ap (λ (y : Item). y.at) d.2 in
-      sent_at x i a.0 c.0 a.1 (b.1 ∙ ap Some at) c.1
-      (subst (λ q. signal_place t q c.0 ≡ Some i.signal) at
-      (d.1 ∙ ap (λ (y : Item). Some y.signal) d.2)) (ap (λ (y : Item). y.values) d.2) g
+      let m = made_of b.0 d.0 x.values i d.2 in
+      sent_at x i a.0 c.0 a.1 (b.1 ∙ ap Some m.0) c.1
+      (subst (λ q. signal_place t q c.0 ≡ Some i.signal) m.0 (d.1 ∙ ap Some m.1)) m.2 g
 
   -- the event of an item that was sent
   departure_sent : (i : Item) (e : Event) → departure (text_of spec) i ≡ Some e → IsSent o i

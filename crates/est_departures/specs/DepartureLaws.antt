@@ -69,21 +69,21 @@ ExplainedTracesSend = (c : Setup) (run : List Move) → IsSound c.spec → IsBeg
 
 -- ALLOWED EVENTS
 
--- a value is an ordinal, or undefined where the kind is one of scalars
-pub data IsScalarFor : Kind → Value → Type 0 where
-  undefined : {k : Kind} {v : Value} → v ≡ Undefined → IsTrue (is_scalar k) → IsScalarFor k v
-  ordinal : {k : Kind} {v : Value} (z : ℤ) → v ≡ Ordinal z → IsScalarFor k v
+-- a value is simple: an ordinal, or undefined where its kind is one of scalars
+pub data IsSimpleFor : Kind → Value → Type 0 where
+  undefined : {k : Kind} {v : Value} → v ≡ Undefined → IsTrue (is_scalar k) → IsSimpleFor k v
+  ordinal : {k : Kind} {v : Value} (z : ℤ) → v ≡ Ordinal z → IsSimpleFor k v
 
--- what a kind takes of these fits
-abbrev pub TakenScalarsFit : Type 0
-TakenScalarsFit = (k : Kind) (v : Value) → IsScalarFor k v → Takes k v → Fits k v
+-- what a kind takes of simple values fits
+abbrev pub TakenSimpleFit : Type 0
+TakenSimpleFit = (k : Kind) (v : Value) → IsSimpleFor k v → Takes k v → Fits k v
 
 -- what leaves as it was sent may stand in a trace, where its values fit
 abbrev pub FittingDeparturesAreAllowed : Type 0
 FittingDeparturesAreAllowed = (spec : Spec) (i : Interaction) (sent : IsSentAt spec i)
     → AllZip Fits sent.signal.kinds i.values → IsAllowed spec (event.Leaves i)
 
--- and so where they are ordinals, or undefined scalars
-abbrev pub ScalarDeparturesAreAllowed : Type 0
-ScalarDeparturesAreAllowed = (spec : Spec) (i : Interaction) (sent : IsSentAt spec i)
-    → AllZip IsScalarFor sent.signal.kinds i.values → IsAllowed spec (event.Leaves i)
+-- and so where they are simple
+abbrev pub SimpleDeparturesAreAllowed : Type 0
+SimpleDeparturesAreAllowed = (spec : Spec) (i : Interaction) (sent : IsSentAt spec i)
+    → AllZip IsSimpleFor sent.signal.kinds i.values → IsAllowed spec (event.Leaves i)

@@ -1,9 +1,9 @@
 //! What leaves in each step of a run of a good specification.
 ghost use Rattle.est_departures.specs.DepartureLaws.{StartsSend, FiringsSend, RunsSend};
 ghost use Rattle.est_departures.specs.DepartureLaws.{ExplainedTracesSend, SentencesAreSound};
-ghost use Rattle.est_departures.specs.DepartureLaws.{TakenScalarsFit};
+ghost use Rattle.est_departures.specs.DepartureLaws.{TakenSimpleFit};
 ghost use Rattle.est_departures.specs.DepartureLaws.{FittingDeparturesAreAllowed};
-ghost use Rattle.est_departures.specs.DepartureLaws.{ScalarDeparturesAreAllowed};
+ghost use Rattle.est_departures.specs.DepartureLaws.{SimpleDeparturesAreAllowed};
 
 /// What leaves in the start and in each firing is a signal that its port sends, and the parameters
 /// of that take its values; attachments join interaction points of one channel and one role.
@@ -27,6 +27,6 @@ pub fn sentences_are_sound()
 /// taken of an ordinal does, and what is undefined of a scalar.
 pub fn departures_are_allowed()
     ensures fitting { FittingDeparturesAreAllowed }
-    ensures taken { TakenScalarsFit }
-    ensures scalars { ScalarDeparturesAreAllowed }
+    ensures taken { TakenSimpleFit }
+    ensures simple { SimpleDeparturesAreAllowed }
 {}
