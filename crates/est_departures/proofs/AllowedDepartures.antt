@@ -4,7 +4,6 @@ use Rattle.std.specs.Prelude.{Ok}
 use Rattle.std.specs.List.{AllByRecursion, AllZip}
 use Rattle.est_syntax.specs.declared.kind.Kind.{Kind}
 use Rattle.est_values.specs.declared.value.Value.{Value, out-Value}
-use Rattle.est_values.specs.declared.value.Value.TheOpen as shown
 use Rattle.est_values.specs.declared.value.Value.TheVariants as value
 use Rattle.est_values.specs.FittingValues.{is_scalar, Fits}
 use Rattle.est_values.specs.FittingValues as fitting

@@ -25,7 +25,7 @@ use Rattle.est_scope.specs.declared.declaration.Sort.TheVariants as sort
 use Rattle.est_scope.specs.declared.declaration.Standing.{Standing}
 use Rattle.est_scope.specs.Outline.{Outline, entry_at, member_at, standing}
 use Rattle.est_scope.specs.Uses.{is_sort, meaning, meant_as, declaration_of}
-use Rattle.est_outline.specs.Bodies.{side_in, side_meant, interaction_in, interaction_by}
+use Rattle.est_outline.specs.Bodies.{side_in, interaction_in, interaction_by}
 use Rattle.est_outline.specs.Bodies.{interaction_at}
 use Rattle.est_expressions.specs.Accesses.{access_faults, subscripts_at}
 use Rattle.est_expressions.specs.Expressions.{are_taken_faults}
@@ -41,9 +41,9 @@ use Rattle.est_semantics.specs.NamesInRuns.{place_in, declared_at, declared_with
 use Rattle.est_semantics.specs.NamesInRuns.{declared_in_header, interaction_of}
 use Rattle.est_fullness.specs.Full.{IsThere, AreFull}
 use Rattle.est_fullness.proofs.FullStatements.{access_used}
-use Rattle.est_fullness.proofs.FullUses.{IsAt, IsUsed, entry_of, point_side_there}
+use Rattle.est_fullness.proofs.FullUses.{IsAt, entry_of, point_side_there}
 use Rattle.est_fullness.proofs.NoFaults.{parted, unbroken}
-use Rattle.est_fullness.proofs.NotBroken.{not_broken, three}
+use Rattle.est_fullness.proofs.NotBroken.{three}
 use Rattle.est_departures.specs.SentInteractions.{MaySend}
 
 none_some : {A : Type 0} (a : A) → None ≡ Some a → ⊥

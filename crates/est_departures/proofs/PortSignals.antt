@@ -3,7 +3,7 @@
 use Rattle.std.proofs.Common.{◌≡◌, refl, sym, ap, subst, ◌∙◌, ℕ, zero, suc, Bool, true, false}
 use Rattle.std.proofs.Common.{if◌then◌else◌, List, [], ◌∷◌, Option, Some, None, slice_get}
 use Rattle.std.specs.Prelude.{option_and_then}
-use Rattle.std.specs.List.{AllByRecursion, AllZip, cons_option, filter_map}
+use Rattle.std.specs.List.{AllByRecursion, AllZip, cons_option}
 use Rattle.std.specs.Option.{option_map}
 use Rattle.std.proofs.lemmas.Option.{same_Some}
 use Rattle.est_syntax.specs.declared.channel.Role.{Role}
@@ -39,7 +39,7 @@ use Rattle.est_choices.specs.declared.event.Event.{Event}
 use Rattle.est_choices.specs.declared.event.Event.TheVariants as event
 use Rattle.est_choices.specs.declared.event.Interaction.{Interaction}
 use Rattle.est_choices.specs.OutsideEvents.{port_in, port_point, signal_place, item_at, item_by}
-use Rattle.est_choices.specs.OutsideEvents.{arrival, departure, departure_through, departures}
+use Rattle.est_choices.specs.OutsideEvents.{arrival, departure, departures}
 use Rattle.est_choices.proofs.Options.{then_some, map_some}
 use Rattle.est_choices.proofs.Outside.{ports_go_both_ways}
 use Rattle.est_departures.specs.SentInteractions.{Takes, IsSent, IsSentAt, LeavesAsSent}

@@ -1,7 +1,7 @@
 -- The blocks of a specification that breaks no rule send what their interaction points send, and
 -- join interaction points of one side.
-use Rattle.std.proofs.Common.{◌≡◌, refl, sym, ap, subst, ◌∙◌, ℕ, zero, suc, Bool, true, false}
-use Rattle.std.proofs.Common.{List, [], ◌∷◌, ◌++◌, Option, Some, None, Result, Ok, Err}
+use Rattle.std.proofs.Common.{◌≡◌, refl, ℕ, zero, suc, Bool, true, false}
+use Rattle.std.proofs.Common.{List, [], ◌∷◌, Option, Some, None, Result, Ok, Err}
 use Rattle.std.specs.Prelude.{ℤ, if◌then◌else◌, ◌+ℤ◌}
 use Rattle.std.specs.List.{AllByRecursion}
 use Rattle.est_syntax.specs.declared.body.Body.{out-Body}
@@ -33,7 +33,6 @@ use Rattle.est_semantics.specs.declared.frame.Holder.{Holder}
 use Rattle.est_semantics.specs.declared.frame.Holder.TheVariants as holder
 use Rattle.est_semantics.specs.declared.frame.Slot.{Slot}
 use Rattle.est_semantics.specs.declared.frame.Slot.TheVariants as slot
-use Rattle.est_semantics.specs.declared.situation.Element.{Element}
 use Rattle.est_semantics.specs.declared.situation.InteractionPoint.{InteractionPoint}
 use Rattle.est_semantics.specs.declared.situation.Item.{Item}
 use Rattle.est_semantics.specs.Outcome.{Outcome, Done, Fault, Limit, onward, ◌>>=◌, ◌>>◌, give}
@@ -78,7 +77,7 @@ use Rattle.est_fullness.proofs.NotBroken.{three}
 use Rattle.est_departures.specs.SentInteractions.{HaveOneSide, IsSent}
 use Rattle.est_departures.proofs.Climbs.{crossed_sent}
 use Rattle.est_departures.proofs.FaultlessBlocks.{IsFaultless, FaultlessBlocks}
-use Rattle.est_departures.proofs.JoinedLinks.{Joined, crossed_joined, connected_joined}
+use Rattle.est_departures.proofs.JoinedLinks.{Joined, connected_joined}
 use Rattle.est_departures.proofs.JoinedLinks.{attached_joined, disconnected_joined, end_joined}
 use Rattle.est_departures.proofs.JoinedLinks.{released_joined, born_joined}
 use Rattle.est_departures.proofs.NamedEnds.{output_sends, attach_joins}

@@ -1,15 +1,11 @@
 -- What leaves in the start and in each step of a run is what its ports send.
-use Rattle.std.proofs.Common.{◌≡◌, refl, sym, ap, subst, ℕ, suc, ◌≤◌, List, [], ◌∷◌, ◌++◌}
-use Rattle.std.proofs.Common.{length, Option, Some, None, false}
-use Rattle.std.specs.List.{AllByRecursion, AllZip}
+use Rattle.std.proofs.Common.{◌≡◌, refl, sym, subst, ℕ, List, [], ◌∷◌, ◌++◌}
+use Rattle.std.proofs.Common.{Option, Some, None, false}
+use Rattle.std.specs.List.{AllByRecursion}
 use Rattle.std.specs.Option.{option_map_or}
-use Rattle.est_syntax.specs.Kinds.{maxint}
 use Rattle.est_syntax.specs.declared.body.Block.{out-Block}
 use Rattle.est_syntax.specs.declared.specification.Spec.{Spec}
-use Rattle.est_lexer.specs.declared.kind.Token.{Token}
-use Rattle.est_grammar.specs.Answer.{HasOneTree}
 use Rattle.est_outline.specs.Bodies.{outline_of}
-use Rattle.est_check.specs.LeastFault.{IsGood}
 use Rattle.est_semantics.specs.declared.fault.BlockFault.TheVariants.{Undefined}
 use Rattle.est_semantics.specs.declared.situation.InteractionPoint.{InteractionPoint}
 use Rattle.est_semantics.specs.Outcome.{Outcome, Done, Fault, Limit}
@@ -23,26 +19,24 @@ use Rattle.est_semantics.specs.StatementEffects.{statements_in}
 use Rattle.est_semantics.specs.StartMeaning.{no_instances, start_before}
 use Rattle.est_choices.specs.declared.event.Event.{Event}
 use Rattle.est_choices.specs.declared.event.Event.TheVariants as event
-use Rattle.est_choices.specs.declared.event.Interaction.{Interaction}
 use Rattle.est_choices.specs.declared.firing.Firing.{Firing}
 use Rattle.est_choices.specs.ClauseContexts.{transitions_of}
 use Rattle.est_choices.specs.TransitionChoices.{Choice, choice_by, choice_in, choice_of, numbered}
 use Rattle.est_choices.specs.TransitionChoices.{any_tuples}
 use Rattle.est_choices.specs.GuardParts.{view_of}
 use Rattle.est_choices.specs.DelayStamps.{restamped}
-use Rattle.est_choices.specs.OutsideEvents.{after_event, departures}
+use Rattle.est_choices.specs.OutsideEvents.{after_event}
 use Rattle.est_choices.specs.FiringSteps.{taking_point, without_awaited, block_frame, performed_in}
 use Rattle.est_choices.specs.FiringSteps.{completed, finished, fired_in, fired_by, outcome}
 use Rattle.est_choices.specs.FiringSteps.{start_of}
 use Rattle.est_choices.proofs.Options.{then_some, map_some, by_option}
 use Rattle.est_choices.proofs.Outside.{events_are_outside}
-use Rattle.est_runs.specs.declared.run.Move.{Move}
 use Rattle.est_runs.specs.declared.run.Move.TheVariants.{Take, Fire}
-use Rattle.est_runs.specs.Run.{Setup, Place, IsBegun, IsRun, IsFromOutside}
+use Rattle.est_runs.specs.Run.{Place, IsFromOutside}
 use Rattle.est_upkeep.specs.UpkeepLaws.{OnDone}
 use Rattle.est_upkeep.proofs.ParentsOlder.{joined_all}
 use Rattle.est_fullness.proofs.WholeSentences.{sentences_whole}
-use Rattle.est_departures.specs.SentInteractions.{HaveOneSide, JoinOneSide, IsSent, IsSentAt}
+use Rattle.est_departures.specs.SentInteractions.{JoinOneSide, IsSent}
 use Rattle.est_departures.specs.SentInteractions.{LeavesAsSent}
 use Rattle.est_departures.specs.DepartureLaws.{IsSound, HasSent, StartsSend, FiringsSend, RunsSend}
 use Rattle.est_departures.specs.DepartureLaws.{SentencesAreSound}

@@ -1,7 +1,7 @@
 -- What the parameters of an interaction take: each value is taken as one of its kind.
 use Rattle.std.proofs.Common.{◌≡◌, refl, sym, ap, subst, ◌∙◌, ℕ, Bool, true, false, List, []}
 use Rattle.std.proofs.Common.{◌∷◌, ◌++◌, map, Option, Some, None, Result, Ok, Err}
-use Rattle.std.specs.Prelude.{ℤ, if◌then◌else◌, option_to_list}
+use Rattle.std.specs.Prelude.{if◌then◌else◌, option_to_list}
 use Rattle.std.specs.List.{AllByRecursion, AllZip, filter}
 use Rattle.std.specs.Option.{option_map}
 use Rattle.est_syntax.specs.declared.expression.Expr.{Expr}
@@ -120,8 +120,11 @@ module _ (o : Outline) (full : AreFull o) where
   one_more p k ps ks e rest [] h =
       good_on (HaveKinds ks) (HaveKinds (k ∷ ks)) (frame_of o ps []) (λ f. Ok (unset o p ∷ f))
       (rest [] tt)
-      (λ f g. (subst (λ x. Takes k (slot_value (slot.Value (first x)))) (sym e)
-      (undefined_taken k), g))
+      (λ f g. (
+        subst (λ x. Takes k (slot_value (slot.Value (first x)))) (sym e)
+            (undefined_taken k),
+        g,
+      ))
     where
       first : Option Kind → Value
       first None = value.Undefined
