@@ -8,8 +8,8 @@ use Rattle.est_syntax.specs.declared.specification.Spec.{Spec}
 use Rattle.est_lexer.specs.declared.kind.Token.{Token}
 use Rattle.est_grammar.specs.Answer.{HasOneTree}
 use Rattle.est_values.specs.declared.value.Value.{Value}
-use Rattle.est_values.specs.declared.value.Value.TheVariants.{Undefined, Ordinal}
-use Rattle.est_values.specs.FittingValues.{is_scalar, Fits}
+use Rattle.est_values.specs.declared.value.Value.TheVariants.{Undefined, Ordinal, Set}
+use Rattle.est_values.specs.FittingValues.{is_scalar, AscendFrom, Fits}
 use Rattle.est_outline.specs.Bodies.{outline_of}
 use Rattle.est_check.specs.LeastFault.{IsGood}
 use Rattle.est_semantics.specs.Outcome.{Done}
@@ -69,21 +69,25 @@ ExplainedTracesSend = (c : Setup) (run : List Move) → IsSound c.spec → IsBeg
 
 -- ALLOWED EVENTS
 
--- a value is simple: an ordinal, or undefined where its kind is one of scalars
-pub data IsSimpleFor : Kind → Value → Type 0 where
-  undefined : {k : Kind} {v : Value} → v ≡ Undefined → IsTrue (is_scalar k) → IsSimpleFor k v
-  ordinal : {k : Kind} {v : Value} (z : ℤ) → v ≡ Ordinal z → IsSimpleFor k v
+-- A value may be given to a variable of a kind, or is refused for its range alone: it is undefined
+-- where the kind is one of scalars, or an ordinal, or a set with ascending members, or it fits.
+pub data MayBeGiven : Kind → Value → Type 0 where
+  undefined : {k : Kind} {v : Value} → v ≡ Undefined → IsTrue (is_scalar k) → MayBeGiven k v
+  ordinal : {k : Kind} {v : Value} (z : ℤ) → v ≡ Ordinal z → MayBeGiven k v
+  set : {k : Kind} {v : Value} (low high : ℤ) (zs : List ℤ) → v ≡ Set zs → AscendFrom low high zs
+      → MayBeGiven k v
+  fitting : {k : Kind} {v : Value} → Fits k v → MayBeGiven k v
 
--- what a kind takes of simple values fits
-abbrev pub TakenSimpleFit : Type 0
-TakenSimpleFit = (k : Kind) (v : Value) → IsSimpleFor k v → Takes k v → Fits k v
+-- what a kind takes of these fits
+abbrev pub WhatIsTakenFits : Type 0
+WhatIsTakenFits = (k : Kind) (v : Value) → MayBeGiven k v → Takes k v → Fits k v
 
 -- what leaves as it was sent may stand in a trace, where its values fit
 abbrev pub FittingDeparturesAreAllowed : Type 0
 FittingDeparturesAreAllowed = (spec : Spec) (i : Interaction) (sent : IsSentAt spec i)
     → AllZip Fits sent.signal.kinds i.values → IsAllowed spec (event.Leaves i)
 
--- and so where they are simple
-abbrev pub SimpleDeparturesAreAllowed : Type 0
-SimpleDeparturesAreAllowed = (spec : Spec) (i : Interaction) (sent : IsSentAt spec i)
-    → AllZip IsSimpleFor sent.signal.kinds i.values → IsAllowed spec (event.Leaves i)
+-- and so where they may be given to its parameters
+abbrev pub GivenDeparturesAreAllowed : Type 0
+GivenDeparturesAreAllowed = (spec : Spec) (i : Interaction) (sent : IsSentAt spec i)
+    → AllZip MayBeGiven sent.signal.kinds i.values → IsAllowed spec (event.Leaves i)

@@ -1,9 +1,9 @@
 //! What leaves in each step of a run of a good specification.
 ghost use Rattle.est_departures.specs.DepartureLaws.{StartsSend, FiringsSend, RunsSend};
 ghost use Rattle.est_departures.specs.DepartureLaws.{ExplainedTracesSend, SentencesAreSound};
-ghost use Rattle.est_departures.specs.DepartureLaws.{TakenSimpleFit};
+ghost use Rattle.est_departures.specs.DepartureLaws.{WhatIsTakenFits};
 ghost use Rattle.est_departures.specs.DepartureLaws.{FittingDeparturesAreAllowed};
-ghost use Rattle.est_departures.specs.DepartureLaws.{SimpleDeparturesAreAllowed};
+ghost use Rattle.est_departures.specs.DepartureLaws.{GivenDeparturesAreAllowed};
 
 /// What leaves in the start and in each firing is a signal that its port sends, and the parameters
 /// of that take its values; attachments join interaction points of one channel and one role.
@@ -24,9 +24,9 @@ pub fn sentences_are_sound()
 {}
 
 /// What leaves so may stand in a trace where its values fit the kinds of its parameters; what is
-/// taken of an ordinal does, and what is undefined of a scalar.
+/// taken of what may be given to a parameter does.
 pub fn departures_are_allowed()
     ensures fitting { FittingDeparturesAreAllowed }
-    ensures taken { TakenSimpleFit }
-    ensures simple { SimpleDeparturesAreAllowed }
+    ensures taken { WhatIsTakenFits }
+    ensures given { GivenDeparturesAreAllowed }
 {}
