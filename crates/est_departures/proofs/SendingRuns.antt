@@ -188,7 +188,7 @@ runs_send c (Fire f ∷ run) p sound begun r = let x = r.2 in
     }
 
 pub sentences_are_sound : SentencesAreSound
-sentences_are_sound text tokens spec few tree good = record {
+sentences_are_sound spec h good = record {
   good = good;
-  full = (sentences_whole text tokens spec few tree (no_faults spec good)).0.full;
+  full = (sentences_whole h.text h.tokens spec h.few h.tree (no_faults spec good)).0.full;
 }

@@ -1,12 +1,9 @@
 -- What leaves a system in its start and in each step is what its ports send (ISO 9074, 5:
 -- next-situation relation; 7: channel-definition, output-statement and attach-statement).
-use Rattle.std.specs.Prelude.{◌≡◌, ℕ, ◌≤◌, suc, ℤ, IsTrue, List, length}
+use Rattle.std.specs.Prelude.{◌≡◌, ℕ, ℤ, IsTrue, List}
 use Rattle.std.specs.List.{AllByRecursion, AllZip}
-use Rattle.est_syntax.specs.Kinds.{maxint}
 use Rattle.est_syntax.specs.declared.kind.Kind.{Kind}
 use Rattle.est_syntax.specs.declared.specification.Spec.{Spec}
-use Rattle.est_lexer.specs.declared.kind.Token.{Token}
-use Rattle.est_grammar.specs.Answer.{HasOneTree}
 use Rattle.est_values.specs.declared.value.Value.{Value}
 use Rattle.est_values.specs.declared.value.Value.TheVariants.{Undefined, Ordinal, Set}
 use Rattle.est_values.specs.FittingValues.{is_scalar, AscendFrom, Fits}
@@ -24,6 +21,7 @@ use Rattle.est_choices.specs.FiringSteps.{outcome, start_of}
 use Rattle.est_runs.specs.declared.run.Move.{Move}
 use Rattle.est_runs.specs.Run.{Setup, Place, IsBegun, IsRun, Explains}
 use Rattle.est_fullness.specs.Full.{AreFull}
+use Rattle.est_fullness.specs.SentenceOf.{IsSentence}
 use Rattle.est_departures.specs.SentInteractions.{Takes, IsSentAt, LeavesAsSent}
 use Rattle.est_departures.specs.SentInteractions.{JoinOneSide}
 
@@ -31,6 +29,10 @@ use Rattle.est_departures.specs.SentInteractions.{JoinOneSide}
 pub record IsSound (spec : Spec) : Type 0 where
   pub good : IsGood spec
   pub full : AreFull (outline_of spec)
+
+-- that of a sentence is sound, where it breaks no rule
+abbrev pub SentencesAreSound : Type 0
+SentencesAreSound = (spec : Spec) → IsSentence spec → IsGood spec → IsSound spec
 
 -- STEPS
 
@@ -57,12 +59,7 @@ abbrev pub RunsSend : Type 0
 RunsSend = (c : Setup) (run : List Move) (p : Place) → IsSound c.spec → IsBegun c → IsRun c run p
     → HasSent c.spec p.situation p.events
 
--- a sentence that breaks no rule is sound
-abbrev pub SentencesAreSound : Type 0
-SentencesAreSound = (text : List ℕ) (tokens : List Token) (spec : Spec)
-    → length tokens ≤ suc maxint → HasOneTree text tokens spec → IsGood spec → IsSound spec
-
--- so what leaves in a trace that a run of a sound specification explains, leaves as it was sent
+-- so it is in a trace that a run of a sound specification explains
 abbrev pub ExplainedTracesSend : Type 0
 ExplainedTracesSend = (c : Setup) (run : List Move) → IsSound c.spec → IsBegun c → Explains c run
     → AllByRecursion (LeavesAsSent c.spec) c.trace
