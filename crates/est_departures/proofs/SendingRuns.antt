@@ -39,7 +39,7 @@ use Rattle.est_fullness.proofs.WholeSentences.{sentences_whole}
 use Rattle.est_departures.specs.SentInteractions.{JoinOneSide, IsSent}
 use Rattle.est_departures.specs.SentInteractions.{LeavesAsSent}
 use Rattle.est_departures.specs.DepartureLaws.{IsSound, HasSent, StartsSend, FiringsSend, RunsSend}
-use Rattle.est_departures.specs.DepartureLaws.{SentencesAreSound}
+use Rattle.est_departures.specs.DepartureLaws.{SentencesAreSound, SentencesSend}
 use Rattle.est_departures.proofs.FaultlessBlocks.{IsFaultless, FaultlessBlocks, no_faults}
 use Rattle.est_departures.proofs.FaultlessBlocks.{blocks_faultless}
 use Rattle.est_departures.proofs.PortSignals.{departures_sent}
@@ -192,3 +192,7 @@ sentences_are_sound spec h good = record {
   good = good;
   full = (sentences_whole h.text h.tokens spec h.few h.tree (no_faults spec good)).0.full;
 }
+
+pub sentences_send : SentencesSend
+sentences_send c run p sentence good begun r =
+    runs_send c run p (sentences_are_sound c.spec sentence good) begun r

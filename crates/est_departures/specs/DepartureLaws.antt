@@ -59,6 +59,11 @@ abbrev pub RunsSend : Type 0
 RunsSend = (c : Setup) (run : List Move) (p : Place) → IsSound c.spec → IsBegun c → IsRun c run p
     → HasSent c.spec p.situation p.events
 
+-- and so of a sentence that breaks no rule
+abbrev pub SentencesSend : Type 0
+SentencesSend = (c : Setup) (run : List Move) (p : Place) → IsSentence c.spec → IsGood c.spec
+    → IsBegun c → IsRun c run p → HasSent c.spec p.situation p.events
+
 -- so it is in a trace that a run of a sound specification explains
 abbrev pub ExplainedTracesSend : Type 0
 ExplainedTracesSend = (c : Setup) (run : List Move) → IsSound c.spec → IsBegun c → Explains c run

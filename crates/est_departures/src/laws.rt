@@ -1,6 +1,7 @@
 //! What leaves in each step of a run of a good specification.
 ghost use Rattle.est_departures.specs.DepartureLaws.{StartsSend, FiringsSend, RunsSend};
 ghost use Rattle.est_departures.specs.DepartureLaws.{ExplainedTracesSend, SentencesAreSound};
+ghost use Rattle.est_departures.specs.DepartureLaws.{SentencesSend};
 ghost use Rattle.est_departures.specs.DepartureLaws.{WhatIsTakenFits};
 ghost use Rattle.est_departures.specs.DepartureLaws.{FittingDeparturesAreAllowed};
 ghost use Rattle.est_departures.specs.DepartureLaws.{GivenDeparturesAreAllowed};
@@ -18,9 +19,10 @@ pub fn runs_send()
     ensures traces { ExplainedTracesSend }
 {}
 
-/// Each sentence that breaks no rule is sound.
-pub fn sentences_are_sound()
-    ensures { SentencesAreSound }
+/// Each sentence that breaks no rule is sound; so it is of all events of its runs.
+pub fn sentences_send()
+    ensures sound { SentencesAreSound }
+    ensures events { SentencesSend }
 {}
 
 /// What leaves so may stand in a trace where its values fit the kinds of its parameters; what is
