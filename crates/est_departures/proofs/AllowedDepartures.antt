@@ -1,6 +1,6 @@
 -- Which departures may stand in a trace.
 use Rattle.std.proofs.Common.{◌≡◌, refl, sym, subst, arith, ℤ, pos, ◌+ℤ◌, ◌≤ℤ◌, Bool, true, false}
-use Rattle.std.proofs.Common.{◌&&◌, List, [], ◌∷◌, Ok, Err}
+use Rattle.std.proofs.Common.{List, [], ◌∷◌, Ok, Err}
 use Rattle.std.specs.Prelude.{int_le, if◌then◌else◌}
 use Rattle.std.specs.List.{AllByRecursion, AllZip, list_all}
 use Rattle.std.proofs.lemmas.Int.{ints}
@@ -21,6 +21,7 @@ use Rattle.est_departures.specs.DepartureLaws.{MayBeGiven, WhatIsTakenFits}
 use Rattle.est_departures.specs.DepartureLaws.{FittingDeparturesAreAllowed}
 use Rattle.est_departures.specs.DepartureLaws.{GivenDeparturesAreAllowed, ExplainedTracesSend}
 use Rattle.est_departures.specs.DepartureLaws as given
+use Rattle.est_departures.proofs.NamedEnds.{both_true}
 use Rattle.est_departures.proofs.SendingRuns.{runs_send}
 
 undefined_fits : (k : Kind) → is_scalar k ≡ true → Fits k value.Undefined
@@ -32,25 +33,21 @@ undefined_fits k h = fitting.undefined {v = value.Undefined} refl h
 le_holds : (a b : ℤ) → int_le a b ≡ true → a ≤ℤ b
 le_holds a b h = omega (arith, ints, h)
 
-both_hold : (a b : Bool) → a && b ≡ true → (a ≡ true) × (b ≡ true)
-both_hold true b h = (refl, h)
-both_hold false b h = cc
-
 -- members that ascend, each within a base, are members of it
 ascend_within : (base : Kind) (low high : ℤ) (zs : List ℤ) → AscendFrom low high zs
     → list_all (is_within base) zs ≡ true → AscendFrom low (last_ordinal base) zs
 ascend_within base low high [] h g = tt
 ascend_within base low high (z ∷ zs) h g =
-    let a = both_hold (is_within base z) (list_all (is_within base) zs) g in
-    let b = both_hold (int_le (first_ordinal base) z) (int_le z (last_ordinal base)) a.0 in
+    let a = both_true (is_within base z) (list_all (is_within base) zs) g in
+    let b = both_true (int_le (first_ordinal base) z) (int_le z (last_ordinal base)) a.0 in
     (h.0, le_holds z (last_ordinal base) b.1, ascend_within base (z +ℤ pos 1) high zs h.2 a.1)
 
 are_members : (base : Kind) (low high : ℤ) (zs : List ℤ) → AscendFrom low high zs
     → list_all (is_within base) zs ≡ true → AreMembersOf base zs
 are_members base low high [] h g = tt
 are_members base low high (z ∷ zs) h g =
-    let a = both_hold (is_within base z) (list_all (is_within base) zs) g in
-    let b = both_hold (int_le (first_ordinal base) z) (int_le z (last_ordinal base)) a.0 in (
+    let a = both_true (is_within base z) (list_all (is_within base) zs) g in
+    let b = both_true (int_le (first_ordinal base) z) (int_le z (last_ordinal base)) a.0 in (
       le_holds (first_ordinal base) z b.0,
       le_holds z (last_ordinal base) b.1,
       ascend_within base (z +ℤ pos 1) high zs h.2 a.1,

@@ -4,7 +4,7 @@ use Rattle.std.proofs.Common.{List, [], ◌∷◌, ◌++◌, Option, Some, None,
 use Rattle.std.specs.Prelude.{if◌then◌else◌, find}
 use Rattle.std.specs.List.{AllByRecursion}
 use Rattle.std.specs.Option.{option_map_or}
-use Rattle.std.proofs.lemmas.Option.{same_Some}
+use Rattle.std.proofs.lemmas.Option.{same_Some, none-some}
 use Rattle.est_semantics.specs.declared.situation.InteractionPoint.{InteractionPoint}
 use Rattle.est_semantics.specs.declared.situation.Item.{Item}
 use Rattle.est_semantics.specs.TextByPlace.{Text}
@@ -19,13 +19,10 @@ use Rattle.est_scope.specs.Outline.{Outline}
 use Rattle.est_departures.specs.SentInteractions.{HaveOneSide, IsSent}
 use Rattle.est_departures.proofs.JoinedLinks.{Joined, crossed_joined}
 
-none_some : {A : Type 0} (a : A) → None ≡ Some a → ⊥
-none_some a h = cc
-
 -- what is found passes
 found_passes : {A : Type 0} (test : A → Bool) (xs : List A) (y : A) → find test xs ≡ Some y
     → test y ≡ true
-found_passes test [] y h = absurd (none_some y h)
+found_passes test [] y h = absurd (none-some y h)
 found_passes test (x ∷ xs) y h = one (test x) refl h (found_passes test xs y)
   where
     one : (b : Bool) → test x ≡ b → (if b then Some x else find test xs) ≡ Some y

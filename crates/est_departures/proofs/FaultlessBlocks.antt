@@ -4,7 +4,7 @@ use Rattle.std.proofs.Common.{List, [], ◌∷◌, ◌++◌, Option, Some, None,
 use Rattle.std.specs.Prelude.{if◌then◌else◌, find, slice_get}
 use Rattle.std.specs.List.{AllByRecursion, cons_option, filter_map, flat_map}
 use Rattle.std.specs.Option.{option_map_or}
-use Rattle.std.proofs.lemmas.Option.{same_Some}
+use Rattle.std.proofs.lemmas.Option.{same_Some, none-some}
 use Rattle.est_syntax.specs.Least.{IsIn}
 use Rattle.est_syntax.specs.declared.body.Block.{out-Block}
 use Rattle.est_syntax.specs.declared.body.Body.{Body, Body', out-Body, Row_of-Group, end_of-Group}
@@ -44,9 +44,6 @@ use Rattle.est_choices.specs.TransitionChoices.{numbered}
 use Rattle.est_upkeep.proofs.ParentsOlder.{joined_all}
 use Rattle.est_fullness.proofs.NoFaults.{parted}
 
-none_some : {A : Type 0} (a : A) → None ≡ Some a → ⊥
-none_some a h = cc
-
 -- the statements of a function, or of none, break no rule
 abbrev pub IsFaultless : Outline → List Statement → Type 0
 IsFaultless o xs = (f : Option ℕ) × (statements_faults o f [] xs ≡ [])
@@ -67,7 +64,7 @@ pub record FaultlessBlocks (t : Text) : Type 0 where
 -- what holds of each item holds of the one that is found
 found_one : {A : Type 0} (P : A → Type 0) (test : A → Bool) (xs : List A) (y : A)
     → AllByRecursion P xs → find test xs ≡ Some y → P y
-found_one P test [] y h e = absurd (none_some y e)
+found_one P test [] y h e = absurd (none-some y e)
 found_one P test (x ∷ xs) y h e = one (test x) e (found_one P test xs y h.1)
   where
     one : (b : Bool) → (if b then Some x else find test xs) ≡ Some y
@@ -88,13 +85,13 @@ of_sort P of (x ∷ xs) h = one (of x) h.0 (of_sort P of xs h.1)
 
 at_number : {A : Type 0} (P : A → Type 0) (xs : List A) (n : ℕ) (y : A) → AllByRecursion P xs
     → slice_get xs n ≡ Some y → P y
-at_number P [] n y h e = absurd (none_some y e)
+at_number P [] n y h e = absurd (none-some y e)
 at_number P (x ∷ xs) zero y h e = subst P (same_Some x y e) h.0
 at_number P (x ∷ xs) (suc n) y h e = at_number P xs n y h.1 e
 
 numbered_one : {A : Type 0} (P : A → Type 0) (xs : List A) (n : ℕ) (y : A) → AllByRecursion P xs
     → numbered xs n ≡ Some y → P y
-numbered_one P xs zero y h e = absurd (none_some y e)
+numbered_one P xs zero y h e = absurd (none-some y e)
 numbered_one P xs (suc n) y h e = at_number P xs n y h e
 
 module _ (o : Outline) where
@@ -130,7 +127,7 @@ module _ (o : Outline) where
   first_good : (f : Held-Body-first) (g : FirstPart) → first_faults o f ≡ []
       → first.view-Body-first f ≡ Some g → IsFaultless o (first_statements g)
   unfolding out-Part denote.Hole.Carrier.out denote.Hole.Carrier.shown
-  first_good first.None' g h e = absurd (none_some g e)
+  first_good first.None' g h e = absurd (none-some g e)
   first_good (first.Some' to a parts ss place) g h e =
       subst (λ (z : FirstPart). IsFaultless o (first_statements z)) (same_Some _ g e)
       (None, (parted _ (statements_faults o None [] ss) (parted _ _ h).1).1)
@@ -157,14 +154,14 @@ module _ (o : Outline) where
         transitions = subst (λ gs. AllByRecursion IsGoodOne (flat_map group_transitions gs))
             (sym (items_shown-the_row-Group-1 c groups)) (groups_good groups own.1);
       }
-  body_good _ h b e = absurd (none_some b e)
+  body_good _ h b e = absurd (none-some b e)
 
   routine_good : (x : Part) → part_faults o x ≡ [] → IsRoutineGood x
   unfolding out-Part denote.Hole.Carrier.out denote.Hole.Carrier.shown
   routine_good (part.Routine' name formals result a parts ss place) h r e =
       subst (λ (z : Routine). IsFaultless o (statements_of z)) (same_Some _ r e)
       (function_of name result, h)
-  routine_good _ h r e = absurd (none_some r e)
+  routine_good _ h r e = absurd (none-some r e)
 
   -- a part, and those within it
   module _ (P : Part → Type 0) (good : (x : Part) → part_faults o x ≡ [] → P x) where

@@ -3,7 +3,7 @@
 use Rattle.std.proofs.Common.{◌≡◌, refl, subst, ℕ, nat_eq, nat_lt, Bool, true, false, ◌||◌}
 use Rattle.std.proofs.Common.{List, [], ◌∷◌, ◌++◌, Option, Some, None, Result, Ok, Err, is_some}
 use Rattle.std.specs.Prelude.{if◌then◌else◌, option_and_then}
-use Rattle.std.proofs.lemmas.Option.{same_Some}
+use Rattle.std.proofs.lemmas.Option.{same_Some, none-some}
 use Rattle.est_semantics.specs.declared.fault.BlockFault.{BlockFault}
 use Rattle.est_semantics.specs.declared.situation.Element.{Element}
 use Rattle.est_semantics.specs.declared.situation.InteractionPoint.{InteractionPoint}
@@ -26,9 +26,6 @@ use Rattle.est_semantics.specs.InstanceEffects.{untied, released, born}
 use Rattle.est_semantics.proofs.MutualPeers.{point_same}
 use Rattle.est_upkeep.proofs.GivenThings.{OnGood}
 use Rattle.est_upkeep.proofs.ParentsOlder.{good_if}
-
-none_some : {A : Type 0} (a : A) → None ≡ Some a → ⊥
-none_some a h = cc
 
 module _ (R : InteractionPoint → InteractionPoint → Type 0) where
   -- each link joins interaction points that are related
@@ -86,7 +83,7 @@ module _ (R : InteractionPoint → InteractionPoint → Type 0) where
   loosened_joined : (t : Text) (e : InteractionPoint) (o : Option InteractionPoint) (s : Situation)
       → Joined s → Joined (loosened t e o s)
   loosened_joined t e None s h = h
-  loosened_joined t e (Some c) s h = point_joins e None s.down (λ q k. absurd (none_some q k)) h
+  loosened_joined t e (Some c) s h = point_joins e None s.down (λ q k. absurd (none-some q k)) h
 
   from_joined : (t : Text) (o : Option InteractionPoint) (s : Situation) → Joined s
       → Joined (detached_from t o s)
@@ -114,18 +111,18 @@ module _ (R : InteractionPoint → InteractionPoint → Type 0) where
   without_joined ns m h p q k = one (is_among ns p.instance) k
     where
       kept : (x : InteractionPoint) (b : Bool) → (if b then None else Some x) ≡ Some q → x ≡ q
-      kept x true e = absurd (none_some q e)
+      kept x true e = absurd (none-some q e)
       kept x false e = same_Some x q e
 
       other : (o : Option InteractionPoint) → m p ≡ o → option_and_then (point_without ns) o ≡ Some q
           → R p q
-      other None z e = absurd (none_some q e)
+      other None z e = absurd (none-some q e)
       other (Some x) z e = subst (λ (y : InteractionPoint). R p y)
           (kept x (is_among ns x.instance) e) (h p x z)
 
       one : (b : Bool) → (if b then None else option_and_then (point_without ns) (m p)) ≡ Some q
           → R p q
-      one true e = absurd (none_some q e)
+      one true e = absurd (none-some q e)
       one false e = other (m p) refl e
 
   pub released_joined : (t : Text) (n : ℕ) (s : Situation) → Joined s

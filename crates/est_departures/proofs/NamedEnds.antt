@@ -5,7 +5,7 @@ use Rattle.std.proofs.Common.{[], ◌++◌, Option, Some, None}
 use Rattle.std.specs.Prelude.{if◌then◌else◌, option_and_then}
 use Rattle.std.specs.Option.{option_map}
 use Rattle.std.proofs.lemmas.Bool.{eqb-true}
-use Rattle.std.proofs.lemmas.Option.{cond_some, same_Some}
+use Rattle.std.proofs.lemmas.Option.{cond_some, same_Some, none-some}
 use Rattle.est_syntax.specs.Names.{spelled}
 use Rattle.est_syntax.specs.declared.channel.Role.{Role}
 use Rattle.est_syntax.specs.declared.channel.Role.TheVariants.{First, Second}
@@ -46,16 +46,13 @@ use Rattle.est_fullness.proofs.NoFaults.{parted, unbroken}
 use Rattle.est_fullness.proofs.NotBroken.{three}
 use Rattle.est_departures.specs.SentInteractions.{MaySend}
 
-none_some : {A : Type 0} (a : A) → None ≡ Some a → ⊥
-none_some a h = cc
-
 -- NAMES
 
 meant_place : (o : Outline) (s : Sort) (m : Meant) (p q : ℕ) → meant_as o s m ≡ Some p
     → place_in m ≡ Some q → p ≡ q
-meant_place o s meant.Nothing p q h k = absurd (none_some q k)
-meant_place o s (meant.Predeclared n) p q h k = absurd (none_some q k)
-meant_place o s (meant.Unseen r) p q h k = absurd (none_some q k)
+meant_place o s meant.Nothing p q h k = absurd (none-some q k)
+meant_place o s (meant.Predeclared n) p q h k = absurd (none-some q k)
+meant_place o s (meant.Unseen r) p q h k = absurd (none-some q k)
 meant_place o s (meant.Seen r) p q h k =
     sym (cond_some (is_sort s (entry_at o r)) r p h).1 ∙ same_Some r q k
 
@@ -76,9 +73,9 @@ named o s a p full h e =
 member_sends : (o : Outline) (p : ℕ) (side : Side) (s : Standing) (m : Option Member)
     (place d : ℕ) → side_at o (Some p) ≡ Some side → member_at o s.place ≡ m
     → direction_faults Sends side.role m place ≡ [] → interaction_in m s ≡ Some d → MaySend o p d
-member_sends o p side s None place d e k h i = absurd (none_some d i)
-member_sends o p side s (Some (member.Role r)) place d e k h i = absurd (none_some d i)
-member_sends o p side s (Some member.Field) place d e k h i = absurd (none_some d i)
+member_sends o p side s None place d e k h i = absurd (none-some d i)
+member_sends o p side s (Some (member.Role r)) place d e k h i = absurd (none-some d i)
+member_sends o p side s (Some member.Field) place d e k h i = absurd (none-some d i)
 member_sends o p side s (Some (member.Interaction x)) place d e k h i = record {
   side = side;
   side_is = e;
@@ -90,7 +87,7 @@ member_sends o p side s (Some (member.Interaction x)) place d e k h i = record {
 standing_sends : (o : Outline) (p : ℕ) (side : Side) (x : Option Standing) (place d : ℕ)
     → side_at o (Some p) ≡ Some side → standing_faults o Sends side.role x place ≡ []
     → interaction_by o x ≡ Some d → MaySend o p d
-standing_sends o p side None place d e h i = absurd (none_some d i)
+standing_sends o p side None place d e h i = absurd (none-some d i)
 standing_sends o p side (Some s) place d e h i =
     member_sends o p side s (member_at o s.place) place d e refl h i
 
@@ -127,7 +124,7 @@ roles_same Second Second h = refl
 roles_same First Second h = cc
 roles_same Second First h = cc
 
-both_true : (a b : Bool) → a && b ≡ true → (a ≡ true) × (b ≡ true)
+pub both_true : (a b : Bool) → a && b ≡ true → (a ≡ true) × (b ≡ true)
 both_true true b h = (refl, h)
 both_true false b h = cc
 
@@ -140,8 +137,8 @@ sides_same s t h =
 
 joined_same : (x y : Option Side) (place : ℕ) → IsThere x → IsThere y
     → joined_faults x y place ≡ [] → x ≡ y
-joined_same None y place a b h = absurd (none_some a.0 a.1)
-joined_same (Some s) None place a b h = absurd (none_some b.0 b.1)
+joined_same None y place a b h = absurd (none-some a.0 a.1)
+joined_same (Some s) None place a b h = absurd (none-some b.0 b.1)
 joined_same (Some s) (Some t) place a b h =
     ap Some (sides_same s t (unbroken (do_attach s t) place rule.WrongLink h))
 
@@ -149,13 +146,13 @@ joined_same (Some s) (Some t) place a b h =
 child_named : (o : Outline) (header : Option ℕ) (u : Used) (d : ℕ) → AreFull o
     → outer_used o header u ≡ [] → option_and_then (declared_within o u) header ≡ Some d
     → (outer_point o header u ≡ Some d) × IsAt o sort.Point d
-child_named o None u d full h e = absurd (none_some d e)
+child_named o None u d full h e = absurd (none-some d e)
 child_named o (Some header) u d full h e = one (standing o header (spelled u)) h e
   where
     one : (x : Option Standing) → point_used o x u.place ≡ []
         → option_map (λ (s : Standing). s.place) x ≡ Some d
         → (point_in o x ≡ Some d) × IsAt o sort.Point d
-    one None h e = absurd (none_some d e)
+    one None h e = absurd (none-some d e)
     one (Some s) h e =
         let b = unbroken (is_sort sort.Point (entry_at o s.place)) u.place rule.WrongSort h in
         let same = same_Some s.place d e in (

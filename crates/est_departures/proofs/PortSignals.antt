@@ -5,7 +5,7 @@ use Rattle.std.proofs.Common.{if◌then◌else◌, List, [], ◌∷◌, Option, 
 use Rattle.std.specs.Prelude.{option_and_then}
 use Rattle.std.specs.List.{AllByRecursion, AllZip, cons_option}
 use Rattle.std.specs.Option.{option_map}
-use Rattle.std.proofs.lemmas.Option.{same_Some}
+use Rattle.std.proofs.lemmas.Option.{same_Some, none-some}
 use Rattle.est_syntax.specs.declared.channel.Role.{Role}
 use Rattle.est_syntax.specs.declared.kind.Kind.{Kind}
 use Rattle.est_syntax.specs.declared.ports.Direction.TheVariants.{Sends}
@@ -44,9 +44,6 @@ use Rattle.est_choices.proofs.Options.{then_some, map_some}
 use Rattle.est_choices.proofs.Outside.{ports_go_both_ways}
 use Rattle.est_departures.specs.SentInteractions.{Takes, IsSent, IsSentAt, LeavesAsSent}
 
-none_some : {A : Type 0} (a : A) → None ≡ Some a → ⊥
-none_some a h = cc
-
 module _ (spec : Spec) where
   abbrev o : Outline
   o = outline_of spec
@@ -70,14 +67,14 @@ module _ (spec : Spec) where
 
   element_is : (name : List ℕ) (x : Option Entry) (r : ℕ) (p : Port)
       → slice_get (elements_by o name x) r ≡ Some p → IsElement name x p
-  element_is name None r p h = absurd (none_some p h)
+  element_is name None r p h = absurd (none-some p h)
   element_is name (Some e) r p h = by (same_sort sort.Point e.declared.sort) e.dims h
     where
       by : (b : Bool) (dims : Option (List Kind))
           → slice_get (if b then elements_with name (signals_of o e.side) dims else []) r ≡ Some p
           → IsElement name (Some e) p
-      by false dims h = absurd (none_some p h)
-      by true None h = absurd (none_some p h)
+      by false dims h = absurd (none-some p h)
+      by true None h = absurd (none-some p h)
       by true (Some ks) h =
           let u = unmapped (element name ks (signals_of o e.side)) _ r p h in record {
             named = ap (λ (q : Port). q.name.bytes) (sym u.2);
@@ -122,9 +119,9 @@ module _ (spec : Spec) where
 
   signal_is : (r : Role) (n : List ℕ × Standing) (m : Option Member) (j : ℕ) (x : Signal)
       → slice_get (signal_by o r n m) j ≡ Some x → IsInteraction r n m x
-  signal_is r n None j x h = absurd (none_some x h)
-  signal_is r n (Some (member.Role q)) j x h = absurd (none_some x h)
-  signal_is r n (Some member.Field) j x h = absurd (none_some x h)
+  signal_is r n None j x h = absurd (none-some x h)
+  signal_is r n (Some (member.Role q)) j x h = absurd (none-some x h)
+  signal_is r n (Some member.Field) j x h = absurd (none-some x h)
   signal_is r n (Some (member.Interaction s)) zero x h = let same = same_Some _ x h in record {
     senders = s;
     declared = refl;
@@ -132,7 +129,7 @@ module _ (spec : Spec) where
     kinds = ap (λ (y : Signal). y.kinds) (sym same);
     sent = ap (λ (y : Signal). y.sends) (sym same);
   }
-  signal_is r n (Some (member.Interaction s)) (suc j) x h = absurd (none_some x h)
+  signal_is r n (Some (member.Interaction s)) (suc j) x h = absurd (none-some x h)
 
   signal_passes : (side : Side) (j d : ℕ) (x : Signal)
       → slice_get (signals_of o (Some side)) j ≡ Some x

@@ -3,6 +3,7 @@ use Rattle.std.proofs.Common.{◌≡◌, refl, sym, subst, ℕ, List, [], ◌∷
 use Rattle.std.proofs.Common.{Option, Some, None, false}
 use Rattle.std.specs.List.{AllByRecursion}
 use Rattle.std.specs.Option.{option_map_or}
+use Rattle.std.proofs.lemmas.Option.{none-some}
 use Rattle.est_syntax.specs.declared.body.Block.{out-Block}
 use Rattle.est_syntax.specs.declared.specification.Spec.{Spec}
 use Rattle.est_outline.specs.Bodies.{outline_of}
@@ -44,9 +45,6 @@ use Rattle.est_departures.proofs.FaultlessBlocks.{IsFaultless, FaultlessBlocks, 
 use Rattle.est_departures.proofs.FaultlessBlocks.{blocks_faultless}
 use Rattle.est_departures.proofs.PortSignals.{departures_sent}
 use Rattle.est_departures.proofs.SendingBlocks.{block_keeps}
-
-none_some : {A : Type 0} (a : A) → None ≡ Some a → ⊥
-none_some a h = cc
 
 -- WHAT IS LEFT
 
@@ -145,7 +143,7 @@ module _ (spec : Spec) (sound : IsSound spec) where
   start_sent limit = let t = text_of spec in
       finished_sent spec (restamped limit t None) (start_before t limit) (λ u k. k)
       (block_sent 0 limit (beginning no_instances [] limit) refl
-      (λ p q k. absurd (none_some q k)) (t.spec.first ∷ []) faultless.first)
+      (λ p q k. absurd (none-some q k)) (t.spec.first ∷ []) faultless.first)
 
   -- EVENTS
 
