@@ -114,8 +114,8 @@ module _ (R : InteractionPoint → InteractionPoint → Type 0) where
       kept x true e = absurd (none-some q e)
       kept x false e = same_Some x q e
 
-      other : (o : Option InteractionPoint) → m p ≡ o → option_and_then (point_without ns) o ≡ Some q
-          → R p q
+      other : (o : Option InteractionPoint) → m p ≡ o
+          → option_and_then (point_without ns) o ≡ Some q → R p q
       other None z e = absurd (none-some q e)
       other (Some x) z e = subst (λ (y : InteractionPoint). R p y)
           (kept x (is_among ns x.instance) e) (h p x z)

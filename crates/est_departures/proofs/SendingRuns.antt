@@ -97,14 +97,16 @@ module _ (spec : Spec) (sound : IsSound spec) where
 
   -- FIRINGS
 
-  choice_faultless : (s : Situation) (f : Firing) (c : Choice) → choice_of (text_of spec) s f ≡ Some c
+  choice_faultless : (s : Situation) (f : Firing) (c : Choice)
+      → choice_of (text_of spec) s f ≡ Some c
       → IsFaultless (outline_of spec) (out-Block c.transition.block).statements
   choice_faultless s f c h = let t = text_of spec in
       let a = then_some (choice_in t f) _ c h in
       let b = then_some (choice_by t a.0 f.transition f.choice)
       (numbered (transitions_of t a.0.body) f.transition) c a.2 in
       let d = map_some _ (numbered (any_tuples t.outline b.0) f.choice) c b.2 in
-      subst (λ (x : Choice). IsFaultless (outline_of spec) (out-Block x.transition.block).statements)
+      subst (λ (x : Choice).
+      IsFaultless (outline_of spec) (out-Block x.transition.block).statements)
       d.2 (faultless.transitions a.0.body f.transition b.0 b.1)
 
   taken_joined : (x : Option InteractionPoint) (limit : ℕ) (s : Situation) (c : Choice)

@@ -117,7 +117,8 @@ allowed_by spec (event.Passes units) h g = h
 pub made_events_are_allowed : MadeEventsAreAllowed
 made_events_are_allowed t seed count trace run sound made given =
     both_mapped (IsFair t.spec) (GivesWhatMayBe t.spec) (IsAllowed t.spec) trace
-    (λ x a b. allowed_by t.spec x a b) (made_traces_are_fair t seed count trace run sound made) given
+    (λ x a b. allowed_by t.spec x a b)
+    (made_traces_are_fair t seed count trace run sound made) given
 
 pub made_traces_are_allowed : MadeTracesAreAllowed
 made_traces_are_allowed t seed count trace run sound made given few = record {
