@@ -1,9 +1,9 @@
 -- Constants, as they are found and refused.
 use Rattle.std.proofs.Common.{◌≡◌, ℕ, ◌+◌, ℤ, pos, negsuc, Bool, true, false, not, List}
-use Rattle.std.proofs.Common.{[], ◌∷◌, take, refl, sym, ap, ◌∙◌, subst, arith, inl, inr, Option}
+use Rattle.std.proofs.Common.{[], ◌∷◌, take, refl, sym, ap, ap₂, ◌||◌, ◌∙◌, subst, arith, inl, inr, Option}
 use Rattle.std.proofs.Common.{Some, None, slice_get, bytes_eq, is_some}
 use Rattle.std.specs.List.{list_any}
-use Rattle.std.specs.Option.{unwrap_or}
+use Rattle.std.specs.Option.{unwrap_or, IsSomeAnd}
 use Rattle.std.proofs.lemmas.Int.{ints}
 use Rattle.std.proofs.lemmas.Map.Keys.{any_passes_from_place}
 use Rattle.std.proofs.lemmas.Slice.Eq.{bytes_eq-Decides}
@@ -24,7 +24,7 @@ use Rattle.est_values.specs.OrdinalTuples.{ordinals_of}
 use Rattle.est_reader.specs.declared.reader.Reader.{Reader}
 use Rattle.est_reader.specs.declared.outcome.Outcome.TheVariants.{Well}
 use Rattle.est_reader.specs.Tests.{Test, named, holds, stands, language}
-use Rattle.est_reader.specs.Moving.{Still, Steps, IsNamedAt}
+use Rattle.est_reader.specs.Moving.{Still, Steps}
 use Rattle.est_reader.specs.Going.{Shape, Finds, Fails, Goes}
 use Rattle.est_reader.proofs.Apart.{one_name}
 use Rattle.est_reader.proofs.Going.{from}
@@ -33,10 +33,12 @@ use Rattle.est_value_texts.specs.TraceGrammar.{Rule, constant, numbered_constant
 use Rattle.est_value_texts.specs.TraceGrammar.{production, marks}
 use Rattle.est_value_texts.specs.ValueReading.{plain, layer, Reads}
 use Rattle.est_value_texts.specs.ValueShapes.{ShowsConstant}
-use Rattle.est_value_texts.specs.inside.Looking.{Begins, IsFirstNamed, IsConstantOf, IsFound}
+use Rattle.est_value_texts.specs.inside.Looking.{Begins, IsFirstThere, IsConstantOf, IsFound}
+use Rattle.est_value_texts.specs.inside.Looking.{some_there}
 use Rattle.est_value_texts.proofs.Known.{fits}
 use Rattle.est_value_texts.proofs.Solid.{constant_solid, constants_solid}
 use Rattle.est_value_texts.proofs.Places.{some_same, negated, first_is_one}
+use Rattle.est_value_texts.proofs.Places.{first_false, second_false}
 use Rattle.est_value_texts.proofs.Numbering.{ordinal_here, ordinal_there, place_of}
 use Rattle.est_value_texts.proofs.Walks.{wrong_goes, not_well}
 
@@ -211,49 +213,74 @@ module _ (names : List (List ℕ)) (k : Kind) where
         (ordinals_of k) o m in
         h r.0 r.1 r.2 (begun (text_of tokens) o names r.1 r.3)
 
-    pub no_word : IsNamedAt tokens at None → IsFound names k tokens at None
-    no_word s = none_begun (λ i y e b. let q : stands tokens at (named b.name) ≡ true = b.met in
-        let f : stands tokens at (named b.name) ≡ false = s b.name in cc)
+    pub none_there : some_there names tokens at ≡ false → IsFound names k tokens at None
+    none_there f = none_begun (λ i y e b.
+        let w : some_there names tokens at ≡ true =
+        any_passes_from_place (λ name. stands tokens at (named name)) names b.number b.name b.there
+        b.met in cc)
 
-    module _ (bytes : List ℕ) (s : IsNamedAt tokens at (Some bytes)) where
-      same_name : {y : ℤ} (b : Begun (text_of tokens) o names y) → b.name ≡ bytes
-      same_name b = (bytes_eq-Decides b.name bytes).0 (sym (s b.name) ∙ b.met)
+    -- the name of the constant that is the first to stand there
+    module _ (name : List ℕ) (there : stands tokens at (named name) ≡ true) where
+      none_named : (xs : List (List ℕ)) → some_there xs tokens at ≡ false
+          → list_any (bytes_eq name) xs ≡ false
+      none_named [] f = refl
+      none_named (x ∷ xs) f = here (bytes_eq name x) refl
+          (none_named xs (second_false (stands tokens at (named x)) _ f))
+        where
+          here : (b : Bool) → bytes_eq name x ≡ b → list_any (bytes_eq name) xs ≡ false
+              → (bytes_eq name x || list_any (bytes_eq name) xs) ≡ false
+          here false e rest = ap₂ (λ a c. a || c) e rest
+          here true e rest =
+              let q : name ≡ x = (bytes_eq-Decides name x).0 e in
+              let w : stands tokens at (named x) ≡ true =
+              subst (λ v. stands tokens at (named v) ≡ true) q there in
+              let v : stands tokens at (named x) ≡ false =
+              first_false (stands tokens at (named x)) _ f in absurd cc
 
-      there_begins : (p : ℕ) (given : Option (List ℕ)) → given ≡ Some bytes
-          → list_any (bytes_eq bytes) (take p names) ≡ false
-          → Begins tokens at (numbered_constant names p given)
-      there_begins p None e f = absurd cc
-      there_begins p (Some name) e f =
-          let q : name ≡ bytes = some_same e in
-          let w : not (list_any (bytes_eq name) (take p names)) ≡ true =
-          ap not (subst (λ v. list_any (bytes_eq v) (take p names) ≡ false) (sym q) f) in
-          laws.when_meets (holds (text_of tokens)) marks
-          (not (list_any (bytes_eq name) (take p names))) (word (named name) done) o w
-          (inl (s name ∙ (bytes_eq-Decides name bytes).1 q))
+      module _ (p : ℕ) (at_place : slice_get names p ≡ Some name)
+          (before : some_there (take p names) tokens at ≡ false) where
+        first : list_any (bytes_eq name) (take p names) ≡ false
+        first = none_named (take p names) before
 
-      none_named : list_any (bytes_eq bytes) names ≡ false → IsFound names k tokens at None
-      none_named f = none_begun (λ i y e b. let q = same_name b in
-          let w : list_any (bytes_eq bytes) names ≡ true =
-          any_passes_from_place (bytes_eq bytes) names b.number b.name b.there
-          ((bytes_eq-Decides bytes b.name).1 (sym q)) in cc)
+        begins : (given : Option (List ℕ)) → given ≡ Some name
+            → Begins tokens at (numbered_constant names p given)
+        begins None e = absurd cc
+        begins (Some x) e =
+            let q : name ≡ x = sym (some_same e) in
+            let w : not (list_any (bytes_eq x) (take p names)) ≡ true =
+            ap not (subst (λ v. list_any (bytes_eq v) (take p names) ≡ false) q first) in
+            laws.when_meets (holds (text_of tokens)) marks
+            (not (list_any (bytes_eq x) (take p names))) (word (named x) done) o w
+            (inl (subst (λ v. stands tokens at (named v) ≡ true) q there))
 
-      none_within : (p : ℕ) → IsFirstNamed bytes names (Some p) → (IsOrdinalOf k (pos p) → ⊥)
-          → IsFound names k tokens at None
-      none_within p f n = none_begun (λ i y e b. let q = same_name b in
-          let m : b.number ≡ p = first_is_one names b.number p bytes
-          (subst (λ v. slice_get names b.number ≡ Some v) q b.there)
-          (subst (λ v. list_any (bytes_eq v) (take b.number names) ≡ false) q b.first) f.0 f.1 in
-          n (subst (IsOrdinalOf k) (b.is ∙ ap pos m) (ordinal_here k i y e).1))
+        none_within : (IsOrdinalOf k (pos p) → ⊥) → IsFound names k tokens at None
+        none_within n = none_begun (λ i y e b.
+            let q : b.name ≡ name = (bytes_eq-Decides b.name name).0
+            (one_name (text_of tokens) b.name name o b.met there) in
+            let m : b.number ≡ p = first_is_one names b.number p name
+            (subst (λ v. slice_get names b.number ≡ Some v) q b.there)
+            (subst (λ v. list_any (bytes_eq v) (take b.number names) ≡ false) q b.first) at_place
+            first in
+            n (subst (IsOrdinalOf k) (b.is ∙ ap pos m) (ordinal_here k i y e).1))
 
-      pub found : (place : Option ℕ) (z : Option ℤ) → IsFirstNamed bytes names place
-          → IsConstantOf k place z → IsFound names k tokens at z
-      found None (Some z) f c = absurd (let q : None ≡ Some c.0 = c.1 in cc)
-      found None None f c = none_named f
-      found (Some p) None f c = none_within p f (c p refl)
-      found (Some p) (Some z) f c =
-          let q : p ≡ c.0 = some_same c.1 in
-          let e : pos p ≡ z = ap pos q ∙ sym c.2 in (
-            c.3,
-            subst (λ y. Begins tokens at (constant names y)) e
-                (there_begins p (slice_get names p) f.0 f.1),
-          )
+        found_at : (z : Option ℤ) → IsConstantOf k (Some p) z → IsFound names k tokens at z
+        found_at None c = none_within (c p refl)
+        found_at (Some z) c =
+            let q : p ≡ c.0 = some_same c.1 in
+            let e : pos p ≡ z = ap pos q ∙ sym c.2 in (
+              c.3,
+              subst (λ y. Begins tokens at (constant names y)) e
+                  (begins (slice_get names p) at_place),
+            )
+
+    pub found : (place : Option ℕ) (z : Option ℤ) → IsFirstThere names tokens at place
+        → IsConstantOf k place z → IsFound names k tokens at z
+    found None (Some z) f c = absurd (let q : None ≡ Some c.0 = c.1 in cc)
+    found None None f c = none_there f
+    found (Some p) z f c = from (slice_get names p) refl f.1
+      where
+        from : (given : Option (List ℕ)) → slice_get names p ≡ given
+            → IsSomeAnd given (λ name. stands tokens at (named name) ≡ true)
+            → IsFound names k tokens at z
+        from None e t = absurd t
+        from (Some name) e t = found_at name t p e f.0 z c

@@ -8,6 +8,7 @@ pub mod Chosen
 pub mod Numbers
 pub mod Members
 pub mod Lists
+mod Lowered
 pub mod OneValue
 pub mod Level
 pub mod FitsShown

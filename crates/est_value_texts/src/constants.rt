@@ -1,12 +1,13 @@
 //! Constants by their names.
 ghost use Rattle.std.specs.Prelude.{◌≡◌, bytes_eq};
-ghost use Rattle.est_reader.specs.Moving.{Still};
+ghost use Rattle.std.specs.Str.{str_to_ascii_lowercase};
+ghost use Rattle.est_reader.specs.Tests.{named, stands};
 ghost use Rattle.est_value_texts.specs.TraceGrammar as grammar;
 ghost use Rattle.est_value_texts.specs.ValueReading.{Reads};
 ghost use Rattle.est_value_texts.specs.ValueShapes.{ShowsConstant};
-ghost use Rattle.est_value_texts.specs.inside.Looking.{IsFirstNamed, IsConstantOf};
-ghost use Rattle.est_value_texts.specs.inside.Looking.{FindsConstant};
+ghost use Rattle.est_value_texts.specs.inside.Looking.{IsFirstThere, IsConstantOf, IsFound};
 
+use est_lexer::kind::TokenKind;
 use est_reader::Reader;
 use est_syntax::kind::Kind;
 use est_syntax::name::Name;
@@ -33,58 +34,71 @@ pub fn boolean(reader: &mut Reader, kind: &Kind) -> i32
 }
 
 // The ordinal of the constant at the place.
-fn constant_here(reader: &mut Reader, kind: &Kind, names: &[Name]) -> Option<i32>
-    ensures still { Still reader.old reader.new }
-    ensures found { FindsConstant (grammar.bytes_of names.now) kind.now reader.old result
-        reader.new }
+fn constant_here(reader: &Reader, kind: &Kind, names: &[Name]) -> Option<i32>
+    ensures { IsFound (grammar.bytes_of names.now) kind.now reader.now.tokens.now reader.now.at
+        result }
 {
-    let Some(name) = reader.name_here() else {
-        return None;
-    };
-    constant_of(kind, position_of(names, &name))
+    constant_of(kind, position_of(reader, names))
 }
 
 // The ordinal of the constant of the type boolean at the place.
-fn boolean_here(reader: &mut Reader, kind: &Kind) -> Option<i32>
-    ensures still { Still reader.old reader.new }
-    ensures found { FindsConstant grammar.boolean_names kind.now reader.old result reader.new }
+fn boolean_here(reader: &Reader, kind: &Kind) -> Option<i32>
+    ensures { IsFound grammar.boolean_names kind.now reader.now.tokens.now reader.now.at result }
 {
-    let Some(name) = reader.name_here() else {
-        return None;
-    };
-    constant_of(kind, boolean_of(&name))
+    constant_of(kind, boolean_at(reader))
 }
 
-// The place of the first constant of this name.
-fn position_of(names: &[Name], name: &[u8]) -> Option<usize>
-    ensures { IsFirstNamed name.now (grammar.bytes_of names.now) result }
+// The place of the first constant whose name stands at the place of the reader.
+fn position_of(reader: &Reader, names: &[Name]) -> Option<usize>
+    ensures { IsFirstThere (grammar.bytes_of names.now) reader.now.tokens.now reader.now.at result }
 {
     for place in 0..names.len() {
-        if is_named(&names[place], name) {
+        if stands_name(reader, names[place].bytes.as_slice()) {
             return Some(place);
         }
     }
     None
 }
 
-// Whether a constant has this name.
-fn is_named(constant: &Name, name: &[u8]) -> bool
-    ensures { result ≡ bytes_eq name.now constant.now.bytes }
+// The place of the constant of the type boolean whose name stands at the place of the reader.
+fn boolean_at(reader: &Reader) -> Option<usize>
+    ensures { IsFirstThere grammar.boolean_names reader.now.tokens.now reader.now.at result }
 {
-    name == constant.bytes.as_slice()
-}
-
-// The place of the constant of this name of the type boolean.
-fn boolean_of(name: &[u8]) -> Option<usize>
-    ensures { IsFirstNamed name.now grammar.boolean_names result }
-{
-    if name == b"false".as_slice() {
+    if stands_name(reader, b"false") {
         Some(0)
-    } else if name == b"true".as_slice() {
+    } else if stands_name(reader, b"true") {
         Some(1)
     } else {
         None
     }
+}
+
+// Whether this name, given in lower case, stands at the place of the reader in any letter case.
+fn stands_name(reader: &Reader, name: &[u8]) -> bool
+    ensures { stands reader.now.tokens.now reader.now.at (named name.now) ≡ result }
+{
+    match reader.tokens.token_at(reader.at) {
+        Some(found) => {
+            found.kind == TokenKind::Identifier
+                && is_lowered(reader.tokens.spelled(reader.at), name)
+        }
+        None => false,
+    }
+}
+
+// Whether these bytes in lower case are those of a name.
+fn is_lowered(bytes: &[u8], name: &[u8]) -> bool
+    ensures { bytes_eq name.now (str_to_ascii_lowercase bytes.now) ≡ result }
+{
+    if bytes.len() != name.len() {
+        return false;
+    }
+    for i in 0..bytes.len() {
+        if bytes[i].to_ascii_lowercase() != name[i] {
+            return false;
+        }
+    }
+    true
 }
 
 // The number of a constant as an ordinal of the kind, where it is one.

@@ -1,27 +1,7 @@
-use Rattle.std.proofs.Common.{subst}
-use Rattle.std.specs.Option.{option_map}
-use Rattle.est_reader.specs.Moving.{IsNamedAt}
 use Rattle.est_value_texts.specs.TraceGrammar.{boolean_names}
-use Rattle.est_value_texts.specs.inside.Looking.{IsFirstNamed}
-use Rattle.est_value_texts.proofs.Chosen.{no_word, found}
+use Rattle.est_value_texts.proofs.Chosen.{found}
 use Rattle.est_value_texts.proofs.constants.boolean_here.Goals as goal
 
-pub returns-in_default-clause-found : goal.returns-in_default-clause-found
-returns-in_default-clause-found c = λ w.
-    let tk = c.args.reader.now.tokens.now in
-    let at = c.args.reader.now.at in
-    no_word boolean_names c.args.kind.now tk at
-    (subst (λ o. IsNamedAt tk at (option_map (λ bytes. bytes.items) o)) c.in_default.is
-    (c.name_here.ensures.named w))
-
-pub returns-clause-found : goal.returns-clause-found
-returns-clause-found c = λ w.
-    let tk = c.args.reader.now.tokens.now in
-    let at = c.args.reader.now.at in
-    found boolean_names c.args.kind.now tk at c.in-Some.name.items
-    (subst (λ o. IsNamedAt tk at (option_map (λ bytes. bytes.items) o)) c.in-Some.is
-    (c.name_here.ensures.named w))
-    c.boolean_of.result c.constant_of.result
-    (subst (λ v. IsFirstNamed v boolean_names c.boolean_of.result) c.deref.ensures.value
-    c.boolean_of.ensures)
-    c.constant_of.ensures
+pub returns : goal.returns
+returns c = found boolean_names c.args.kind.now c.args.reader.now.tokens.now c.args.reader.now.at
+    c.boolean_at.result c.constant_of.result c.boolean_at.ensures c.constant_of.ensures

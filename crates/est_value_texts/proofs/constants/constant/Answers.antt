@@ -2,6 +2,7 @@ use Rattle.std.proofs.Common.{rules, ◌∙◌, w32}
 use Rattle.std.proofs.lemmas.Int.{to_z-of_z}
 use mir.Val.{SFits}
 use Rattle.est_value_texts.specs.TraceGrammar.{bytes_of}
+use Rattle.est_reader.proofs.Steps.{still_here}
 use Rattle.est_value_texts.proofs.Chosen.{constant_read}
 use Rattle.est_value_texts.proofs.constants.constant.Goals as goal
 
@@ -9,5 +10,5 @@ pub returns : goal.returns
 returns c =
     let fits : SFits w32 c.unwrap_or.result = search rules in
     constant_read (bytes_of c.args.names.now) c.args.kind.now c.constant_here-found.result c.is_some.result _
-    c.constant_here-found.ensures.still c.constant_here-found.ensures.found c.is_some.ensures
+    still_here (λ w. c.constant_here-found.ensures) c.is_some.ensures
     c.step.ensures (to_z-of_z w32 c.unwrap_or.result fits ∙ c.unwrap_or.ensures)
