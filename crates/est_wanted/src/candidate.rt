@@ -1,0 +1,116 @@
+//! Tokens that are tried at a place.
+ghost use Rattle.std.specs.Prelude.{◌≡◌};
+ghost use Rattle.est_wanted.specs.Spelled.{spelling_of};
+
+/// A token that could stand at a place: any of a sort, or the word or symbol of a spelling.
+#[derive(Clone, Copy)]
+pub enum Candidate {
+    Name,
+    Number,
+    Character,
+    Spelled(&'static str),
+}
+
+impl Candidate {
+    /// The bytes of such a token.
+    pub fn spelling(self) -> &'static str
+        ensures { result.now ≡ spelling_of self }
+    {
+        match self {
+            Candidate::Name => "a",
+            Candidate::Number => "1",
+            Candidate::Character => "'a'",
+            Candidate::Spelled(spelling) => spelling,
+        }
+    }
+}
+
+/// The symbols and the reserved words that stand in specifications.
+pub(crate) static SPELLINGS: [&str; 86] = [
+    ";",
+    ",",
+    ":",
+    ":=",
+    ".",
+    "..",
+    "(",
+    ")",
+    "[",
+    "]",
+    "=",
+    "<>",
+    "<",
+    "<=",
+    ">",
+    ">=",
+    "+",
+    "-",
+    "*",
+    "activity",
+    "all",
+    "and",
+    "any",
+    "array",
+    "attach",
+    "begin",
+    "body",
+    "by",
+    "case",
+    "channel",
+    "common",
+    "connect",
+    "const",
+    "default",
+    "delay",
+    "detach",
+    "disconnect",
+    "div",
+    "do",
+    "downto",
+    "else",
+    "end",
+    "export",
+    "for",
+    "from",
+    "function",
+    "if",
+    "in",
+    "individual",
+    "init",
+    "initialize",
+    "ip",
+    "mod",
+    "module",
+    "modvar",
+    "name",
+    "not",
+    "of",
+    "or",
+    "otherwise",
+    "output",
+    "packed",
+    "priority",
+    "procedure",
+    "provided",
+    "pure",
+    "queue",
+    "record",
+    "release",
+    "repeat",
+    "same",
+    "set",
+    "specification",
+    "state",
+    "stateset",
+    "systemactivity",
+    "then",
+    "timescale",
+    "to",
+    "trans",
+    "type",
+    "until",
+    "var",
+    "when",
+    "while",
+    "with",
+];

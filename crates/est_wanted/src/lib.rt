@@ -1,0 +1,14 @@
+//! What a person is told of a specification that is refused at a token: what could stand there,
+//! and what is known to go wrong so.
+#![tactic(auto)]
+
+pub mod bad_bytes;
+pub mod candidate;
+mod comments;
+mod forms;
+mod left_out;
+mod marks;
+pub mod note;
+pub mod place;
+pub mod refused;
+pub mod wanted;

@@ -1,0 +1,207 @@
+//! The notes of a specification that is refused at a token.
+
+use crate::bad_bytes::text_of_bytes;
+use crate::candidate::Candidate;
+use crate::comments::append_comment;
+use crate::forms::form_text;
+use crate::left_out::instead_of;
+use crate::note::{Spot, append_note, printed};
+use crate::place::{end_before, front_of, gap_before, spot_at, spot_of};
+use crate::wanted::{MOST_TOLD, MOST_TRIED, could_follow, wanted};
+use est_lexer::kind::TokenKind;
+use est_lexer::tokens::Tokens;
+use std::alloc::{AllocError, Global};
+
+/// Adds what is known of the token of a place, or of the end of a text, where the grammar of
+/// specifications refuses it: what it is, what could stand there, and what is known to go wrong so.
+pub fn append_refused(
+    alloc: Global,
+    text: &[u8],
+    tokens: &Tokens,
+    place: u32,
+    notes: &mut String,
+) -> Result<(), AllocError> {
+    append_candidates(alloc, text, tokens, place, notes)?;
+    append_form(alloc, tokens, place, notes)?;
+    append_semicolon(alloc, text, tokens, place, notes)?;
+    append_comment(alloc, text, tokens, place, notes)
+}
+
+// Adds what the token of a place is and what could stand there.
+fn append_candidates(
+    alloc: Global,
+    text: &[u8],
+    tokens: &Tokens,
+    place: u32,
+    notes: &mut String,
+) -> Result<(), AllocError> {
+    let found = wanted(alloc, front_of(text, tokens, place))?;
+    append_known(alloc, text, tokens, place, &found, notes)
+}
+
+// Adds what the token of a place is, and that these could stand there.
+fn append_known(
+    alloc: Global,
+    text: &[u8],
+    tokens: &Tokens,
+    place: u32,
+    found: &[Candidate],
+    notes: &mut String,
+) -> Result<(), AllocError> {
+    append_token(alloc, text, tokens, place, found, notes)?;
+    append_wanted(alloc, spot_of("specification", tokens, place), found, notes)
+}
+
+/// Adds what is known of a token that opens a level too many.
+pub fn append_too_deep(
+    alloc: Global,
+    tokens: &Tokens,
+    place: u32,
+    notes: &mut String,
+) -> Result<(), AllocError> {
+    let spot = spot_of("specification", tokens, place);
+    let text = "32 levels are open here: make a routine or a type of what is inside";
+    append_note(alloc, notes, spot, text)
+}
+
+// Adds what the token of a place is, where a token of these kinds could stand.
+fn append_token(
+    alloc: Global,
+    text: &[u8],
+    tokens: &Tokens,
+    place: u32,
+    found: &[Candidate],
+    notes: &mut String,
+) -> Result<(), AllocError> {
+    let spot = spot_of("specification", tokens, place);
+    let Some(token) = tokens.token_at(place) else {
+        return append_note(alloc, notes, spot, "the text ends here");
+    };
+    match token.kind {
+        TokenKind::Bad => {
+            let known = text_of_bytes(text, token.start as usize);
+            append_note(alloc, notes, spot, known)
+        }
+        TokenKind::LeftOut(word) => {
+            append_note(alloc, notes, spot, instead_of(word))?;
+            append_no_name(alloc, tokens, place, found, notes)
+        }
+        TokenKind::Reserved(_) => append_no_name(alloc, tokens, place, found, notes),
+        _ => Ok(()),
+    }
+}
+
+// Whether a name is among these.
+fn has_name(found: &[Candidate]) -> bool {
+    match found.first() {
+        Some(Candidate::Name) => true,
+        _ => false,
+    }
+}
+
+// Adds that the word of a place is no name, where a name could stand and nothing else is known to go
+// wrong.
+fn append_no_name(
+    alloc: Global,
+    tokens: &Tokens,
+    place: u32,
+    found: &[Candidate],
+    notes: &mut String,
+) -> Result<(), AllocError> {
+    if place >= tokens.count() || !has_name(found) || form_text(tokens, place).is_some() {
+        return Ok(());
+    }
+    let spot = spot_of("specification", tokens, place);
+    let word = printed(alloc, tokens.spelled(place))?;
+    let text = format!(in alloc; "'{word}' is a reserved word, and no name")?;
+    append_note(alloc, notes, spot, &text)
+}
+
+// Adds a candidate as it is told.
+fn push_candidate(text: &mut String, candidate: Candidate) -> Result<(), AllocError> {
+    match candidate {
+        Candidate::Name => text.push_str("a name"),
+        Candidate::Number => text.push_str("a number"),
+        Candidate::Character => text.push_str("a character"),
+        Candidate::Spelled(spelling) => {
+            text.push_str("'")?;
+            text.push_str(spelling)?;
+            text.push_str("'")
+        }
+    }
+}
+
+// Adds candidates, as many as are told.
+fn push_candidates(text: &mut String, found: &[Candidate]) -> Result<(), AllocError> {
+    for (at, candidate) in found.iter().enumerate() {
+        if at == MOST_TOLD {
+            return text.push_str(" or ..");
+        }
+        if at > 0 {
+            text.push_str(", ")?;
+        }
+        push_candidate(text, *candidate)?;
+    }
+    Ok(())
+}
+
+// Adds what could stand at a place.
+fn append_wanted(
+    alloc: Global,
+    spot: Spot,
+    found: &[Candidate],
+    notes: &mut String,
+) -> Result<(), AllocError> {
+    if found.is_empty() {
+        return Ok(());
+    }
+    let mut text = String::from_str(alloc, "could stand here: ")?;
+    push_candidates(&mut text, found)?;
+    append_note(alloc, notes, spot, &text)
+}
+
+// Adds what is known to go wrong at the token of a place.
+fn append_form(
+    alloc: Global,
+    tokens: &Tokens,
+    place: u32,
+    notes: &mut String,
+) -> Result<(), AllocError> {
+    match form_text(tokens, place) {
+        None => Ok(()),
+        Some(text) => append_note(alloc, notes, spot_of("specification", tokens, place), text),
+    }
+}
+
+// Whether the token of a place stands in a later line than the one before it, and a semicolon could
+// stand there.
+fn lacks_semicolon(
+    alloc: Global,
+    text: &[u8],
+    tokens: &Tokens,
+    place: u32,
+) -> Result<bool, AllocError> {
+    let front = front_of(text, tokens, place);
+    if place >= tokens.count() || front.len() > MOST_TRIED {
+        return Ok(false);
+    }
+    if !gap_before(text, tokens, place).contains(&b'\n') {
+        return Ok(false);
+    }
+    could_follow(alloc, front, Candidate::Spelled(";"))
+}
+
+// Adds that a semicolon may be missing at the end of a line.
+fn append_semicolon(
+    alloc: Global,
+    text: &[u8],
+    tokens: &Tokens,
+    place: u32,
+    notes: &mut String,
+) -> Result<(), AllocError> {
+    if !lacks_semicolon(alloc, text, tokens, place)? {
+        return Ok(());
+    }
+    let spot = spot_at(text, end_before(tokens, place));
+    append_note(alloc, notes, spot, "a ';' may be missing here")
+}

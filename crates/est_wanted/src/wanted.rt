@@ -1,0 +1,105 @@
+//! What could stand at a place.
+ghost use Rattle.std.specs.Prelude.{◌≡◌, IfOk, IsTrue};
+ghost use Rattle.std.specs.List.{All};
+ghost use Rattle.est_lexer.specs.Offsets.{text_of, tokens_of};
+ghost use Rattle.est_grammar.specs.Answer.{IsRefusal};
+ghost use Rattle.est_wanted.specs.Beginnings.{AreBeginning, IsBeginning, CouldFollow};
+
+use crate::candidate::{Candidate, SPELLINGS};
+use est_grammar::{ParseError, parse};
+use est_lexer::lex::lex;
+use est_lexer::tokens::{MOST_BYTES, Tokens};
+use std::alloc::{AllocError, Global};
+
+/// The longest text after which tokens are tried.
+pub const MOST_TRIED: usize = 131_072;
+
+/// So many tokens are told at most.
+pub const MOST_TOLD: usize = 8;
+
+/// What could follow this beginning of a text: names, numbers and characters, then symbols, then
+/// words, until one more than are told were found. Of a long text nothing is said.
+pub fn wanted(alloc: Global, before: &[u8]) -> Result<Vec<Candidate>, AllocError>
+    ensures { IfOk result (λ found. All (CouldFollow before.now) found.items) }
+{
+    let mut found = Vec::new(alloc);
+    if before.len() > MOST_TRIED {
+        return Ok(found);
+    }
+    try_one(alloc, before, Candidate::Name, &mut found)?;
+    try_one(alloc, before, Candidate::Number, &mut found)?;
+    try_one(alloc, before, Candidate::Character, &mut found)?;
+    try_spellings(alloc, before, &mut found)?;
+    Ok(found)
+}
+
+// Tries the symbols and the words.
+fn try_spellings(alloc: Global, before: &[u8], found: &mut Vec<Candidate>) -> Result<(), AllocError>
+    requires { All (CouldFollow before.now) found.old.items }
+    ensures { All (CouldFollow before.now) found.new.items }
+{
+    for spelling in SPELLINGS.iter() {
+        if found.len() > MOST_TOLD {
+            return Ok(());
+        }
+        try_one(alloc, before, Candidate::Spelled(spelling), found)?;
+    }
+    Ok(())
+}
+
+// Adds a token that could follow a text.
+fn try_one(
+    alloc: Global,
+    before: &[u8],
+    candidate: Candidate,
+    found: &mut Vec<Candidate>,
+) -> Result<(), AllocError>
+    requires { All (CouldFollow before.now) found.old.items }
+    ensures { All (CouldFollow before.now) found.new.items }
+{
+    if could_follow(alloc, before, candidate)? {
+        found.push(candidate)?;
+    }
+    Ok(())
+}
+
+/// Whether a token could follow a text.
+pub fn could_follow(alloc: Global, before: &[u8], candidate: Candidate) -> Result<bool, AllocError>
+    ensures { IfOk result (λ could. IsTrue could → CouldFollow before.now candidate) }
+{
+    let mut text = Vec::from_slice(alloc, before)?;
+    text.push(b' ')?;
+    text.extend_from_slice(candidate.spelling().as_bytes())?;
+    is_beginning(alloc, &text)
+}
+
+// Whether a text is the beginning of a specification. A long one is not looked at.
+fn is_beginning(alloc: Global, text: &[u8]) -> Result<bool, AllocError>
+    ensures { IfOk result (λ is. IsTrue is → IsBeginning text.now) }
+{
+    if text.len() > MOST_BYTES {
+        return Ok(false);
+    }
+    let tokens = lex(alloc, text)?;
+    match parse(alloc, &tokens) {
+        Ok(tree) => {
+            drop(tree);
+            Ok(true)
+        }
+        Err(error) => is_early(&tokens, error),
+    }
+}
+
+// Whether tokens are refused for the lack of more alone.
+fn is_early(tokens: &Tokens, error: ParseError) -> Result<bool, AllocError>
+    ensures { IfOk result (λ early. IsTrue early
+        → IsRefusal (text_of tokens.now) (tokens_of tokens.now) error
+        → AreBeginning (text_of tokens.now) (tokens_of tokens.now)) }
+{
+    match error {
+        ParseError::BadToken { place } => Ok(place >= tokens.count()),
+        ParseError::LeftOut { place: _ } => Ok(false),
+        ParseError::TooDeep { place: _ } => Ok(false),
+        ParseError::Memory(error) => Err(error),
+    }
+}
