@@ -1,7 +1,8 @@
 -- How the tokens are spelled that are tried at a place.
 use Rattle.std.specs.Prelude.{ℕ, List, codes}
 use Rattle.est_wanted.specs.declared.candidate.Candidate.{Candidate}
-use Rattle.est_wanted.specs.declared.candidate.Candidate.TheVariants.{Name, Number, Character, Spelled}
+use Rattle.est_wanted.specs.declared.candidate.Candidate.TheVariants.{Name, Number, Character}
+use Rattle.est_wanted.specs.declared.candidate.Candidate.TheVariants.{Spelled}
 
 -- a word or a symbol as itself, and one token for all of a sort
 abbrev pub spelling_of : Candidate → List ℕ

@@ -29,7 +29,7 @@ fn text_of_beginning(text: &[u8]) -> Option<&'static str> {
         return Some("a byte order mark stands here: save the text without it");
     }
     if is_wide(text) {
-        return Some("this text is UTF-16: save it as ASCII or UTF-8");
+        return Some("this text looks like UTF-16: save it as ASCII or UTF-8");
     }
     None
 }

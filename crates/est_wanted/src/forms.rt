@@ -48,6 +48,7 @@ fn symbol_text(tokens: &Tokens, place: u32, symbol: Symbol) -> Option<&'static s
         Symbol::Period => period_text(tokens, place),
         Symbol::Semicolon => semicolon_text(tokens, place),
         Symbol::RightParenthesis => closing_text(tokens, place),
+        Symbol::Star => star_text(tokens, place),
         Symbol::Equal => equal_text(tokens, place),
         Symbol::Unequal => comparison_text(tokens, place),
         Symbol::Below => comparison_text(tokens, place),
@@ -58,12 +59,14 @@ fn symbol_text(tokens: &Tokens, place: u32, symbol: Symbol) -> Option<&'static s
     }
 }
 
+const WRITTEN_OUT: &str =
+    "a type is written out only in 'type', 'var' and types: declare it there, \
+    and write its name";
+
 // A type that is written out after a colon.
 fn type_text(tokens: &Tokens, place: u32) -> Option<&'static str> {
     match kind_before(tokens, place, 1) {
-        Some(TokenKind::Symbol(Symbol::Colon)) => {
-            Some("a parameter has a named type: declare it by 'type', and write its name here")
-        }
+        Some(TokenKind::Symbol(Symbol::Colon)) => { Some(WRITTEN_OUT) }
         _ => None,
     }
 }
@@ -160,9 +163,7 @@ fn period_text(tokens: &Tokens, place: u32) -> Option<&'static str> {
 fn semicolon_text(tokens: &Tokens, place: u32) -> Option<&'static str> {
     match (kind_before(tokens, place, 2), kind_before(tokens, place, 1)) {
         (Some(Reserved(ReservedWord::Module)), Some(Identifier)) => {
-            Some(
-                "each module has an attribute: the system 'systemactivity', its children 'activity'",
-            )
+            Some("a module has an attribute: the system 'systemactivity', a child 'activity'")
         }
         _ => None,
     }
@@ -182,6 +183,17 @@ fn equal_text(tokens: &Tokens, place: u32) -> Option<&'static str> {
 fn closing_text(tokens: &Tokens, place: u32) -> Option<&'static str> {
     match kind_before(tokens, place, 1) {
         Some(TokenKind::Symbol(Symbol::Star)) if is_joined(tokens, place) => {
+            Some("no comment is open here")
+        }
+        _ => None,
+    }
+}
+
+// The star of such a mark.
+fn star_text(tokens: &Tokens, place: u32) -> Option<&'static str> {
+    let next = place.checked_add(1)?;
+    match tokens.token_at(next)?.kind {
+        TokenKind::Symbol(Symbol::RightParenthesis) if is_joined(tokens, next) => {
             Some("no comment is open here")
         }
         _ => None,

@@ -99,8 +99,7 @@ fn has_name(found: &[Candidate]) -> bool {
     }
 }
 
-// Adds that the word of a place is no name, where a name could stand and nothing else is known to go
-// wrong.
+// Adds that the word of a place is no name, where a name could stand and nothing else is known.
 fn append_no_name(
     alloc: Global,
     tokens: &Tokens,
@@ -173,8 +172,20 @@ fn append_form(
     }
 }
 
-// Whether the token of a place stands in a later line than the one before it, and a semicolon could
-// stand there.
+// Whether a statement or a declaration may begin with the token of a place.
+fn may_begin(tokens: &Tokens, place: u32) -> bool {
+    match tokens.token_at(place) {
+        None => false,
+        Some(token) => match token.kind {
+            TokenKind::Identifier => true,
+            TokenKind::Reserved(_) => true,
+            _ => false,
+        },
+    }
+}
+
+// Whether the token of a place begins something in a later line than the one before it, and a
+// semicolon could stand there.
 fn lacks_semicolon(
     alloc: Global,
     text: &[u8],
@@ -182,7 +193,7 @@ fn lacks_semicolon(
     place: u32,
 ) -> Result<bool, AllocError> {
     let front = front_of(text, tokens, place);
-    if place >= tokens.count() || front.len() > MOST_TRIED {
+    if !may_begin(tokens, place) || front.len() > MOST_TRIED {
         return Ok(false);
     }
     if !gap_before(text, tokens, place).contains(&b'\n') {
