@@ -1,0 +1,89 @@
+//! Advice on specifications.
+
+use crate::reading::text_in;
+use crate::trace::append_trace;
+use crate::words::Asked;
+use est_check::Checked;
+use est_edge::Shelf;
+use est_files::file::File;
+use est_lexer::lex::lex;
+use est_lexer::tokens::Tokens;
+use est_specification::{SpecificationError, read_specification};
+use est_wanted::refused::{append_refused, append_too_deep};
+use std::alloc::{AllocError, Global};
+
+/// Adds what is known of the specification that is asked about, or of what comes after it.
+pub(crate) fn append_specification<S: Shelf>(
+    alloc: Global,
+    shelf: &mut S,
+    asked: Asked<'_>,
+    notes: &mut String,
+) -> Result<(), AllocError> {
+    let name = match asked {
+        Asked::Refusals {
+            specification,
+            trace: _,
+            explanation: _,
+        } => specification,
+        Asked::Warnings { specification } => specification,
+    };
+    let Some(text) = text_in(alloc, shelf, name, File::Specification)? else {
+        return Ok(());
+    };
+    append_text(alloc, shelf, asked, &text, notes)
+}
+
+// Adds what is known of the text of a specification.
+fn append_text<S: Shelf>(
+    alloc: Global,
+    shelf: &mut S,
+    asked: Asked<'_>,
+    text: &[u8],
+    notes: &mut String,
+) -> Result<(), AllocError> {
+    if text.len() > File::Specification.limit() as usize {
+        return Ok(());
+    }
+    let tokens = lex(alloc, text)?;
+    match read_specification(alloc, &tokens) {
+        Ok(checked) => append_good(alloc, shelf, asked, &checked, notes),
+        Err(error) => append_bad(alloc, text, &tokens, error, notes),
+    }
+}
+
+// Adds what is known of a specification that is refused.
+fn append_bad(
+    alloc: Global,
+    text: &[u8],
+    tokens: &Tokens,
+    error: SpecificationError,
+    notes: &mut String,
+) -> Result<(), AllocError> {
+    match error {
+        SpecificationError::BadToken { place } => {
+            append_refused(alloc, text, tokens, place, notes)
+        }
+        SpecificationError::LeftOut { place } => append_refused(alloc, text, tokens, place, notes),
+        SpecificationError::TooDeep { place } => append_too_deep(alloc, tokens, place, notes),
+        SpecificationError::BrokenRule { place: _, rule: _ } => Ok(()),
+        SpecificationError::Memory(error) => Err(error),
+    }
+}
+
+// Adds what is known of a good specification, or of the trace.
+fn append_good<S: Shelf>(
+    alloc: Global,
+    shelf: &mut S,
+    asked: Asked<'_>,
+    checked: &Checked,
+    notes: &mut String,
+) -> Result<(), AllocError> {
+    match asked {
+        Asked::Refusals {
+            specification: _,
+            trace,
+            explanation,
+        } => append_trace(alloc, shelf, checked, trace, explanation, notes),
+        Asked::Warnings { specification: _ } => Ok(()),
+    }
+}
