@@ -226,13 +226,28 @@ fn push_item(
     kinds: &[Kind],
     whole: u32,
 ) -> Result<(), AllocError> {
-    let all = kinds.len();
-    let count = format!(in alloc; " has {all} {word}{}", if all == 1 { "" } else { "s" })?;
-    text.push_str(&count)?;
-    let Some(kind) = kinds.get(whole as usize) else {
-        return Ok(());
-    };
-    let number = whole.saturating_add(1);
+    push_count(alloc, text, word, kinds.len())?;
+    match kinds.get(whole as usize) {
+        None => Ok(()),
+        Some(kind) => push_values(alloc, text, word, whole.saturating_add(1), kind),
+    }
+}
+
+// Adds how many items a list has.
+fn push_count(alloc: Global, text: &mut String, word: &str, all: usize) -> Result<(), AllocError> {
+    let ending = if all == 1 { "" } else { "s" };
+    let count = format!(in alloc; " has {all} {word}{ending}")?;
+    text.push_str(&count)
+}
+
+// Adds what the item of a number is.
+fn push_values(
+    alloc: Global,
+    text: &mut String,
+    word: &str,
+    number: u32,
+    kind: &Kind,
+) -> Result<(), AllocError> {
     let item = format!(in alloc; "; {word} {number} is ")?;
     text.push_str(&item)?;
     push_kind(alloc, text, kind)
@@ -253,12 +268,23 @@ fn signal_text(
     if is_name(name) {
         push_no_signal(alloc, &mut text, signals, port, name, event.direction)?;
     }
-    push_quoted(alloc, &mut text, port)?;
-    text.push_str(" ")?;
-    text.push_str(does(event.direction))?;
-    text.push_str("s: ")?;
-    push_signals(alloc, &mut text, signals, event.direction)?;
+    push_passing(alloc, &mut text, signals, port, event.direction)?;
     Ok(text)
+}
+
+// Adds which signals pass a port in a direction.
+fn push_passing(
+    alloc: Global,
+    text: &mut String,
+    signals: &[Signal],
+    port: &[u8],
+    direction: Direction,
+) -> Result<(), AllocError> {
+    push_quoted(alloc, text, port)?;
+    text.push_str(" ")?;
+    text.push_str(does(direction))?;
+    text.push_str("s: ")?;
+    push_signals(alloc, text, signals, direction)
 }
 
 // Adds why a name is that of no signal of a port in this direction.
