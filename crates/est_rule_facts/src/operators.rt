@@ -1,0 +1,92 @@
+//! The operators beside an operand, and what they take.
+
+use est_lexer::kind::{ReservedWord, Symbol, TokenKind};
+use est_lexer::tokens::Tokens;
+use est_notes::lines::{Mark, append_token, begin_line};
+use std::alloc::AllocError;
+
+const NUMBERS: &str = " takes integers, or sets of one type";
+
+const VALUES: &str = " compares ordinals of one type, or sets of one type";
+
+// What an operator takes that is a word.
+fn word_sentence(word: ReservedWord) -> Option<&'static str> {
+    match word {
+        ReservedWord::And => Some(" takes booleans"),
+        ReservedWord::Or => Some(" takes booleans"),
+        ReservedWord::Not => Some(" takes a boolean"),
+        ReservedWord::Div => Some(" takes integers"),
+        ReservedWord::Mod => Some(" takes integers"),
+        ReservedWord::In => Some(" takes an ordinal, and a set of ordinals of its type"),
+        _ => None,
+    }
+}
+
+// What an operator takes that is a symbol.
+fn symbol_sentence(symbol: Symbol) -> Option<&'static str> {
+    match symbol {
+        Symbol::Plus => Some(NUMBERS),
+        Symbol::Minus => Some(NUMBERS),
+        Symbol::Star => Some(NUMBERS),
+        Symbol::Equal => Some(VALUES),
+        Symbol::Unequal => Some(VALUES),
+        Symbol::AtMost => Some(VALUES),
+        Symbol::AtLeast => Some(VALUES),
+        Symbol::Below => Some(" compares ordinals of one type"),
+        Symbol::Above => Some(" compares ordinals of one type"),
+        _ => None,
+    }
+}
+
+// What the operator at a place takes, if one stands there.
+fn sentence_at(tokens: &Tokens, place: u32) -> Option<&'static str> {
+    match tokens.token_at(place)?.kind {
+        TokenKind::Reserved(word) => word_sentence(word),
+        TokenKind::Symbol(symbol) => symbol_sentence(symbol),
+        _ => None,
+    }
+}
+
+// Adds a line on the operator that stands beside a place, if one does.
+fn append_operator(
+    tokens: &Tokens,
+    operator: u32,
+    place: u32,
+    notes: &mut String,
+) -> Result<(), AllocError> {
+    let Some(sentence) = sentence_at(tokens, operator) else {
+        return Ok(());
+    };
+    begin_line(tokens, Mark::Note, place, notes)?;
+    append_token(tokens, operator, notes)?;
+    notes.push_str(sentence)?;
+    notes.push_str("\n")
+}
+
+// Whether the token at a place is an operand by itself.
+fn is_operand(tokens: &Tokens, place: u32) -> bool {
+    match tokens.token_at(place) {
+        None => false,
+        Some(token) => match token.kind {
+            TokenKind::Identifier => true,
+            TokenKind::Number => true,
+            TokenKind::Character => true,
+            _ => false,
+        },
+    }
+}
+
+/// Adds lines on the operators before and after the operand at a place.
+pub(crate) fn append_operators(
+    tokens: &Tokens,
+    place: u32,
+    notes: &mut String,
+) -> Result<(), AllocError> {
+    if let Some(before) = place.checked_sub(1) {
+        append_operator(tokens, before, place, notes)?;
+    }
+    if is_operand(tokens, place) {
+        append_operator(tokens, place.saturating_add(1), place, notes)?;
+    }
+    Ok(())
+}
