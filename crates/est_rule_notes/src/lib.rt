@@ -1,0 +1,6 @@
+//! Notes on the first rule that a specification breaks.
+#![tactic(auto)]
+
+mod notes;
+
+pub use notes::rule_notes;
