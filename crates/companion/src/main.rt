@@ -2,6 +2,7 @@
 //! the output of the machine, and makes the call that the first word names.
 #![tactic(auto)]
 
+use est_advice::call::advise;
 use est_edge::{FileShelf, OutSink};
 use est_made_traces::call::write_made;
 use est_show::top::show;
@@ -25,6 +26,12 @@ fn obey<R: Env + AllocGlobal + Files + Input + Print>(rt: &R, words: &[String]) 
             &mut OutSink::new(rt),
         ),
         [command, ..] if command.as_str() == "show" || command.as_str() == "chart" => show(
+            rt.alloc(),
+            words,
+            &mut FileShelf::new(rt),
+            &mut OutSink::new(rt),
+        ),
+        [command, ..] if command.as_str() == "advise" || command.as_str() == "warn" => advise(
             rt.alloc(),
             words,
             &mut FileShelf::new(rt),

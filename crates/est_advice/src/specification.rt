@@ -8,6 +8,7 @@ use est_edge::Shelf;
 use est_files::file::File;
 use est_lexer::lex::lex;
 use est_lexer::tokens::Tokens;
+use est_rule_notes::append_rule;
 use est_specification::{SpecificationError, read_specification};
 use est_wanted::refused::{append_refused, append_too_deep};
 use std::alloc::{AllocError, Global};
@@ -65,7 +66,9 @@ fn append_bad(
         }
         SpecificationError::LeftOut { place } => append_refused(alloc, text, tokens, place, notes),
         SpecificationError::TooDeep { place } => append_too_deep(alloc, tokens, place, notes),
-        SpecificationError::BrokenRule { place: _, rule: _ } => Ok(()),
+        SpecificationError::BrokenRule { place, rule } => {
+            append_rule(alloc, tokens, place, rule, notes)
+        }
         SpecificationError::Memory(error) => Err(error),
     }
 }

@@ -3,4 +3,4 @@
 
 mod notes;
 
-pub use notes::rule_notes;
+pub use notes::append_rule;
