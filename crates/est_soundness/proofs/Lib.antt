@@ -1,0 +1,16 @@
+pub mod ArrivedSignals
+pub mod AscendingSets
+pub mod FittingArguments
+pub mod FittingBlocks
+pub mod FittingChanges
+pub mod FittingExpressions
+pub mod FittingFrames
+pub mod FittingOrdinals
+pub mod FittingRuns
+pub mod NamedArguments
+pub mod OperatorValues
+pub mod PartsFit
+pub mod ReachedKinds
+pub mod SameKinds
+pub mod SentValues
+pub mod TypedValues

@@ -1,0 +1,6 @@
+pub mod FittingStates
+pub mod KindsOfPlaces
+pub mod SameKinds
+pub mod SoundnessLaws
+pub mod SteadyOutlines
+pub mod ValuesOfTypes

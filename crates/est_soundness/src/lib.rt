@@ -1,0 +1,4 @@
+//! The values of runs fit the kinds of what holds them.
+#![tactic(auto)]
+
+pub mod laws;
