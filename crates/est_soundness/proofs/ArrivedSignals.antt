@@ -1,8 +1,8 @@
 -- The kinds of the signals of ports are those of the parameters of interactions.
-use Rattle.std.proofs.Common.{◌≡◌, sym, ap, subst, ◌∙◌, ℕ, zero, suc, Bool, true, false}
-use Rattle.std.proofs.Common.{if◌then◌else◌, List, [], Option, Some, None, slice_get}
 use Rattle.std.specs.Prelude.{option_and_then}
 use Rattle.std.specs.Option.{option_map}
+use Rattle.std.proofs.Common.{◌≡◌, sym, ap, subst, ◌∙◌, ℕ, zero, suc, Bool, true, false}
+use Rattle.std.proofs.Common.{if◌then◌else◌, List, [], Option, Some, None, slice_get}
 use Rattle.std.proofs.lemmas.Option.{same_Some, none-some}
 use Rattle.est_syntax.specs.declared.channel.Role.{Role}
 use Rattle.est_syntax.specs.declared.kind.Kind.{Kind}
@@ -11,25 +11,25 @@ use Rattle.est_syntax.specs.declared.ports.Signal.{Signal}
 use Rattle.est_syntax.specs.declared.specification.Spec.{Spec}
 use Rattle.est_scope.specs.declared.declaration.Entry.{Entry}
 use Rattle.est_scope.specs.declared.declaration.Member.{Member}
-use Rattle.est_scope.specs.declared.declaration.Member.TheVariants as member
 use Rattle.est_scope.specs.declared.declaration.Side.{Side}
-use Rattle.est_scope.specs.declared.declaration.Sort.TheVariants as sort
 use Rattle.est_scope.specs.declared.declaration.Standing.{Standing}
 use Rattle.est_scope.specs.Outline.{Outline, names_of, entry_at, member_at, standing}
 use Rattle.est_scope.specs.Uses.{same_sort}
+use Rattle.est_scope.specs.declared.declaration.Member.TheVariants as member
+use Rattle.est_scope.specs.declared.declaration.Sort.TheVariants as sort
 use Rattle.est_outline.specs.Bodies.{outline_of}
 use Rattle.est_outline.proofs.Regions.{region_once}
-use Rattle.est_statements.specs.Modules.{started_header}
-use Rattle.est_statements.specs.Signals.{side_at}
 use Rattle.est_ports.specs.PortList.{kinds_in, signal_by, signals_of, element, elements_with}
 use Rattle.est_ports.specs.PortList.{elements_by, header_ports, ports_of}
 use Rattle.est_ports.proofs.Listing.{flat_place}
 use Rattle.est_ports.proofs.Ranks.{unmapped}
-use Rattle.est_outside.proofs.PortPlaces.{found_once, standing_is, ports_at}
+use Rattle.est_statements.specs.Modules.{started_header}
+use Rattle.est_statements.specs.Signals.{side_at}
 use Rattle.est_semantics.specs.declared.situation.InteractionPoint.{InteractionPoint}
 use Rattle.est_semantics.specs.declared.situation.Item.{Item}
 use Rattle.est_semantics.specs.InstancePoints.{point}
 use Rattle.est_semantics.specs.TextByPlace.{text_of}
+use Rattle.est_outside.proofs.PortPlaces.{found_once, standing_is, ports_at}
 use Rattle.est_choices.specs.declared.event.Interaction.{Interaction}
 use Rattle.est_choices.specs.OutsideEvents.{port_in, port_point, signal_place, item_at, item_by}
 use Rattle.est_choices.specs.OutsideEvents.{arrival}

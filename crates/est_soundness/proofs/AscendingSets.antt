@@ -1,10 +1,10 @@
 -- Operators keep the members of sets ascending.
-use Rattle.std.proofs.Common.{◌≡◌, refl, sym, ◌∙◌, true≢false, arith, ℕ, zero, suc, ℤ, pos, ◌≤ℤ◌, ◌+ℤ◌, Bool, true, false}
-use Rattle.std.proofs.Common.{List, [], ◌∷◌}
 use Rattle.std.specs.Prelude.{int_lt, not, if◌then◌else◌}
 use Rattle.std.specs.Int.{int_gap}
 use Rattle.std.specs.List.{filter}
 use Rattle.std.specs.Ordering.{int_eq}
+use Rattle.std.proofs.Common.{◌≡◌, refl, sym, ◌∙◌, true≢false, arith, ℕ, zero, suc, ℤ, pos, ◌≤ℤ◌}
+use Rattle.std.proofs.Common.{◌+ℤ◌, Bool, true, false, List, [], ◌∷◌}
 use Rattle.std.proofs.lemmas.Int.{ints}
 use Rattle.std.proofs.lemmas.Bool.Decides.{Decides-int_eq}
 use Rattle.est_values.specs.FittingValues.{AscendFrom}

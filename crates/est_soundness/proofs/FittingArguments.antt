@@ -1,12 +1,11 @@
 -- Frames whose parameters are given what they may be fit.
-use Rattle.std.proofs.Common.{◌≡◌, refl, sym, ap, subst, ◌∙◌, ℕ, zero, suc, Bool, true}
-use Rattle.std.proofs.Common.{false, List, [], ◌∷◌, ◌++◌, map, length, Option, Some, None, Result}
-use Rattle.std.proofs.Common.{Ok, Err, ◌⊎◌, inl, inr, true≢false, unwrap_or}
 use Rattle.std.specs.Prelude.{slice_get, option_and_then, if◌then◌else◌}
 use Rattle.std.specs.List.{filter}
 use Rattle.std.specs.Map.{lookup}
 use Rattle.std.specs.Option.{option_map}
-use Rattle.std.proofs.Common.{nat_eq}
+use Rattle.std.proofs.Common.{◌≡◌, refl, sym, ap, subst, ◌∙◌, ℕ, zero, suc, Bool, true, false}
+use Rattle.std.proofs.Common.{List, [], ◌∷◌, ◌++◌, map, length, Option, Some, None, Result, Ok}
+use Rattle.std.proofs.Common.{Err, ◌⊎◌, inl, inr, true≢false, unwrap_or, nat_eq}
 use Rattle.std.proofs.lemmas.Option.{same_Some, none-some}
 use Rattle.est_syntax.specs.declared.kind.Kind.{Kind}
 use Rattle.est_values.specs.declared.value.Value.{Value}
@@ -16,28 +15,28 @@ use Rattle.est_scope.specs.Outline.{Outline, Region, names_of, nth_in, nth, plac
 use Rattle.est_scope.specs.Uses.{is_sort, same_sort}
 use Rattle.est_scope.specs.declared.declaration.Entry.{Entry}
 use Rattle.est_scope.specs.declared.declaration.Measured.{Measured}
-use Rattle.est_scope.specs.declared.declaration.Sort.TheVariants as sort
 use Rattle.est_scope.specs.declared.declaration.Standing.{Standing}
+use Rattle.est_scope.specs.declared.declaration.Sort.TheVariants as sort
 use Rattle.est_alike.specs.Types.{Yielded, type_of, is_assignable}
 use Rattle.est_expressions.specs.Operators.{is_given}
 use Rattle.est_expressions.specs.Selections.{type_in, declared_type, parameter_in, parameter_at}
 use Rattle.est_expressions.specs.Selections.{parameter, is_parameter}
 use Rattle.est_semantics.specs.declared.fault.BlockFault.{BlockFault}
 use Rattle.est_semantics.specs.declared.frame.Slot.{Slot}
-use Rattle.est_semantics.specs.declared.frame.Slot.TheVariants as slot
 use Rattle.est_semantics.specs.Outcome.{on_ok}
 use Rattle.est_semantics.specs.TakenValues.{taken, undefined_of}
 use Rattle.est_semantics.specs.NamesInRuns.{kind_at, places_of}
-use Rattle.est_semantics.specs.FunctionCalls.{given, bound, first_value, unset, frame_of, results_of}
-use Rattle.est_semantics.specs.FunctionCalls.{routine_frame}
+use Rattle.est_semantics.specs.FunctionCalls.{given, bound, first_value, unset, frame_of}
+use Rattle.est_semantics.specs.FunctionCalls.{results_of, routine_frame}
+use Rattle.est_semantics.specs.declared.frame.Slot.TheVariants as slot
 use Rattle.est_semantics.proofs.UndefinedVariables.{begins_undefined}
+use Rattle.est_upkeep.proofs.GivenThings.{OnGood}
+use Rattle.est_departures.proofs.TakenArguments.{good_on}
 use Rattle.est_soundness.specs.SteadyOutlines.{IsSteady}
 use Rattle.est_soundness.specs.FittingStates.{SlotFits, BindingFits, FrameFits}
 use Rattle.est_soundness.specs.ValuesOfTypes.{IsYielded}
 use Rattle.est_soundness.proofs.TypedValues.{given_fits}
 use Rattle.est_soundness.proofs.ReachedKinds.{kind_is}
-use Rattle.est_upkeep.proofs.GivenThings.{OnGood}
-use Rattle.est_departures.proofs.TakenArguments.{good_on}
 
 -- what is undefined throughout fits
 pub undefined_fits : (k : Kind) (v : Value) → IsUndefinedOf k v → Fits k v

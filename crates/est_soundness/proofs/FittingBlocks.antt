@@ -1,8 +1,11 @@
 -- The blocks of a specification that breaks no rule leave values that fit what holds them.
-use Rattle.std.proofs.Common.{◌≡◌, refl, ℕ, zero, suc, Bool, true, false}
-use Rattle.std.proofs.Common.{List, [], ◌∷◌, Option, Some, None, Result, Ok, Err}
-use Rattle.std.specs.Prelude.{ℤ, if◌then◌else◌, ◌+ℤ◌}
-use Rattle.std.specs.List.{AllByRecursion}
+use Rattle.std.specs.Prelude.{ℤ, if◌then◌else◌, ◌+ℤ◌, ◌-◌, unwrap_or}
+use Rattle.std.specs.List.{AllByRecursion, AllZip}
+use Rattle.std.specs.Option.{option_map}
+use Rattle.std.proofs.Common.{◌≡◌, refl, ℕ, zero, suc, Bool, true, false, List, [], ◌∷◌, Option}
+use Rattle.std.proofs.Common.{Some, None, Result, Ok, Err, sym, ap, subst, ◌∙◌, ◌++◌, length}
+use Rattle.std.proofs.Common.{true≢false}
+use Rattle.std.proofs.lemmas.Option.{same_Some, none-some}
 use Rattle.est_syntax.specs.declared.body.Body.{out-Body}
 use Rattle.est_syntax.specs.declared.body.FirstPart.{FirstPart}
 use Rattle.est_syntax.specs.declared.expression.Access.{Access}
@@ -12,25 +15,43 @@ use Rattle.est_syntax.specs.declared.name.Used.{Used}
 use Rattle.est_syntax.specs.declared.statement.Sending.{Sending}
 use Rattle.est_syntax.specs.declared.statement.Statement.{Statement, Row_of-Statement}
 use Rattle.est_syntax.specs.declared.statement.Statement.{end_of-Statement, more_of-Statement}
-use Rattle.est_syntax.specs.declared.statement.Statement.{Held-Statement-If-2}
-use Rattle.est_syntax.specs.declared.statement.Statement.{Row_of-Arm, end_of-Arm, more_of-Arm}
+use Rattle.est_syntax.specs.declared.statement.Statement.{Held-Statement-If-2, Row_of-Arm}
+use Rattle.est_syntax.specs.declared.statement.Statement.{end_of-Arm, more_of-Arm}
+use Rattle.est_syntax.specs.declared.expression.Selector.{Selector}
+use Rattle.est_syntax.specs.declared.ports.Direction.TheVariants.{Sends}
+use Rattle.est_syntax.specs.declared.kind.Kind.{Kind}
 use Rattle.est_syntax.specs.declared.statement.Statement.TheBlock as block
 use Rattle.est_syntax.specs.declared.statement.Statement.TheVariants as statement
+use Rattle.est_syntax.specs.declared.rule.Rule.TheVariants as rule
 use Rattle.est_values.specs.declared.value.Value.{Value}
-use Rattle.est_values.specs.declared.value.Value.TheVariants as value
 use Rattle.est_values.specs.OrdinalTuples.{ordinals_of}
+use Rattle.est_values.specs.FittingValues.{IsOrdinalOf, is_scalar, Fits}
+use Rattle.est_values.specs.declared.value.Value.TheVariants as value
+use Rattle.est_scope.specs.Outline.{entry_at, names_of, Outline}
 use Rattle.est_scope.specs.declared.declaration.Sort.TheVariants as sort
-use Rattle.est_scope.specs.Outline.{entry_at}
+use Rattle.est_ports.specs.PortList.{kinds_in}
 use Rattle.est_alike.specs.declared.types.Host.{Host}
+use Rattle.est_alike.specs.Types.{Yielded, type_of, is_assignable}
+use Rattle.est_expressions.specs.Accesses.{access_faults}
+use Rattle.est_expressions.specs.Expressions.{expr_type, are_taken}
+use Rattle.est_expressions.specs.Operators.{kept, is_given, is_ordinal}
+use Rattle.est_expressions.specs.Selections.{Selection, Broken, parameter, type_in, declared_type}
+use Rattle.est_expressions.specs.Variables.{selected_type}
+use Rattle.est_expressions.specs.Selections as select
+use Rattle.est_expressions.specs.Expressions as types
+use Rattle.est_expressions.specs.declared.operators.Wanted.TheVariants as wanted
+use Rattle.est_expressions.specs.declared.receivers.Receiver.TheVariants as receiver
 use Rattle.est_statements.specs.Cases.{Chosen}
-use Rattle.est_statements.specs.Signals.{sending_faults, sendings_faults}
+use Rattle.est_statements.specs.Signals.{sending_faults, sendings_faults, signal_faults}
 use Rattle.est_statements.specs.Statements.{statement_faults, box_statement, statements_faults}
+use Rattle.est_statements.specs.Statements.{function_faults, call_faults, for_faults, is_place}
+use Rattle.est_statements.specs.Statements.{control_type}
+use Rattle.est_statements.specs.Modules.{init_faults}
+use Rattle.est_statements.specs.Targets.{target, path_target, assign_faults}
 use Rattle.est_statements.specs.Statements as rules
 use Rattle.est_semantics.specs.declared.fault.BlockFault.{BlockFault}
 use Rattle.est_semantics.specs.declared.frame.Holder.{Holder}
-use Rattle.est_semantics.specs.declared.frame.Holder.TheVariants as holder
 use Rattle.est_semantics.specs.declared.frame.Slot.{Slot}
-use Rattle.est_semantics.specs.declared.frame.Slot.TheVariants as slot
 use Rattle.est_semantics.specs.declared.situation.InteractionPoint.{InteractionPoint}
 use Rattle.est_semantics.specs.declared.situation.Item.{Item}
 use Rattle.est_semantics.specs.Outcome.{Outcome, Done, Fault, Limit, onward, ◌>>=◌, ◌>>◌, give}
@@ -38,14 +59,13 @@ use Rattle.est_semantics.specs.Outcome.{lift, known, counted}
 use Rattle.est_semantics.specs.GlobalSituation.{Frame, Situation, lives}
 use Rattle.est_semantics.specs.Frames.{names_written}
 use Rattle.est_semantics.specs.OrdinalOperators.{is_true}
-use Rattle.est_semantics.specs.TextByPlace.{Text, routine_at, statements_of, body_at, first_region}
-use Rattle.est_semantics.specs.TextByPlace.{first_statements}
+use Rattle.est_semantics.specs.TextByPlace.{Text, routine_at, statements_of, body_at}
+use Rattle.est_semantics.specs.TextByPlace.{first_region, first_statements}
 use Rattle.est_semantics.specs.NamesInRuns.{Head, Nothing, Constant, Function, Variable, Modules}
 use Rattle.est_semantics.specs.NamesInRuns.{head_in, header_at, declared_at, places_of}
-use Rattle.est_semantics.specs.NamesInRuns.{interaction_of}
+use Rattle.est_semantics.specs.NamesInRuns.{interaction_of, kind_at, head}
 use Rattle.est_semantics.specs.WorkingState.{State, Site, View, Counts, Does, Deeper, view}
-use Rattle.est_semantics.specs.WorkingState.{counting}
-use Rattle.est_semantics.specs.WorkingState.{evaluated, enter, changed_by, changes}
+use Rattle.est_semantics.specs.WorkingState.{counting, evaluated, enter, changed_by, changes}
 use Rattle.est_semantics.specs.ValueOperators.{choose, ordinal}
 use Rattle.est_semantics.specs.ReachedVariables.{Reached, Component, Module}
 use Rattle.est_semantics.specs.FunctionCalls.{routine_frame, frame_of}
@@ -53,160 +73,64 @@ use Rattle.est_semantics.specs.ExpressionValues.{value_of, variable_of, values_i
 use Rattle.est_semantics.specs.InstancePoints.{children_of, own_point, child, child_point, end_of}
 use Rattle.est_semantics.specs.InstancePoints.{ends_of, point}
 use Rattle.est_semantics.specs.LinkEffects.{connected, attached, disconnected, detached_end, each}
-use Rattle.est_semantics.specs.InstanceEffects.{born, released}
-use Rattle.est_semantics.specs.WriteEffects.{ordinal_of, opened, closed, framed}
-use Rattle.est_semantics.specs.WriteEffects.{given_names, stored}
+use Rattle.est_semantics.specs.InstanceEffects.{born, released, header_variables, variables_of}
+use Rattle.est_semantics.specs.WriteEffects.{ordinal_of, opened, closed, framed, given_names}
+use Rattle.est_semantics.specs.WriteEffects.{stored, acts, assigned}
 use Rattle.est_semantics.specs.LoopEffects.{turn_of, turns, repeats, distance, step, naming}
-use Rattle.est_semantics.specs.LoopEffects.{counts as loop_counts}
-use Rattle.est_semantics.specs.LoopEffects.{turn_for, for_each, for_child, for_children}
-use Rattle.est_semantics.specs.LoopEffects.{over_children, over}
-use Rattle.est_semantics.specs.StatementEffects.{performed, is_chosen, item_of, delivered, all_sent}
-use Rattle.est_semantics.specs.StatementEffects.{first_reached, initialized, element_of, init_done}
-use Rattle.est_semantics.specs.StatementEffects.{let_go, linked, unlinked, body_of, values_of}
-use Rattle.est_semantics.specs.StatementEffects.{row_statement, held_statement, row_statements}
-use Rattle.est_semantics.specs.StatementEffects.{row_arms, statements_in}
+use Rattle.est_semantics.specs.LoopEffects.{counts as loop_counts, turn_for, for_each, for_child}
+use Rattle.est_semantics.specs.LoopEffects.{for_children, over_children, over, controlled}
+use Rattle.est_semantics.specs.StatementEffects.{performed, is_chosen, item_of, delivered}
+use Rattle.est_semantics.specs.StatementEffects.{all_sent, first_reached, initialized, element_of}
+use Rattle.est_semantics.specs.StatementEffects.{init_done, let_go, linked, unlinked, body_of}
+use Rattle.est_semantics.specs.StatementEffects.{values_of, row_statement, held_statement}
+use Rattle.est_semantics.specs.StatementEffects.{row_statements, row_arms, statements_in}
+use Rattle.est_semantics.specs.StatementEffects.{first_state}
 use Rattle.est_semantics.specs.BlockLevels.{within, site}
+use Rattle.est_semantics.specs.declared.situation.Element.{Element}
+use Rattle.est_semantics.specs.TakenValues.{taken}
+use Rattle.est_semantics.specs.declared.frame.Holder.TheVariants as holder
+use Rattle.est_semantics.specs.declared.frame.Slot.TheVariants as slot
+use Rattle.est_semantics.proofs.FittingTaken.{taken_fit}
 use Rattle.est_upkeep.specs.UpkeepLaws.{OnDone}
 use Rattle.est_upkeep.proofs.GivenThings.{Gives, OnGood, then_gives, lift_gives, named_gives}
 use Rattle.est_upkeep.proofs.GivenThings.{given_on}
-use Rattle.est_fullness.proofs.NoFaults.{parted}
-use Rattle.est_fullness.proofs.NotBroken.{three}
-use Rattle.est_departures.proofs.FaultlessBlocks.{IsFaultless, FaultlessBlocks}
-use Rattle.est_departures.proofs.TakenArguments.{AreValues, arguments_are_values}
-use Rattle.std.proofs.Common.{sym, ap, subst, ◌∙◌, ◌++◌, length, arith, ◌+◌, true≢false}
-use Rattle.std.proofs.Common.{length-append}
-use Rattle.std.specs.List.{AllZip}
-use Rattle.est_syntax.specs.declared.expression.Selector.{Selector}
-use Rattle.est_syntax.specs.declared.ports.Direction.TheVariants.{Sends}
-use Rattle.est_scope.specs.Outline.{names_of}
-use Rattle.est_ports.specs.PortList.{kinds_in}
-use Rattle.std.specs.Prelude.{◌-◌, unwrap_or}
-use Rattle.std.specs.Option.{option_map}
-use Rattle.std.proofs.lemmas.Option.{same_Some, none-some}
-use Rattle.est_syntax.specs.declared.kind.Kind.{Kind, out-Kind}
-use Rattle.est_syntax.specs.declared.kind.Kind.TheOpen as seen
-use Rattle.est_syntax.specs.declared.rule.Rule.TheVariants as rule
-use Rattle.est_values.specs.FittingValues.{KindLayer, IsOrdinalOf, is_scalar, scalar_of, Fits}
-use Rattle.est_values.specs.FittingValues as fitting
-use Rattle.est_scope.specs.Outline.{Outline, nth}
-use Rattle.est_scope.specs.declared.declaration.Entry.{Entry}
-use Rattle.est_scope.specs.declared.declaration.Measured.{Measured}
-use Rattle.est_alike.specs.Alike.{is_alike}
-use Rattle.est_alike.specs.Types.{Yielded, Group, type_of, is_assignable}
-use Rattle.est_expressions.specs.Accesses.{access_faults}
-use Rattle.est_expressions.specs.Expressions.{expr_type, are_taken}
-use Rattle.est_expressions.specs.Operators.{kept, is_taken, is_given, is_ordinal}
-use Rattle.est_expressions.specs.Selections.{Selection, Broken, parameter, type_in, declared_type}
-use Rattle.est_expressions.specs.Selections as select
-use Rattle.est_expressions.specs.Variables.{selected_type}
-use Rattle.est_expressions.specs.Expressions as types
-use Rattle.est_expressions.specs.declared.operators.Wanted.{Wanted}
-use Rattle.est_expressions.specs.declared.operators.Wanted.TheVariants as wanted
-use Rattle.est_expressions.specs.declared.receivers.Receiver.TheVariants as receiver
-use Rattle.est_statements.specs.Signals.{signal_faults}
-use Rattle.est_statements.specs.Modules.{init_faults}
-use Rattle.est_statements.specs.Statements.{function_faults, call_faults, for_faults, is_place}
-use Rattle.est_statements.specs.Statements.{control_type}
-use Rattle.est_statements.specs.Targets.{Variable as VariableAccess, target, path_target, bare}
-use Rattle.est_statements.specs.Targets.{assign_faults}
-use Rattle.est_semantics.specs.declared.situation.Element.{Element}
-use Rattle.est_semantics.specs.TakenValues.{taken}
-use Rattle.est_semantics.specs.NamesInRuns.{kind_at, takes_place, head}
-use Rattle.est_semantics.specs.ReachedVariables.{placed}
-use Rattle.est_semantics.specs.ExpressionValues.{argument_of, variable_place}
-use Rattle.est_semantics.specs.InstanceEffects.{header_variables, variables_of}
-use Rattle.est_semantics.specs.WriteEffects.{acts, assigned}
-use Rattle.est_semantics.specs.LoopEffects.{controlled}
-use Rattle.est_semantics.specs.StatementEffects.{first_state}
-use Rattle.est_semantics.proofs.FittingTaken.{taken_fit}
 use Rattle.est_upkeep.proofs.ParentsOlder.{joined_all}
 use Rattle.est_fullness.specs.FullExpressions.{IsWhole}
-use Rattle.est_fullness.specs.FullProcedures.{IsVariableFor, IsGivenBy, AreGivenTo}
-use Rattle.est_fullness.specs.FullProcedures.{IsCalled}
+use Rattle.est_fullness.specs.FullProcedures.{AreGivenTo, IsCalled}
+use Rattle.est_fullness.proofs.NoFaults.{parted}
+use Rattle.est_fullness.proofs.NotBroken.{three, not_broken}
 use Rattle.est_fullness.proofs.FullProcedures.{calls_full}
 use Rattle.est_fullness.proofs.FullStatements.{assigned_full, loops_full}
-use Rattle.est_fullness.proofs.NotBroken.{not_broken}
+use Rattle.est_departures.proofs.FaultlessBlocks.{IsFaultless, FaultlessBlocks}
+use Rattle.est_departures.proofs.TakenArguments.{AreValues, arguments_are_values}
 use Rattle.est_departures.proofs.NamedEnds.{named}
 use Rattle.est_soundness.specs.KindsOfPlaces.{HasKind}
 use Rattle.est_soundness.specs.SteadyOutlines.{IsSteady}
-use Rattle.est_soundness.specs.FittingStates.{FrameFits, ItemFits}
-use Rattle.est_soundness.specs.FittingStates.{SituationFits, StateFits}
+use Rattle.est_soundness.specs.FittingStates.{FrameFits, ItemFits, SituationFits, StateFits}
 use Rattle.est_soundness.specs.ValuesOfTypes.{IsYielded}
-use Rattle.est_soundness.proofs.SameKinds.{alike_same, same_on}
-use Rattle.est_soundness.proofs.TypedValues.{given_fits, array_type, record_type}
+use Rattle.est_soundness.proofs.TypedValues.{given_fits}
 use Rattle.est_soundness.proofs.FittingFrames.{written_fits}
 use Rattle.est_soundness.proofs.FittingOrdinals.{ordinals_are, ordinal_fits}
-use Rattle.est_soundness.proofs.ReachedKinds.{Agrees, OnHead, target_on, entry_on, kind_is}
-use Rattle.est_soundness.proofs.FittingArguments.{AreGivenFor, IsGivenFor, parameter_entry}
-use Rattle.est_soundness.proofs.FittingArguments.{MayGiveAll, value_given, routine_given, none_given}
-use Rattle.est_soundness.proofs.FittingArguments.{given_more, frame_given, nothing_given}
+use Rattle.est_soundness.proofs.ReachedKinds.{Agrees, OnHead, target_on, entry_on}
+use Rattle.est_soundness.proofs.FittingArguments.{AreGivenFor, MayGiveAll, routine_given}
+use Rattle.est_soundness.proofs.FittingArguments.{none_given, frame_given, nothing_given}
 use Rattle.est_soundness.proofs.FittingArguments.{arguments_given}
 use Rattle.est_soundness.proofs.FittingExpressions.{CallsFit, expr_yields, values_in_given}
 use Rattle.est_soundness.proofs.FittingExpressions.{variable_agrees, given_some}
 use Rattle.est_soundness.proofs.FittingChanges.{taken_all, set_all, sent_well, connected_well}
 use Rattle.est_soundness.proofs.FittingChanges.{attached_well, disconnected_well, end_well}
-use Rattle.est_soundness.proofs.FittingChanges.{released_well, born_well, written_well, state_well}
+use Rattle.est_soundness.proofs.FittingChanges.{released_well, born_well, written_well}
+use Rattle.est_soundness.proofs.FittingChanges.{state_well}
+use Rattle.est_soundness.proofs.ControlVariables.{kept_taken, target_some, ordinal_scalar}
+use Rattle.est_soundness.proofs.ControlVariables.{undefined_fits}
+use Rattle.est_soundness.proofs.GivenArguments.{both_given, append_nil, arguments_given_to}
 use Rattle.est_soundness.proofs.NamedArguments.{same_declaration, sending_taken, init_taken}
-use Rattle.est_soundness.proofs.NamedArguments.{place_taken}
 use Rattle.est_soundness.proofs.SentValues.{item_values}
-
--- what is known of two things at once
-both_given : {S A : Type 0} (Q R : A → Type 0) (x : Outcome S A) → Gives Q x → Gives R x
-    → Gives (λ a. Q a × R a) x
-both_given Q R (Done a s) h g = (h, g)
-both_given Q R (Fault f) h g = tt
-both_given Q R Limit h g = tt
-
--- what a place keeps is of the sort that it wants
-kept_taken : (w : Wanted) (x : Option Yielded) (t : Yielded) → kept w x ≡ Some t
-    → (x ≡ Some t) × (is_taken w t ≡ true)
-kept_taken w None t h = absurd (none-some t h)
-kept_taken w (Some s) t h = by (is_taken w s) refl h
-  where
-    by : (b : Bool) → is_taken w s ≡ b → (if b then Some s else None) ≡ Some t
-        → (Some s ≡ Some t) × (is_taken w t ≡ true)
-    by true i e = (e, subst (λ x. is_taken w x ≡ true) (same_Some s t e) i)
-    by false i e = absurd (none-some t e)
-
-target_some : (x y : Option Yielded) → is_given x y ≡ true → (t : Yielded) × (x ≡ Some t)
-target_some None y h = absurd (true≢false (sym h))
-target_some (Some t) y h = (t, refl)
-
--- what yields an ordinal is of scalars
-ordinal_scalar : (k : Kind) (t : Yielded) → type_of k ≡ t → is_ordinal t ≡ true
-    → is_scalar k ≡ true
-ordinal_scalar k t e h = by (out-Kind k) refl
-  where
-    group : type_of k ≡ Group k → is_scalar k ≡ true
-    group g = let no : false ≡ true = subst (λ x. is_ordinal x ≡ true) (sym e ∙ g) h in
-        absurd (true≢false (sym no))
-
-    by : (l : KindLayer) → out-Kind k ≡ l → is_scalar k ≡ true
-    by (seen.ArrayOf i of) d = group (array_type k i of d)
-    by (seen.Fields fs) d = group (record_type k fs d)
-    by seen.Integer d = ap scalar_of d
-    by seen.Boolean d = ap scalar_of d
-    by seen.Char d = ap scalar_of d
-    by (seen.Enumeration place names) d = ap scalar_of d
-    by (seen.Part host low high) d = ap scalar_of d
-    by (seen.SetOf base) d = ap scalar_of d
-
-undefined_fits : (k : Kind) (x : Value) → is_scalar k ≡ true → taken k value.Undefined ≡ Ok x
-    → Fits k x
-undefined_fits k x s h = subst (Fits k) (same (taken k value.Undefined) refl h)
-    (fitting.undefined value.outs-Undefined s)
-  where
-    same : (r : Result Value BlockFault) → r ≡ Ok value.Undefined → r ≡ Ok x → value.Undefined ≡ x
-    same r d e = cc
 
 -- what an argument of an `all` stands for
 abbrev IsLoop : Outline → Head → Type 0
 IsLoop o (Variable p k) = kind_at o p ≡ Some k
 IsLoop o _ = Unit {0}
-
-append_nil : (xs : List ℕ) → xs ++ [] ≡ xs
-append_nil [] = refl
-append_nil (x ∷ xs) = ap (λ ys. x ∷ ys) (append_nil xs)
 
 module _ (t : Text) (whole : IsWhole t.outline) (steady : IsSteady t.outline)
     (good : FaultlessBlocks t) where
@@ -518,83 +442,6 @@ module _ (t : Text) (whole : IsWhole t.outline) (steady : IsSteady t.outline)
     seen_values es p l i = values_in_given (view (at fn n d) s) steady h.situation h.frames
         (calls_fit d deep) es p 0 [] l refl (none_given o steady p) i
 
-    -- ARGUMENTS OF PROCEDURES
-
-    place_given : (p i : ℕ) (loops : List ℕ) (g : Entry) (e : Expr) (l : ℕ)
-        → parameter o p i ≡ Some g → IsVariableFor o loops g.kind (bare e)
-        → Gives (IsGivenFor o steady (parameter o p i))
-        (variable_place e (view (at fn n d) s) l)
-    place_given p i loops g e l is = by g.kind refl (bare e)
-      where
-        Q : Slot → Type 0
-        Q x = IsGivenFor o steady (parameter o p i) x
-
-        reached : (m : Measured) (k : Kind) (r : Reached) (j : ℕ) → g.kind ≡ Some m
-            → is_alike m.kind k ≡ true → Reaches (select.Component k) r
-            → Gives (IsGivenFor o steady (parameter o p i)) (placed r j)
-        reached m k (Module q zs) j a b c = absurd c
-        reached m k (Component q w) j a b c =
-            let y = parameter_entry o steady (nth o p i) g is in
-            let z = alike_same steady.sizes m.kind w
-            (steady.sized y.0 m.kind (kind_is o y.0 g m y.2 a)) c.1.sized
-            (subst (λ x. is_alike m.kind x ≡ true) c.0 b) in (
-              g,
-              is,
-              λ x f. subst (λ (v : Measured). HasKind o q v.kind)
-                  (same_Some m x (sym a ∙ f)) record {
-                    whole = c.1.has.whole;
-                    declared = c.1.has.declared;
-                    part = c.1.has.part;
-                    reached = c.1.has.reached;
-                    same = same_on c.1.has.part w m.kind c.1.has.same z;
-                  },
-            )
-
-        by : (m : Option Measured) → g.kind ≡ m → (x : Option VariableAccess)
-            → IsVariableFor o loops m x
-            → Gives (IsGivenFor o steady (parameter o p i))
-            ((known x >>= λ y. variable_of y.0 y.1 (view (at fn n d) s) >>= placed) l)
-        by None a x f = absurd f
-        by (Some m) a None f = absurd f
-        by (Some m) a (Some x) f =
-            given_on (Reaches (path_target o None loops x.0 x.1))
-            (IsGivenFor o steady (parameter o p i))
-            (variable_of x.0 x.1 (view (at fn n d) s) l) placed
-            (seen_variable x.0 x.1 (target o None loops x.0) l (target_on o None loops x.0))
-            (λ r j c. reached m f.0 r j a f.2 (subst (λ y. Reaches y r) f.1 c))
-
-    argument_given : (p i : ℕ) (loops : List ℕ) (g : Entry) (b : Bool) (e : Expr) (l : ℕ)
-        → parameter o p i ≡ Some g → IsGivenBy o loops b g e
-        → Gives (IsGivenFor o steady (parameter o p i))
-        (argument_of e b (view (at fn n d) s) l)
-    argument_given p i loops g true e l is f = place_given p i loops g e l is f
-    argument_given p i loops g false e l is f =
-        let x = given_some (type_in g.kind) (expr_type o e) f in
-        given_on (Y x.0) (IsGivenFor o steady (parameter o p i))
-        (value_of e (view (at fn n d) s) l) _ (seen_value e x.0 l x.1)
-        (λ a m q. subst (λ y. IsGivenFor o steady y (slot.Value a)) (sym is)
-        (value_given o steady (Some g) a x.0 p i (sym is) q
-        (subst (λ y. is_given (type_in g.kind) y ≡ true) x.1 f)))
-
-    arguments_keep : (es : List Expr) (p i : ℕ) (loops : List ℕ) (xs : List Slot) (l : ℕ)
-        → i ≡ length xs → AreGivenFor o steady p xs → AreGivenTo o loops p i es
-        → Gives (AreGivenFor o steady p) (arguments_in es p xs (view (at fn n d) s) l)
-    arguments_keep [] p i loops xs l e f g = f
-    arguments_keep (x ∷ es) p i loops xs l e f g =
-        let a = g.0 in
-        let b : takes_place o p (length xs) ≡ is_place a.0.section =
-        ap (takes_place o p) (sym e) ∙ place_taken o steady p i a.0 a.1 in
-        given_on (IsGivenFor o steady (parameter o p i)) (AreGivenFor o steady p)
-        (argument_of x (takes_place o p (length xs)) (view (at fn n d) s) l) _
-        (subst (λ c. Gives (IsGivenFor o steady (parameter o p i))
-        (argument_of x c (view (at fn n d) s) l)) (sym b)
-        (argument_given p i loops a.0 (is_place a.0.section) x l a.1 a.2))
-        (λ y m q. arguments_keep es p (i + 1) loops (xs ++ y ∷ []) m
-        (let k : i + 1 ≡ length (xs ++ y ∷ []) =
-        omega (arith, e, length-append xs (y ∷ [])) in k)
-        (given_more o steady p xs y f
-        (subst (λ j. IsGivenFor o steady (parameter o p j) y) e q)) g.1)
-
   -- CALLS AND INSTANCES
 
   performs : (fn : Bool) (n : ℕ) (d : Deeper) → Deep d → (name : Used) (arguments : List Expr)
@@ -603,7 +450,8 @@ module _ (t : Text) (whole : IsWhole t.outline) (steady : IsSteady t.outline)
   performs fn n d deep name arguments loops call =
       known_keeps (declared_at o name) _
       (λ p e s h. looked (at fn n d) (arguments_in arguments p []) _ (AreGivenFor o steady p) s h
-      (arguments_keep fn n d deep s h arguments p 0 loops [] s.left refl (none_given o steady p)
+      (arguments_given_to (view (at fn n d) s) steady h.situation h.frames (calls_fit d deep)
+      arguments p 0 loops [] s.left refl (none_given o steady p)
       (subst (λ q. AreGivenTo o loops q 0 arguments)
       (same_declaration o sort.Procedure name call.0 p call.1 e) call.2))
       (λ xs l g k. known_keeps (routine_at t p) _
@@ -785,7 +633,8 @@ module _ (t : Text) (whole : IsWhole t.outline) (steady : IsSteady t.outline)
       in
       let k = kept_taken wanted.Ordinal (control_type o f loops name) c.0 c.1 in
       looked (at fn n d) (variable_of name []) _ (Reaches (target o f loops name)) s p
-      (seen_variable fn n d deep s p name [] (target o f loops name) s.left (target_on o f loops name))
+      (seen_variable fn n d deep s p name [] (target o f loops name) s.left
+      (target_on o f loops name))
       (λ r l q w. let is = control_is (target o f loops name) r c.0 q k.0 k.1 in
       bind (ordinal_of first (at fn n d)) _ (asks (at fn n d) first)
       (λ x. bind (ordinal_of last (at fn n d)) _ (asks (at fn n d) last)
@@ -804,8 +653,8 @@ module _ (t : Text) (whole : IsWhole t.outline) (steady : IsSteady t.outline)
   Faultless f loops row = rules.row_statements t.outline f loops row ≡ []
 
   mutual
-    body_keeps : (x : Statement) (f : Option ℕ) (loops : List ℕ) (fn : Bool) (n : ℕ) (d : Deeper) → Deep d
-        → statement_faults t.outline f loops x ≡ [] → Keeping (body_of x (at fn n d))
+    body_keeps : (x : Statement) (f : Option ℕ) (loops : List ℕ) (fn : Bool) (n : ℕ) (d : Deeper)
+        → Deep d → statement_faults t.outline f loops x ≡ [] → Keeping (body_of x (at fn n d))
     body_keeps (statement.Empty place) f loops fn n d deep e = idles
     body_keeps (statement.Compound' a turn place) f loops fn n d deep e =
         row_keeps turn f loops fn n d deep e
@@ -822,11 +671,12 @@ module _ (t : Text) (whole : IsWhole t.outline) (steady : IsSteady t.outline)
         (boxed_keeps first f loops fn n d deep own.1) (held_keeps second f loops fn n d deep own.2))
     body_keeps (statement.Case' v a arms place) f loops fn n d deep e =
         bind (ordinal_of v (at fn n d)) _ (asks (at fn n d) v)
-        (λ z. arms_keep arms z f loops _ _ fn n d deep (parted _ (rules.row_arms t.outline f loops _ []
-        arms) e).1)
+        (λ z. arms_keep arms z f loops _ _ fn n d deep
+        (parted _ (rules.row_arms t.outline f loops _ [] arms) e).1)
     body_keeps (statement.While' c a turn place) f loops fn n d deep e = λ s.
-        turns_keep _ (ordinal_of c (at fn n d)) (row_statement turn (at fn n d)) (asks (at fn n d) c)
-        (boxed_keeps turn f loops fn n d deep (parted _ (box_statement t.outline f loops turn) e).1) s
+        turns_keep _ (ordinal_of c (at fn n d)) (row_statement turn (at fn n d))
+        (asks (at fn n d) c) (boxed_keeps turn f loops fn n d deep
+        (parted _ (box_statement t.outline f loops turn) e).1) s
     body_keeps (statement.Repeat' a turn until place) f loops fn n d deep e = λ s.
         repeats_keep _ (row_statements turn (at fn n d)) (ordinal_of until (at fn n d))
         (row_keeps turn f loops fn n d deep
@@ -835,7 +685,8 @@ module _ (t : Text) (whole : IsWhole t.outline) (steady : IsSteady t.outline)
         let loops' = rules.within_loop t.outline loops name in
         let own = parted (for_faults o f loops name first last)
         (box_statement t.outline f loops' turn) e in
-        control_keeps fn n d deep f loops name first last down (row_statement turn (at fn n d)) own.0
+        control_keeps fn n d deep f loops name first last down (row_statement turn (at fn n d))
+        own.0
         (boxed_keeps turn f loops' fn n d deep own.1)
     body_keeps (statement.All' name text a turn place) f loops fn n d deep e =
         over_keeps (head_in name.place (entry_at t.outline name.place))
@@ -863,21 +714,22 @@ module _ (t : Text) (whole : IsWhole t.outline) (steady : IsSteady t.outline)
         acts_keep fn (unlinked end (detached_end t n) (at fn n d))
         (unlinks fn n d end (detached_end t n) (λ p s h. end_well o t n p s h))
 
-    boxed_keeps : {m : _} (row : Row_of-Statement m) (f : Option ℕ) (loops : List ℕ) (fn : Bool) (n : ℕ)
-        (d : Deeper) → Deep d → box_statement t.outline f loops row ≡ []
+    boxed_keeps : {m : _} (row : Row_of-Statement m) (f : Option ℕ) (loops : List ℕ) (fn : Bool)
+        (n : ℕ) (d : Deeper) → Deep d → box_statement t.outline f loops row ≡ []
         → Keeping (row_statement row (at fn n d))
     boxed_keeps end_of-Statement f loops fn n d deep e = idles
     boxed_keeps (more_of-Statement x rest) f loops fn n d deep e =
         both enter (body_of x (at fn n d)) enters (body_keeps x f loops fn n d deep e)
 
-    held_keeps : (x : Held-Statement-If-2) (f : Option ℕ) (loops : List ℕ) (fn : Bool) (n : ℕ) (d : Deeper)
-        → Deep d → rules.held_statement t.outline f loops x ≡ []
+    held_keeps : (x : Held-Statement-If-2) (f : Option ℕ) (loops : List ℕ) (fn : Bool) (n : ℕ)
+        (d : Deeper) → Deep d → rules.held_statement t.outline f loops x ≡ []
         → Keeping (held_statement x (at fn n d))
     held_keeps block.None' f loops fn n d deep e = idles
     held_keeps (block.Some' a row) f loops fn n d deep e = boxed_keeps row f loops fn n d deep e
 
-    row_keeps : {m : _} (row : Row_of-Statement m) (f : Option ℕ) (loops : List ℕ) (fn : Bool) (n : ℕ)
-        (d : Deeper) → Deep d → Faultless f loops row → Keeping (row_statements row (at fn n d))
+    row_keeps : {m : _} (row : Row_of-Statement m) (f : Option ℕ) (loops : List ℕ) (fn : Bool)
+        (n : ℕ) (d : Deeper) → Deep d → Faultless f loops row
+        → Keeping (row_statements row (at fn n d))
     row_keeps end_of-Statement f loops fn n d deep e = idles
     row_keeps (more_of-Statement x rest) f loops fn n d deep e =
         let own = parted (statement_faults t.outline f loops x)
@@ -895,12 +747,14 @@ module _ (t : Text) (whole : IsWhole t.outline) (steady : IsSteady t.outline)
         one_arm (is_chosen t.outline constants z) (enter >> body_of x (at fn n d))
         (row_arms rest z (at fn n d))
         (both enter (body_of x (at fn n d)) enters
-        (body_keeps x f loops fn n d deep (parted _ (statement_faults t.outline f loops x) own.0).1))
+        (body_keeps x f loops fn n d deep
+        (parted _ (statement_faults t.outline f loops x) own.0).1))
         (arms_keep rest z f loops host _ fn n d deep own.1)
 
   -- statements in order
-  statements_keep : (xs : List Statement) (f : Option ℕ) (loops : List ℕ) (fn : Bool) (n : ℕ) (d : Deeper)
-      → Deep d → statements_faults t.outline f loops xs ≡ [] → Keeping (statements_in xs (at fn n d))
+  statements_keep : (xs : List Statement) (f : Option ℕ) (loops : List ℕ) (fn : Bool) (n : ℕ)
+      (d : Deeper) → Deep d → statements_faults t.outline f loops xs ≡ []
+      → Keeping (statements_in xs (at fn n d))
   statements_keep [] f loops fn n d deep e = idles
   statements_keep (x ∷ xs) f loops fn n d deep e =
       let own = parted (statement_faults t.outline f loops x)

@@ -1,9 +1,9 @@
 -- What links, outputs, writes, and instances that come and go leave of situations that fit.
-use Rattle.std.proofs.Common.{ℕ, zero, suc, Bool, true, false, ◌||◌, List, [], ◌∷◌, ◌++◌}
-use Rattle.std.proofs.Common.{map, Option, Some, None, Result, Ok, Err, is_some, nat_eq, drop, take}
 use Rattle.std.specs.Prelude.{if◌then◌else◌, nat_lt, not, slice_set}
 use Rattle.std.specs.List.{AllByRecursion, filter}
 use Rattle.std.specs.Option.{option_map_or}
+use Rattle.std.proofs.Common.{ℕ, zero, suc, Bool, true, false, ◌||◌, List, [], ◌∷◌, ◌++◌, map}
+use Rattle.std.proofs.Common.{Option, Some, None, Result, Ok, Err, is_some, nat_eq, drop, take}
 use Rattle.est_scope.specs.Outline.{Outline}
 use Rattle.est_semantics.specs.declared.fault.BlockFault.{BlockFault}
 use Rattle.est_semantics.specs.declared.frame.Slot.{Slot}
@@ -13,25 +13,24 @@ use Rattle.est_semantics.specs.declared.situation.Item.{Item}
 use Rattle.est_semantics.specs.declared.situation.Row.{Row}
 use Rattle.est_semantics.specs.Outcome.{on_ok}
 use Rattle.est_semantics.specs.TextByPlace.{Text}
-use Rattle.est_semantics.specs.GlobalSituation.{Frame, QueueName, is_queue, Situation, is_numbered}
-use Rattle.est_semantics.specs.GlobalSituation.{is_point, with_row, with_queue}
+use Rattle.est_semantics.specs.GlobalSituation.{Frame, QueueName, is_queue, Situation}
+use Rattle.est_semantics.specs.GlobalSituation.{is_numbered, is_point, with_row, with_queue}
 use Rattle.est_semantics.specs.FunctionCalls.{frame_of}
 use Rattle.est_semantics.specs.InstancePoints.{external_of}
 use Rattle.est_semantics.specs.Attachments.{above, bottom, up}
 use Rattle.est_semantics.specs.OutputEffects.{Sent, is_outside, crossed, sent, arrived}
 use Rattle.est_semantics.specs.QueueEffects.{queue_of, appended, without_head, belongs, passed_to}
 use Rattle.est_semantics.specs.QueueEffects.{emptied, moved}
-use Rattle.est_semantics.specs.LinkEffects.{with_point, is_taken, connected, attached, parted, disconnected}
-use Rattle.est_semantics.specs.LinkEffects.{loosened, detached, detached_from, detached_above}
-use Rattle.est_semantics.specs.LinkEffects.{detached_end, each}
+use Rattle.est_semantics.specs.LinkEffects.{with_point, is_taken, connected, attached, parted}
+use Rattle.est_semantics.specs.LinkEffects.{disconnected, loosened, detached, detached_from}
+use Rattle.est_semantics.specs.LinkEffects.{detached_above, detached_end, each}
 use Rattle.est_semantics.specs.InstanceEffects.{most_instances, variables_of, new_row, with_next}
-use Rattle.est_semantics.specs.InstanceEffects.{holds, born, in_state, is_among, descendants, owner}
-use Rattle.est_semantics.specs.InstanceEffects.{untied, released}
+use Rattle.est_semantics.specs.InstanceEffects.{holds, born, in_state, is_among, descendants}
+use Rattle.est_semantics.specs.InstanceEffects.{owner, untied, released}
 use Rattle.est_semantics.specs.WriteEffects.{with_variables}
 use Rattle.est_upkeep.proofs.GivenThings.{OnGood}
 use Rattle.est_upkeep.proofs.ParentsOlder.{changed_all, joined_all, kept_all, good_if}
-use Rattle.est_soundness.specs.FittingStates.{FrameFits, RowFits, ItemFits}
-use Rattle.est_soundness.specs.FittingStates.{SituationFits}
+use Rattle.est_soundness.specs.FittingStates.{FrameFits, RowFits, ItemFits, SituationFits}
 
 -- LISTS
 

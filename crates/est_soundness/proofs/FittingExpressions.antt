@@ -1,24 +1,22 @@
 -- What expressions yield is what the rules say that they do.
-use Rattle.std.proofs.Common.{◌≡◌, refl, sym, ap, subst, ◌∙◌, arith, ℕ, ◌+◌, ℤ, Bool, true}
-use Rattle.std.proofs.Common.{false, List, [], ◌∷◌, ◌++◌, length, Option, Some, None}
-use Rattle.std.proofs.Common.{inl, inr, true≢false, length-append}
 use Rattle.std.specs.Option.{option_map}
+use Rattle.std.proofs.Common.{◌≡◌, refl, sym, ap, subst, ◌∙◌, arith, ℕ, ◌+◌, ℤ, Bool, true, false}
+use Rattle.std.proofs.Common.{List, [], ◌∷◌, ◌++◌, length, Option, Some, None, inl, inr}
+use Rattle.std.proofs.Common.{true≢false, length-append}
 use Rattle.std.proofs.lemmas.Bool.{and_parts}
 use Rattle.std.proofs.lemmas.Option.{same_Some, none-some}
-use Rattle.est_syntax.specs.declared.expression.Expr.{Expr, Expr'}
-use Rattle.est_syntax.specs.declared.expression.Expr.{Expr-relation-None', Expr-relation-Some'}
+use Rattle.est_syntax.specs.declared.expression.Expr.{Expr, Expr', Expr-relation-None'}
+use Rattle.est_syntax.specs.declared.expression.Expr.{Expr-relation-Some'}
 use Rattle.est_syntax.specs.declared.expression.Factor.{Factor, Row_of-Expr, end_of-Expr}
-use Rattle.est_syntax.specs.declared.expression.Factor.{more_of-Expr}
-use Rattle.est_syntax.specs.declared.expression.Factor.{Row_of-Member, end_of-Member}
-use Rattle.est_syntax.specs.declared.expression.Factor.{more_of-Member, Row_of-Selector}
-use Rattle.est_syntax.specs.declared.expression.Factor.{end_of-Selector, more_of-Selector}
-use Rattle.est_syntax.specs.declared.expression.Factor.TheVariants as factor
+use Rattle.est_syntax.specs.declared.expression.Factor.{more_of-Expr, Row_of-Member}
+use Rattle.est_syntax.specs.declared.expression.Factor.{end_of-Member, more_of-Member}
+use Rattle.est_syntax.specs.declared.expression.Factor.{Row_of-Selector, end_of-Selector}
+use Rattle.est_syntax.specs.declared.expression.Factor.{more_of-Selector}
 use Rattle.est_syntax.specs.declared.expression.Member.{Member, Member', Held-Member-high}
 use Rattle.est_syntax.specs.declared.expression.Member.{Member-high-None', Member-high-Some'}
 use Rattle.est_syntax.specs.declared.expression.Operator.{Operator}
 use Rattle.est_syntax.specs.declared.expression.Relation.{Relation'}
 use Rattle.est_syntax.specs.declared.expression.Selector.{Selector}
-use Rattle.est_syntax.specs.declared.expression.Selector.TheVariants as selector
 use Rattle.est_syntax.specs.declared.expression.Simple.{Simple, Simple', Row_of-SumStep}
 use Rattle.est_syntax.specs.declared.expression.Simple.{end_of-SumStep, more_of-SumStep}
 use Rattle.est_syntax.specs.declared.expression.SumStep.{SumStep'}
@@ -27,30 +25,31 @@ use Rattle.est_syntax.specs.declared.expression.Term.{end_of-ProductStep, more_o
 use Rattle.est_syntax.specs.declared.kind.Kind.{Kind}
 use Rattle.est_syntax.specs.declared.name.Used.{Used}
 use Rattle.est_syntax.specs.declared.routine.Routine.{Routine}
+use Rattle.est_syntax.specs.declared.expression.Factor.TheVariants as factor
+use Rattle.est_syntax.specs.declared.expression.Selector.TheVariants as selector
 use Rattle.est_values.specs.declared.value.Value.{Value}
 use Rattle.est_values.specs.FittingValues.{Fits}
 use Rattle.est_scope.specs.Outline.{Outline, entry_at}
 use Rattle.est_scope.specs.Uses.{is_sort, meaning}
 use Rattle.est_scope.specs.declared.declaration.Entry.{Entry}
 use Rattle.est_scope.specs.declared.declaration.Meant.{Meant}
-use Rattle.est_scope.specs.declared.declaration.Meant.TheVariants as meant
 use Rattle.est_scope.specs.declared.declaration.Measured.{Measured}
-use Rattle.est_scope.specs.declared.declaration.Sort.TheVariants as sort
 use Rattle.est_scope.specs.declared.predeclared.PredeclaredName.{PredeclaredName}
+use Rattle.est_scope.specs.declared.declaration.Meant.TheVariants as meant
+use Rattle.est_scope.specs.declared.declaration.Sort.TheVariants as sort
 use Rattle.est_alike.specs.Types.{Yielded, type_of}
 use Rattle.est_expressions.specs.Calls.{declared_callee, callee_meant, call_by}
 use Rattle.est_expressions.specs.Expressions.{expr_type, simple_type, term_type, factor_type}
 use Rattle.est_expressions.specs.Expressions.{row_first, row_factor, row_taken, are_taken}
-use Rattle.est_expressions.specs.Expressions as rules
 use Rattle.est_expressions.specs.Operators.{is_given}
-use Rattle.est_expressions.specs.Operators as types
 use Rattle.est_expressions.specs.Selections.{Selection, Broken, declared_type, parameter}
-use Rattle.est_expressions.specs.Selections as select
 use Rattle.est_expressions.specs.Variables.{selected_type}
+use Rattle.est_expressions.specs.Expressions as rules
+use Rattle.est_expressions.specs.Operators as types
+use Rattle.est_expressions.specs.Selections as select
 use Rattle.est_expressions.specs.declared.receivers.Receiver.TheVariants as receiver
 use Rattle.est_semantics.specs.declared.frame.Place.{Place}
 use Rattle.est_semantics.specs.declared.frame.Slot.{Slot}
-use Rattle.est_semantics.specs.declared.frame.Slot.TheVariants as slot
 use Rattle.est_semantics.specs.Outcome.{Outcome, Done, Fault, Limit, ◌>>=◌, lift, known}
 use Rattle.est_semantics.specs.TextByPlace.{Text, routine_at, statements_of}
 use Rattle.est_semantics.specs.Frames.{slot_of, frame_at, value_in, read_at}
@@ -61,13 +60,18 @@ use Rattle.est_semantics.specs.SetOperators.{set_of}
 use Rattle.est_semantics.specs.HostOrdinals.{host_of}
 use Rattle.est_semantics.specs.ValueOperators.{ordinal, signed, negated, joined, defined_in}
 use Rattle.est_semantics.specs.ValueOperators.{defined}
-use Rattle.est_semantics.specs.ReachedVariables.{Reached, Component, Module, variable_begun, loaded}
-use Rattle.est_semantics.specs.FunctionCalls.{called, valued, result_of, routine_frame, required_by}
+use Rattle.est_semantics.specs.ReachedVariables.{Reached, Component, Module, variable_begun}
+use Rattle.est_semantics.specs.ReachedVariables.{loaded}
+use Rattle.est_semantics.specs.FunctionCalls.{called, valued, result_of, routine_frame}
+use Rattle.est_semantics.specs.FunctionCalls.{required_by}
 use Rattle.est_semantics.specs.ExpressionValues.{applied, value_of, simple_of, row_sum, term_of}
-use Rattle.est_semantics.specs.ExpressionValues.{row_product, factor_of, row_required, row_members}
-use Rattle.est_semantics.specs.ExpressionValues.{row_selected, row_values, values_in, member_of}
-use Rattle.est_semantics.specs.ExpressionValues.{held_high, selected_in, variable_of}
+use Rattle.est_semantics.specs.ExpressionValues.{row_product, factor_of, row_required}
+use Rattle.est_semantics.specs.ExpressionValues.{row_members, row_selected, row_values, values_in}
+use Rattle.est_semantics.specs.ExpressionValues.{member_of, held_high, selected_in, variable_of}
+use Rattle.est_semantics.specs.declared.frame.Slot.TheVariants as slot
 use Rattle.est_semantics.specs.ExpressionValues as runs
+use Rattle.est_upkeep.specs.UpkeepLaws.{OnDone}
+use Rattle.est_upkeep.proofs.GivenThings.{Gives, then_gives, lift_gives, good_gives, given_on}
 use Rattle.est_soundness.specs.SteadyOutlines.{IsSteady}
 use Rattle.est_soundness.specs.FittingStates.{FrameFits, FramesFit, SituationFits, StateFits}
 use Rattle.est_soundness.specs.ValuesOfTypes.{DoAscend, IsYielded}
@@ -79,12 +83,9 @@ use Rattle.est_soundness.proofs.OperatorValues.{operand_types}
 use Rattle.est_soundness.proofs.TypedValues.{fits_yielded}
 use Rattle.est_soundness.proofs.FittingFrames.{slot_fits, frame_fits, value_fits, read_fits}
 use Rattle.est_soundness.proofs.ReachedKinds.{IsOr, OnHead, IsVariable, head_on, Goes}
-use Rattle.est_soundness.proofs.ReachedKinds.{begun_agrees}
-use Rattle.est_soundness.proofs.ReachedKinds.{selected_agrees, path_agrees, kind_is}
+use Rattle.est_soundness.proofs.ReachedKinds.{begun_agrees, selected_agrees, path_agrees, kind_is}
 use Rattle.est_soundness.proofs.FittingArguments.{AreGivenFor, value_given, routine_given}
 use Rattle.est_soundness.proofs.FittingArguments.{none_given, given_more}
-use Rattle.est_upkeep.specs.UpkeepLaws.{OnDone}
-use Rattle.est_upkeep.proofs.GivenThings.{Gives, then_gives, lift_gives, good_gives, given_on}
 
 -- TYPES
 
@@ -145,6 +146,11 @@ declared_kind o p t h = by (entry_at o p) refl h
     by None i g = absurd (none-some t g)
     by (Some e) i g = measured e e.kind i refl g
 
+-- a list with one thing more
+pub one_longer : {A : Type 0} (xs : List A) (x : A) (i : ℕ) → i ≡ length xs
+    → i + 1 ≡ length (xs ++ x ∷ [])
+one_longer xs x i e = omega (arith, e, length-append xs (x ∷ []))
+
 -- the statements of functions leave what fits
 abbrev pub CallsFit : Text → Deeper → Type 0
 CallsFit t d = (p : ℕ) (r : Routine) (n : ℕ) → routine_at t p ≡ Some r → (s : State)
@@ -165,7 +171,8 @@ module _ (v : View) (steady : IsSteady v.site.text.outline)
   result_yields : (p : ℕ) (k : Kind) (x : Outcome State (Unit {0})) → kind_at o p ≡ Some k
       → OnDone (StateFits o) x → Gives (Y (type_of k)) (result_of p x)
   result_yields p k (Done a s) e h =
-      lift_gives (Y (type_of k)) (Fits k) (value_in (slot_of p (frame_at s.frames 0))) s.left defined
+      lift_gives (Y (type_of k)) (Fits k) (value_in (slot_of p (frame_at s.frames 0))) s.left
+      defined
       (value_fits o steady k (slot_of p (frame_at s.frames 0))
       (slot_fits o steady p k (frame_at s.frames 0) e (frame_fits o steady s.frames 0 h.frames)))
       (λ w m f. good_gives (Y (type_of k)) (defined_in w) m
@@ -407,7 +414,7 @@ module _ (v : View) (steady : IsSteady v.site.text.outline)
         let t = given_some (declared_type (parameter o p i)) (expr_type o x) own.0 in
         given_on (Y t.0) (AreGivenFor o steady p) (value_of x v l) _ (expr_yields x t.0 l t.1)
         (λ a m q. values_given rest p (i + 1) (xs ++ slot.Value a ∷ []) m
-        (let n : i + 1 ≡ length (xs ++ slot.Value a ∷ []) = omega (arith, e, length-append xs (slot.Value a ∷ [])) in n)
+        (one_longer xs (slot.Value a) i e)
         (one_given p i xs a t.0 e h q
         (subst (λ y. is_given (declared_type (parameter o p i)) y ≡ true) t.1 own.0)) own.1)
 
@@ -423,7 +430,7 @@ module _ (v : View) (steady : IsSteady v.site.text.outline)
       let t = given_some (declared_type (parameter o p i)) (expr_type o x) own.0 in
       given_on (Y t.0) (AreGivenFor o steady p) (value_of x v l) _ (expr_yields x t.0 l t.1)
       (λ a m q. values_in_given es p (i + 1) (xs ++ slot.Value a ∷ []) m
-      (let n : i + 1 ≡ length (xs ++ slot.Value a ∷ []) = omega (arith, e, length-append xs (slot.Value a ∷ [])) in n)
+      (one_longer xs (slot.Value a) i e)
       (one_given p i xs a t.0 e h q
       (subst (λ y. is_given (declared_type (parameter o p i)) y ≡ true) t.1 own.0)) own.1)
 

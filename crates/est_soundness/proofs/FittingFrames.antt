@@ -1,9 +1,9 @@
 -- What is found, read and written in frames that fit.
-use Rattle.std.proofs.Common.{◌≡◌, refl, sym, ap, subst, ◌∙◌, ℕ, zero, suc, Bool, true, false, List}
-use Rattle.std.proofs.Common.{[], ◌∷◌, Option, Some, None, Result, Ok, Err, eqb-true}
 use Rattle.std.specs.Prelude.{find, if◌then◌else◌}
 use Rattle.std.specs.List.{AllByRecursion}
 use Rattle.std.specs.Option.{option_map}
+use Rattle.std.proofs.Common.{◌≡◌, refl, sym, ap, subst, ◌∙◌, ℕ, zero, suc, Bool, true, false}
+use Rattle.std.proofs.Common.{List, [], ◌∷◌, Option, Some, None, Result, Ok, Err, eqb-true}
 use Rattle.std.proofs.lemmas.Option.{same_Some}
 use Rattle.est_syntax.specs.declared.kind.Kind.{Kind}
 use Rattle.est_values.specs.declared.value.Value.{Value}
@@ -14,28 +14,29 @@ use Rattle.est_alike.proofs.Itself.{alike_to_itself}
 use Rattle.est_semantics.specs.declared.fault.BlockFault.{BlockFault}
 use Rattle.est_semantics.specs.declared.frame.Binding.{Binding}
 use Rattle.est_semantics.specs.declared.frame.Holder.{Holder}
-use Rattle.est_semantics.specs.declared.frame.Holder.TheVariants as holder
 use Rattle.est_semantics.specs.declared.frame.Place.{Place}
 use Rattle.est_semantics.specs.declared.frame.Slot.{Slot}
-use Rattle.est_semantics.specs.declared.frame.Slot.TheVariants as slot
 use Rattle.est_semantics.specs.declared.situation.Row.{Row}
 use Rattle.est_semantics.specs.Outcome.{on_ok}
 use Rattle.est_semantics.specs.GlobalSituation.{Frame, Situation, is_numbered, row_of}
 use Rattle.est_semantics.specs.Frames.{is_declared, slot_of, given_value, with_value, innermost}
-use Rattle.est_semantics.specs.Frames.{frame_at, numbered, found_in, whole, place_by}
-use Rattle.est_semantics.specs.Frames.{place_of, existing, value_in, variables_in, held_by, read_at}
+use Rattle.est_semantics.specs.Frames.{frame_at, numbered, found_in, whole, place_by, place_of}
+use Rattle.est_semantics.specs.Frames.{existing, value_in, variables_in, held_by, read_at}
 use Rattle.est_semantics.specs.Frames.{frame_written, names_written}
 use Rattle.est_semantics.specs.NamesInRuns.{kind_at}
 use Rattle.est_semantics.specs.TakenValues.{taken}
+use Rattle.est_semantics.specs.declared.frame.Holder.TheVariants as holder
+use Rattle.est_semantics.specs.declared.frame.Slot.TheVariants as slot
+use Rattle.est_upkeep.proofs.GivenThings.{OnGood}
+use Rattle.est_upkeep.proofs.ParentsOlder.{changed_all}
+use Rattle.est_departures.proofs.TakenArguments.{good_on}
 use Rattle.est_soundness.specs.SameKinds.{HasSizes, AreSame}
 use Rattle.est_soundness.specs.KindsOfPlaces.{HasKind}
 use Rattle.est_soundness.specs.SteadyOutlines.{IsSteady}
-use Rattle.est_soundness.specs.FittingStates.{SlotFits, BindingFits, FrameFits, FramesFit, RowFits}
+use Rattle.est_soundness.specs.FittingStates.{SlotFits, BindingFits, FrameFits, FramesFit}
+use Rattle.est_soundness.specs.FittingStates.{RowFits}
 use Rattle.est_soundness.proofs.SameKinds.{alike_same, same_fits, same_back}
 use Rattle.est_soundness.proofs.PartsFit.{part_fits, with_part_fits}
-use Rattle.est_upkeep.proofs.GivenThings.{OnGood}
-use Rattle.est_departures.proofs.TakenArguments.{good_on}
-use Rattle.est_upkeep.proofs.ParentsOlder.{changed_all}
 
 pub same_itself : (sizes : ℕ → ℕ) (k : Kind) → HasSizes sizes k → AreSame k k
 same_itself sizes k s = alike_same sizes k k s s (alike_to_itself k)

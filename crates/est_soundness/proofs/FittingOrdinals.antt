@@ -1,15 +1,15 @@
 -- The ordinals of a kind fit it, and so do the tuples of ordinals of some kinds.
-use Rattle.std.proofs.Common.{◌≡◌, refl, sym, arith, ℕ, zero, suc, ◌+◌, ◌<◌, ◌≤◌, ℤ}
-use Rattle.std.proofs.Common.{pos, negsuc, ◌+ℤ◌, ◌-ℤ◌, ◌≤ℤ◌, ◌<ℤ◌, List, [], ◌∷◌, map}
 use Rattle.std.specs.Int.{int_gap}
 use Rattle.std.specs.List.{AllByRecursion, AllZip, range_with_len, flat_map}
+use Rattle.std.proofs.Common.{◌≡◌, refl, sym, arith, ℕ, zero, suc, ◌+◌, ◌<◌, ◌≤◌, ℤ, pos, negsuc}
+use Rattle.std.proofs.Common.{◌+ℤ◌, ◌-ℤ◌, ◌≤ℤ◌, ◌<ℤ◌, List, [], ◌∷◌, map}
 use Rattle.std.proofs.lemmas.Int.{ints}
 use Rattle.est_syntax.specs.declared.kind.Kind.{Kind}
-use Rattle.est_values.specs.declared.value.Value.TheVariants as value
-use Rattle.est_values.specs.FittingValues.{first_ordinal, last_ordinal, ordinal_count, IsOrdinalOf}
-use Rattle.est_values.specs.FittingValues.{Fits}
-use Rattle.est_values.specs.FittingValues as fitting
+use Rattle.est_values.specs.FittingValues.{first_ordinal, last_ordinal, ordinal_count}
+use Rattle.est_values.specs.FittingValues.{IsOrdinalOf, Fits}
 use Rattle.est_values.specs.OrdinalTuples.{ordinals_of, ordinal_tuples}
+use Rattle.est_values.specs.declared.value.Value.TheVariants as value
+use Rattle.est_values.specs.FittingValues as fitting
 use Rattle.est_values.proofs.Gaps.{gap_counted, gap_none}
 use Rattle.est_upkeep.proofs.ParentsOlder.{joined_all}
 

@@ -1,9 +1,9 @@
 -- In each run values fit the kinds of what holds them, and what leaves may stand in a trace.
-use Rattle.std.proofs.Common.{◌≡◌, refl, sym, subst, ℕ, Bool, true, false, List, [], ◌∷◌}
-use Rattle.std.proofs.Common.{◌++◌, map, Option, Some, None, zero, suc}
 use Rattle.std.specs.Prelude.{slice_get, option_and_then, option_to_list, if◌then◌else◌}
 use Rattle.std.specs.List.{AllByRecursion, AllZip, cons_option}
 use Rattle.std.specs.Option.{option_map, option_map_or}
+use Rattle.std.proofs.Common.{◌≡◌, refl, sym, subst, ℕ, Bool, true, false, List, [], ◌∷◌, ◌++◌}
+use Rattle.std.proofs.Common.{map, Option, Some, None, zero, suc}
 use Rattle.std.proofs.lemmas.Option.{none-some}
 use Rattle.est_syntax.specs.declared.body.Block.{out-Block}
 use Rattle.est_syntax.specs.declared.specification.Spec.{Spec}
@@ -29,22 +29,21 @@ use Rattle.est_semantics.specs.BlockLevels.{beginning, block_meaning, left_by, m
 use Rattle.est_semantics.specs.StatementEffects.{statements_in}
 use Rattle.est_semantics.specs.StartMeaning.{no_instances, start_before}
 use Rattle.est_choices.specs.declared.event.Event.{Event}
-use Rattle.est_choices.specs.declared.event.Event.TheVariants as event
 use Rattle.est_choices.specs.declared.firing.Firing.{Firing}
 use Rattle.est_choices.specs.AllowedEvents.{IsReceivable, IsAllowed}
 use Rattle.est_choices.specs.ClauseContexts.{FullTransition, Awaited, any_of, when_of, to_of}
 use Rattle.est_choices.specs.ClauseContexts.{transitions_of}
-use Rattle.est_choices.specs.TransitionChoices.{Choice, any_places, any_tuples, any_frame, choice_by}
-use Rattle.est_choices.specs.TransitionChoices.{choice_in, choice_of, numbered}
+use Rattle.est_choices.specs.TransitionChoices.{Choice, any_places, any_tuples, any_frame}
+use Rattle.est_choices.specs.TransitionChoices.{choice_by, choice_in, choice_of, numbered}
 use Rattle.est_choices.specs.GuardParts.{seen_by, is_from, awaited_point, came_through}
-use Rattle.est_choices.specs.GuardParts.{arrived_through, awaited_item, frames_of}
-use Rattle.est_choices.specs.GuardParts.{view_of}
+use Rattle.est_choices.specs.GuardParts.{arrived_through, awaited_item, frames_of, view_of}
 use Rattle.est_choices.specs.DelayStamps.{restamped}
 use Rattle.est_choices.specs.OutsideEvents.{arrival, departure, departure_through, departures}
 use Rattle.est_choices.specs.OutsideEvents.{after_event}
-use Rattle.est_choices.specs.FiringSteps.{taking_point, without_awaited, block_frame, performed_in}
-use Rattle.est_choices.specs.FiringSteps.{with_next_state, completed, finished, fired_in, fired_by}
-use Rattle.est_choices.specs.FiringSteps.{outcome, start_of}
+use Rattle.est_choices.specs.FiringSteps.{taking_point, without_awaited, block_frame}
+use Rattle.est_choices.specs.FiringSteps.{performed_in, with_next_state, completed, finished}
+use Rattle.est_choices.specs.FiringSteps.{fired_in, fired_by, outcome, start_of}
+use Rattle.est_choices.specs.declared.event.Event.TheVariants as event
 use Rattle.est_choices.proofs.Options.{then_some, map_some, by_option}
 use Rattle.est_choices.proofs.Outside.{ports_go_both_ways}
 use Rattle.est_runs.specs.declared.run.Move.TheVariants.{Take, Fire}
@@ -59,8 +58,8 @@ use Rattle.est_departures.proofs.AllowedDepartures.{fitting_departures_are_allow
 use Rattle.est_departures.proofs.FaultlessBlocks.{IsFaultless, FaultlessBlocks, no_faults}
 use Rattle.est_departures.proofs.FaultlessBlocks.{blocks_faultless}
 use Rattle.est_departures.proofs.SendingRuns.{starts_send, firings_send, runs_send}
-use Rattle.est_soundness.specs.FittingStates.{FrameFits, FramesFit, ItemFits}
-use Rattle.est_soundness.specs.FittingStates.{SituationFits, StateFits}
+use Rattle.est_soundness.specs.FittingStates.{FrameFits, FramesFit, ItemFits, SituationFits}
+use Rattle.est_soundness.specs.FittingStates.{StateFits}
 use Rattle.est_soundness.specs.ValuesOfTypes.{IsYielded}
 use Rattle.est_soundness.specs.SoundnessLaws.{IsTyped, ExpressionsFit, FitsSoFar, StartsFit}
 use Rattle.est_soundness.specs.SoundnessLaws.{FiringsFit, MayCome, EventsFit, RunsFit}
@@ -276,7 +275,8 @@ module _ (spec : Spec) where
     view_fits limit s c h g = by (is_from t c)
       where
         by : (b : Bool) → OnSome (λ (v : View). FramesFit o v.frames) (if b
-            then option_map (seen_by t s c) (frames_of limit t s c (when_of c.transition)) else None)
+            then option_map (seen_by t s c) (frames_of limit t s c (when_of c.transition))
+            else None)
         by true = mapped_some (FramesFit o) (λ (v : View). FramesFit o v.frames) (seen_by t s c)
             (frames_of limit t s c (when_of c.transition)) (λ fs k. k)
             (frames_fit limit s c (when_of c.transition) h g)

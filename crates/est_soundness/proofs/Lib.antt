@@ -1,5 +1,6 @@
 pub mod ArrivedSignals
 pub mod AscendingSets
+pub mod ControlVariables
 pub mod FittingArguments
 pub mod FittingBlocks
 pub mod FittingChanges
@@ -7,6 +8,7 @@ pub mod FittingExpressions
 pub mod FittingFrames
 pub mod FittingOrdinals
 pub mod FittingRuns
+pub mod GivenArguments
 pub mod NamedArguments
 pub mod OperatorValues
 pub mod PartsFit

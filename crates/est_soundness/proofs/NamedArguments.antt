@@ -1,8 +1,8 @@
 -- What the rules on outputs, calls and inits say of the arguments, and of what takes them.
-use Rattle.std.proofs.Common.{◌≡◌, refl, sym, ap, subst, ◌∙◌, ℕ, true, false, List, []}
-use Rattle.std.proofs.Common.{Option, Some, None}
 use Rattle.std.specs.Prelude.{option_and_then}
 use Rattle.std.specs.Option.{option_map_or}
+use Rattle.std.proofs.Common.{◌≡◌, refl, sym, ap, subst, ◌∙◌, ℕ, true, false, List, [], Option}
+use Rattle.std.proofs.Common.{Some, None}
 use Rattle.std.proofs.lemmas.Option.{same_Some, none-some, cond_some}
 use Rattle.est_syntax.specs.Names.{spelled}
 use Rattle.est_syntax.specs.declared.expression.Access.{Access}
@@ -13,28 +13,28 @@ use Rattle.est_scope.specs.Outline.{Outline, entry_at, member_at, standing, nth}
 use Rattle.est_scope.specs.Uses.{is_sort, meaning, meant_as, declaration_of}
 use Rattle.est_scope.specs.declared.declaration.Entry.{Entry}
 use Rattle.est_scope.specs.declared.declaration.Meant.{Meant}
-use Rattle.est_scope.specs.declared.declaration.Meant.TheVariants as meant
 use Rattle.est_scope.specs.declared.declaration.Member.{Member}
-use Rattle.est_scope.specs.declared.declaration.Member.TheVariants as member
 use Rattle.est_scope.specs.declared.declaration.Section.{Section}
-use Rattle.est_scope.specs.declared.declaration.Section.TheVariants as section
 use Rattle.est_scope.specs.declared.declaration.Side.{Side}
 use Rattle.est_scope.specs.declared.declaration.Sort.{Sort}
-use Rattle.est_scope.specs.declared.declaration.Sort.TheVariants as sort
 use Rattle.est_scope.specs.declared.declaration.Standing.{Standing}
+use Rattle.est_scope.specs.declared.declaration.Meant.TheVariants as meant
+use Rattle.est_scope.specs.declared.declaration.Member.TheVariants as member
+use Rattle.est_scope.specs.declared.declaration.Section.TheVariants as section
+use Rattle.est_scope.specs.declared.declaration.Sort.TheVariants as sort
 use Rattle.est_outline.specs.Bodies.{interaction_in, interaction_by, interaction_at, side_in}
 use Rattle.est_expressions.specs.Expressions.{are_taken}
 use Rattle.est_expressions.specs.Selections.{parameter}
 use Rattle.est_expressions.specs.Variables.{header_in}
 use Rattle.est_expressions.specs.declared.receivers.Receiver.{Receiver}
 use Rattle.est_expressions.specs.declared.receivers.Receiver.TheVariants as receiver
-use Rattle.est_statements.specs.Modules as modules
 use Rattle.est_statements.specs.Modules.{parameters_of, init_faults}
-use Rattle.est_statements.specs.Signals.{side_at, point_side, signal_in, signal_standing, signal_of}
-use Rattle.est_statements.specs.Signals.{sending_faults}
+use Rattle.est_statements.specs.Signals.{side_at, point_side, signal_in, signal_standing}
+use Rattle.est_statements.specs.Signals.{signal_of, sending_faults}
 use Rattle.est_statements.specs.Statements.{is_place}
-use Rattle.est_semantics.specs.NamesInRuns.{header_at, interaction_of, is_place_section, takes_place}
-use Rattle.est_semantics.specs.NamesInRuns.{place_in, declared_at}
+use Rattle.est_statements.specs.Modules as modules
+use Rattle.est_semantics.specs.NamesInRuns.{header_at, interaction_of, is_place_section}
+use Rattle.est_semantics.specs.NamesInRuns.{takes_place, place_in, declared_at}
 use Rattle.est_fullness.specs.FullExpressions.{IsWhole}
 use Rattle.est_fullness.proofs.FullStatements.{sendings_full, inits_full}
 use Rattle.est_soundness.specs.SteadyOutlines.{IsSteady}

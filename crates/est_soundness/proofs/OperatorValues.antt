@@ -1,35 +1,34 @@
 -- What operators yield: ordinals, and sets whose members ascend.
+use Rattle.std.specs.Prelude.{if◌then◌else◌, nat_le, length}
 use Rattle.std.proofs.Common.{◌≡◌, refl, sym, ap, subst, ◌∙◌, ℕ, ℤ, pos, Bool, true, false, List}
 use Rattle.std.proofs.Common.{Option, Some, None, Result, Ok, Err, true≢false}
-use Rattle.std.specs.Prelude.{if◌then◌else◌, nat_le, length}
 use Rattle.std.proofs.lemmas.Option.{none-some}
 use Rattle.est_syntax.specs.declared.expression.Operator.{Operator}
+use Rattle.est_syntax.specs.Kinds.{maxint}
 use Rattle.est_syntax.specs.declared.expression.Operator.TheVariants as operator
 use Rattle.est_values.specs.declared.value.Value.{Value, out-Value}
-use Rattle.est_values.specs.declared.value.Value.TheVariants as value
 use Rattle.est_values.specs.Integers.{negative}
 use Rattle.est_values.specs.PartsOfValues.{parts_of}
+use Rattle.est_values.specs.declared.value.Value.TheVariants as value
 use Rattle.est_kinds.specs.TypeTexts.{most_members}
 use Rattle.est_alike.specs.Types.{Yielded, Ordinal, Set, Group}
 use Rattle.est_expressions.specs.declared.operators.Wanted.{Wanted}
 use Rattle.est_expressions.specs.declared.operators.Wanted.TheVariants as wanted
-use Rattle.est_syntax.specs.Kinds.{maxint}
 use Rattle.est_expressions.specs.Operators as types
 use Rattle.est_semantics.specs.declared.fault.BlockFault.{BlockFault}
 use Rattle.est_semantics.specs.declared.fault.BlockFault.TheVariants.{Range, Undefined}
 use Rattle.est_semantics.specs.Outcome.{Outcome, Done, Fault, Limit, ◌>>=◌, give, lift, on_ok}
-use Rattle.est_semantics.specs.OrdinalOperators as ordinals
 use Rattle.est_semantics.specs.OrdinalOperators.{truth, is_true, exact}
-use Rattle.est_semantics.specs.SetOperators.{united, common, others, set_of, combined}
-use Rattle.est_semantics.specs.SetOperators.{decided}
-use Rattle.est_semantics.specs.ValueOperators.{ordinal, operated, joined}
-use Rattle.est_semantics.specs.ValueOperators.{signed, negated, spanned, unsigned_integer}
+use Rattle.est_semantics.specs.SetOperators.{united, common, others, set_of, combined, decided}
+use Rattle.est_semantics.specs.ValueOperators.{ordinal, operated, joined, signed, negated}
+use Rattle.est_semantics.specs.ValueOperators.{spanned, unsigned_integer}
 use Rattle.est_semantics.specs.WorkingState.{Counts}
+use Rattle.est_semantics.specs.OrdinalOperators as ordinals
+use Rattle.est_upkeep.proofs.GivenThings.{Gives, OnGood, then_gives, good_gives, given_on}
 use Rattle.est_soundness.specs.ValuesOfTypes.{DoAscend, IsYielded}
 use Rattle.est_soundness.specs.ValuesOfTypes as yields
 use Rattle.est_soundness.proofs.AscendingSets.{united_ascend, common_ascend, others_ascend}
 use Rattle.est_soundness.proofs.AscendingSets.{with_span_ascends}
-use Rattle.est_upkeep.proofs.GivenThings.{Gives, OnGood, then_gives, good_gives, given_on}
 
 module _ (sizes : ℕ → ℕ) where
   -- what every type may have

@@ -1,17 +1,17 @@
 -- Parts of values that fit a kind fit the kinds of its components, and may be put in their place.
-use Rattle.std.proofs.Common.{◌≡◌, refl, sym, ap, subst, ◌∙◌, ℕ, zero, suc, List, [], ◌∷◌}
-use Rattle.std.proofs.Common.{◌++◌, length, Option, Some, None}
 use Rattle.std.specs.Prelude.{slice_get, slice_set, option_and_then}
 use Rattle.std.specs.Option.{option_map}
+use Rattle.std.proofs.Common.{◌≡◌, refl, sym, ap, subst, ◌∙◌, ℕ, zero, suc, List, [], ◌∷◌, ◌++◌}
+use Rattle.std.proofs.Common.{length, Option, Some, None}
 use Rattle.std.proofs.lemmas.Option.{same_Some, none-some}
 use Rattle.est_syntax.specs.declared.kind.Kind.{Kind, out-Kind}
 use Rattle.est_syntax.specs.declared.kind.FieldKind.{FieldKind}
 use Rattle.est_values.specs.declared.value.Value.{Value, out-Value}
-use Rattle.est_values.specs.declared.value.Value.TheVariants as rolled
 use Rattle.est_values.specs.FittingValues.{ordinal_count, Fits}
-use Rattle.est_values.specs.FittingValues as fitting
 use Rattle.est_values.specs.PartsOfValues.{parts_of, numbered_part, onward, part_at, put_back}
 use Rattle.est_values.specs.PartsOfValues.{changed, with_part}
+use Rattle.est_values.specs.declared.value.Value.TheVariants as rolled
+use Rattle.est_values.specs.FittingValues as fitting
 use Rattle.est_soundness.specs.KindsOfPlaces.{component_kind, kind_along}
 
 -- WHAT FITS AS A COMPONENT
@@ -109,8 +109,9 @@ with_part_fits (n ∷ ns) k j v w y h g f e =
     (λ of ps part i q a d z b. with_part_fits ns of j part w z
     (part_fits_one k of v part n h i (ap (numbered_part n) q ∙ a)) d f b)
   where
-    whole : (of : Kind) (ps : List Value) (z : Option Value) → component_kind n (out-Kind k) ≡ Some of
-        → parts_of (out-Value v) ≡ Some ps → put_back n ps z ≡ Some y
+    whole : (of : Kind) (ps : List Value) (z : Option Value)
+        → component_kind n (out-Kind k) ≡ Some of → parts_of (out-Value v) ≡ Some ps
+        → put_back n ps z ≡ Some y
         → ((x : Value) → z ≡ Some x → Fits of x) → Fits k y
     whole of ps None i q b go = absurd (none-some y b)
     whole of ps (Some x) i q b go =

@@ -1,68 +1,68 @@
 -- What names and selectors reach is what the rules say that they select.
-use Rattle.std.proofs.Common.{◌≡◌, refl, sym, ap, subst, ◌∙◌, arith, ℕ, suc, ◌+◌, ℤ, Bool, true}
-use Rattle.std.proofs.Common.{false, List, [], ◌∷◌, Option, Some, None, ◌⊎◌, inl, inr, ⊎_elim}
 use Rattle.std.specs.Prelude.{slice_get, option_and_then, if◌then◌else◌}
 use Rattle.std.specs.Option.{option_map}
+use Rattle.std.proofs.Common.{◌≡◌, refl, sym, ap, subst, ◌∙◌, arith, ℕ, suc, ◌+◌, ℤ, Bool, true}
+use Rattle.std.proofs.Common.{false, List, [], ◌∷◌, Option, Some, None, ◌⊎◌, inl, inr, ⊎_elim}
 use Rattle.std.proofs.lemmas.Option.{same_Some, none-some}
 use Rattle.est_syntax.specs.Names.{is_name, spelled}
 use Rattle.est_syntax.specs.declared.expression.Factor.{Row_of-Expr, end_of-Expr, more_of-Expr}
 use Rattle.est_syntax.specs.declared.expression.Factor.{Row_of-Selector, end_of-Selector}
 use Rattle.est_syntax.specs.declared.expression.Factor.{more_of-Selector}
 use Rattle.est_syntax.specs.declared.expression.Selector.{Selector}
-use Rattle.est_syntax.specs.declared.expression.Selector.TheVariants as selector
 use Rattle.est_syntax.specs.declared.kind.Kind.{Kind, out-Kind}
-use Rattle.est_syntax.specs.declared.kind.Kind.TheOpen as seen
 use Rattle.est_syntax.specs.declared.kind.FieldKind.{FieldKind}
 use Rattle.est_syntax.specs.declared.name.Used.{Used}
+use Rattle.est_syntax.specs.declared.expression.Selector.TheVariants as selector
+use Rattle.est_syntax.specs.declared.kind.Kind.TheOpen as seen
 use Rattle.est_values.specs.FittingValues.{KindLayer}
 use Rattle.est_scope.specs.Outline.{Outline, entry_at, standing}
 use Rattle.est_scope.specs.Uses.{meaning}
 use Rattle.est_scope.specs.declared.declaration.Entry.{Entry}
 use Rattle.est_scope.specs.declared.declaration.Meant.{Meant}
-use Rattle.est_scope.specs.declared.declaration.Meant.TheVariants as meant
 use Rattle.est_scope.specs.declared.declaration.Measured.{Measured}
 use Rattle.est_scope.specs.declared.declaration.Sort.{Sort}
-use Rattle.est_scope.specs.declared.declaration.Sort.TheVariants as sort
 use Rattle.est_scope.specs.declared.declaration.Standing.{Standing}
+use Rattle.est_scope.specs.declared.declaration.Meant.TheVariants as meant
+use Rattle.est_scope.specs.declared.declaration.Sort.TheVariants as sort
 use Rattle.est_kinds.specs.Constants.{named_value}
 use Rattle.est_kinds.specs.declared.value.Valued.{Valued}
 use Rattle.est_alike.specs.Types.{Yielded, type_of, is_assignable}
 use Rattle.est_expressions.specs.Calls.{subscripts_of}
 use Rattle.est_expressions.specs.Expressions.{expr_type, row_taken}
-use Rattle.est_expressions.specs.Expressions as rules
 use Rattle.est_expressions.specs.Selections.{Selection, Broken, Value, SomeModule, takes_so_many}
-use Rattle.est_expressions.specs.Selections.{value_head, variable_head, module_head, function_head}
-use Rattle.est_expressions.specs.Selections as select
+use Rattle.est_expressions.specs.Selections.{value_head, variable_head, module_head}
+use Rattle.est_expressions.specs.Selections.{function_head}
 use Rattle.est_expressions.specs.Variables.{indexed, component, chosen_by, field_found, field_of}
-use Rattle.est_expressions.specs.Variables.{is_export, header_in, of_header, export_by, has_exports}
-use Rattle.est_expressions.specs.Variables.{export_of, selected_type}
+use Rattle.est_expressions.specs.Variables.{is_export, header_in, of_header, export_by}
+use Rattle.est_expressions.specs.Variables.{has_exports, export_of, selected_type}
+use Rattle.est_expressions.specs.Expressions as rules
+use Rattle.est_expressions.specs.Selections as select
 use Rattle.est_expressions.specs.Variables as variables
 use Rattle.est_statements.specs.Targets.{is_writable, target_by, target_in, target_meant, target}
-use Rattle.est_semantics.specs.declared.frame.Holder.TheVariants as holder
 use Rattle.est_semantics.specs.declared.frame.Place.{Place}
 use Rattle.est_semantics.specs.Outcome.{Outcome, Done, Fault, Limit, ◌>>=◌, give, lift, known}
 use Rattle.est_semantics.specs.Frames.{whole, component_of}
 use Rattle.est_semantics.specs.NamesInRuns.{Head, Nothing, Constant, Function, Variable, Modules}
-use Rattle.est_semantics.specs.NamesInRuns.{with_kind, head_by, head_in, head_meant, head, kind_at}
-use Rattle.est_semantics.specs.NamesInRuns.{dims_at, declared_within, array_in}
+use Rattle.est_semantics.specs.NamesInRuns.{with_kind, head_by, head_in, head_meant, head}
+use Rattle.est_semantics.specs.NamesInRuns.{kind_at, dims_at, declared_within, array_in}
 use Rattle.est_semantics.specs.NamesInRuns.{field_from, field_in}
 use Rattle.est_semantics.specs.WorkingState.{View}
 use Rattle.est_semantics.specs.ValueOperators.{ordinal}
-use Rattle.est_semantics.specs.ReachedVariables.{Reached, Component, Module, variable_begun, child_of}
-use Rattle.est_semantics.specs.ReachedVariables.{exported, with_field, with_component}
-use Rattle.est_semantics.specs.ExpressionValues.{value_of, row_components, row_subscripts, selected}
-use Rattle.est_semantics.specs.ExpressionValues.{row_selected}
+use Rattle.est_semantics.specs.ReachedVariables.{Reached, Component, Module, variable_begun}
+use Rattle.est_semantics.specs.ReachedVariables.{child_of, exported, with_field, with_component}
+use Rattle.est_semantics.specs.ExpressionValues.{value_of, row_components, row_subscripts}
+use Rattle.est_semantics.specs.ExpressionValues.{selected, row_selected}
 use Rattle.est_semantics.specs.TakenValues.{component_at}
+use Rattle.est_semantics.specs.declared.frame.Holder.TheVariants as holder
+use Rattle.est_upkeep.proofs.GivenThings.{Gives, then_gives, given_on}
 use Rattle.est_soundness.specs.SameKinds.{HasSizes, AreSame}
-use Rattle.est_soundness.specs.SameKinds as same
 use Rattle.est_soundness.specs.KindsOfPlaces.{component_kind, HasKind}
 use Rattle.est_soundness.specs.SteadyOutlines.{IsSteady}
 use Rattle.est_soundness.specs.FittingStates.{FramesFit}
-use Rattle.est_soundness.proofs.SameKinds.{sizes_in, SizesIn, no_array, no_record}
-use Rattle.est_soundness.proofs.SameKinds.{other_there}
+use Rattle.est_soundness.specs.SameKinds as same
+use Rattle.est_soundness.proofs.SameKinds.{sizes_in, SizesIn, no_array, no_record, other_there}
 use Rattle.est_soundness.proofs.PartsFit.{along_more}
 use Rattle.est_soundness.proofs.FittingFrames.{OnSome, place_has, whole_has}
-use Rattle.est_upkeep.proofs.GivenThings.{Gives, then_gives, given_on}
 
 -- COMPONENTS OF KINDS
 
@@ -126,7 +126,8 @@ component_sizes sizes k h n s e = by (out-Kind k) e (sizes_in sizes k s)
 -- what is found under a name is one field, by its number from some number on
 abbrev IsField : List FieldKind → List ℕ → ℕ → ℕ × Kind → Type 0
 IsField fs name n f = (variables.field_in fs name ≡ Some f.1)
-    × ((j : ℕ) × (f.0 ≡ n + j) × (option_map (λ (g : FieldKind). g.kind) (slice_get fs j) ≡ Some f.1))
+    × ((j : ℕ) × (f.0 ≡ n + j)
+    × (option_map (λ (g : FieldKind). g.kind) (slice_get fs j) ≡ Some f.1))
 
 field_found_at : (fs : List FieldKind) (name : List ℕ) (n : ℕ)
     → OnSome (IsField fs name n) (field_from n fs name)
@@ -298,11 +299,13 @@ module _ (v : View) (steady : IsSteady v.site.text.outline)
   begun_agrees (Constant z) s l g = tt
   begun_agrees (Function p k) s l g =
       let x = begun_as p k g.0 _ (place_has o steady v.site.instance p k v.frames g.0 frames) in
-      ⊎_elim (λ e. subst (λ y. Gives (Goes y) (variable_begun v (Function p k) l)) (sym e) (refl, x))
+      ⊎_elim
+      (λ e. subst (λ y. Gives (Goes y) (variable_begun v (Function p k) l)) (sym e) (refl, x))
       (λ e. subst (λ y. Gives (Goes y) (variable_begun v (Function p k) l)) (sym e) tt) g.1
   begun_agrees (Variable p k) s l g =
       let x = begun_as p k g.0 _ (place_has o steady v.site.instance p k v.frames g.0 frames) in
-      ⊎_elim (λ e. subst (λ y. Gives (Goes y) (variable_begun v (Variable p k) l)) (sym e) (refl, x))
+      ⊎_elim
+      (λ e. subst (λ y. Gives (Goes y) (variable_begun v (Variable p k) l)) (sym e) (refl, x))
       (λ e. subst (λ y. Gives (Goes y) (variable_begun v (Variable p k) l)) (sym e) tt) g.1
   begun_agrees (Modules p) (select.Modules q) l g = g
   begun_agrees (Modules p) (select.Module q) l g = g
@@ -385,7 +388,8 @@ module _ (v : View) (steady : IsSteady v.site.text.outline)
           → Gives (Goes (field_of x (spelled u))) (with_field v u (Component p j) l)
       by (seen.Fields fs) d =
           let a : field_in j u ≡ field_from 0 fs (spelled u) = rw d refl in
-          subst (λ x. Gives (Goes (field_found (variables.field_in fs (spelled u)))) (known (option_map
+          subst (λ x. Gives (Goes (field_found (variables.field_in fs (spelled u))))
+          (known (option_map
           (λ (f : ℕ × Kind). Component (component_of f.0 p) f.1) x) l)) (sym a)
           (one fs (field_from 0 fs (spelled u)) d (field_found_at fs (spelled u) 0))
       by _ d = anything (with_field v u (Component p j) l)

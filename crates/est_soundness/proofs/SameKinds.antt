@@ -1,18 +1,18 @@
 -- Alike kinds are those that the same values fit.
-use Rattle.std.proofs.Common.{◌≡◌, refl, sym, ap, subst, ◌∙◌, arith, ℕ, zero, suc, ℤ, pos, negsuc}
-use Rattle.std.proofs.Common.{◌≤ℤ◌, ◌+ℤ◌, Bool, true, false, ◌&&◌, List, [], ◌∷◌, length}
-use Rattle.std.proofs.Common.{Some, true≢false, eqb-true}
-use Rattle.std.proofs.lemmas.Option.{same_Some, none-some}
-use Rattle.std.proofs.lemmas.Bool.Decides.{Decides-int_eq}
-use Rattle.est_syntax.specs.Names.{is_name}
 use Rattle.std.specs.Prelude.{slice_get}
 use Rattle.std.specs.Int.{int_gap}
 use Rattle.std.specs.Ordering.{int_eq}
+use Rattle.std.proofs.Common.{◌≡◌, refl, sym, ap, subst, ◌∙◌, arith, ℕ, zero, suc, ℤ, pos, negsuc}
+use Rattle.std.proofs.Common.{◌≤ℤ◌, ◌+ℤ◌, Bool, true, false, ◌&&◌, List, [], ◌∷◌, length, Some}
+use Rattle.std.proofs.Common.{true≢false, eqb-true}
+use Rattle.std.proofs.lemmas.Option.{same_Some, none-some}
+use Rattle.std.proofs.lemmas.Bool.Decides.{Decides-int_eq}
 use Rattle.std.proofs.lemmas.Int.{ints}
+use Rattle.est_syntax.specs.Names.{is_name}
 use Rattle.est_syntax.specs.Kinds.{is_ordinal}
 use Rattle.est_syntax.specs.declared.kind.Kind.{Kind, out-Kind}
-use Rattle.est_syntax.specs.declared.kind.Kind.TheOpen as seen
 use Rattle.est_syntax.specs.declared.kind.FieldKind.{FieldKind}
+use Rattle.est_syntax.specs.declared.kind.Kind.TheOpen as seen
 use Rattle.est_values.specs.declared.value.Value.{Value}
 use Rattle.est_values.specs.FittingValues.{KindLayer, first_of, last_of, first_ordinal}
 use Rattle.est_values.specs.FittingValues.{last_ordinal, ordinal_count, scalar_of, last_constant}
@@ -21,8 +21,8 @@ use Rattle.est_values.specs.FittingValues as fitting
 use Rattle.est_alike.specs.Alike.{is_alike, is_alike_field, are_alike}
 use Rattle.est_alike.proofs.Rows.{layer_alike, layers_alike}
 use Rattle.est_soundness.specs.SameKinds.{HasSizes, is_unnamed, AreSame}
-use Rattle.est_soundness.specs.SameKinds as same
 use Rattle.est_soundness.specs.SoundnessLaws.{AlikeKindsHaveOneValue}
+use Rattle.est_soundness.specs.SameKinds as same
 
 -- LAYERS
 
@@ -162,10 +162,12 @@ no_ordinals k z f l h = let a = h.0 in let b = h.1 in omega (arith, ints, f, l, 
 
 -- members of one base are those of another with the same ordinals
 moved_members : (a b c d : ℤ) (zs : List ℤ) → a ≡ c → b ≡ d → AscendFrom a b zs → AscendFrom c d zs
-moved_members a b c d zs f g h = subst (λ x. AscendFrom x d zs) f (subst (λ x. AscendFrom a x zs) g h)
+moved_members a b c d zs f g h =
+    subst (λ x. AscendFrom x d zs) f (subst (λ x. AscendFrom a x zs) g h)
 
 pub same_fits : (j k : Kind) (v : Value) → AreSame j k → Fits j v → Fits k v
-same_fits j k v (same.ordinals a b f l) (fitting.undefined e s) = fitting.undefined e (ordinals_scalar k b)
+same_fits j k v (same.ordinals a b f l) (fitting.undefined e s) =
+    fitting.undefined e (ordinals_scalar k b)
 same_fits j k v (same.ordinals a b f l) (fitting.ordinal z e o) =
     fitting.ordinal z e (subst (λ x. x ≤ℤ z) f o.0, subst (λ x. z ≤ℤ x) l o.1)
 same_fits j k v (same.ordinals a b f l) (fitting.set x zs g e m) = absurd (no_set j x a g)

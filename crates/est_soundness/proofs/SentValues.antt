@@ -1,9 +1,9 @@
 -- The values of parameters fit their kinds, and what is bound to them does.
-use Rattle.std.proofs.Common.{◌≡◌, refl, sym, ap, subst, ◌∙◌, ℕ, Bool, true, false, List, [], ◌∷◌}
-use Rattle.std.proofs.Common.{◌++◌, map, Option, Some, None, Result, Ok, Err}
 use Rattle.std.specs.Prelude.{if◌then◌else◌, option_to_list}
 use Rattle.std.specs.List.{AllByRecursion, AllZip, filter, filter_map, cons_option}
 use Rattle.std.specs.Option.{option_map}
+use Rattle.std.proofs.Common.{◌≡◌, refl, sym, ap, subst, ◌∙◌, ℕ, Bool, true, false, List, [], ◌∷◌}
+use Rattle.std.proofs.Common.{◌++◌, map, Option, Some, None, Result, Ok, Err}
 use Rattle.std.proofs.lemmas.Option.{same_Some}
 use Rattle.est_syntax.specs.declared.kind.Kind.{Kind}
 use Rattle.est_values.specs.declared.value.Value.{Value}
@@ -12,23 +12,23 @@ use Rattle.est_scope.specs.Outline.{Outline, Region, names_of, entry_at}
 use Rattle.est_scope.specs.Uses.{same_sort, is_sort}
 use Rattle.est_scope.specs.declared.declaration.Entry.{Entry}
 use Rattle.est_scope.specs.declared.declaration.Measured.{Measured}
-use Rattle.est_scope.specs.declared.declaration.Sort.TheVariants as sort
 use Rattle.est_scope.specs.declared.declaration.Standing.{Standing}
+use Rattle.est_scope.specs.declared.declaration.Sort.TheVariants as sort
 use Rattle.est_ports.specs.PortList.{kind_by, kinds_in}
 use Rattle.est_semantics.specs.declared.fault.BlockFault.{BlockFault}
 use Rattle.est_semantics.specs.declared.frame.Binding.{Binding}
 use Rattle.est_semantics.specs.declared.frame.Slot.{Slot}
-use Rattle.est_semantics.specs.declared.frame.Slot.TheVariants as slot
 use Rattle.est_semantics.specs.Outcome.{on_ok}
 use Rattle.est_semantics.specs.GlobalSituation.{Frame}
 use Rattle.est_semantics.specs.NamesInRuns.{kind_at, places_of}
 use Rattle.est_semantics.specs.TakenValues.{taken}
 use Rattle.est_semantics.specs.FunctionCalls.{given, bound, unset, frame_of}
 use Rattle.est_semantics.specs.StatementEffects.{slot_value, values_of}
+use Rattle.est_semantics.specs.declared.frame.Slot.TheVariants as slot
 use Rattle.est_choices.specs.TransitionChoices.{bound_all}
+use Rattle.est_upkeep.proofs.GivenThings.{OnGood}
 use Rattle.est_fullness.specs.Full.{HasAll, AreFull}
 use Rattle.est_fullness.proofs.FullUses.{same_sorts}
-use Rattle.est_upkeep.proofs.GivenThings.{OnGood}
 use Rattle.est_departures.proofs.TakenArguments.{IsValue, AreValues, good_on}
 use Rattle.est_soundness.specs.SteadyOutlines.{IsSteady}
 use Rattle.est_soundness.specs.FittingStates.{SlotFits, FrameFits}
@@ -81,7 +81,8 @@ module _ (o : Outline) (steady : IsSteady o) where
   values_fit (p ∷ ps) [] h v g =
       good_on (HaveValues ps) (HaveValues (p ∷ ps)) (frame_of o ps []) (λ f. Ok (unset o p ∷ f))
       (values_fit ps [] h.1 tt (nothing_given o steady ps))
-      (λ f q. subst (λ ks. AllZip Fits ks (map (λ (b : Binding). slot_value b.slot) (unset o p ∷ f)))
+      (λ f q. subst (λ ks. AllZip Fits ks (map (λ (b : Binding). slot_value b.slot)
+      (unset o p ∷ f)))
       (sym (kinds_more p h.0.0 ps h.0.1)) (unset_fits o steady p h.0.0 h.0.1, q))
   values_fit (p ∷ ps) (x ∷ xs) h v g =
       let k = h.0 in
@@ -139,7 +140,8 @@ module _ (o : Outline) (steady : IsSteady o) where
 
         entry : (x : Option Entry) → entry_at o n.1.place ≡ x
             → HaveKinds (places names) × (kinds_in o names ≡ kinds_of (places names))
-            → HaveKinds (places (n ∷ names)) × (kinds_in o (n ∷ names) ≡ kinds_of (places (n ∷ names)))
+            → HaveKinds (places (n ∷ names))
+            × (kinds_in o (n ∷ names) ≡ kinds_of (places (n ∷ names)))
         entry None i h =
             subst (λ y. HaveKinds (if is_sort sort.Variable y then n.1.place ∷ places names
             else places names) × (kind_by y ++ kinds_in o names
@@ -168,4 +170,5 @@ module _ (o : Outline) (steady : IsSteady o) where
         (frame_of o (places_of o sort.Variable d) xs)
         (λ f. Ok (map (λ (b : Binding). slot_value b.slot) f))
         (values_fit (places_of o sort.Variable d) xs r.0 v g)
-        (λ f q. subst (λ ks. AllZip Fits ks (map (λ (b : Binding). slot_value b.slot) f)) (sym r.1) q)
+        (λ f q. subst (λ ks. AllZip Fits ks (map (λ (b : Binding). slot_value b.slot) f))
+        (sym r.1) q)

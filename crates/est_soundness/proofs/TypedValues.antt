@@ -1,31 +1,32 @@
 -- What variables yield, and what may be given to them.
+use Rattle.std.specs.Prelude.{if◌then◌else◌}
 use Rattle.std.proofs.Common.{◌≡◌, refl, sym, ap, subst, ◌∙◌, ℕ, ℤ, Bool, true, false, List}
 use Rattle.std.proofs.Common.{Option, Some, None, Result, Ok, Err, true≢false}
-use Rattle.std.specs.Prelude.{if◌then◌else◌}
 use Rattle.est_syntax.specs.declared.kind.Kind.{Kind, out-Kind}
-use Rattle.est_syntax.specs.declared.kind.Kind.TheOpen as seen
 use Rattle.est_syntax.specs.declared.kind.FieldKind.{FieldKind}
+use Rattle.est_syntax.specs.declared.kind.Kind.TheOpen as seen
 use Rattle.est_values.specs.declared.value.Value.{Value, out-Value, roll-Value, roll-out-Value}
-use Rattle.est_values.specs.declared.value.Value.TheOpen as shown
-use Rattle.est_values.specs.declared.value.Value.TheVariants as value
 use Rattle.est_values.specs.FittingValues.{KindLayer, first_ordinal, last_ordinal, AscendFrom}
 use Rattle.est_values.specs.FittingValues.{Fits}
+use Rattle.est_values.specs.declared.value.Value.TheOpen as shown
+use Rattle.est_values.specs.declared.value.Value.TheVariants as value
 use Rattle.est_values.specs.FittingValues as fitting
 use Rattle.est_alike.specs.declared.types.Host.{Host}
 use Rattle.est_alike.specs.Alike.{is_alike}
-use Rattle.est_alike.specs.Types.{Yielded, Group, host_in, host_of, type_by, type_of, is_assignable}
+use Rattle.est_alike.specs.Types.{Yielded, Group, host_in, host_of, type_by, type_of}
+use Rattle.est_alike.specs.Types.{is_assignable}
 use Rattle.est_semantics.specs.declared.fault.BlockFault.{BlockFault}
 use Rattle.est_semantics.specs.declared.fault.BlockFault.TheVariants.{Range}
 use Rattle.est_semantics.specs.TakenValues.{are_within, taken}
 use Rattle.est_semantics.specs.ValueOperators.{defined_in}
 use Rattle.est_semantics.proofs.FittingTaken.{fitting_taken, taken_fit}
+use Rattle.est_upkeep.proofs.GivenThings.{OnGood}
+use Rattle.est_departures.specs.DepartureLaws as given
+use Rattle.est_departures.proofs.AllowedDepartures.{what_is_taken_fits}
 use Rattle.est_soundness.specs.SameKinds.{HasSizes}
 use Rattle.est_soundness.specs.ValuesOfTypes.{DoAscend, IsYielded}
 use Rattle.est_soundness.specs.ValuesOfTypes as yields
 use Rattle.est_soundness.proofs.SameKinds.{alike_same, same_fits}
-use Rattle.est_upkeep.proofs.GivenThings.{OnGood}
-use Rattle.est_departures.specs.DepartureLaws as given
-use Rattle.est_departures.proofs.AllowedDepartures.{what_is_taken_fits}
 
 -- a value by its form
 by_form : (v : Value) (l : shown.Value-F Value) → out-Value v ≡ l → v ≡ roll-Value l
@@ -95,7 +96,8 @@ module _ (sizes : ℕ → ℕ) where
       (yields.set zs (set_is v zs e) (first_ordinal base, last_ordinal base, h))
   fits_yielded k v s (fitting.array i of ps d e n each) =
       defined_more (type_of k) v
-      (yields.group k ps (array_type k i of d) s (group_is v ps e) (fitting.array i of ps d e n each))
+      (yields.group k ps (array_type k i of d) s (group_is v ps e)
+      (fitting.array i of ps d e n each))
   fits_yielded k v s (fitting.fields fs ps d e n each) =
       defined_more (type_of k) v
       (yields.group k ps (record_type k fs d) s (group_is v ps e) (fitting.fields fs ps d e n each))

@@ -7,12 +7,12 @@ use Rattle.est_scope.specs.Outline.{Outline, names_of}
 use Rattle.est_ports.specs.PortList.{kinds_in}
 use Rattle.est_semantics.specs.declared.frame.Binding.{Binding}
 use Rattle.est_semantics.specs.declared.frame.Slot.{Slot}
-use Rattle.est_semantics.specs.declared.frame.Slot.TheVariants as slot
 use Rattle.est_semantics.specs.declared.situation.Item.{Item}
 use Rattle.est_semantics.specs.declared.situation.Row.{Row}
 use Rattle.est_semantics.specs.GlobalSituation.{Frame, QueueName, Situation}
 use Rattle.est_semantics.specs.NamesInRuns.{kind_at}
 use Rattle.est_semantics.specs.WorkingState.{State}
+use Rattle.est_semantics.specs.declared.frame.Slot.TheVariants as slot
 use Rattle.est_soundness.specs.KindsOfPlaces.{HasKind}
 
 -- what stands under a name of a kind is a value that fits it, or the place of such a variable

@@ -3,8 +3,8 @@ use Rattle.std.specs.Prelude.{◌≡◌, ℕ, List, [], ◌∷◌, slice_get, Op
 use Rattle.std.specs.Prelude.{option_and_then}
 use Rattle.std.specs.Option.{option_map}
 use Rattle.est_syntax.specs.declared.kind.Kind.{Kind, out-Kind}
-use Rattle.est_syntax.specs.declared.kind.Kind.TheOpen as seen
 use Rattle.est_syntax.specs.declared.kind.FieldKind.{FieldKind}
+use Rattle.est_syntax.specs.declared.kind.Kind.TheOpen as seen
 use Rattle.est_values.specs.FittingValues.{KindLayer}
 use Rattle.est_scope.specs.Outline.{Outline}
 use Rattle.est_semantics.specs.declared.frame.Place.{Place}

@@ -2,9 +2,9 @@
 use Rattle.std.specs.Prelude.{◌≡◌, ℕ, Bool, true, false, List, length, slice_get, Some}
 use Rattle.est_syntax.specs.Kinds.{is_ordinal}
 use Rattle.est_syntax.specs.declared.kind.Kind.{Kind, out-Kind}
-use Rattle.est_syntax.specs.declared.kind.Kind.TheOpen as seen
 use Rattle.est_syntax.specs.declared.kind.FieldKind.{FieldKind}
 use Rattle.est_syntax.specs.declared.name.Name.{Name}
+use Rattle.est_syntax.specs.declared.kind.Kind.TheOpen as seen
 use Rattle.est_values.specs.FittingValues.{KindLayer, first_ordinal, last_ordinal, ordinal_count}
 
 -- whether a layer is an ordinal one that is no enumeration
@@ -29,8 +29,8 @@ pub data HasSizes (sizes : ℕ → ℕ) : Kind → Type 0 where
       → ((i : ℕ) (field : FieldKind) → slice_get fields i ≡ Some field
       → HasSizes sizes field.kind) → HasSizes sizes k
 
--- The same values fit both kinds: they have the same ordinals, members or numbers of components, and
--- their components are so in order.
+-- The same values fit both kinds: they have the same ordinals, members or numbers of components,
+-- and their components are so in order.
 pub data AreSame : Kind → Kind → Type 0 where
   ordinals : {j k : Kind} → is_ordinal j ≡ true → is_ordinal k ≡ true
       → first_ordinal j ≡ first_ordinal k → last_ordinal j ≡ last_ordinal k → AreSame j k

@@ -12,20 +12,20 @@ use Rattle.est_alike.specs.Alike.{is_alike}
 use Rattle.est_alike.specs.Types.{Yielded}
 use Rattle.est_expressions.specs.Expressions.{expr_type}
 use Rattle.est_check.specs.LeastFault.{IsGood}
-use Rattle.est_fullness.specs.FullExpressions.{IsWhole}
 use Rattle.est_semantics.specs.Outcome.{Done}
 use Rattle.est_semantics.specs.TextByPlace.{text_of}
 use Rattle.est_semantics.specs.GlobalSituation.{Frame, Situation}
 use Rattle.est_semantics.specs.SightLaws.{sight}
 use Rattle.est_semantics.specs.ExpressionValues.{value_of}
 use Rattle.est_choices.specs.declared.event.Event.{Event}
-use Rattle.est_choices.specs.declared.event.Event.TheVariants as event
 use Rattle.est_choices.specs.declared.firing.Firing.{Firing}
 use Rattle.est_choices.specs.AllowedEvents.{IsReceivable, IsAllowed}
 use Rattle.est_choices.specs.FiringSteps.{outcome, start_of}
 use Rattle.est_choices.specs.OutsideEvents.{after_event}
+use Rattle.est_choices.specs.declared.event.Event.TheVariants as event
 use Rattle.est_runs.specs.declared.run.Move.{Move}
 use Rattle.est_runs.specs.Run.{Setup, Place, IsBegun, IsRun, Explains}
+use Rattle.est_fullness.specs.FullExpressions.{IsWhole}
 use Rattle.est_departures.specs.SentInteractions.{JoinOneSide}
 use Rattle.est_soundness.specs.SameKinds.{HasSizes}
 use Rattle.est_soundness.specs.SteadyOutlines.{IsSteady}

@@ -2,8 +2,8 @@
 use Rattle.std.specs.Prelude.{◌≡◌, ℕ, Some}
 use Rattle.est_syntax.specs.declared.kind.Kind.{Kind}
 use Rattle.est_scope.specs.declared.declaration.Entry.{Entry}
-use Rattle.est_scope.specs.declared.declaration.Sort.TheVariants as sort
 use Rattle.est_scope.specs.Outline.{Outline}
+use Rattle.est_scope.specs.declared.declaration.Sort.TheVariants as sort
 use Rattle.est_expressions.specs.Selections.{parameter}
 use Rattle.est_semantics.specs.NamesInRuns.{kind_at}
 use Rattle.est_soundness.specs.SameKinds.{HasSizes}

@@ -2,8 +2,8 @@
 use Rattle.std.specs.Prelude.{◌≡◌, ℕ, ℤ, List}
 use Rattle.est_syntax.specs.declared.kind.Kind.{Kind}
 use Rattle.est_values.specs.declared.value.Value.{Value}
-use Rattle.est_values.specs.declared.value.Value.TheVariants as value
 use Rattle.est_values.specs.FittingValues.{AscendFrom, Fits}
+use Rattle.est_values.specs.declared.value.Value.TheVariants as value
 use Rattle.est_alike.specs.Types.{Yielded, Group}
 use Rattle.est_soundness.specs.SameKinds.{HasSizes}
 
