@@ -1,0 +1,12 @@
+//! Warnings of specifications that break no rule.
+#![tactic(auto)]
+
+mod clauses;
+mod points;
+mod states;
+mod top;
+mod unused;
+mod walk;
+mod warning;
+
+pub use top::append_warnings;

@@ -1,0 +1,57 @@
+//! The warnings of a specification.
+
+use crate::unused::push_unused;
+use crate::walk::{push_parts, push_points};
+use crate::warning::{Warning, append_warning};
+use est_lexer::tokens::Tokens;
+use est_scope::outline::Outline;
+use est_syntax::specification::Spec;
+use std::alloc::{AllocError, Global};
+
+// How many warnings are told.
+const MOST_WARNINGS: usize = 64;
+
+// Adds the first interaction point without a queue discipline, where there is no default.
+fn push_queue(alloc: Global, spec: &Spec, found: &mut Vec<Warning>) -> Result<(), AllocError> {
+    if spec.queue.is_some() {
+        return Ok(());
+    }
+    let mut points = Vec::new(alloc);
+    push_points(spec.parts.as_slice(), &mut points)?;
+    match points.first() {
+        None => (),
+        Some(first) => found.push(*first)?,
+    }
+    Ok(())
+}
+
+// What is found in a specification, in the order of the text.
+fn found_in(
+    alloc: Global,
+    tokens: &Tokens,
+    outline: &Outline,
+    spec: &Spec,
+) -> Result<Vec<Warning>, AllocError> {
+    let mut found = Vec::new(alloc);
+    push_parts(alloc, outline, spec.parts.as_slice(), &mut found)?;
+    push_queue(alloc, spec, &mut found)?;
+    push_unused(alloc, tokens, outline, &mut found)?;
+    found.sort_unstable_by_key(|warning| warning.place);
+    Ok(found)
+}
+
+/// Adds the warnings of a specification that declares this: lines `specification:R:C: warning: TEXT`
+/// in the order of the text, 64 at most.
+pub fn append_warnings(
+    alloc: Global,
+    tokens: &Tokens,
+    outline: &Outline,
+    spec: &Spec,
+    notes: &mut String,
+) -> Result<(), AllocError> {
+    let found = found_in(alloc, tokens, outline, spec)?;
+    for warning in found.iter().take(MOST_WARNINGS) {
+        append_warning(tokens, *warning, notes)?;
+    }
+    Ok(())
+}
