@@ -10,6 +10,7 @@ use est_lexer::lex::lex;
 use est_lexer::tokens::Tokens;
 use est_rule_notes::append_rule;
 use est_specification::{SpecificationError, read_specification};
+use est_warnings::append_warnings;
 use est_wanted::refused::{append_refused, append_too_deep};
 use std::alloc::{AllocError, Global};
 
@@ -47,7 +48,7 @@ fn append_text<S: Shelf>(
     }
     let tokens = lex(alloc, text)?;
     match read_specification(alloc, &tokens) {
-        Ok(checked) => append_good(alloc, shelf, asked, &checked, notes),
+        Ok(checked) => append_good(alloc, shelf, asked, &tokens, &checked, notes),
         Err(error) => append_bad(alloc, text, &tokens, error, notes),
     }
 }
@@ -78,6 +79,7 @@ fn append_good<S: Shelf>(
     alloc: Global,
     shelf: &mut S,
     asked: Asked<'_>,
+    tokens: &Tokens,
     checked: &Checked,
     notes: &mut String,
 ) -> Result<(), AllocError> {
@@ -87,6 +89,8 @@ fn append_good<S: Shelf>(
             trace,
             explanation,
         } => append_trace(alloc, shelf, checked, trace, explanation, notes),
-        Asked::Warnings { specification: _ } => Ok(()),
+        Asked::Warnings { specification: _ } => {
+            append_warnings(alloc, tokens, checked.table().outline(), checked.spec(), notes)
+        }
     }
 }
