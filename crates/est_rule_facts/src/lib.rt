@@ -1,5 +1,5 @@
-//! What is told of a rule that a specification breaks at a place: what the rule asks, and what stands
-//! there and beside it.
+//! What is told of a rule that a specification breaks at a place: what the rule asks, and what
+//! stands there and beside it.
 #![tactic(auto)]
 
 mod facts;

@@ -25,8 +25,10 @@ fn limit_sentence(kind: TokenKind) -> &'static str {
 /// What a rule asks that is broken at a place.
 pub(crate) fn rule_sentence(tokens: &Tokens, place: u32, rule: Rule) -> &'static str {
     match rule {
-        Rule::UnknownName =>
-            "nothing that can be meant here has this name, and names are declared before they are used",
+        Rule::UnknownName => {
+            "nothing that can be meant here has this name, and names are declared before they are \
+                used"
+        },
         Rule::DeclaredTwice => {
             "a name is declared once in its region; a body has the names of its header too"
         },

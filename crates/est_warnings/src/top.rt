@@ -40,8 +40,8 @@ fn found_in(
     Ok(found)
 }
 
-/// Adds the warnings of a specification that declares this: lines `specification:R:C: warning: TEXT`
-/// in the order of the text, 64 at most.
+/// Adds the warnings of a specification that declares this: lines
+/// `specification:R:C: warning: TEXT` in the order of the text, 64 at most.
 pub fn append_warnings(
     alloc: Global,
     tokens: &Tokens,
