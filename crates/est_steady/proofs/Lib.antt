@@ -1,0 +1,5 @@
+pub mod KnownKinds
+pub mod KnownParts
+pub mod KnownTexts
+pub mod ShortParts
+pub mod SteadySentences

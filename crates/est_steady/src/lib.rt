@@ -1,0 +1,4 @@
+//! Sentences that break no rule are typed.
+#![tactic(auto)]
+
+pub mod laws;
