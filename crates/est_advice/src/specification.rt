@@ -10,8 +10,8 @@ use est_lexer::lex::lex;
 use est_lexer::tokens::Tokens;
 use est_rule_notes::append_rule;
 use est_specification::{SpecificationError, read_specification};
-use est_warnings::append_warnings;
 use est_wanted::refused::{append_refused, append_too_deep};
+use est_warnings::append_warnings;
 use std::alloc::{AllocError, Global};
 
 /// Adds what is known of the specification that is asked about, or of what comes after it.
@@ -90,7 +90,13 @@ fn append_good<S: Shelf>(
             explanation,
         } => append_trace(alloc, shelf, checked, trace, explanation, notes),
         Asked::Warnings { specification: _ } => {
-            append_warnings(alloc, tokens, checked.table().outline(), checked.spec(), notes)
+            append_warnings(
+                alloc,
+                tokens,
+                checked.table().outline(),
+                checked.spec(),
+                notes,
+            )
         }
     }
 }
