@@ -34,8 +34,9 @@ use Rattle.est_soundness.specs.SameKinds as same
 -- own
 pub data Bounded (n : ℕ → ℕ) (c : ℕ) : Kind → Type 0 where
   unnamed : {k : Kind} → is_unnamed (out-Kind k) ≡ true → Bounded n c k
-  enumeration : {k : Kind} (place : ℕ) (names : List Name) → out-Kind k ≡ seen.Enumeration place names
-      → length names ≡ n place → place < c → Bounded n c k
+  enumeration : {k : Kind} (place : ℕ) (names : List Name)
+      → out-Kind k ≡ seen.Enumeration place names → length names ≡ n place → place < c
+      → Bounded n c k
   set : {k : Kind} (base : Kind) → out-Kind k ≡ seen.SetOf base → Bounded n c base → Bounded n c k
   array : {k : Kind} (index of : Kind) → out-Kind k ≡ seen.ArrayOf index of → Bounded n c index
       → Bounded n c of → Bounded n c k

@@ -1,5 +1,6 @@
 -- The kinds of the texts of types and of constants, and what such texts declare.
-use Rattle.std.proofs.Common.{◌≡◌, refl, sym, ap, subst, ◌∙◌, arith, ℕ, zero, suc, ◌<◌, ◌≤◌, ℤ, Bool}
+use Rattle.std.proofs.Common.{◌≡◌, refl, sym, ap, subst, ◌∙◌, arith, ℕ, zero, suc, ◌<◌, ◌≤◌, ℤ}
+use Rattle.std.proofs.Common.{Bool}
 use Rattle.std.proofs.Common.{true, false, List, [], ◌∷◌, ◌++◌, map, length, Option, Some, None}
 use Rattle.std.proofs.Common.{nat_eq, nat_lt}
 use Rattle.std.specs.Prelude.{slice_get, if◌then◌else◌, ◌-ℤ◌, int_lt, pos, nat_le}
@@ -257,8 +258,8 @@ module _ (n : ℕ → ℕ) (c : ℕ) (o : Outline) (k : Known n c o) where
   set_kinded None h = nothing
   set_kinded (Some b) h =
       if_kinded (is_ordinal b.kind) (set_by b) None
-      (if_kinded (nat_lt most_members (count b.kind)) None (Some (scalar (kind.SetOf b.kind))) nothing
-      (measured (scalar (kind.SetOf b.kind)) (bounded.set b.kind (kind.outs-SetOf b.kind)
+      (if_kinded (nat_lt most_members (count b.kind)) None (Some (scalar (kind.SetOf b.kind)))
+      nothing (measured (scalar (kind.SetOf b.kind)) (bounded.set b.kind (kind.outs-SetOf b.kind)
       (h b refl)))) nothing
 
   -- fields
@@ -308,7 +309,8 @@ module _ (n : ℕ → ℕ) (c : ℕ) (o : Outline) (k : Known n c o) where
 
   record_kinded : (x : Option Gathered) → GatheredKnown x → Kinded (record_of x)
   record_kinded None h = nothing
-  record_kinded (Some g) h = limited_kinded (fields g) (bounded.fields g.kinds (kind.outs-Fields g.kinds)
+  record_kinded (Some g) h =
+      limited_kinded (fields g) (bounded.fields g.kinds (kind.outs-Fields g.kinds)
       (λ i f e. field_at g.kinds i f (h g refl) e))
 
   mutual
