@@ -3,6 +3,8 @@
 
 mod clauses;
 mod points;
+mod range;
+mod statements;
 mod states;
 mod top;
 mod unused;

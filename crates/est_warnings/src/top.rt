@@ -1,5 +1,6 @@
 //! The warnings of a specification.
 
+use crate::statements::push_blocks;
 use crate::unused::push_unused;
 use crate::walk::{push_parts, push_points};
 use crate::warning::{Warning, append_warning};
@@ -34,6 +35,7 @@ fn found_in(
 ) -> Result<Vec<Warning>, AllocError> {
     let mut found = Vec::new(alloc);
     push_parts(alloc, outline, spec.parts.as_slice(), &mut found)?;
+    push_blocks(outline, spec.parts.as_slice(), &mut found)?;
     push_queue(alloc, spec, &mut found)?;
     push_unused(alloc, tokens, outline, &mut found)?;
     found.sort_unstable_by_key(|warning| warning.place);
@@ -51,7 +53,7 @@ pub fn append_warnings(
 ) -> Result<(), AllocError> {
     let found = found_in(alloc, tokens, outline, spec)?;
     for warning in found.iter().take(MOST_WARNINGS) {
-        append_warning(tokens, *warning, notes)?;
+        append_warning(alloc, tokens, outline, *warning, notes)?;
     }
     Ok(())
 }
