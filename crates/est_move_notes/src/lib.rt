@@ -1,0 +1,8 @@
+//! What a person is told of the move at which a replay rejects an explanation.
+#![tactic(auto)]
+
+mod firing;
+mod heads;
+mod place;
+pub mod rejected;
+mod walking;
