@@ -15,11 +15,12 @@ pub fn advise<S: Shelf, K: Sink>(
     shelf: &mut S,
     sink: &mut K,
 ) -> Status {
-    let Some(asked) = asked_of(words) else {
-        return Status::Usage;
-    };
-    match notes_of(alloc, shelf, asked) {
-        Ok(notes) => deliver(&notes, sink),
+    match asked_of(alloc, words) {
+        Ok(Some(asked)) => match notes_of(alloc, shelf, asked) {
+            Ok(notes) => deliver(&notes, sink),
+            Err(_) => Status::OutOfMemory,
+        },
+        Ok(None) => Status::Usage,
         Err(_) => Status::OutOfMemory,
     }
 }

@@ -1,7 +1,7 @@
 //! Advice on specifications.
 
 use crate::reading::text_in;
-use crate::trace::append_trace;
+use crate::trace::{Good, append_trace};
 use crate::words::Asked;
 use est_check::Checked;
 use est_edge::Shelf;
@@ -26,6 +26,7 @@ pub(crate) fn append_specification<S: Shelf>(
             specification,
             trace: _,
             explanation: _,
+            limits: _,
         } => specification,
         Asked::Warnings { specification } => specification,
     };
@@ -88,7 +89,15 @@ fn append_good<S: Shelf>(
             specification: _,
             trace,
             explanation,
-        } => append_trace(alloc, shelf, checked, trace, explanation, notes),
+            limits,
+        } => {
+            let good = Good {
+                tokens,
+                checked,
+                limits: &limits,
+            };
+            append_trace(alloc, shelf, &good, trace, explanation, notes)
+        }
         Asked::Warnings { specification: _ } => {
             append_warnings(
                 alloc,
