@@ -50,7 +50,35 @@ fn append_text<S: Shelf>(
     let tokens = lex(alloc, text)?;
     match read_specification(alloc, &tokens) {
         Ok(checked) => append_good(alloc, shelf, asked, &tokens, &checked, notes),
-        Err(error) => append_bad(alloc, text, &tokens, error, notes),
+        Err(error) => append_refusal(alloc, asked, text, &tokens, error, notes),
+    }
+}
+
+// Adds what is known of a specification that is refused, where that is asked for.
+fn append_refusal(
+    alloc: Global,
+    asked: Asked<'_>,
+    text: &[u8],
+    tokens: &Tokens,
+    error: SpecificationError,
+    notes: &mut String,
+) -> Result<(), AllocError> {
+    match asked {
+        Asked::Refusals {
+            specification: _,
+            trace: _,
+            explanation: _,
+            limits: _,
+        } => append_bad(alloc, text, tokens, error, notes),
+        Asked::Warnings { specification: _ } => memory_alone(error),
+    }
+}
+
+// Want of memory, of what else may be wrong.
+fn memory_alone(error: SpecificationError) -> Result<(), AllocError> {
+    match error {
+        SpecificationError::Memory(error) => Err(error),
+        _ => Ok(()),
     }
 }
 
