@@ -36,7 +36,7 @@ pub(crate) fn rule_sentence(tokens: &Tokens, place: u32, rule: Rule) -> &'static
             "of the bodies around it a nested body sees only constants, types, channels, headers, \
              bodies, and routines that use nothing else of them"
         },
-        Rule::WrongSort => "the name is of a sort that cannot stand here",
+        Rule::WrongSort => "a name of this sort cannot be used so here",
         Rule::NumberTooLarge => "the greatest number is 2147483647",
         Rule::WrongBounds => {
             "the bounds of a range are constants of one type, and the first is not the greater one"
@@ -58,7 +58,7 @@ fn later_sentence(rule: Rule) -> &'static str {
         },
         Rule::NotWritable => {
             "only variables, parameters and exports of the own body, routine or block are written, \
-             and none of an any, a when, an all, or a for around"
+             in a function only its own, and none of an any, a when, an all, or a for around"
         },
         Rule::NotInFunction => {
             "a function only computes: it calls no procedure, sends, starts, releases and links \

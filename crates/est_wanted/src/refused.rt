@@ -6,9 +6,9 @@ use crate::comments::append_comment;
 use crate::forms::form_text;
 use crate::left_out::instead_of;
 use crate::note::{Spot, append_note, printed};
-use crate::place::{end_before, front_of, gap_before, spot_at, spot_of};
-use crate::wanted::{MOST_TOLD, MOST_TRIED, could_follow, wanted};
-use est_lexer::kind::TokenKind;
+use crate::place::{end_before, front_of, gap_before, kind_before, spot_at, spot_of};
+use crate::wanted::{MOST_TOLD, MOST_TRIED, could_go_on, wanted};
+use est_lexer::kind::{Symbol, TokenKind};
 use est_lexer::tokens::Tokens;
 use std::alloc::{AllocError, Global};
 
@@ -184,8 +184,16 @@ fn may_begin(tokens: &Tokens, place: u32) -> bool {
     }
 }
 
-// Whether the token of a place begins something in a later line than the one before it, and a
-// semicolon could stand there.
+// Whether a semicolon stands before the token of a place.
+fn is_after_semicolon(tokens: &Tokens, place: u32) -> bool {
+    match kind_before(tokens, place, 1) {
+        Some(TokenKind::Symbol(Symbol::Semicolon)) => true,
+        _ => false,
+    }
+}
+
+// Whether the token of a place begins something in a later line than the one before it, and could
+// stand there after a semicolon, which none is before it.
 fn lacks_semicolon(
     alloc: Global,
     text: &[u8],
@@ -193,13 +201,13 @@ fn lacks_semicolon(
     place: u32,
 ) -> Result<bool, AllocError> {
     let front = front_of(text, tokens, place);
-    if !may_begin(tokens, place) || front.len() > MOST_TRIED {
+    if !may_begin(tokens, place) || front.len() > MOST_TRIED || place >= tokens.count() {
         return Ok(false);
     }
-    if !gap_before(text, tokens, place).contains(&b'\n') {
+    if is_after_semicolon(tokens, place) || !gap_before(text, tokens, place).contains(&b'\n') {
         return Ok(false);
     }
-    could_follow(alloc, front, Candidate::Spelled(";"))
+    could_go_on(alloc, front, tokens.spelled(place))
 }
 
 // Adds that a semicolon may be missing at the end of a line.

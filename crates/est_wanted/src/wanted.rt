@@ -73,6 +73,14 @@ pub fn could_follow(alloc: Global, before: &[u8], candidate: Candidate) -> Resul
     is_beginning(alloc, &text)
 }
 
+/// Whether these bytes could follow a text, after a semicolon.
+pub(crate) fn could_go_on(alloc: Global, before: &[u8], next: &[u8]) -> Result<bool, AllocError> {
+    let mut text = Vec::from_slice(alloc, before)?;
+    text.extend_from_slice(b" ; ")?;
+    text.extend_from_slice(next)?;
+    is_beginning(alloc, &text)
+}
+
 // Whether a text is the beginning of a specification. A long one is not looked at.
 fn is_beginning(alloc: Global, text: &[u8]) -> Result<bool, AllocError>
     ensures { IfOk result (λ is. IsTrue is → IsBeginning text.now) }
