@@ -1,6 +1,5 @@
 -- The files that a call reads.
 use Rattle.std.specs.Prelude.{ℕ, List, codes}
-use Rattle.est_lexer.specs.declared.tokens.TheConstants.{MOST_BYTES}
 use Rattle.est_check.specs.Small.{most_parts}
 use Rattle.est_files.specs.declared.file.File.{File}
 use Rattle.est_files.specs.declared.file.File.TheVariants.{Specification, Trace, Explanation}
@@ -15,4 +14,4 @@ word_of Explanation = codes "explanation"
 abbrev pub limit_of : File → ℕ
 limit_of Specification = most_parts
 limit_of Trace = 8388608
-limit_of Explanation = MOST_BYTES
+limit_of Explanation = 134217728

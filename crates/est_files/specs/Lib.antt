@@ -4,3 +4,4 @@ pub mod Files
 pub mod Reads
 pub mod RefusalLines
 pub mod Seen
+pub mod inside

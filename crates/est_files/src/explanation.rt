@@ -1,9 +1,10 @@
 //! The text of an explanation.
-ghost use Rattle.std.specs.Prelude.{◌≤◌, IfSome, length, IfOk};
+ghost use Rattle.std.specs.Prelude.{◌≤◌, IfSome, IfNone, length, IfOk};
 ghost use Rattle.est_lexer.specs.declared.tokens.TheConstants.{MOST_BYTES};
 ghost use Rattle.est_files.specs.Files.{limit_of};
 ghost use Rattle.est_files.specs.Seen.{seen, shelved};
 ghost use Rattle.est_files.specs.FileTexts.{OfExplanation, RefusesExplanation, SaysOfExplanation};
+ghost use Rattle.est_files.specs.inside.OutOfMemory.{IsMemoryOfExplanation};
 ghost use Rattle.est_files.specs.Reads.{ReadsFile, ReadsText};
 
 use crate::diagnostic::{Diagnostic, refuse};
@@ -48,7 +49,9 @@ fn explanation_of(alloc: Global, text: &[u8]) -> Result<Explanation, Stop>
 
 // What is said of an error, unless memory ran out.
 fn said_of(error: ExplanationError) -> Option<Diagnostic>
-    ensures { IfSome result (λ said. SaysOfExplanation error said.status said.place said.why.now) }
+    ensures said { IfSome result
+        (λ said. SaysOfExplanation error said.status said.place said.why.now) }
+    ensures unsaid { IfNone result (IsMemoryOfExplanation error) }
 {
     match error {
         ExplanationError::BadToken { place } => Some(Diagnostic {

@@ -2,8 +2,6 @@
 ghost use Rattle.std.specs.Prelude.{◌≡◌};
 ghost use Rattle.est_files.specs.Files.{limit_of, word_of};
 
-use est_lexer::tokens::MOST_BYTES;
-
 /// A file that a call reads.
 #[derive(Clone, Copy, PartialEq, Eq)]
 pub enum File {
@@ -31,7 +29,7 @@ impl File {
         match self {
             File::Specification => 1_048_576,
             File::Trace => 8_388_608,
-            File::Explanation => MOST_BYTES as u32,
+            File::Explanation => 134_217_728,
         }
     }
 }

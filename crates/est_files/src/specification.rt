@@ -1,9 +1,10 @@
 //! The text of a specification.
-ghost use Rattle.std.specs.Prelude.{◌≤◌, IfSome, length};
+ghost use Rattle.std.specs.Prelude.{◌≤◌, IfSome, IfNone, length};
 ghost use Rattle.est_files.specs.Files.{limit_of};
 ghost use Rattle.est_files.specs.Seen.{seen, shelved};
 ghost use Rattle.est_files.specs.FileTexts.{OfSpecification, RefusesSpecification};
 ghost use Rattle.est_files.specs.FileTexts.{SaysOfSpecification};
+ghost use Rattle.est_files.specs.inside.OutOfMemory.{IsMemoryOfSpecification};
 ghost use Rattle.est_files.specs.Reads.{ReadsFile, ReadsText};
 
 use crate::diagnostic::{Diagnostic, refuse};
@@ -43,8 +44,9 @@ fn specification_of(alloc: Global, text: &[u8]) -> Result<Checked, Stop>
 
 // What is said of an error, unless memory ran out.
 fn said_of(error: SpecificationError) -> Option<Diagnostic>
-    ensures { IfSome result
+    ensures said { IfSome result
         (λ said. SaysOfSpecification error said.status said.place said.why.now) }
+    ensures unsaid { IfNone result (IsMemoryOfSpecification error) }
 {
     let (place, why) = match error {
         SpecificationError::BadToken { place } => (place, "bad token"),

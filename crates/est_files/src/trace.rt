@@ -1,9 +1,10 @@
 //! The text of a trace.
-ghost use Rattle.std.specs.Prelude.{◌≤◌, IfSome, length, IfOk};
+ghost use Rattle.std.specs.Prelude.{◌≤◌, IfSome, IfNone, length, IfOk};
 ghost use Rattle.est_choices.specs.AllowedEvents.{IsAllowedTrace};
 ghost use Rattle.est_files.specs.Files.{limit_of};
 ghost use Rattle.est_files.specs.Seen.{seen, shelved};
 ghost use Rattle.est_files.specs.FileTexts.{OfTrace, RefusesTrace, SaysOfTrace};
+ghost use Rattle.est_files.specs.inside.OutOfMemory.{IsMemoryOfTrace};
 ghost use Rattle.est_files.specs.Reads.{ReadsFile, ReadsText, TakesText};
 
 use crate::diagnostic::{Diagnostic, refuse};
@@ -65,7 +66,8 @@ fn trace_of(alloc: Global, text: &[u8], checked: &Checked) -> Result<Trace, Stop
 
 // What is said of an error, unless memory ran out.
 fn said_of(error: TraceError) -> Option<Diagnostic>
-    ensures { IfSome result (λ said. SaysOfTrace error said.status said.place said.why.now) }
+    ensures said { IfSome result (λ said. SaysOfTrace error said.status said.place said.why.now) }
+    ensures unsaid { IfNone result (IsMemoryOfTrace error) }
 {
     let (place, why) = match error {
         TraceError::BadToken { place } => (place, "bad token"),

@@ -6,4 +6,4 @@ returns c =
     reads_refused c.said_of.result c.refuse.result c.in_ok-tokens.ensures.same_text c.requires
     c.in_ok-tokens.ensures.tokens
     (said_then c.said_of.result (λ r says. (c.in-Err.error, c.in-Err.ensures, says))
-    c.said_of.ensures) c.refuse.ensures.said c.refuse.ensures.unsaid
+    c.said_of.ensures.said) c.refuse.ensures.said c.refuse.ensures.unsaid
