@@ -50,3 +50,8 @@ called_with p es v = values_in es [] v >>= called v p
 abbrev pub Gathers : Outcome ℕ (List ℤ) → Result Gathered Stop → ℕ → Type 0
 Gathers o (Ok g) n = (zs : List ℤ) × (IsGathered zs g × (o ≡ Done zs n))
 Gathers o (Err e) n = Answers o (Err e) n
+
+-- the answer of a call that writes what it yields in the place of a thing
+abbrev pub answer_of : {A B E : Type 0} → Result A E → B → Result B E
+answer_of (Ok a) b = Ok b
+answer_of (Err e) b = Err e

@@ -23,6 +23,7 @@ ghost use Rattle.est_values.specs.OrdinalTuples.{ordinals_of};
 ghost use Rattle.est_execution.specs.ExecutionSites.{site_of, view_of};
 ghost use Rattle.est_execution.specs.ExpressionSteps.{opposite, set_made, stored_value, module_at};
 ghost use Rattle.est_execution.specs.ExpressionSteps.{called_with, with_factor, Gathers};
+ghost use Rattle.est_execution.specs.ExpressionSteps.{answer_of};
 ghost use Rattle.est_execution.specs.HeldVariables.{reached_of, reached_in};
 ghost use Rattle.est_execution.specs.RunningCalls.{ran};
 ghost use Rattle.est_operators.specs.GatheredMembers.{IsGathered};
@@ -33,8 +34,8 @@ use crate::lone::lone_operand;
 use crate::loops::{
     children_of, distance, head_of_all, header_of, is_chosen, nth_slot, turn_value,
 };
-use crate::operands::{enter, number, span};
-use crate::reached::{Reached, begun, loaded, placed, with_component, with_field, with_subscript};
+use crate::operands::{add_span, add_value, join, negate, number, put_set, sign};
+use crate::reached::{Reached, begun, load, placed, with_component, with_field, with_subscript};
 use crate::site::{Site, declared_of, dims_of, head_at, host_at, is_given_place, meaning_at};
 use crate::statements::statements_in;
 use est_frames::routines::Slots;
@@ -46,8 +47,8 @@ use est_names::forms::bare;
 use est_names::heads::Head;
 use est_operators::hosts::required_by;
 use est_operators::ordinals::is_true;
-use est_operators::sets::{Gathered, set_of};
-use est_operators::values::{decides, joined, negated, signed, unsigned_integer};
+use est_operators::sets::Gathered;
+use est_operators::values::{decides, ordinal, unsigned_integer};
 use est_scope::declaration::Meant;
 use est_scope::predeclared::PredeclaredName;
 use est_semantics::fault::BlockFault;
@@ -66,8 +67,7 @@ use std::mem;
 
 /// The value of an expression.
 #[cycle(run)]
-#[tactic(auto, using(est_semantics::proofs::Answering::answers_stop, est_semantics::proofs::Answering::says_answers, est_semantics::proofs::ExpressionLayers::value_at, crate::proofs::LoneOperands::lone_value))]
-#[inline(never)]
+#[inline(always)]
 pub fn value_of(
     alloc: Global,
     site: &Site,
@@ -79,13 +79,35 @@ pub fn value_of(
         result left.new }
     ensures world { OnOk result (LooksSame working.old working.new) }
 {
+    let mut value = Value::Undefined;
+    evaluate(alloc, site, e, &mut value, working, left)?;
+    Ok(value)
+}
+
+// Puts the value of an expression in the place of another. Here and below a value is written where
+// the caller has room for it, so that calls take less of the machine's stack.
+#[cycle(run)]
+#[tactic(auto, using(est_semantics::proofs::Answering::answers_stop, est_semantics::proofs::Answering::says_answers, est_semantics::proofs::ExpressionLayers::value_at, crate::proofs::LoneOperands::lone_value))]
+#[inline(never)]
+fn evaluate(
+    alloc: Global,
+    site: &Site,
+    e: &Expr,
+    value: &mut Value,
+    working: &mut Working,
+    left: &mut u32,
+) -> Result<(), Stop>
+    ensures value { Answers (value_of e.now (view_of site.now working.old) left.old)
+        (answer_of result value.new) left.new }
+    ensures world { OnOk result (LooksSame working.old working.new) }
+{
     if let Some(factor) = lone_operand(e) {
-        return factor_of(alloc, site, factor, working, left);
+        return factor_of(alloc, site, factor, value, working, left);
     }
-    let a = simple_of(alloc, site, &e.left, working, left)?;
+    simple_of(alloc, site, &e.left, value, working, left)?;
     match &e.relation {
-        None => Ok(a),
-        Some(relation) => related(alloc, site, relation, a, working, left),
+        None => Ok(()),
+        Some(relation) => related(alloc, site, relation, value, working, left),
     }
 }
 
@@ -96,19 +118,20 @@ fn related(
     alloc: Global,
     site: &Site,
     relation: &Relation,
-    a: Value,
+    value: &mut Value,
     working: &mut Working,
     left: &mut u32,
-) -> Result<Value, Stop>
-    ensures value { Answers (related relation.now a (view_of site.now working.old) left.old)
-        result left.new }
+) -> Result<(), Stop>
+    ensures value { Answers (related relation.now value.old (view_of site.now working.old) left.old)
+        (answer_of result value.new) left.new }
     ensures world { OnOk result (LooksSame working.old working.new) }
 {
-    if decides(relation.operator, &a)? {
-        return Ok(a);
+    if decides(relation.operator, value)? {
+        return Ok(());
     }
-    let b = simple_of(alloc, site, &relation.right, working, left)?;
-    joined(alloc, relation.operator, &a, b)
+    let mut right = Value::Undefined;
+    simple_of(alloc, site, &relation.right, &mut right, working, left)?;
+    join(alloc, relation.operator, value, &mut right)
 }
 
 // The value of a sum.
@@ -118,19 +141,20 @@ fn simple_of(
     alloc: Global,
     site: &Site,
     simple: &Simple,
+    value: &mut Value,
     working: &mut Working,
     left: &mut u32,
-) -> Result<Value, Stop>
+) -> Result<(), Stop>
     ensures value { Answers (simple_of simple.now (view_of site.now working.old) left.old)
-        result left.new }
+        (answer_of result value.new) left.new }
     ensures world { OnOk result (LooksSame working.old working.new) }
 {
-    let first = term_of(alloc, site, &simple.first, working, left)?;
-    let mut sum = signed(simple.minus, first)?;
+    term_of(alloc, site, &simple.first, value, working, left)?;
+    sign(simple.minus, value)?;
     for step in simple.rest.as_slice() {
-        sum = with_term(alloc, site, step, sum, working, left)?;
+        with_term(alloc, site, step, value, working, left)?;
     }
-    Ok(sum)
+    Ok(())
 }
 
 // What a step of a sum makes of the value before it.
@@ -140,19 +164,20 @@ fn with_term(
     alloc: Global,
     site: &Site,
     step: &SumStep,
-    a: Value,
+    value: &mut Value,
     working: &mut Working,
     left: &mut u32,
-) -> Result<Value, Stop>
-    ensures value { Answers (with_term step.now a (view_of site.now working.old) left.old)
-        result left.new }
+) -> Result<(), Stop>
+    ensures value { Answers (with_term step.now value.old (view_of site.now working.old) left.old)
+        (answer_of result value.new) left.new }
     ensures world { OnOk result (LooksSame working.old working.new) }
 {
-    if decides(step.operator, &a)? {
-        return Ok(a);
+    if decides(step.operator, value)? {
+        return Ok(());
     }
-    let b = term_of(alloc, site, &step.right, working, left)?;
-    joined(alloc, step.operator, &a, b)
+    let mut right = Value::Undefined;
+    term_of(alloc, site, &step.right, &mut right, working, left)?;
+    join(alloc, step.operator, value, &mut right)
 }
 
 // The value of a product.
@@ -162,18 +187,19 @@ fn term_of(
     alloc: Global,
     site: &Site,
     term: &Term,
+    value: &mut Value,
     working: &mut Working,
     left: &mut u32,
-) -> Result<Value, Stop>
+) -> Result<(), Stop>
     ensures value { Answers (term_of term.now (view_of site.now working.old) left.old)
-        result left.new }
+        (answer_of result value.new) left.new }
     ensures world { OnOk result (LooksSame working.old working.new) }
 {
-    let mut product = factor_of(alloc, site, &term.first, working, left)?;
+    factor_of(alloc, site, &term.first, value, working, left)?;
     for step in term.rest.as_slice() {
-        product = with_factor(alloc, site, step, product, working, left)?;
+        with_factor(alloc, site, step, value, working, left)?;
     }
-    Ok(product)
+    Ok(())
 }
 
 // What a step of a product makes of the value before it.
@@ -182,19 +208,20 @@ fn with_factor(
     alloc: Global,
     site: &Site,
     step: &ProductStep,
-    a: Value,
+    value: &mut Value,
     working: &mut Working,
     left: &mut u32,
-) -> Result<Value, Stop>
-    ensures value { Answers (with_factor step.now a (view_of site.now working.old) left.old)
-        result left.new }
+) -> Result<(), Stop>
+    ensures value { Answers (with_factor step.now value.old (view_of site.now working.old) left.old)
+        (answer_of result value.new) left.new }
     ensures world { OnOk result (LooksSame working.old working.new) }
 {
-    if decides(step.operator, &a)? {
-        return Ok(a);
+    if decides(step.operator, value)? {
+        return Ok(());
     }
-    let b = factor_of(alloc, site, &step.right, working, left)?;
-    joined(alloc, step.operator, &a, b)
+    let mut right = Value::Undefined;
+    factor_of(alloc, site, &step.right, &mut right, working, left)?;
+    join(alloc, step.operator, value, &mut right)
 }
 
 // The value of an operand.
@@ -204,30 +231,44 @@ fn factor_of(
     alloc: Global,
     site: &Site,
     factor: &Factor,
+    value: &mut Value,
     working: &mut Working,
     left: &mut u32,
-) -> Result<Value, Stop>
+) -> Result<(), Stop>
     ensures value { Answers (factor_of factor.now (view_of site.now working.old) left.old)
-        result left.new }
+        (answer_of result value.new) left.new }
     ensures world { OnOk result (LooksSame working.old working.new) }
 {
     match factor {
         Factor::Number { number, .. } => {
-            let value = unsigned_integer(*number)?;
-            Ok(value)
+            *value = unsigned_integer(*number)?;
+            Ok(())
         }
-        Factor::Character { code, .. } => Ok(Value::Ordinal(i32::from(*code))),
-        Factor::Group { of, .. } => value_of(alloc, site, of.get(), working, left),
-        Factor::Not { of, .. } => opposite(alloc, site, of.get(), working, left),
-        Factor::Set { members, .. } => set_value(alloc, site, members.as_slice(), working, left),
+        Factor::Character { code, .. } => {
+            *value = Value::Ordinal(i32::from(*code));
+            Ok(())
+        }
+        Factor::Group { of, .. } => evaluate(alloc, site, of.get(), value, working, left),
+        Factor::Not { of, .. } => opposite(alloc, site, of.get(), value, working, left),
+        Factor::Set { members, .. } => {
+            set_value(alloc, site, members.as_slice(), value, working, left)
+        }
         Factor::Variable { name, path, .. } => {
-            variable_value(alloc, site, name, path.as_slice(), working, left)
+            variable_value(alloc, site, name, path.as_slice(), value, working, left)
         }
         Factor::Call {
             name,
             arguments,
             ..
-        } => call_value(alloc, site, name, arguments.as_slice(), working, left),
+        } => call_value(
+            alloc,
+            site,
+            name,
+            arguments.as_slice(),
+            value,
+            working,
+            left,
+        ),
     }
 }
 
@@ -238,16 +279,17 @@ fn opposite(
     alloc: Global,
     site: &Site,
     factor: &Factor,
+    value: &mut Value,
     working: &mut Working,
     left: &mut u32,
-) -> Result<Value, Stop>
+) -> Result<(), Stop>
     ensures value { Answers (opposite factor.now (view_of site.now working.old) left.old)
-        result left.new }
+        (answer_of result value.new) left.new }
     ensures world { OnOk result (LooksSame working.old working.new) }
 {
-    let value = factor_of(alloc, site, factor, working, left)?;
-    let other = negated(&value)?;
-    Ok(other)
+    factor_of(alloc, site, factor, value, working, left)?;
+    negate(value)?;
+    Ok(())
 }
 
 // The value of a set.
@@ -257,18 +299,19 @@ fn set_value(
     alloc: Global,
     site: &Site,
     members: &[Member],
+    value: &mut Value,
     working: &mut Working,
     left: &mut u32,
-) -> Result<Value, Stop>
+) -> Result<(), Stop>
     ensures value { Answers (set_made members.now (view_of site.now working.old) left.old)
-        result left.new }
+        (answer_of result value.new) left.new }
     ensures world { OnOk result (LooksSame working.old working.new) }
 {
     let mut gathered = Gathered::Few(Ordinals::new(alloc));
     for member in members {
-        gathered = with_member(alloc, site, member, gathered, working, left)?;
+        with_member(alloc, site, member, &mut gathered, working, left)?;
     }
-    set_of(alloc, gathered)
+    put_set(alloc, &mut gathered, value)
 }
 
 // The members that a designator names, and those that were gathered before.
@@ -277,65 +320,89 @@ fn with_member(
     alloc: Global,
     site: &Site,
     member: &Member,
-    gathered: Gathered,
+    gathered: &mut Gathered,
     working: &mut Working,
     left: &mut u32,
-) -> Result<Gathered, Stop>
-    ensures value { (zs : List ℤ) → IsGathered zs gathered
-        → Gathers (member_of member.now zs (view_of site.now working.old) left.old) result left.new }
+) -> Result<(), Stop>
+    ensures value { (zs : List ℤ) → IsGathered zs gathered.old
+        → Gathers (member_of member.now zs (view_of site.now working.old) left.old)
+        (answer_of result gathered.new) left.new }
     ensures world { OnOk result (LooksSame working.old working.new) }
 {
     let low = value_of(alloc, site, &member.low, working, left)?;
     match &member.high {
-        None => span(alloc, &low, &low, gathered),
+        None => add_span(alloc, &low, &low, gathered),
         Some(high) => {
             let high = value_of(alloc, site, high, working, left)?;
-            span(alloc, &low, &high, gathered)
+            add_span(alloc, &low, &high, gathered)
         }
     }
 }
 
 // The value of a variable, of a constant or of a function without arguments.
 #[cycle(run)]
+#[inline(never)]
 fn variable_value(
     alloc: Global,
     site: &Site,
     name: &Used,
     path: &[Selector],
+    value: &mut Value,
     working: &mut Working,
     left: &mut u32,
-) -> Result<Value, Stop>
+) -> Result<(), Stop>
     ensures value { Answers (variable_value name.now path.now (view_of site.now working.old)
         left.old)
-        result left.new }
+        (answer_of result value.new) left.new }
     ensures world { OnOk result (LooksSame working.old working.new) }
 {
     match head_at(site, name) {
         Head::Nothing => Err(Stop::Fault(BlockFault::Undefined)),
-        Head::Constant(z) => Ok(Value::Ordinal(z)),
-        Head::Function(place, _) => call(alloc, site, place, Slots::new(alloc), working, left),
-        Head::Variable(_, _) => stored_value(alloc, site, name, path, working, left),
-        Head::Modules(_) => stored_value(alloc, site, name, path, working, left),
+        Head::Constant(z) => {
+            *value = Value::Ordinal(z);
+            Ok(())
+        }
+        Head::Function(place, _) => call_alone(alloc, site, place, value, working, left),
+        Head::Variable(_, _) => stored_value(alloc, site, name, path, value, working, left),
+        Head::Modules(_) => stored_value(alloc, site, name, path, value, working, left),
     }
+}
+
+// The value of a function without arguments.
+#[cycle(run)]
+#[inline(never)]
+fn call_alone(
+    alloc: Global,
+    site: &Site,
+    place: u32,
+    value: &mut Value,
+    working: &mut Working,
+    left: &mut u32,
+) -> Result<(), Stop>
+    ensures value { Answers (called (view_of site.now working.old) place [] left.old)
+        (answer_of result value.new) left.new }
+    ensures world { OnOk result (LooksSame working.old working.new) }
+{
+    call(alloc, site, place, Slots::new(alloc), value, working, left)
 }
 
 // The value of a variable.
 #[cycle(run)]
-#[inline(never)]
 fn stored_value(
     alloc: Global,
     site: &Site,
     name: &Used,
     path: &[Selector],
+    value: &mut Value,
     working: &mut Working,
     left: &mut u32,
-) -> Result<Value, Stop>
+) -> Result<(), Stop>
     ensures value { Answers (stored_value name.now path.now (view_of site.now working.old) left.old)
-        result left.new }
+        (answer_of result value.new) left.new }
     ensures world { OnOk result (LooksSame working.old working.new) }
 {
     let reached = variable_of(alloc, site, name, path, working, left)?;
-    loaded(alloc, site, reached, working)
+    load(alloc, site, &reached, value, working)
 }
 
 /// What a variable with its selectors reaches.
@@ -467,17 +534,18 @@ fn call_value(
     site: &Site,
     name: &Used,
     arguments: &[Expr],
+    value: &mut Value,
     working: &mut Working,
     left: &mut u32,
-) -> Result<Value, Stop>
+) -> Result<(), Stop>
     ensures value { Answers (call_value name.now arguments.now (view_of site.now working.old)
         left.old)
-        result left.new }
+        (answer_of result value.new) left.new }
     ensures world { OnOk result (LooksSame working.old working.new) }
 {
     match meaning_at(site, name) {
-        Meant::Seen(place) => called_with(alloc, site, place, arguments, working, left),
-        Meant::Predeclared(known) => required(alloc, site, arguments, known, working, left),
+        Meant::Seen(place) => called_with(alloc, site, place, arguments, value, working, left),
+        Meant::Predeclared(known) => required(alloc, site, arguments, known, value, working, left),
         _ => Err(Stop::Fault(BlockFault::Undefined)),
     }
 }
@@ -489,43 +557,46 @@ fn called_with(
     site: &Site,
     place: u32,
     arguments: &[Expr],
+    value: &mut Value,
     working: &mut Working,
     left: &mut u32,
-) -> Result<Value, Stop>
+) -> Result<(), Stop>
     ensures value { Answers (called_with place arguments.now (view_of site.now working.old)
         left.old)
-        result left.new }
+        (answer_of result value.new) left.new }
     ensures world { OnOk result (LooksSame working.old working.new) }
 {
     let slots = values_in(alloc, site, arguments, working, left)?;
-    call(alloc, site, place, slots, working, left)
+    call(alloc, site, place, slots, value, working, left)
 }
 
 // The value of a predeclared function.
 #[cycle(run)]
+#[inline(never)]
 fn required(
     alloc: Global,
     site: &Site,
     arguments: &[Expr],
     known: PredeclaredName,
+    value: &mut Value,
     working: &mut Working,
     left: &mut u32,
-) -> Result<Value, Stop>
+) -> Result<(), Stop>
     ensures value { Answers (required_in arguments.now (view_of site.now working.old) known
         left.old)
-        result left.new }
+        (answer_of result value.new) left.new }
     ensures world { OnOk result (LooksSame working.old working.new) }
 {
     let Some((e, _)) = arguments.split_first() else {
         return Err(Stop::Fault(BlockFault::Undefined));
     };
-    let value = value_of(alloc, site, e, working, left)?;
-    let z = number(value)?;
+    evaluate(alloc, site, e, value, working, left)?;
+    let z = ordinal(value)?;
     let Some(host) = host_at(site, e) else {
         return Err(Stop::Fault(BlockFault::Undefined));
     };
-    let ordinal = required_by(known, host, z)?;
-    Ok(Value::Ordinal(ordinal))
+    *value = Value::Ordinal(required_by(known, host, z)?);
+    Ok(())
 }
 
 /// The values of arguments in order.
@@ -544,8 +615,9 @@ pub fn values_in(
 {
     let mut slots = Slots::new(alloc);
     for e in exprs {
-        let value = value_of(alloc, site, e, working, left)?;
-        slots.push(Slot::Value(value))?;
+        let mut value = Value::Undefined;
+        evaluate(alloc, site, e, &mut value, working, left)?;
+        add_value(&mut slots, &mut value)?;
     }
     Ok(slots)
 }
@@ -558,11 +630,12 @@ fn call(
     site: &Site,
     place: u32,
     slots: Slots,
+    value: &mut Value,
     working: &mut Working,
     left: &mut u32,
-) -> Result<Value, Stop>
-    ensures value { Answers (called (view_of site.now working.old) place slots left.old) result
-        left.new }
+) -> Result<(), Stop>
+    ensures value { Answers (called (view_of site.now working.old) place slots left.old)
+        (answer_of result value.new) left.new }
     ensures world { OnOk result (LooksSame working.old working.new) }
 {
     let Some(routine) = routine_of(site, place) else {
@@ -581,7 +654,9 @@ fn call(
         levels: site.levels - 1,
     };
     let statements = routine.block.statements.as_slice();
-    run_function(alloc, &deeper, place, statements, frame, working, left)
+    run_function(
+        alloc, &deeper, place, statements, frame, value, working, left,
+    )
 }
 
 // The result of the statements of a function over a frame of its own.
@@ -592,12 +667,13 @@ fn run_function(
     place: u32,
     statements: &[Statement],
     frame: Frame,
+    value: &mut Value,
     working: &mut Working,
     left: &mut u32,
-) -> Result<Value, Stop>
+) -> Result<(), Stop>
     requires { site.now.function ≡ true }
     ensures value { Answers (ran place statements.now site.now (frame ∷ []) working.old left.old)
-        result left.new }
+        (answer_of result value.new) left.new }
     ensures world { OnOk result (LooksSame working.old working.new) }
 {
     let mut own = Frames::new(alloc);
@@ -608,8 +684,8 @@ fn run_function(
     let own = mem::replace(&mut working.frames, frames);
     let none = mem::replace(&mut working.outs, outs);
     drop(none);
-    let value = result_of(alloc, place, own)?;
-    Ok(value)
+    *value = result_of(alloc, place, own)?;
+    Ok(())
 }
 
 /// The arguments of a procedure in order.

@@ -1,17 +1,24 @@
 //! Operands of expressions: their ordinals, and the members of sets.
-ghost use Rattle.std.specs.Prelude.{◌≡◌, ℕ, ℤ, List};
-ghost use Rattle.est_semantics.specs.AnswersOfCalls.{Answers};
-ghost use Rattle.est_semantics.specs.Outcome.{counted};
-ghost use Rattle.est_semantics.specs.ValueOperators.{ordinal_in, spanned};
+ghost use Rattle.std.specs.Prelude.{◌≡◌, ℕ, ℤ, List, [], ◌∷◌, ◌++◌, OnOk};
+ghost use Rattle.est_semantics.specs.AnswersOfCalls.{Answers, Says};
+ghost use Rattle.est_semantics.specs.Outcome.{counted, lift};
+ghost use Rattle.est_semantics.specs.SetOperators.{set_of};
+ghost use Rattle.est_semantics.specs.ValueOperators.{ordinal_in, spanned, signed, negated};
+ghost use Rattle.est_semantics.specs.declared.frame.Slot.TheVariants as slot;
 ghost use Rattle.est_operators.specs.GatheredMembers.{IsGathered};
-ghost use Rattle.est_execution.specs.ExpressionSteps.{Gathers};
+ghost use Rattle.est_operators.specs.JoinedValues.{of_both};
+ghost use Rattle.est_execution.specs.ExpressionSteps.{Gathers, answer_of};
 
-use est_operators::sets::{Gathered, with_span};
-use est_operators::values::ordinal;
+use est_frames::routines::Slots;
+use est_operators::sets::{Gathered, set_of, with_span};
+use est_operators::values::{joined, negated, ordinal, signed};
 use est_semantics::fault::BlockFault;
+use est_semantics::frame::Slot;
 use est_semantics::stop::Stop;
+use est_syntax::expression::Operator;
 use est_values::value::Value;
-use std::alloc::Global;
+use std::alloc::{AllocError, Global};
+use std::mem;
 
 /// The ordinal that a value is, which is used up.
 pub fn number(value: Value) -> Result<i32, BlockFault>
@@ -22,8 +29,47 @@ pub fn number(value: Value) -> Result<i32, BlockFault>
     number
 }
 
-/// The members from one value to another, and those that were gathered before.
-pub fn span(alloc: Global, low: &Value, high: &Value, gathered: Gathered) -> Result<Gathered, Stop>
+/// Puts a sign before a value.
+#[inline(never)]
+pub fn sign(minus: bool, value: &mut Value) -> Result<(), BlockFault>
+    ensures { (n : ℕ) → signed minus value.old n ≡ lift (answer_of result value.new) n }
+{
+    let operand = mem::replace(value, Value::Undefined);
+    *value = signed(minus, operand)?;
+    Ok(())
+}
+
+/// Puts what an operator that does not stop at the left value yields of both in the place of that.
+/// The right value is used up.
+#[inline(never)]
+pub fn join(alloc: Global, op: Operator, value: &mut Value, right: &mut Value) -> Result<(), Stop>
+    ensures { Says (of_both op value.old right.old) (answer_of result value.new) }
+{
+    let right = mem::replace(right, Value::Undefined);
+    *value = joined(alloc, op, value, right)?;
+    Ok(())
+}
+
+/// Puts the other boolean in the place of one.
+#[inline(never)]
+pub fn negate(value: &mut Value) -> Result<(), BlockFault>
+    ensures { (n : ℕ) → negated value.old n ≡ lift (answer_of result value.new) n }
+{
+    *value = negated(value)?;
+    Ok(())
+}
+
+/// Adds a value to those of arguments before it. It is used up.
+#[inline(never)]
+pub fn add_value(slots: &mut Slots, value: &mut Value) -> Result<(), AllocError>
+    ensures { OnOk result (slots.new ≡ slots.old ++ slot.Value value.old ∷ []) }
+{
+    let value = mem::replace(value, Value::Undefined);
+    slots.push(Slot::Value(value))
+}
+
+// The members from one value to another, and those that were gathered before.
+fn span(alloc: Global, low: &Value, high: &Value, gathered: Gathered) -> Result<Gathered, Stop>
     ensures { (zs : List ℤ) (n : ℕ) → IsGathered zs gathered
         → Gathers (spanned low.now high.now zs n) result n }
 {
@@ -31,6 +77,33 @@ pub fn span(alloc: Global, low: &Value, high: &Value, gathered: Gathered) -> Res
     let last = ordinal(high)?;
     let more = with_span(alloc, first, last, gathered)?;
     Ok(more)
+}
+
+/// Adds the members from one value to another to those that were gathered before.
+#[inline(never)]
+pub fn add_span(
+    alloc: Global,
+    low: &Value,
+    high: &Value,
+    gathered: &mut Gathered,
+) -> Result<(), Stop>
+    ensures { (zs : List ℤ) (n : ℕ) → IsGathered zs gathered.old
+        → Gathers (spanned low.now high.now zs n) (answer_of result gathered.new) n }
+{
+    let before = mem::replace(gathered, Gathered::Many);
+    *gathered = span(alloc, low, high, before)?;
+    Ok(())
+}
+
+/// Puts the set of the members that were gathered in the place of a value. They are used up.
+#[inline(never)]
+pub fn put_set(alloc: Global, gathered: &mut Gathered, value: &mut Value) -> Result<(), Stop>
+    ensures { (zs : List ℤ) → IsGathered zs gathered.old
+        → Says (set_of zs) (answer_of result value.new) }
+{
+    let members = mem::replace(gathered, Gathered::Many);
+    *value = set_of(alloc, members)?;
+    Ok(())
 }
 
 /// Counts a statement, or the beginning of a turn.

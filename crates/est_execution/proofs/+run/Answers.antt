@@ -83,7 +83,7 @@ use Rattle.est_semantics.proofs.ExpressionLayers.{group_at, not_at, set_at, vari
 use Rattle.est_semantics.proofs.StatementLayers.{compound_at, if_at, case_at, while_at, repeat_at}
 use Rattle.est_semantics.proofs.StatementLayers.{for_at, all_at}
 use Rattle.est_execution.specs.ExecutionSites.{site_of, view_of}
-use Rattle.est_execution.specs.ExpressionSteps.{opposite, set_made}
+use Rattle.est_execution.specs.ExpressionSteps.{opposite, set_made, answer_of}
 use Rattle.est_execution.specs.TurnsOfLoops.{branched, chosen}
 use Rattle.est_execution.proofs.CallingLaws.{situation_kept}
 use Rattle.est_execution.proofs.StatementWeights.{statement_weight, statements_weight, arms_weight}
@@ -136,8 +136,8 @@ expressions::subscripts_in-value_of-requires t c = (
   tt,
 )
 
-pub expressions::values_in-value_of-requires : goal.expressions::values_in-value_of-requires
-expressions::values_in-value_of-requires t c = (
+pub expressions::values_in-evaluate-requires : goal.expressions::values_in-evaluate-requires
+expressions::values_in-evaluate-requires t c = (
   omega (
     arith,
     item_weighed (λ e. expr_weight e + 3) c.args.exprs.now c.loop-e.e-index
@@ -147,8 +147,8 @@ expressions::values_in-value_of-requires t c = (
   tt,
 )
 
-pub expressions::factor_of-value_of-requires : goal.expressions::factor_of-value_of-requires
-expressions::factor_of-value_of-requires t c = (
+pub expressions::factor_of-evaluate-requires : goal.expressions::factor_of-evaluate-requires
+expressions::factor_of-evaluate-requires t c = (
   omega (
     arith,
     group_weighs c.args.factor.now c.in-Group.of c.in-Group.place c.in-Group.is,
@@ -274,8 +274,8 @@ expressions::term_of-with_factor-requires t c = (
   tt,
 )
 
-pub expressions::value_of-factor_of-requires : goal.expressions::value_of-factor_of-requires
-expressions::value_of-factor_of-requires t c = (
+pub expressions::evaluate-factor_of-requires : goal.expressions::evaluate-factor_of-requires
+expressions::evaluate-factor_of-requires t c = (
   omega (
     arith,
     lone_weighs c.args.e.now c.in-Some.factor.now (sym c.in-Some.ensures),
@@ -283,11 +283,11 @@ expressions::value_of-factor_of-requires t c = (
   tt,
 )
 
-pub expressions::value_of-simple_of-requires : goal.expressions::value_of-simple_of-requires
-expressions::value_of-simple_of-requires t c = (omega (arith, expr_weighs c.args.e.now), tt)
+pub expressions::evaluate-simple_of-requires : goal.expressions::evaluate-simple_of-requires
+expressions::evaluate-simple_of-requires t c = (omega (arith, expr_weighs c.args.e.now), tt)
 
-pub expressions::value_of-related-requires : goal.expressions::value_of-related-requires
-expressions::value_of-related-requires t c = (
+pub expressions::evaluate-related-requires : goal.expressions::evaluate-related-requires
+expressions::evaluate-related-requires t c = (
   omega
       (arith, expr_weighs c.args.e.now, ap (option_weight relation_weight) c.in-Some-relation.is),
   tt,
@@ -477,11 +477,11 @@ pub expressions::factor_of-returns-in-Group-clause-value :
 expressions::factor_of-returns-in-Group-clause-value t c =
     let v = view_of c.args.site.now c.args.working.now in
     let n = c.args.left.now in
-    answers_by (value_of c.get.result.now v n) (factor_of c.args.factor.now v n) c.value_of.result
-    c.value_of.new.left
+    answers_by (value_of c.get.result.now v n) (factor_of c.args.factor.now v n)
+    (answer_of c.evaluate.result c.evaluate.new.value) c.evaluate.new.left
     (group_at c.args.factor.now c.in-Group.of c.in-Group.place v n c.in-Group.is
     ∙ ap (λ (x : Expr). value_of x v n) (sym c.get.ensures))
-    c.value_of.ensures.value
+    c.evaluate.ensures.value
 
 pub expressions::factor_of-returns-in-Not-clause-value :
     goal.expressions::factor_of-returns-in-Not-clause-value
@@ -489,7 +489,7 @@ expressions::factor_of-returns-in-Not-clause-value t c =
     let v = view_of c.args.site.now c.args.working.now in
     let n = c.args.left.now in
     answers_by (opposite c.get-in-Not.result.now v n) (factor_of c.args.factor.now v n)
-    c.opposite.result c.opposite.new.left
+    (answer_of c.opposite.result c.opposite.new.value) c.opposite.new.left
     (not_at c.args.factor.now c.in-Not.of c.in-Not.place v n c.in-Not.is
     ∙ ap (λ (x : Factor). opposite x v n) (sym c.get-in-Not.ensures))
     c.opposite.ensures.value
@@ -500,7 +500,7 @@ expressions::factor_of-returns-in-Set-clause-value t c =
     let v = view_of c.args.site.now c.args.working.now in
     let n = c.args.left.now in
     answers_by (set_made c.as_slice.result.now v n) (factor_of c.args.factor.now v n)
-    c.set_value.result c.set_value.new.left
+    (answer_of c.set_value.result c.set_value.new.value) c.set_value.new.left
     (set_at c.args.factor.now c.in-Set.members c.in-Set.place v n c.in-Set.is
     ∙ ap (λ (x : List Member). set_made x v n) (sym c.as_slice.ensures))
     c.set_value.ensures.value
@@ -511,7 +511,8 @@ expressions::factor_of-returns-in-Variable-clause-value t c =
     let v = view_of c.args.site.now c.args.working.now in
     let n = c.args.left.now in
     answers_by (variable_value c.in-Variable.name c.as_slice-in-Variable.result.now v n)
-    (factor_of c.args.factor.now v n) c.variable_value.result c.variable_value.new.left
+    (factor_of c.args.factor.now v n) (answer_of c.variable_value.result c.variable_value.new.value)
+    c.variable_value.new.left
     (variable_at c.args.factor.now c.in-Variable.name c.in-Variable.path c.in-Variable.place v n
     c.in-Variable.is
     ∙ ap (λ (x : List Selector). variable_value c.in-Variable.name x v n)
@@ -524,7 +525,8 @@ expressions::factor_of-returns-in-Call-clause-value t c =
     let v = view_of c.args.site.now c.args.working.now in
     let n = c.args.left.now in
     answers_by (call_value c.in-Call.name c.as_slice-in-Call.result.now v n)
-    (factor_of c.args.factor.now v n) c.call_value.result c.call_value.new.left
+    (factor_of c.args.factor.now v n) (answer_of c.call_value.result c.call_value.new.value)
+    c.call_value.new.left
     (call_at c.args.factor.now c.in-Call.name c.in-Call.arguments c.in-Call.place v n c.in-Call.is
     ∙ ap (λ (x : List Expr). call_value c.in-Call.name x v n) (sym c.as_slice-in-Call.ensures))
     c.call_value.ensures.value
@@ -873,7 +875,7 @@ pub expressions::set_value-loop-member-preserved : goal.expressions::set_value-l
 expressions::set_value-loop-member-preserved t c =
     let w = c.loop-member in
     let v = view_of c.args.site.now c.args.working.now in
-    let x = c.in_ok-gathered.ensures.value w.invariant.0.0 w.invariant.0.1.0 in (
+    let x = c.in_ok-with_member.ensures.value w.invariant.0.0 w.invariant.0.1.0 in (
       (
         x.0,
         (
@@ -888,14 +890,14 @@ expressions::set_value-loop-member-preserved t c =
       search rules,
     )
 
-pub expressions::set_value-returns-in_err-gathered-clause-value :
-    goal.expressions::set_value-returns-in_err-gathered-clause-value
-expressions::set_value-returns-in_err-gathered-clause-value t c =
+pub expressions::set_value-returns-in_err-with_member-clause-value :
+    goal.expressions::set_value-returns-in_err-with_member-clause-value
+expressions::set_value-returns-in_err-with_member-clause-value t c =
     let w = c.loop-member in
     let v = view_of c.args.site.now c.args.working.now in
     let zs = w.invariant.0.0 in
     let go = λ (ys : List ℤ). lift {S = ℕ} (set_of ys) in
-    let e = c.in_err-gathered.field-0.0 in
+    let e = c.in_err-with_member.field-0.0 in
     let m = c.with_member.new.left in
     let r : c.from_residual.result ≡ Err e = search rules in
     rw r (answers_by (onward (members_in (drop w.member-index c.args.members.now) zs v w.left) go)
@@ -906,7 +908,7 @@ expressions::set_value-returns-in_err-gathered-clause-value t c =
     c.member-item.result v (view_of c.args.site.now w.working) w.left m zs c.loop-member-test.true
     c.member-item.is (omega arith)
     (view_same c.args.site.now c.args.working.now w.working w.invariant.1) e m
-    (c.in_err-gathered.ensures.value zs w.invariant.0.1.0))))
+    (c.in_err-with_member.ensures.value zs w.invariant.0.1.0))))
 
 pub expressions::set_value-returns-clause-value : goal.expressions::set_value-returns-clause-value
 expressions::set_value-returns-clause-value t c =
@@ -915,11 +917,12 @@ expressions::set_value-returns-clause-value t c =
     let zs = w.invariant.0.0 in
     let go = λ (ys : List ℤ). lift {S = ℕ} (set_of ys) in
     answers_by (lift (set_of zs) w.left) (set_made c.args.members.now v c.args.left.now)
-    c.set_of.result w.left
+    (answer_of c.put_set.result c.put_set.new.value) w.left
     (ap (λ o. onward o go) (sym w.invariant.0.1.1)
     ∙ ap (λ l. onward (members_in l zs v w.left) go)
     (drop_end c.args.members.now w.member-index c.loop-member-test.false))
-    (says_answers (set_of zs) c.set_of.result w.left (c.set_of.ensures zs w.invariant.0.1.0))
+    (says_answers (set_of zs) (answer_of c.put_set.result c.put_set.new.value) w.left
+    (c.put_set.ensures zs w.invariant.0.1.0))
 
 pub expressions::variable_of-returns-in_err-reached-clause-value :
     goal.expressions::variable_of-returns-in_err-reached-clause-value
@@ -1003,7 +1006,8 @@ expressions::call-returns-clause-value t c =
     { function = true; deeper = within (s.levels - 1) s.text.now } in
     answers_by (result_of c.args.place (statements_in c.as_slice-statements.result.now deeper
     start))
-    (called v c.args.place c.args.slots n) c.run_function.result c.run_function.new.left
+    (called v c.args.place c.args.slots n)
+    (answer_of c.run_function.result c.run_function.new.value) c.run_function.new.left
     (called_by v c.args.place c.args.slots n r f (sym c.in-Some.ensures) c.in_ok-frame.ensures
     ∙ ap (result_of c.args.place) (deeper_opens s.levels s.text.now s.instance true
     (statements_of r) start (λ e. c.if-site-eq0.false e))

@@ -28,7 +28,10 @@ use Rattle.est_semantics.specs.StatementEffects.{all_sent}
 use Rattle.est_execution.proofs.+run.Given as goal
 
 abbrev pub decreases-expressions::value_of : goal.decreases-expressions::value_of
-decreases-expressions::value_of l = room l.site.now + expr_weight l.e.now
+decreases-expressions::value_of l = room l.site.now + expr_weight l.e.now + 1
+
+abbrev pub decreases-expressions::evaluate : goal.decreases-expressions::evaluate
+decreases-expressions::evaluate l = room l.site.now + expr_weight l.e.now
 
 abbrev pub decreases-expressions::related : goal.decreases-expressions::related
 decreases-expressions::related l = room l.site.now + relation_weight l.relation.now
@@ -55,7 +58,7 @@ abbrev pub decreases-expressions::set_value : goal.decreases-expressions::set_va
 decreases-expressions::set_value l = room l.site.now + members_weight l.members.now + 1
 
 abbrev pub decreases-expressions::with_member : goal.decreases-expressions::with_member
-decreases-expressions::with_member l = room l.site.now + member_weight l.member.now
+decreases-expressions::with_member l = room l.site.now + member_weight l.member.now + 1
 
 abbrev pub decreases-expressions::variable_value : goal.decreases-expressions::variable_value
 decreases-expressions::variable_value l = room l.site.now + path_weight l.path.now + 4
@@ -89,6 +92,9 @@ decreases-expressions::required l = room l.site.now + exprs_weight l.arguments.n
 
 abbrev pub decreases-expressions::values_in : goal.decreases-expressions::values_in
 decreases-expressions::values_in l = room l.site.now + exprs_weight l.exprs.now + 1
+
+abbrev pub decreases-expressions::call_alone : goal.decreases-expressions::call_alone
+decreases-expressions::call_alone l = room l.site.now + 1
 
 abbrev pub decreases-expressions::call : goal.decreases-expressions::call
 decreases-expressions::call l = room l.site.now
@@ -254,12 +260,12 @@ decreases-links::initialize l =
 abbrev pub invariant-expressions::simple_of-loop-step :
     goal.invariant-expressions::simple_of-loop-step
 invariant-expressions::simple_of-loop-step l =
-    (sums_in (drop l.step-index l.step-items) l.sum (view_of l.site l.fn.working) l.left
+    (sums_in (drop l.step-index l.step-items) l.value (view_of l.site l.fn.working) l.left
     ≡ simple_of l.simple (view_of l.site l.fn.working) l.fn.left) × LooksSame l.fn.working l.working
 
 abbrev pub invariant-expressions::term_of-loop-step : goal.invariant-expressions::term_of-loop-step
 invariant-expressions::term_of-loop-step l =
-    (products_in (drop l.step-index l.step-items) l.product (view_of l.site l.fn.working) l.left
+    (products_in (drop l.step-index l.step-items) l.value (view_of l.site l.fn.working) l.left
     ≡ term_of l.term (view_of l.site l.fn.working) l.fn.left) × LooksSame l.fn.working l.working
 
 abbrev pub invariant-expressions::set_value-loop-member :
