@@ -35,7 +35,7 @@ use crate::loops::{
     children_of, distance, head_of_all, header_of, is_chosen, nth_slot, turn_value,
 };
 use crate::operands::{add_span, add_value, join, negate, number, put_set, sign};
-use crate::reached::{Reached, begun, load, placed, with_component, with_field, with_subscript};
+use crate::reached::{Reached, begun, loaded, placed, with_component, with_field, with_subscript};
 use crate::site::{Site, declared_of, dims_of, head_at, host_at, is_given_place, meaning_at};
 use crate::statements::statements_in;
 use est_frames::routines::Slots;
@@ -341,7 +341,6 @@ fn with_member(
 
 // The value of a variable, of a constant or of a function without arguments.
 #[cycle(run)]
-#[inline(never)]
 fn variable_value(
     alloc: Global,
     site: &Site,
@@ -362,32 +361,17 @@ fn variable_value(
             *value = Value::Ordinal(z);
             Ok(())
         }
-        Head::Function(place, _) => call_alone(alloc, site, place, value, working, left),
+        Head::Function(place, _) => {
+            call(alloc, site, place, Slots::new(alloc), value, working, left)
+        }
         Head::Variable(_, _) => stored_value(alloc, site, name, path, value, working, left),
         Head::Modules(_) => stored_value(alloc, site, name, path, value, working, left),
     }
 }
 
-// The value of a function without arguments.
-#[cycle(run)]
-#[inline(never)]
-fn call_alone(
-    alloc: Global,
-    site: &Site,
-    place: u32,
-    value: &mut Value,
-    working: &mut Working,
-    left: &mut u32,
-) -> Result<(), Stop>
-    ensures value { Answers (called (view_of site.now working.old) place [] left.old)
-        (answer_of result value.new) left.new }
-    ensures world { OnOk result (LooksSame working.old working.new) }
-{
-    call(alloc, site, place, Slots::new(alloc), value, working, left)
-}
-
 // The value of a variable.
 #[cycle(run)]
+#[inline(never)]
 fn stored_value(
     alloc: Global,
     site: &Site,
@@ -402,7 +386,8 @@ fn stored_value(
     ensures world { OnOk result (LooksSame working.old working.new) }
 {
     let reached = variable_of(alloc, site, name, path, working, left)?;
-    load(alloc, site, &reached, value, working)
+    *value = loaded(alloc, site, reached, working)?;
+    Ok(())
 }
 
 /// What a variable with its selectors reaches.

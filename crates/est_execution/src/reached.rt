@@ -9,7 +9,6 @@ ghost use Rattle.est_semantics.specs.ReachedVariables.{with_subscript, loaded, p
 ghost use Rattle.est_semantics.specs.ReachedVariables.{Component, Module};
 ghost use Rattle.est_semantics.specs.WorkingState.{View};
 ghost use Rattle.est_execution.specs.ExecutionSites.{view_of};
-ghost use Rattle.est_execution.specs.ExpressionSteps.{answer_of};
 ghost use Rattle.est_execution.specs.HeldVariables.{reached_of, reached_in, kind_by};
 
 use crate::site::{Site, head_at};
@@ -54,6 +53,7 @@ fn variable<'t>(
 }
 
 /// Where a variable begins.
+#[inline(never)]
 pub fn begun<'t>(
     alloc: Global,
     site: &Site<'_, 't>,
@@ -204,26 +204,28 @@ pub fn with_subscript(kinds: Option<&[Kind]>, index: Ordinals, z: i32) -> Result
     Ok(index)
 }
 
-/// Puts the value of a variable in the place of another.
-#[inline(never)]
-pub fn load(
+/// The value of a variable.
+pub fn loaded(
     alloc: Global,
     site: &Site,
-    reached: &Reached,
-    value: &mut Value,
+    reached: Reached,
     working: &Working,
-) -> Result<(), Stop>
-    ensures { (n : ℕ) → Answers (loaded (view_of site.now working.now) (reached_of reached.now) n)
-        (answer_of result value.new) n }
+) -> Result<Value, Stop>
+    ensures { (n : ℕ) → Answers (loaded (view_of site.now working.now) (reached_of reached.entry) n)
+        result n }
 {
     match reached {
         Reached::Component(place, _) => {
-            let held = read_at(place, &working.system, working.frames.as_slice())?;
-            let copy = held.twin(alloc)?;
-            *value = defined(copy)?;
-            Ok(())
+            let held = read_at(&place, &working.system, working.frames.as_slice());
+            drop(place);
+            let value = held?.twin(alloc)?;
+            let value = defined(value)?;
+            Ok(value)
         }
-        Reached::Module(_, _) => Err(Stop::Fault(BlockFault::Undefined)),
+        Reached::Module(_, index) => {
+            drop(index);
+            Err(Stop::Fault(BlockFault::Undefined))
+        }
     }
 }
 

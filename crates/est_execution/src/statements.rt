@@ -35,7 +35,7 @@ use crate::loops::{
     children_of, distance, head_of_all, header_of, is_chosen, nth_slot, turn_value,
 };
 use crate::operands::{enter, number};
-use crate::reached::{Reached, begun, placed, with_component, with_field, with_subscript};
+use crate::reached::{Reached, begun, loaded, placed, with_component, with_field, with_subscript};
 use crate::site::{Site, declared_of, dims_of, head_at, host_at, is_given_place, meaning_at};
 use est_frames::routines::Slots;
 use est_frames::rows::lives;

@@ -93,9 +93,6 @@ decreases-expressions::required l = room l.site.now + exprs_weight l.arguments.n
 abbrev pub decreases-expressions::values_in : goal.decreases-expressions::values_in
 decreases-expressions::values_in l = room l.site.now + exprs_weight l.exprs.now + 1
 
-abbrev pub decreases-expressions::call_alone : goal.decreases-expressions::call_alone
-decreases-expressions::call_alone l = room l.site.now + 1
-
 abbrev pub decreases-expressions::call : goal.decreases-expressions::call
 decreases-expressions::call l = room l.site.now
 
