@@ -7,6 +7,7 @@ mod range;
 mod statements;
 mod states;
 mod top;
+mod unread;
 mod unused;
 mod walk;
 mod warning;

@@ -1,6 +1,7 @@
 //! The warnings of a specification.
 
 use crate::statements::push_blocks;
+use crate::unread::push_unread;
 use crate::unused::push_unused;
 use crate::walk::{push_parts, push_points};
 use crate::warning::{Warning, append_warning};
@@ -37,8 +38,9 @@ fn found_in(
     push_parts(alloc, outline, spec.parts.as_slice(), &mut found)?;
     push_blocks(outline, spec.parts.as_slice(), &mut found)?;
     push_queue(alloc, spec, &mut found)?;
+    push_unread(alloc, tokens, outline, spec, &mut found)?;
     push_unused(alloc, tokens, outline, &mut found)?;
-    found.sort_unstable_by_key(|warning| warning.place);
+    found.sort_by_key(|warning| warning.place)?;
     Ok(found)
 }
 

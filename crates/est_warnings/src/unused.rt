@@ -18,8 +18,8 @@ fn is_use(tokens: &Tokens, outline: &Outline, place: u32) -> bool {
     }
 }
 
-// The place of the declaration that a use of a name means, if there is one.
-fn meant_by(
+/// The place of the declaration that a use of a name means, if there is one.
+pub(crate) fn meant_by(
     alloc: Global,
     tokens: &Tokens,
     outline: &Outline,
@@ -35,8 +35,8 @@ fn meant_by(
     })
 }
 
-// Notes the declaration that is used.
-fn mark(used: &mut Vec<bool>, declared: Option<u32>) {
+/// Notes the declaration that is used.
+pub(crate) fn mark(used: &mut Vec<bool>, declared: Option<u32>) {
     if let Some(declared) = declared {
         if let Some(flag) = used.get_mut(declared as usize) {
             *flag = true;

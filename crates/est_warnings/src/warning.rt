@@ -31,6 +31,8 @@ pub(crate) enum Slip {
     NotUsed,
     /// An interaction point whose queue is not said.
     NoQueue,
+    /// A port at which no transition takes what comes.
+    NotRead,
     /// A constant that is assigned where it is out of range.
     OutOfRange(Outside),
 }
@@ -62,6 +64,7 @@ impl Slip {
                 "",
                 " has no queue discipline, and there is no default: its queue is an individual one",
             ),
+            Slip::NotRead => ("no transition takes what comes at ", ""),
             Slip::OutOfRange(_) => ("", " is outside of the range of "),
         }
     }

@@ -1,0 +1,132 @@
+//! Ports at which no transition takes what comes.
+
+use crate::unused::{mark, meant_by};
+use crate::warning::{Slip, Warning};
+use est_lexer::kind::{ReservedWord, TokenKind};
+use est_lexer::tokens::Tokens;
+use est_scope::declaration::{Member, Senders, Side, Sort};
+use est_scope::outline::Outline;
+use est_syntax::channel::Role;
+use est_syntax::specification::Spec;
+use est_syntax::statement::Statement;
+use std::alloc::{AllocError, Global};
+
+// The word before a place, if one stands there.
+fn word_before(tokens: &Tokens, place: u32) -> Option<ReservedWord> {
+    match tokens.token_at(place.checked_sub(1)?)?.kind {
+        TokenKind::Reserved(word) => Some(word),
+        _ => None,
+    }
+}
+
+// Whether an interaction point that a name after this word means may have readers.
+fn is_before_readers(word: ReservedWord) -> bool {
+    match word {
+        ReservedWord::When => true,
+        ReservedWord::Attach => true,
+        ReservedWord::Connect => true,
+        ReservedWord::To => true,
+        _ => false,
+    }
+}
+
+// Whether what the name at a place means is awaited there, or linked.
+fn is_read(tokens: &Tokens, place: u32) -> bool {
+    match word_before(tokens, place) {
+        None => false,
+        Some(word) => is_before_readers(word),
+    }
+}
+
+// For each place, whether what is declared there is awaited or linked somewhere.
+fn reads(alloc: Global, tokens: &Tokens, outline: &Outline) -> Result<Vec<bool>, AllocError> {
+    let mut read = vec![in alloc; false; tokens.count() as usize]?;
+    for place in 0..tokens.count() {
+        if is_read(tokens, place) {
+            let declared = meant_by(alloc, tokens, outline, place)?;
+            mark(&mut read, declared);
+        }
+    }
+    Ok(read)
+}
+
+// Whether a role of a channel is sent an interaction with these senders.
+fn is_sent_to(role: Role, senders: Senders) -> bool {
+    match role {
+        Role::First => senders.second,
+        Role::Second => senders.first,
+    }
+}
+
+// Whether what a channel has at a place may come at this side of it.
+fn may_come(outline: &Outline, side: Side, place: u32) -> bool {
+    match outline.member(place) {
+        Some(Member::Interaction(senders)) => is_sent_to(side.role, senders),
+        _ => false,
+    }
+}
+
+// How many names a region has.
+fn count_in(outline: &Outline, region: u32) -> usize {
+    match outline.names(region) {
+        None => 0,
+        Some(names) => names.len(),
+    }
+}
+
+// Whether something may come at this side of a channel.
+fn receives(outline: &Outline, side: Side) -> bool {
+    for number in 0..count_in(outline, side.channel) {
+        let place = outline.nth(side.channel, number).unwrap_or(0);
+        if may_come(outline, side, place) {
+            return true;
+        }
+    }
+    false
+}
+
+// The header of the module that a specification starts with.
+fn header_of(outline: &Outline, spec: &Spec) -> Option<u32> {
+    let Statement::Init { target, .. } = &spec.first else {
+        return None;
+    };
+    let variable = outline.declaration_of(Sort::ModuleVariable, &target.name)?;
+    outline.entry(variable)?.header
+}
+
+// Whether an interaction point is declared at a place, at which something may come.
+fn is_receiver(outline: &Outline, place: u32) -> bool {
+    let Some(entry) = outline.entry(place) else {
+        return false;
+    };
+    match (entry.declared.sort, entry.side) {
+        (Sort::Point, Some(side)) => receives(outline, side),
+        _ => false,
+    }
+}
+
+/// Adds the ports at which something may come that no transition takes: no `when` names them, and
+/// no link.
+pub(crate) fn push_unread(
+    alloc: Global,
+    tokens: &Tokens,
+    outline: &Outline,
+    spec: &Spec,
+    found: &mut Vec<Warning>,
+) -> Result<(), AllocError> {
+    let Some(header) = header_of(outline, spec) else {
+        return Ok(());
+    };
+    let read = reads(alloc, tokens, outline)?;
+    for number in 0..count_in(outline, header) {
+        let place = outline.nth(header, number).unwrap_or(0);
+        let has_readers = read.get(place as usize).copied().unwrap_or(true);
+        if !has_readers && is_receiver(outline, place) {
+            found.push(Warning {
+                place,
+                slip: Slip::NotRead,
+            })?;
+        }
+    }
+    Ok(())
+}
