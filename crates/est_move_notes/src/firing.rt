@@ -1,6 +1,8 @@
 //! Firings that are rejected.
 
+use crate::cause::append_cause;
 use crate::heads::append_heads;
+use crate::limit::append_limit;
 use crate::place::place_of;
 use crate::rejected::Rejected;
 use est_choices::firing::Firing;
@@ -84,8 +86,8 @@ fn append_states(
     )
 }
 
-// Adds a note on one of the numbers of a firing, by how many tokens it stands after the first.
-fn append_number(
+/// Adds a note on one of the numbers of a firing, by how many tokens it stands after the first.
+pub(crate) fn append_number(
     alloc: Global,
     rejected: &Rejected,
     after: u32,
@@ -124,7 +126,11 @@ pub(crate) fn append_firing(
     let tokens = rejected.texts.specification;
     append_states(alloc, tokens, firing, row, transition, notes)?;
     match rejected.why {
-        Why::NotOffered => append_heads(alloc, walk, tokens, firing, transition, notes),
+        Why::NotOffered => {
+            append_heads(alloc, walk, tokens, firing, transition, notes)?;
+            append_cause(alloc, walk, rejected, firing, row, transition, notes)
+        }
+        Why::Limit => append_limit(alloc, walk, tokens, transition, notes),
         _ => Ok(()),
     }
 }
