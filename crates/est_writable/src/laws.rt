@@ -1,0 +1,33 @@
+//! What is reported of a sentence that breaks no rule can be written and read. Each function does
+//! nothing; its clauses are the laws.
+ghost use Rattle.est_writable.specs.WritableLaws.{InstancesAreFew, TransitionsAreFew};
+ghost use Rattle.est_writable.specs.WritableLaws.{ChoicesAreFew, FiringsAreWritable};
+ghost use Rattle.est_writable.specs.WritableLaws.{RunsAreWritable, VerdictsAreReadable};
+
+/// No instance of a run has a number above 999,999,999.
+pub fn instances_are_few()
+    ensures { InstancesAreFew }
+{}
+
+/// No body of a sentence has more transitions than the sentence has tokens.
+pub fn transitions_are_few()
+    ensures { TransitionsAreFew }
+{}
+
+/// No transition of a sentence that breaks no rule has more choices than the rules allow, where in
+/// the region of each `any` stand just the names that its text declares.
+pub fn choices_are_few()
+    ensures { ChoicesAreFew }
+{}
+
+/// What is possible after a run of a sentence that breaks no rule has numbers that an explanation
+/// may have, and so have all moves of the run.
+pub fn runs_are_writable()
+    ensures firings { FiringsAreWritable }
+    ensures moves { RunsAreWritable }
+{}
+
+/// So have verdicts on such a sentence.
+pub fn verdicts_are_readable()
+    ensures { VerdictsAreReadable }
+{}
