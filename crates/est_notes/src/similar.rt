@@ -1,4 +1,4 @@
-//! Names that one slip of a finger makes of each other.
+//! Names that a slip of a finger makes of each other, or a cut.
 
 // The shortest name of which others are told.
 const SHORTEST: usize = 3;
@@ -40,15 +40,16 @@ fn is_slip(one: &[u8], other: &[u8]) -> bool {
 }
 
 /// Whether two names differ in one letter that is inserted, dropped or exchanged, or in two that
-/// are swapped. Letter case makes no difference, and of short names nothing is told.
+/// are swapped, or one begins the other. Letter case makes no difference, and of short names nothing
+/// is told.
 pub fn is_similar(one: &[u8], other: &[u8]) -> bool {
     let (longer, shorter) = (one.len().max(other.len()), one.len().min(other.len()));
-    if longer < SHORTEST || longer - shorter > 1 {
+    let count = common(one, other);
+    if longer < SHORTEST || count == longer {
         return false;
     }
-    let count = common(one, other);
-    if count == longer {
-        return false;
+    if longer - shorter > 1 {
+        return shorter >= SHORTEST && count == shorter;
     }
     is_slip(after(one, count), after(other, count))
 }
