@@ -1,5 +1,6 @@
 //! What the rules ask, each in a sentence.
 
+use crate::selected::follows;
 use est_lexer::kind::{ReservedWord, TokenKind};
 use est_lexer::tokens::Tokens;
 use est_syntax::rule::Rule;
@@ -19,6 +20,15 @@ fn limit_sentence(kind: TokenKind) -> &'static str {
             "a type has at most 65536 scalars and 32 levels, the base of a set 64 values, and an \
              array of interaction points or module variables 256 elements"
         },
+    }
+}
+
+// What is asked of the type of what stands at a place, or of its value.
+fn kind_sentence(tokens: &Tokens, place: u32) -> &'static str {
+    if follows(tokens, place, b"priority") {
+        "a priority is an integer of 0 or more"
+    } else {
+        "what stands here is not of a type that its place takes"
     }
 }
 
@@ -45,7 +55,7 @@ pub(crate) fn rule_sentence(tokens: &Tokens, place: u32, rule: Rule) -> &'static
             None => "a limit is passed",
             Some(token) => limit_sentence(token.kind),
         },
-        Rule::WrongKind => "what stands here is not of a type that its place takes",
+        Rule::WrongKind => kind_sentence(tokens, place),
         _ => later_sentence(rule),
     }
 }
