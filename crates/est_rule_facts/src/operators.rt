@@ -1,5 +1,6 @@
 //! The operators beside an operand, and what they take.
 
+use crate::selected::after_operand;
 use est_lexer::kind::{ReservedWord, Symbol, TokenKind};
 use est_lexer::tokens::Tokens;
 use est_notes::lines::{Mark, append_token, begin_line};
@@ -76,7 +77,7 @@ fn is_operand(tokens: &Tokens, place: u32) -> bool {
     }
 }
 
-/// Adds lines on the operators before and after the operand at a place.
+/// Adds lines on the operators before and after the operand that begins at a place.
 pub(crate) fn append_operators(
     tokens: &Tokens,
     place: u32,
@@ -86,7 +87,7 @@ pub(crate) fn append_operators(
         append_operator(tokens, before, place, notes)?;
     }
     if is_operand(tokens, place) {
-        append_operator(tokens, place.saturating_add(1), place, notes)?;
+        append_operator(tokens, after_operand(tokens, place), place, notes)?;
     }
     Ok(())
 }
