@@ -90,7 +90,8 @@ fn wanted_text(
         Position::Port(direction) => port_text(alloc, ports, spelled(tokens, place), direction),
         Position::AfterPort(event) => subscripts_text(alloc, ports, tokens, event),
         Position::Subscript { event, whole } => {
-            subscript_text(alloc, ports, tokens, event, whole)
+            let item = wanted_item(tokens, place, whole);
+            subscript_text(alloc, ports, tokens, event, item)
         }
         Position::AfterSubscripts(_) => String::from_str(alloc, "could stand here: '.'"),
         Position::Signal(event) => signal_text(alloc, ports, tokens, event, place),
@@ -101,8 +102,11 @@ fn wanted_text(
             event,
             signal,
             whole,
-            depth: _,
-        } => value_text(alloc, ports, tokens, event, signal, whole),
+            depth,
+        } => {
+            let item = wanted_value(tokens, place, whole, depth);
+            value_text(alloc, ports, tokens, event, signal, item)
+        }
         Position::End => String::from_str(alloc, "nothing stands after 'end'"),
     }
 }
@@ -203,30 +207,50 @@ fn subscripts_text(
     }
 }
 
-// What could stand for a subscript of which so many stand before.
+// Which item is to stand at a place in a list, after so many: none after an item that is whole.
+fn wanted_item(tokens: &Tokens, place: u32, whole: u32) -> Option<u32> {
+    match spelled(tokens, place.saturating_sub(1)) {
+        [b'(' | b'[' | b',' | b'+' | b'-'] => Some(whole),
+        _ => None,
+    }
+}
+
+// Which value is to stand at a place, after so many, with so many brackets open in it.
+fn wanted_value(tokens: &Tokens, place: u32, whole: u32, depth: u32) -> Option<u32> {
+    if depth > 0 {
+        Some(whole)
+    } else {
+        wanted_item(tokens, place, whole)
+    }
+}
+
+// What could stand for an item of the subscripts.
 fn subscript_text(
     alloc: Global,
     ports: &Ports,
     tokens: &Tokens,
     event: Event,
-    whole: u32,
+    item: Option<u32>,
 ) -> Result<String, AllocError> {
     let kinds = subscripts_of(ports, tokens, event);
     let mut text = String::new(alloc);
     push_quoted(alloc, &mut text, spelled(tokens, event.port))?;
-    push_item(alloc, &mut text, "subscript", kinds, whole)?;
+    push_item(alloc, &mut text, "subscript", kinds, item)?;
     Ok(text)
 }
 
-// Adds how many items a list has, and what the item after so many is.
+// Adds how many items a list has, and what the item after so many is, if one is to stand there.
 fn push_item(
     alloc: Global,
     text: &mut String,
     word: &str,
     kinds: &[Kind],
-    whole: u32,
+    item: Option<u32>,
 ) -> Result<(), AllocError> {
     push_count(alloc, text, word, kinds.len())?;
+    let Some(whole) = item else {
+        return Ok(());
+    };
     match kinds.get(whole as usize) {
         None => Ok(()),
         Some(kind) => push_values(alloc, text, word, whole.saturating_add(1), kind),
@@ -327,7 +351,7 @@ fn values_text(
     place: u32,
 ) -> Result<String, AllocError> {
     if !values_of(ports, tokens, event, signal).is_empty() {
-        return value_text(alloc, ports, tokens, event, signal, 0);
+        return value_text(alloc, ports, tokens, event, signal, Some(0));
     }
     let mut text = String::new(alloc);
     if spelled(tokens, place).starts_with(b"(") {
@@ -338,18 +362,18 @@ fn values_text(
     Ok(text)
 }
 
-// What could stand for a value of which so many stand before.
+// What could stand for an item of the values.
 fn value_text(
     alloc: Global,
     ports: &Ports,
     tokens: &Tokens,
     event: Event,
     signal: u32,
-    whole: u32,
+    item: Option<u32>,
 ) -> Result<String, AllocError> {
     let kinds = values_of(ports, tokens, event, signal);
     let mut text = String::new(alloc);
     push_quoted(alloc, &mut text, spelled(tokens, signal))?;
-    push_item(alloc, &mut text, "value", kinds, whole)?;
+    push_item(alloc, &mut text, "value", kinds, item)?;
     Ok(text)
 }
