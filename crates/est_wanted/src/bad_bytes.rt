@@ -39,13 +39,30 @@ fn text_of_byte(byte: u8) -> &'static str {
     match byte {
         QUOTE => "a character constant has one character between quotes, and there are no strings",
         b'"' => "a character constant stands between single quotes, and there are no strings",
-        b'!' => "there is no '!': write 'not', or '<>' for unequal",
+        b'!' => "there is no '!': write 'not', '<>' for unequal, or 'output N.Ack' to send",
         b'&' => "there is no '&': write 'and'",
         b'|' => "there is no '|': write 'or'",
         b'%' => "there is no '%': write 'mod'",
         0 => "this byte is 0, which stands in no text",
         128..=255 => "names are made of letters from a to z, digits and '_'",
         _ => "no token begins with this character",
+    }
+}
+
+const SPACE: &str = "this is a no-break space: write a space";
+
+const WORD_QUOTE: &str = "this is a quote of a word processor: write '";
+
+const DASH: &str = "this is a dash of a word processor: write '-'";
+
+// What is known of characters that word processors write, in UTF-8, or of a space of one byte.
+fn text_of_character(bytes: &[u8]) -> Option<&'static str> {
+    match bytes {
+        [0xc2, 0xa0, ..] => Some(SPACE),
+        [0xa0, ..] => Some(SPACE),
+        [0xe2, 0x80, 0x98..=0x9f, ..] => Some(WORD_QUOTE),
+        [0xe2, 0x80, 0x90..=0x95, ..] => Some(DASH),
+        _ => None,
     }
 }
 
@@ -56,6 +73,9 @@ pub fn text_of_bytes(text: &[u8], offset: usize) -> &'static str {
         if let Some(known) = text_of_beginning(text) {
             return known;
         }
+    }
+    if let Some(known) = text_of_character(&text[offset.min(text.len())..]) {
+        return known;
     }
     if opening_at(text, offset) > 0 {
         "no mark after this one closes the comment"
