@@ -25,18 +25,19 @@ impl Candidate {
     }
 }
 
-/// The symbols and the reserved words that stand in specifications.
-pub(crate) static SPELLINGS: [&str; 86] = [
-    ";",
-    ",",
+/// The symbols and the reserved words that close something or go on after it.
+pub(crate) static GOING_ON: [&str; 10] = [
+    ";", ",", ")", "]", "do", "end", "of", "then", "to", "until",
+];
+
+/// The other ones that stand in specifications.
+pub(crate) static SPELLINGS: [&str; 76] = [
     ":",
     ":=",
     ".",
     "..",
     "(",
-    ")",
     "[",
-    "]",
     "=",
     "<>",
     "<",
@@ -65,10 +66,8 @@ pub(crate) static SPELLINGS: [&str; 86] = [
     "detach",
     "disconnect",
     "div",
-    "do",
     "downto",
     "else",
-    "end",
     "export",
     "for",
     "from",
@@ -84,7 +83,6 @@ pub(crate) static SPELLINGS: [&str; 86] = [
     "modvar",
     "name",
     "not",
-    "of",
     "or",
     "otherwise",
     "output",
@@ -103,12 +101,9 @@ pub(crate) static SPELLINGS: [&str; 86] = [
     "state",
     "stateset",
     "systemactivity",
-    "then",
     "timescale",
-    "to",
     "trans",
     "type",
-    "until",
     "var",
     "when",
     "while",

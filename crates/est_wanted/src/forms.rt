@@ -8,6 +8,9 @@ use est_lexer::tokens::Tokens;
 // So many tokens before one are looked at.
 const MOST_BACK: u32 = 200;
 
+// So many tokens after one are looked at.
+const MOST_AHEAD: u32 = 200;
+
 /// What is known to go wrong at the token of a place.
 pub(crate) fn form_text(tokens: &Tokens, place: u32) -> Option<&'static str> {
     let token = tokens.token_at(place)?;
@@ -69,6 +72,27 @@ fn type_text(tokens: &Tokens, place: u32) -> Option<&'static str> {
         Some(TokenKind::Symbol(Symbol::Colon)) => { Some(WRITTEN_OUT) }
         _ => None,
     }
+}
+
+/// Whether the name of a type is to stand at a place: after a colon, but for that of a `by`.
+pub(crate) fn is_for_type(tokens: &Tokens, place: u32) -> bool {
+    match kind_before(tokens, place, 1) {
+        Some(TokenKind::Symbol(Symbol::Colon)) => !is_after_roles(tokens, place),
+        _ => false,
+    }
+}
+
+// Whether only names and commas stand between a `by` and the token before a place.
+fn is_after_roles(tokens: &Tokens, place: u32) -> bool {
+    for back in 2..MOST_BACK {
+        match kind_before(tokens, place, back) {
+            Some(Reserved(ReservedWord::By)) => return true,
+            Some(Identifier) => {}
+            Some(TokenKind::Symbol(Symbol::Comma)) => {}
+            _ => return false,
+        }
+    }
+    false
 }
 
 // What is done at the start of a specification but the `init` of its system.
@@ -151,12 +175,33 @@ fn period_text(tokens: &Tokens, place: u32) -> Option<&'static str> {
         (Some(Number), Number) => Some(
             "there are no real numbers: write integers of a smaller unit",
         ),
-        (Some(TokenKind::Symbol(Symbol::LeftParenthesis)), _) if is_joined(tokens, place) => {
+        (Some(TokenKind::Symbol(Symbol::LeftParenthesis)), _) if is_bracket(tokens, place) => {
             Some("there is no '(.': write '['")
         }
         (_, TokenKind::Symbol(Symbol::RightParenthesis)) => Some("there is no '.)': write ']'"),
         _ => None,
     }
+}
+
+// Whether the period of a place is joined to the token before it, and a later one to the `)` after
+// it.
+fn is_bracket(tokens: &Tokens, place: u32) -> bool {
+    if !is_joined(tokens, place) {
+        return false;
+    }
+    for ahead in 1..MOST_AHEAD {
+        let at = place.saturating_add(ahead);
+        match (kind_before(tokens, at, 1), kind_before(tokens, at, 0)) {
+            (_, None) => return false,
+            (_, Some(TokenKind::Symbol(Symbol::Semicolon))) => return false,
+            (
+                Some(TokenKind::Symbol(Symbol::Period)),
+                Some(TokenKind::Symbol(Symbol::RightParenthesis)),
+            ) => return is_joined(tokens, at),
+            _ => {}
+        }
+    }
+    false
 }
 
 // The end of the head of a module that has no attribute.

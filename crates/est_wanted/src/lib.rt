@@ -8,6 +8,7 @@ mod comments;
 mod forms;
 mod left_out;
 mod marks;
+mod missing;
 pub mod note;
 pub mod place;
 pub mod refused;

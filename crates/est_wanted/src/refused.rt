@@ -3,12 +3,13 @@
 use crate::bad_bytes::text_of_bytes;
 use crate::candidate::Candidate;
 use crate::comments::append_comment;
-use crate::forms::form_text;
-use crate::left_out::instead_of;
+use crate::forms::{form_text, is_for_type};
+use crate::left_out::left_out_text;
+use crate::missing::{append_end, append_mark, closes, lacks_end};
 use crate::note::{Spot, append_note, printed};
-use crate::place::{end_before, front_of, gap_before, kind_before, spot_at, spot_of};
-use crate::wanted::{MOST_TOLD, MOST_TRIED, could_go_on, wanted};
-use est_lexer::kind::{Symbol, TokenKind};
+use crate::place::{front_of, gap_before, kind_before, spot_of};
+use crate::wanted::{MOST_TOLD, wanted};
+use est_lexer::kind::{ReservedWord, TokenKind};
 use est_lexer::tokens::Tokens;
 use std::alloc::{AllocError, Global};
 
@@ -23,8 +24,20 @@ pub fn append_refused(
 ) -> Result<(), AllocError> {
     append_candidates(alloc, text, tokens, place, notes)?;
     append_form(alloc, tokens, place, notes)?;
-    append_semicolon(alloc, text, tokens, place, notes)?;
+    append_mark(alloc, text, tokens, place, notes)?;
+    append_set(alloc, text, tokens, place, notes)?;
     append_comment(alloc, text, tokens, place, notes)
+}
+
+// The bytes of the token of a place, which may be a slip for another one, and none of a word.
+fn slip_at<'t>(tokens: &'t Tokens, place: u32) -> &'t [u8] {
+    if place >= tokens.count() {
+        return &[];
+    }
+    match kind_before(tokens, place, 0) {
+        Some(TokenKind::Reserved(_)) => &[],
+        _ => tokens.spelled(place),
+    }
 }
 
 // Adds what the token of a place is and what could stand there.
@@ -35,7 +48,7 @@ fn append_candidates(
     place: u32,
     notes: &mut String,
 ) -> Result<(), AllocError> {
-    let found = wanted(alloc, front_of(text, tokens, place))?;
+    let found = wanted(alloc, front_of(text, tokens, place), slip_at(tokens, place))?;
     append_known(alloc, text, tokens, place, &found, notes)
 }
 
@@ -83,10 +96,12 @@ fn append_token(
             append_note(alloc, notes, spot, known)
         }
         TokenKind::LeftOut(word) => {
-            append_note(alloc, notes, spot, instead_of(word))?;
-            append_no_name(alloc, tokens, place, found, notes)
+            if !is_for_name(tokens, place, found) {
+                append_note(alloc, notes, spot, left_out_text(tokens, place, word))?;
+            }
+            append_word(alloc, text, tokens, place, found, notes)
         }
-        TokenKind::Reserved(_) => append_no_name(alloc, tokens, place, found, notes),
+        TokenKind::Reserved(_) => append_word(alloc, text, tokens, place, found, notes),
         _ => Ok(()),
     }
 }
@@ -99,15 +114,50 @@ fn has_name(found: &[Candidate]) -> bool {
     }
 }
 
-// Adds that the word of a place is no name, where a name could stand and nothing else is known.
-fn append_no_name(
+// Whether a name is declared or meant at the word of a place, and no type, where these could stand:
+// then nothing stands there in its place but a name, or a word more.
+fn is_for_name(tokens: &Tokens, place: u32, found: &[Candidate]) -> bool {
+    is_word(tokens, place) && has_name(found) && found.len() < 3 && !is_for_type(tokens, place)
+}
+
+// Whether the token of a place is a word.
+fn is_word(tokens: &Tokens, place: u32) -> bool {
+    place < tokens.count()
+        && match tokens.spelled(place).first() {
+            None => false,
+            Some(first) => first.is_ascii_alphabetic(),
+        }
+}
+
+// Adds what is wrong with the word of a place, where a name could stand and nothing else is known.
+fn append_word(
     alloc: Global,
+    text: &[u8],
     tokens: &Tokens,
     place: u32,
     found: &[Candidate],
     notes: &mut String,
 ) -> Result<(), AllocError> {
-    if place >= tokens.count() || !has_name(found) || form_text(tokens, place).is_some() {
+    if !is_word(tokens, place) || !has_name(found) || form_text(tokens, place).is_some() {
+        return Ok(());
+    }
+    if is_after_comment(text, tokens, place) {
+        return Ok(());
+    }
+    if lacks_end(alloc, text, tokens, place, found)? {
+        return append_end(alloc, tokens, place, notes);
+    }
+    append_no_name(alloc, tokens, place, notes)
+}
+
+// Adds that the word of a place is no name.
+fn append_no_name(
+    alloc: Global,
+    tokens: &Tokens,
+    place: u32,
+    notes: &mut String,
+) -> Result<(), AllocError> {
+    if place >= tokens.count() || closes(tokens, place) {
         return Ok(());
     }
     let spot = spot_of("specification", tokens, place);
@@ -172,55 +222,32 @@ fn append_form(
     }
 }
 
-// Whether a statement or a declaration may begin with the token of a place.
-fn may_begin(tokens: &Tokens, place: u32) -> bool {
-    match tokens.token_at(place) {
-        None => false,
-        Some(token) => match token.kind {
-            TokenKind::Identifier => true,
-            TokenKind::Reserved(_) => true,
-            _ => false,
-        },
-    }
-}
-
-// Whether a semicolon stands before the token of a place.
-fn is_after_semicolon(tokens: &Tokens, place: u32) -> bool {
+// Whether a comment stands before a place, where a set may be meant.
+fn is_after_comment(text: &[u8], tokens: &Tokens, place: u32) -> bool {
     match kind_before(tokens, place, 1) {
-        Some(TokenKind::Symbol(Symbol::Semicolon)) => true,
+        Some(TokenKind::Reserved(ReservedWord::In)) => {
+            gap_before(text, tokens, place).contains(&b'{')
+        }
         _ => false,
     }
 }
 
-// Whether the token of a place begins something in a later line than the one before it, and could
-// stand there after a semicolon, which none is before it.
-fn lacks_semicolon(
-    alloc: Global,
-    text: &[u8],
-    tokens: &Tokens,
-    place: u32,
-) -> Result<bool, AllocError> {
-    let front = front_of(text, tokens, place);
-    if !may_begin(tokens, place) || front.len() > MOST_TRIED || place >= tokens.count() {
-        return Ok(false);
-    }
-    if is_after_semicolon(tokens, place) || !gap_before(text, tokens, place).contains(&b'\n') {
-        return Ok(false);
-    }
-    could_go_on(alloc, front, tokens.spelled(place))
-}
-
-// Adds that a semicolon may be missing at the end of a line.
-fn append_semicolon(
+// Adds that a comment stands where a set may be meant.
+fn append_set(
     alloc: Global,
     text: &[u8],
     tokens: &Tokens,
     place: u32,
     notes: &mut String,
 ) -> Result<(), AllocError> {
-    if !lacks_semicolon(alloc, text, tokens, place)? {
+    if !is_after_comment(text, tokens, place) {
         return Ok(());
     }
-    let spot = spot_at(text, end_before(tokens, place));
-    append_note(alloc, notes, spot, "a ';' may be missing here")
+    let spot = spot_of("specification", tokens, place);
+    append_note(
+        alloc,
+        notes,
+        spot,
+        "a comment stands in { }, and a set in [ ]",
+    )
 }

@@ -5,10 +5,11 @@ ghost use Rattle.est_lexer.specs.Offsets.{text_of, tokens_of};
 ghost use Rattle.est_grammar.specs.Answer.{IsRefusal};
 ghost use Rattle.est_wanted.specs.Beginnings.{AreBeginning, IsBeginning, CouldFollow};
 
-use crate::candidate::{Candidate, SPELLINGS};
+use crate::candidate::{Candidate, GOING_ON, SPELLINGS};
 use est_grammar::{ParseError, parse};
 use est_lexer::lex::lex;
 use est_lexer::tokens::{MOST_BYTES, Tokens};
+use est_notes::similar::is_similar;
 use std::alloc::{AllocError, Global};
 
 /// The longest text after which tokens are tried.
@@ -17,9 +18,10 @@ pub const MOST_TRIED: usize = 131_072;
 /// So many tokens are told at most.
 pub const MOST_TOLD: usize = 8;
 
-/// What could follow this beginning of a text: names, numbers and characters, then symbols, then
-/// words, until one more than are told were found. Of a long text nothing is said.
-pub fn wanted(alloc: Global, before: &[u8]) -> Result<Vec<Candidate>, AllocError>
+/// What could follow this beginning of a text, until one more than are told were found: names,
+/// numbers and characters, then what is similar to the bytes that follow it, then what closes
+/// something or goes on, then the others. Of a long text nothing is said.
+pub fn wanted(alloc: Global, before: &[u8], refused: &[u8]) -> Result<Vec<Candidate>, AllocError>
     ensures { IfOk result (λ found. All (CouldFollow before.now) found.items) }
 {
     let mut found = Vec::new(alloc);
@@ -29,20 +31,32 @@ pub fn wanted(alloc: Global, before: &[u8]) -> Result<Vec<Candidate>, AllocError
     try_one(alloc, before, Candidate::Name, &mut found)?;
     try_one(alloc, before, Candidate::Number, &mut found)?;
     try_one(alloc, before, Candidate::Character, &mut found)?;
-    try_spellings(alloc, before, &mut found)?;
+    try_spellings(alloc, before, &GOING_ON, refused, true, &mut found)?;
+    try_spellings(alloc, before, &SPELLINGS, refused, true, &mut found)?;
+    try_spellings(alloc, before, &GOING_ON, refused, false, &mut found)?;
+    try_spellings(alloc, before, &SPELLINGS, refused, false, &mut found)?;
     Ok(found)
 }
 
-// Tries the symbols and the words.
-fn try_spellings(alloc: Global, before: &[u8], found: &mut Vec<Candidate>) -> Result<(), AllocError>
+// Tries symbols and words: those that are similar to some bytes, or the others.
+fn try_spellings(
+    alloc: Global,
+    before: &[u8],
+    spellings: &[&'static str],
+    refused: &[u8],
+    similar: bool,
+    found: &mut Vec<Candidate>,
+) -> Result<(), AllocError>
     requires { All (CouldFollow before.now) found.old.items }
     ensures { All (CouldFollow before.now) found.new.items }
 {
-    for spelling in SPELLINGS.iter() {
+    for spelling in spellings.iter() {
         if found.len() > MOST_TOLD {
             return Ok(());
         }
-        try_one(alloc, before, Candidate::Spelled(spelling), found)?;
+        if is_similar(refused, spelling.as_bytes()) == similar {
+            try_one(alloc, before, Candidate::Spelled(spelling), found)?;
+        }
     }
     Ok(())
 }
@@ -73,10 +87,15 @@ pub fn could_follow(alloc: Global, before: &[u8], candidate: Candidate) -> Resul
     is_beginning(alloc, &text)
 }
 
-/// Whether these bytes could follow a text, after a semicolon.
-pub(crate) fn could_go_on(alloc: Global, before: &[u8], next: &[u8]) -> Result<bool, AllocError> {
+/// Whether these bytes could follow a text, after others that are missing between.
+pub(crate) fn could_go_on(
+    alloc: Global,
+    before: &[u8],
+    missing: &[u8],
+    next: &[u8],
+) -> Result<bool, AllocError> {
     let mut text = Vec::from_slice(alloc, before)?;
-    text.extend_from_slice(b" ; ")?;
+    text.extend_from_slice(missing)?;
     text.extend_from_slice(next)?;
     is_beginning(alloc, &text)
 }
