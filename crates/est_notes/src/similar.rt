@@ -40,8 +40,8 @@ fn is_slip(one: &[u8], other: &[u8]) -> bool {
 }
 
 /// Whether two names differ in one letter that is inserted, dropped or exchanged, or in two that
-/// are swapped, or one begins the other. Letter case makes no difference, and of short names nothing
-/// is told.
+/// are swapped, or one begins the other. Letter case makes no difference, and of short names
+/// nothing is told.
 pub fn is_similar(one: &[u8], other: &[u8]) -> bool {
     let (longer, shorter) = (one.len().max(other.len()), one.len().min(other.len()));
     let count = common(one, other);
