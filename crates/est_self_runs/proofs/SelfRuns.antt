@@ -128,7 +128,7 @@ module _ (spec : Spec) (seed count : ℕ) (trace : List Event) (run : List Move)
   status_agrees (verdict.Accepted other) is = tt
   status_agrees (verdict.Refused at other faulted) is = is
   status_agrees (verdict.OverFirings tried) is = tt
-  status_agrees (verdict.OverAction other events firing) is = is
+  status_agrees (verdict.OverAction other events firing) is = tt
 
   -- ENDS
 
