@@ -67,8 +67,9 @@ fn later_sentence(rule: Rule) -> &'static str {
             "after a name stand as many arguments or subscripts as its declaration says"
         },
         Rule::NotWritable => {
-            "only variables, parameters and exports of the own body, routine or block are written, \
-             in a function only its own, and none of an any, a when, an all, or a for around"
+            "what is written is a variable, parameter or export of the own body, routine or block \
+             (in a function only its own, and its result) or an export of a module variable; and \
+             none of an any, a when, an all, or a for around"
         },
         Rule::NotInFunction => {
             "a function only computes: it calls no procedure, sends, starts, releases and links \

@@ -26,7 +26,7 @@ fn after_word(word: ReservedWord) -> Option<&'static str> {
 // What a name is that stands before or after these tokens.
 fn sentence_at(tokens: &Tokens, place: u32) -> Option<&'static str> {
     if spelled(tokens, place.saturating_add(1)) == b":=".as_slice() {
-        return Some("before := stands a variable");
+        return Some("before := stands a variable, or in a function its own name");
     }
     match tokens.token_at(place.checked_sub(1)?)?.kind {
         TokenKind::Reserved(word) => after_word(word),
