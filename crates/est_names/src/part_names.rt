@@ -10,7 +10,7 @@ use est_syntax::body::{Block, Body, FirstPart, Part};
 use est_syntax::transition::{Clause, Group, Most, Transition};
 use std::alloc::{AllocError, Global};
 
-// Keeps the names of the bounds of a delay.
+// Keeps the names of the greatest delay, where there is one.
 fn most<'t>(bound: &'t Most, known: &mut KnownNames<'t>) -> Result<(), AllocError>
     ensures { OnOk result (known.new ≡ known.old) }
 {
@@ -98,7 +98,7 @@ fn part<'t>(one: &'t Part, known: &mut KnownNames<'t>) -> Result<(), AllocError>
     }
 }
 
-// Keeps the names of the block of a routine.
+// Keeps the names of the parts and the statements of a block.
 #[cycle(part)]
 fn block<'t>(one: &'t Block, known: &mut KnownNames<'t>) -> Result<(), AllocError>
     ensures { OnOk result (known.new ≡ known.old) }

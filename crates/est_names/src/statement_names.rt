@@ -21,8 +21,9 @@ fn sendings<'t>(list: &'t [Sending], known: &mut KnownNames<'t>) -> Result<(), A
     Ok(())
 }
 
-// Keeps the names of a statement that has no statement in it; of those that make, release and link
-// modules the first name and the arguments.
+// Keeps the names of a statement that has no statement in it: all of assignments, calls and
+// outputs, the module variable and the arguments of `init` and `release`, and none of links, whose
+// names are looked up at each use.
 fn plain<'t>(one: &'t Statement, known: &mut KnownNames<'t>) -> Result<(), AllocError>
     ensures { OnOk result (known.new ≡ known.old) }
 {
@@ -152,7 +153,7 @@ pub(crate) fn statements<'t>(
     Ok(())
 }
 
-// Keeps the names of the choices of a `case`.
+// Keeps the names in the statements of a `case`, but not those of its constants.
 #[cycle(statement)]
 fn arms<'t>(list: &'t [Arm], known: &mut KnownNames<'t>) -> Result<(), AllocError>
     ensures { OnOk result (known.new ≡ known.old) }

@@ -22,7 +22,7 @@ use std::alloc::{AllocError, Global};
 use std::marker::Model;
 
 /// A specification and what it declares. No part of the tree is walked again where a routine or a
-/// body is looked up, and no name of a block is looked up twice.
+/// body is looked up, and what most names of a block mean is looked up once.
 pub struct Text<'t> {
     spec: &'t Spec,
     outline: &'t Outline,

@@ -1,5 +1,5 @@
 -- Operators on a left value and what the right operand yields, in two steps: whether the left value
--- decides, and else what comes of both (ISO 7185, 6.7.2.3).
+-- decides, and else what comes of both (profile: ISO 7185, 6.7.2.1, leaves the order open).
 use Rattle.std.specs.Prelude.{ℤ, Bool, false, not, Result, Ok, Err}
 use Rattle.est_syntax.specs.declared.expression.Operator.{Operator}
 use Rattle.est_syntax.specs.declared.expression.Operator.TheVariants as operator

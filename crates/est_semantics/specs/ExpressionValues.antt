@@ -50,7 +50,8 @@ applied v (Seen p) arguments first = arguments >>= called v p
 applied v (Predeclared n) arguments first = first n
 applied v _ arguments first = junk
 
--- What an expression yields: its parts are evaluated in the order of the text.
+-- What an expression yields: its parts are evaluated in the order of the text (profile: ISO 7185,
+-- 6.7.2.1, leaves it open).
 abbrev mutual
   pub value_of : Expr → View → Counts Value
   value_of (Expr' left relation place) v = simple_of left v >>= λ a. held_relation relation a v

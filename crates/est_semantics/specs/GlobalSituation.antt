@@ -58,7 +58,7 @@ pub record Situation : Type 0 where
   pub down : Map InteractionPoint InteractionPoint
   -- the items of each queue in order
   pub queues : QueueName → List Item
-  -- since when a delay transition is enabled
+  -- since when a delay transition is enabled, or when it fired last, if that was later
   pub stamps : Map Clocked ℕ
   pub clock : ℕ
   -- the number of the next instance

@@ -120,7 +120,8 @@ without ns s = record s {
 abbrev pub untied : Text → InteractionPoint → Situation → Situation
 untied t p s = disconnected p (detached_above t p s)
 
--- a child is released: its external interaction points are untied, and it goes with its descendants
+-- a child is released: its external interaction points are untied (the order is profile), and it
+-- goes with its descendants
 abbrev pub released : Text → ℕ → Situation → Situation
 released t n s = let u = each (untied t) (external_of t.outline s n) s in
     without (descendants (n ∷ []) u.rows) u

@@ -78,7 +78,7 @@ naming p x = bound p x ∷ []
 abbrev pub turn_for : ℕ → Slot → Does → Does
 turn_for p x turn = enter >> framed (naming p x) turn
 
--- a turn for each ordinal
+-- a turn for each ordinal, one after the other (for `all` the order is profile)
 abbrev pub for_each : ℕ → List ℤ → Does → Does
 for_each p [] turn = give tt
 for_each p (z ∷ zs) turn = turn_for p (slot.Value (value.Ordinal z)) turn >> for_each p zs turn

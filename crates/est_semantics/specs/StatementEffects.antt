@@ -54,7 +54,7 @@ use Rattle.est_semantics.specs.LoopEffects.{turns, repeats, controlled, over}
 -- PROCEDURES
 
 -- A call of a procedure: the arguments, their ranges, and its statements one level deeper (ISO
--- 7185, 6.8.2.3).
+-- 7185, 6.8.2.3; the order is profile).
 abbrev pub performed : Used → List Expr → Site → Does
 performed name arguments site =
     known (declared_at site.text.outline name) >>= λ p.
@@ -128,7 +128,7 @@ element_of a v = accessed a (λ p zs. give (record { declared = p; index = zs })
 
 -- An `init`, in this order: the subscripts of the module variable, the arguments, whether there are
 -- too many instances, the ranges of the arguments, and the initialize part of the new instance one
--- level deeper (ISO 9074, init-statement).
+-- level deeper (ISO 9074, init-statement; the order is profile).
 abbrev pub init_done : Access → Used → List Expr → Site → Does
 init_done target body arguments site =
     evaluated site (element_of target) >>= λ e.

@@ -1,4 +1,5 @@
--- Operators on values, which are evaluated in the order of the text (ISO 7185, 6.7.2).
+-- Operators on values (ISO 7185, 6.7.2). Operands are evaluated in the order of the text, which the
+-- standard leaves open (6.7.2.1).
 use Rattle.std.specs.Prelude.{ℕ, nat_le, ℤ, pos, Bool, true, false, not, List}
 use Rattle.std.specs.Prelude.{Result, Ok, Err, if◌then◌else◌}
 use Rattle.est_syntax.specs.Kinds.{maxint}
@@ -49,8 +50,8 @@ operated operator.Within (value.Ordinal a) (value.Set ys) = decided (is_member y
 operated op (value.Set xs) (value.Set ys) = combined op xs ys
 operated op _ _ = Err Undefined
 
--- an operator on a value and what the right operand yields; `and` and `or` stop early (ISO 7185,
--- 6.7.2.3)
+-- an operator on a value and what the right operand yields; `and` and `or` stop early (profile: ISO
+-- 7185, 6.7.2.1, leaves the order open)
 abbrev pub joined : Operator → Value → Counts Value → Counts Value
 joined operator.Or a right = ordinal a >>= λ z. choose z (give a) right
 joined operator.And a right = ordinal a >>= λ z. choose z right (give a)

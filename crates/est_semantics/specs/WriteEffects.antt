@@ -52,7 +52,7 @@ stored function (Component p k) v = λ s.
     (lift (names_written p k v s.situation s.frames) >>= given_names function p.holder) s
 stored function _ v = junk
 
--- an assignment: the target, the value, the write
+-- an assignment: the target, the value, the write (ISO 7185, 6.8.2.2, leaves the order open)
 abbrev pub assigned : Used → List Selector → Expr → Site → Does
 assigned target path e site = do
   r ← evaluated site (variable_of target path)
