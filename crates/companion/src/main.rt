@@ -16,6 +16,11 @@ fn words<R: Env + AllocGlobal>(rt: &R) -> io::Result<Vec<String>> {
     Ok(env::args(rt)?.skip(1).collect(rt.alloc())?)
 }
 
+// Whether a word asks for advice.
+fn is_advice(command: &str) -> bool {
+    command == "advise" || command == "next" || command == "warn"
+}
+
 // Does what the first word names.
 fn obey<R: Env + AllocGlobal + Files + Input + Print>(rt: &R, words: &[String]) -> Status {
     match words {
@@ -31,7 +36,7 @@ fn obey<R: Env + AllocGlobal + Files + Input + Print>(rt: &R, words: &[String]) 
             &mut FileShelf::new(rt),
             &mut OutSink::new(rt),
         ),
-        [command, ..] if command.as_str() == "advise" || command.as_str() == "warn" => advise(
+        [command, ..] if is_advice(command.as_str()) => advise(
             rt.alloc(),
             words,
             &mut FileShelf::new(rt),

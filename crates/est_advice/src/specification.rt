@@ -25,8 +25,7 @@ pub(crate) fn append_specification<S: Shelf>(
         Asked::Refusals {
             specification,
             trace: _,
-            explanation: _,
-            limits: _,
+            then: _,
         } => specification,
         Asked::Warnings { specification } => specification,
     };
@@ -67,8 +66,7 @@ fn append_refusal(
         Asked::Refusals {
             specification: _,
             trace: _,
-            explanation: _,
-            limits: _,
+            then: _,
         } => append_bad(alloc, text, tokens, error, notes),
         Asked::Warnings { specification: _ } => memory_alone(error),
     }
@@ -116,15 +114,10 @@ fn append_good<S: Shelf>(
         Asked::Refusals {
             specification: _,
             trace,
-            explanation,
-            limits,
+            then,
         } => {
-            let good = Good {
-                tokens,
-                checked,
-                limits: &limits,
-            };
-            append_trace(alloc, shelf, &good, trace, explanation, notes)
+            let good = Good { tokens, checked };
+            append_trace(alloc, shelf, &good, trace, then, notes)
         }
         Asked::Warnings { specification: _ } => {
             append_warnings(

@@ -1,7 +1,10 @@
 //! Advice on traces and explanations.
+ghost use Rattle.est_choices.specs.AllowedEvents.{IsAllowedTrace};
 
 use crate::reading::text_in;
+use crate::words::Then;
 use est_check::Checked;
+use est_choices::event::Trace;
 use est_edge::Shelf;
 use est_explanation::error::ExplanationError;
 use est_explanation::explanation::read_explanation;
@@ -9,27 +12,27 @@ use est_files::file::File;
 use est_lexer::lex::lex;
 use est_lexer::tokens::{MOST_BYTES, Tokens};
 use est_move_notes::rejected::{Texts, append_rejected};
+use est_next_notes::next::append_next;
 use est_runs::run::Limits;
 use est_trace::error::TraceError;
 use est_trace::trace::read_trace;
 use est_trace_notes::{explanation as of_explanation, trace as of_trace};
 use std::alloc::{AllocError, Global};
 
-/// A good specification, and the limits of replays.
+/// A good specification.
 #[derive(Clone, Copy)]
 pub(crate) struct Good<'t> {
     pub tokens: &'t Tokens<'t>,
     pub checked: &'t Checked,
-    pub limits: &'t Limits,
 }
 
-/// Adds what is known of the trace in the file of a name, or of the explanation in another.
+/// Adds what is known of the trace in the file of a name, or else what is asked of a good one.
 pub(crate) fn append_trace<S: Shelf>(
     alloc: Global,
     shelf: &mut S,
     good: &Good<'_>,
     trace: Option<&str>,
-    explanation: Option<&str>,
+    then: Then<'_>,
     notes: &mut String,
 ) -> Result<(), AllocError> {
     let Some(name) = trace else {
@@ -38,42 +41,66 @@ pub(crate) fn append_trace<S: Shelf>(
     let Some(text) = text_in(alloc, shelf, name, File::Trace)? else {
         return Ok(());
     };
-    append_trace_text(alloc, shelf, good, &text, explanation, notes)
+    append_trace_text(alloc, shelf, good, &text, then, notes)
 }
 
-// Adds what is known of the text of a trace, or of the explanation.
+// Adds what is known of the text of a trace, or else what is asked of a good one.
 fn append_trace_text<S: Shelf>(
     alloc: Global,
     shelf: &mut S,
     good: &Good<'_>,
     text: &[u8],
-    explanation: Option<&str>,
+    then: Then<'_>,
     notes: &mut String,
 ) -> Result<(), AllocError> {
     if text.len() > MOST_BYTES {
         return Ok(());
     }
     let tokens = lex(alloc, text)?;
-    match events_of(alloc, good.checked, text, &tokens, notes)? {
-        None => Ok(()),
-        Some(events) => {
-            append_explanation(alloc, shelf, good, &tokens, explanation, events, notes)
+    match read_trace(alloc, good.checked, &tokens) {
+        Ok(trace) => append_then(alloc, shelf, good, &tokens, then, &trace, notes),
+        Err(error) => append_bad_trace(alloc, good.checked, text, &tokens, error, notes),
+    }
+}
+
+// Adds what is asked of a good trace.
+fn append_then<S: Shelf>(
+    alloc: Global,
+    shelf: &mut S,
+    good: &Good<'_>,
+    tokens: &Tokens,
+    then: Then<'_>,
+    trace: &Trace,
+    notes: &mut String,
+) -> Result<(), AllocError>
+    requires { IsAllowedTrace good.now.checked.now trace.now }
+{
+    match then {
+        Then::Nothing => Ok(()),
+        Then::Explained { limits } => {
+            append_next(alloc, good.checked, tokens, trace, &limits, notes)
+        }
+        Then::Replayed {
+            explanation,
+            limits,
+        } => {
+            let replayed = Replayed {
+                tokens,
+                events: trace.len(),
+                limits: &limits,
+            };
+            append_explanation(alloc, shelf, good, &replayed, explanation, notes)
         }
     }
 }
 
-// How many events a good trace has. Adds what is known of one that is refused.
-fn events_of(
-    alloc: Global,
-    checked: &Checked,
-    text: &[u8],
-    tokens: &Tokens,
-    notes: &mut String,
-) -> Result<Option<usize>, AllocError> {
-    match read_trace(alloc, checked, tokens) {
-        Ok(trace) => Ok(Some(trace.len())),
-        Err(error) => append_bad_trace(alloc, checked, text, tokens, error, notes),
-    }
+/// A good trace of an explanation, by its tokens and how many events it has, and the limits of the
+/// replay.
+#[derive(Clone, Copy)]
+struct Replayed<'t> {
+    tokens: &'t Tokens<'t>,
+    events: usize,
+    limits: &'t Limits,
 }
 
 // Adds what is known of a trace that is refused.
@@ -84,60 +111,52 @@ fn append_bad_trace(
     tokens: &Tokens,
     error: TraceError,
     notes: &mut String,
-) -> Result<Option<usize>, AllocError> {
+) -> Result<(), AllocError> {
     match error {
         TraceError::BadToken { place } => {
-            of_trace::append_refused(alloc, checked, text, tokens, place, notes)?;
+            of_trace::append_refused(alloc, checked, text, tokens, place, notes)
         }
-        TraceError::TooMany { place } => {
-            of_trace::append_too_many(alloc, tokens, place, notes)?;
-        }
-        TraceError::Memory(error) => return Err(error),
+        TraceError::TooMany { place } => of_trace::append_too_many(alloc, tokens, place, notes),
+        TraceError::Memory(error) => Err(error),
     }
-    Ok(None)
 }
 
-// Adds what is known of the explanation in the file of a name, of a trace of so many events.
+// Adds what is known of the explanation in the file of a name.
 fn append_explanation<S: Shelf>(
     alloc: Global,
     shelf: &mut S,
     good: &Good<'_>,
-    trace: &Tokens,
-    explanation: Option<&str>,
-    events: usize,
+    trace: &Replayed<'_>,
+    name: &str,
     notes: &mut String,
 ) -> Result<(), AllocError> {
-    let Some(name) = explanation else {
-        return Ok(());
-    };
     let Some(text) = text_in(alloc, shelf, name, File::Explanation)? else {
         return Ok(());
     };
-    append_explanation_text(alloc, good, trace, &text, events, notes)
+    append_explanation_text(alloc, good, trace, &text, notes)
 }
 
-// Adds what is known of the text of an explanation of a trace of so many events.
+// Adds what is known of the text of an explanation.
 fn append_explanation_text(
     alloc: Global,
     good: &Good<'_>,
-    trace: &Tokens,
+    trace: &Replayed<'_>,
     text: &[u8],
-    events: usize,
     notes: &mut String,
 ) -> Result<(), AllocError> {
     if text.len() > MOST_BYTES {
         return Ok(());
     }
     let tokens = lex(alloc, text)?;
-    if !is_good(alloc, text, &tokens, events, notes)? {
+    if !is_good(alloc, text, &tokens, trace.events, notes)? {
         return Ok(());
     }
     let texts = Texts {
         specification: good.tokens,
-        trace,
+        trace: trace.tokens,
         explanation: &tokens,
     };
-    append_rejected(alloc, good.checked, &texts, good.limits, notes)
+    append_rejected(alloc, good.checked, &texts, trace.limits, notes)
 }
 
 // Whether an explanation is read well. Adds what is known of its tokens.

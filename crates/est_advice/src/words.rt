@@ -1,8 +1,22 @@
 //! What the words of a call of advice ask for.
 
 use est_runs::run::Limits;
-use est_words::words::{Command, USUAL, read_words};
+use est_words::words::{Command, read_words};
 use std::alloc::{AllocError, Global};
+
+/// What is asked of a good specification and a good trace: nothing, why a replay of an explanation
+/// rejects it, or what could stand in place of the event at which the trace is refused.
+#[derive(Clone, Copy)]
+pub(crate) enum Then<'w> {
+    Nothing,
+    Replayed {
+        explanation: &'w str,
+        limits: Limits,
+    },
+    Explained {
+        limits: Limits,
+    },
+}
 
 /// What advice is asked for: what is wrong with the texts of files, of which each but the first is
 /// looked at where those before it are good; or warnings of a good specification.
@@ -11,8 +25,7 @@ pub(crate) enum Asked<'w> {
     Refusals {
         specification: &'w str,
         trace: Option<&'w str>,
-        explanation: Option<&'w str>,
-        limits: Limits,
+        then: Then<'w>,
     },
     Warnings {
         specification: &'w str,
@@ -20,63 +33,89 @@ pub(crate) enum Asked<'w> {
 }
 
 /// What words ask for: `advise` with the files of a specification, a trace and an explanation, of
-/// which the last ones may be missing and after which the limits of a replay may stand; or `warn`
+/// which the last ones may be missing and after which the limits of a replay may stand; `next` with
+/// the files of a specification and a trace, after which the limits of a search may stand; or `warn`
 /// with the file of a specification.
 pub(crate) fn asked_of(alloc: Global, words: &[String]) -> Result<Option<Asked<'_>>, AllocError> {
     let [command, specification, rest @ ..] = words else {
         return Ok(None);
     };
     match command.as_str() {
-        "advise" => {
-            let limits = limits_after(alloc, rest)?;
-            Ok(refusals_of(specification.as_str(), rest, limits))
-        }
+        "advise" => advised_of(alloc, specification.as_str(), rest),
+        "next" => next_of(alloc, specification.as_str(), rest),
         "warn" => Ok(warnings_of(specification.as_str(), rest)),
         _ => Ok(None),
     }
 }
 
-// The limits after the files of a trace and an explanation, and the usual ones where there are no
-// words after them.
-fn limits_after(alloc: Global, words: &[String]) -> Result<Option<Limits>, AllocError> {
-    match words {
-        [_, _, silent, statements] => limits_of(alloc, silent.as_str(), statements.as_str()),
-        _ => Ok(Some(USUAL)),
-    }
-}
-
-// The limits that a replay has with these words, if they are some.
-fn limits_of(alloc: Global, silent: &str, statements: &str) -> Result<Option<Limits>, AllocError> {
+// The limits that the words of a call would have with these, if they are some.
+fn limits_of(
+    alloc: Global,
+    call: &[&str],
+    numbers: &[String],
+) -> Result<Option<Limits>, AllocError> {
     let mut words = Vec::new(alloc);
-    for word in &["replay", "-", "-", "-", silent, statements] {
+    for word in call {
         words.push(String::from_str(alloc, word)?)?;
+    }
+    for number in numbers {
+        words.push(String::from_str(alloc, number)?)?;
     }
     match read_words(&words) {
         Ok(Command::Replay { limits }) => Ok(Some(limits)),
+        Ok(Command::Explain { limits }) => Ok(Some(limits)),
         _ => Ok(None),
     }
 }
 
-// What `advise` asks for with a specification, these words and limits.
-fn refusals_of<'w>(
+// What `advise` asks for with a specification and these words.
+fn advised_of<'w>(
+    alloc: Global,
     specification: &'w str,
     rest: &'w [String],
-    limits: Option<Limits>,
-) -> Option<Asked<'w>> {
-    let limits = limits?;
-    let (trace, explanation) = match rest {
-        [] => (None, None),
-        [trace] => (Some(trace.as_str()), None),
-        [trace, explanation] => (Some(trace.as_str()), Some(explanation.as_str())),
-        [trace, explanation, _, _] => (Some(trace.as_str()), Some(explanation.as_str())),
-        _ => return None,
+) -> Result<Option<Asked<'w>>, AllocError> {
+    let (trace, then) = match rest {
+        [] => (None, Then::Nothing),
+        [trace] => (Some(trace.as_str()), Then::Nothing),
+        [trace, explanation, numbers @ ..] => {
+            let call = &["replay", "-", "-", "-"];
+            let Some(limits) = limits_of(alloc, call, numbers)? else {
+                return Ok(None);
+            };
+            let explanation = explanation.as_str();
+            (
+                Some(trace.as_str()),
+                Then::Replayed {
+                    explanation,
+                    limits,
+                },
+            )
+        }
     };
-    Some(Asked::Refusals {
+    Ok(Some(Asked::Refusals {
         specification,
         trace,
-        explanation,
-        limits,
-    })
+        then,
+    }))
+}
+
+// What `next` asks for with a specification and these words.
+fn next_of<'w>(
+    alloc: Global,
+    specification: &'w str,
+    rest: &'w [String],
+) -> Result<Option<Asked<'w>>, AllocError> {
+    let [trace, numbers @ ..] = rest else {
+        return Ok(None);
+    };
+    let Some(limits) = limits_of(alloc, &["explain", "-", "-"], numbers)? else {
+        return Ok(None);
+    };
+    Ok(Some(Asked::Refusals {
+        specification,
+        trace: Some(trace.as_str()),
+        then: Then::Explained { limits },
+    }))
 }
 
 // What `warn` asks for with a specification and these words.

@@ -5,5 +5,5 @@
 pub mod explanation;
 mod kinds;
 mod ports;
-mod position;
+pub mod position;
 pub mod trace;

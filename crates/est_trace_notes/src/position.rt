@@ -167,3 +167,29 @@ pub(crate) fn position_of(tokens: &Tokens, place: u32) -> Position {
     }
     position
 }
+
+// Whether an event begins with the token after which this is to stand.
+fn is_begun(position: Position) -> bool {
+    match position {
+        Position::Port(_) => true,
+        Position::Time => true,
+        _ => false,
+    }
+}
+
+/// The place of the first token of an event, by its number from 0, of a trace that is read well; or
+/// that of the last token, where there are fewer events.
+pub fn place_of_event(tokens: &Tokens, number: usize) -> u32 {
+    let mut position = Position::Trace;
+    let mut begun: usize = 0;
+    for at in 0..tokens.count() {
+        position = after(tokens, at, position);
+        if is_begun(position) {
+            if begun == number {
+                return at;
+            }
+            begun = begun.saturating_add(1);
+        }
+    }
+    tokens.count().saturating_sub(1)
+}
