@@ -101,7 +101,15 @@ impl<'t> Noted<'t> {
             self.are_more = true;
             return Ok(());
         }
-        self.others.push(event.twin(alloc)?)
+        let event = event.twin(alloc)?;
+        self.others.push(event)?;
+        Ok(())
+    }
+
+    // Puts down how many events had happened before a move.
+    fn enter(&mut self) -> Result<(), AllocError> {
+        self.before.push(self.happened)?;
+        Ok(())
     }
 
     /// Notes what leaves at the start.
@@ -118,14 +126,14 @@ impl<'t> Noted<'t> {
 
     /// Notes a move in which this leaves.
     pub(crate) fn leave(&mut self, alloc: Global, outs: &[Event]) {
-        let done = self.before.push(self.happened);
+        let done = self.enter();
         self.keep(done);
         self.begin(alloc, outs);
     }
 
     /// Notes that the next event is taken.
     pub(crate) fn take(&mut self) {
-        let done = self.before.push(self.happened);
+        let done = self.enter();
         self.keep(done);
         self.reach(self.happened.saturating_add(1), true);
     }
