@@ -6,6 +6,7 @@ use crate::rejected::Rejected;
 use est_check::Checked;
 use est_choices::event::Event;
 use est_choices::firing::Firing;
+use est_guard_notes::scene::Scene;
 use est_moves::walk::Walk;
 use est_runs::run::Move;
 use est_worlds::answers::Started;
@@ -67,6 +68,16 @@ fn make_all(
     Ok(at)
 }
 
+// Where the guards are looked at before the move that is rejected.
+fn scene_of<'s, 'c>(walk: &'s Walk<'c>, rejected: &Rejected<'s>) -> Scene<'s, 'c> {
+    Scene {
+        behaviour: &walk.behaviour,
+        system: &walk.system,
+        limit: walk.limit,
+        tokens: rejected.texts.specification,
+    }
+}
+
 // Adds what is known of a firing in the situation before it, if that is what is rejected.
 fn append_next(
     alloc: Global,
@@ -78,7 +89,10 @@ fn append_next(
         return Ok(());
     };
     match rejected.moves.get(index) {
-        Some(Move::Fire(firing)) => append_firing(alloc, walk, rejected, firing, notes),
+        Some(Move::Fire(firing)) => {
+            let scene = scene_of(walk, rejected);
+            append_firing(alloc, &scene, rejected, firing, notes)
+        }
         _ => Ok(()),
     }
 }

@@ -1,13 +1,12 @@
 //! What guards see.
 
 use crate::parts::View;
+use crate::scene::Scene;
 use est_execution::site::Site;
 use est_frames::system::Working;
 use est_guards::candidate::Candidate;
 use est_guards::sight::look;
 use est_items::{Items, Twin};
-use est_lexer::tokens::Tokens;
-use est_moves::walk::Walk;
 use est_semantics::frame::Frame;
 use std::alloc::{AllocError, Global};
 
@@ -23,9 +22,9 @@ pub(crate) enum Seen {
     Holds,
 }
 
-/// The system of a walk, as guards are evaluated in it.
-pub(crate) fn working_of(alloc: Global, walk: &Walk) -> Result<Working, AllocError> {
-    let system = walk.system.twin(alloc)?;
+/// A system as guards are evaluated in it.
+pub(crate) fn working_of(alloc: Global, scene: &Scene) -> Result<Working, AllocError> {
+    let system = scene.system.twin(alloc)?;
     Ok(Working {
         system,
         outs: Items::new(alloc),
@@ -36,13 +35,13 @@ pub(crate) fn working_of(alloc: Global, walk: &Walk) -> Result<Working, AllocErr
 // What is known of a choice with these values of its `any` variables.
 fn see_chosen(
     alloc: Global,
-    walk: &Walk,
+    scene: &Scene,
     candidate: &Candidate,
     chosen: Frame,
     working: &mut Working,
 ) -> Result<Seen, AllocError> {
-    let text = walk.behaviour.text();
-    let sight = look(alloc, text, walk.limit, candidate, chosen, working)?;
+    let text = scene.behaviour.text();
+    let sight = look(alloc, text, scene.limit, candidate, chosen, working)?;
     let holds = sight.holds;
     drop(sight);
     Ok(if holds { Seen::Holds } else { Seen::Fails })
@@ -52,34 +51,33 @@ fn see_chosen(
 /// those of its guard.
 pub(crate) fn see(
     alloc: Global,
-    walk: &Walk,
+    scene: &Scene,
     candidate: &Candidate,
     choice: u32,
     working: &mut Working,
 ) -> Result<Seen, AllocError> {
     let any = candidate.transition.any;
-    match walk.behaviour.choice_frame(alloc, any, choice)? {
+    match scene.behaviour.choice_frame(alloc, any, choice)? {
         None => Ok(Seen::NoChoice),
-        Some(chosen) => see_chosen(alloc, walk, candidate, chosen, working),
+        Some(chosen) => see_chosen(alloc, scene, candidate, chosen, working),
     }
 }
 
 /// Where the guard of a transition of an instance is evaluated.
-pub(crate) fn view_of<'v, 'c>(
-    walk: &'v Walk<'c>,
-    tokens: &'v Tokens<'v>,
+pub(crate) fn view_of<'v, 't>(
+    scene: &Scene<'v, 't>,
     instance: u32,
     working: &'v Working,
-) -> View<'v, 'c> {
+) -> View<'v, 't> {
     View {
         site: Site {
-            text: walk.behaviour.text(),
+            text: scene.behaviour.text(),
             instance,
             function: false,
             levels: MOST_LEVELS,
         },
-        limit: walk.limit,
+        limit: scene.limit,
         working,
-        tokens,
+        tokens: scene.tokens,
     }
 }

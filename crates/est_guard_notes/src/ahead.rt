@@ -1,12 +1,11 @@
 //! What goes before a firing that is offered.
 
 use crate::scan::{Sought, first_sought};
+use crate::scene::Scene;
 use est_choices::firing::Firing;
 use est_frames::rows::row_of;
 use est_frames::system::Working;
 use est_guards::candidate::Candidate;
-use est_lexer::tokens::Tokens;
-use est_moves::walk::Walk;
 use est_semantics::situation::Row;
 use est_wanted::note::append_note;
 use est_wanted::place::spot_of;
@@ -15,15 +14,14 @@ use std::alloc::{AllocError, Global};
 // Adds a note on a choice of an instance, at the block of its transition.
 fn append_firing(
     alloc: Global,
-    walk: &Walk,
-    tokens: &Tokens,
+    scene: &Scene,
     row: &Row,
     firing: &Firing,
     more: &str,
     notes: &mut String,
 ) -> Result<(), AllocError> {
     let number = firing.transition;
-    let Some(transition) = walk.behaviour.transition(row.body, number) else {
+    let Some(transition) = scene.behaviour.transition(row.body, number) else {
         return Ok(());
     };
     let instance = firing.instance;
@@ -31,7 +29,7 @@ fn append_firing(
     append_note(
         alloc,
         notes,
-        spot_of("specification", tokens, transition.block.place),
+        spot_of("specification", scene.tokens, transition.block.place),
         &text,
     )
 }
@@ -40,55 +38,52 @@ fn append_firing(
 // there is.
 fn append_beside(
     alloc: Global,
-    walk: &Walk,
-    tokens: &Tokens,
+    scene: &Scene,
     row: &Row,
     priority: Option<i32>,
     working: &mut Working,
     notes: &mut String,
 ) -> Result<bool, AllocError> {
     let sought = Sought::Before(priority);
-    let Some(firing) = first_sought(alloc, walk, row, sought, working)? else {
+    let Some(firing) = first_sought(alloc, scene, row, sought, working)? else {
         return Ok(false);
     };
     let more = " and has a higher priority";
-    append_firing(alloc, walk, tokens, row, &firing, more, notes)?;
+    append_firing(alloc, scene, row, &firing, more, notes)?;
     Ok(true)
 }
 
 // Adds a due choice of an instance above another one, if it has one, and answers whether it has.
 fn append_above(
     alloc: Global,
-    walk: &Walk,
-    tokens: &Tokens,
+    scene: &Scene,
     row: &Row,
     below: u32,
     working: &mut Working,
     notes: &mut String,
 ) -> Result<bool, AllocError> {
-    let Some(firing) = first_sought(alloc, walk, row, Sought::Due, working)? else {
+    let Some(firing) = first_sought(alloc, scene, row, Sought::Due, working)? else {
         return Ok(false);
     };
     let more = format!(in alloc; ", and its instance is above instance {below}")?;
-    append_firing(alloc, walk, tokens, row, &firing, &more, notes)?;
+    append_firing(alloc, scene, row, &firing, &more, notes)?;
     Ok(true)
 }
 
 // Adds a due choice of the nearest instance above this one that has one.
 fn append_parents(
     alloc: Global,
-    walk: &Walk,
-    tokens: &Tokens,
+    scene: &Scene,
     child: &Row,
     working: &mut Working,
     notes: &mut String,
 ) -> Result<(), AllocError> {
     let mut parent = child.parent;
-    for _ in 0..walk.system.rows.get().len() {
-        let Some(row) = row_of(&walk.system, parent) else {
+    for _ in 0..scene.system.rows.get().len() {
+        let Some(row) = row_of(scene.system, parent) else {
             return Ok(());
         };
-        if append_above(alloc, walk, tokens, row, child.number, working, notes)? {
+        if append_above(alloc, scene, row, child.number, working, notes)? {
             return Ok(());
         }
         parent = row.parent;
@@ -99,18 +94,17 @@ fn append_parents(
 /// Adds the due choice that goes before those of a transition, if there is one.
 pub(crate) fn append_ahead(
     alloc: Global,
-    walk: &Walk,
-    tokens: &Tokens,
+    scene: &Scene,
     candidate: &Candidate,
     working: &mut Working,
     notes: &mut String,
 ) -> Result<(), AllocError> {
-    let Some(row) = row_of(&walk.system, candidate.instance) else {
+    let Some(row) = row_of(scene.system, candidate.instance) else {
         return Ok(());
     };
     let priority = candidate.transition.priority;
-    if append_beside(alloc, walk, tokens, row, priority, working, notes)? {
+    if append_beside(alloc, scene, row, priority, working, notes)? {
         return Ok(());
     }
-    append_parents(alloc, walk, tokens, row, working, notes)
+    append_parents(alloc, scene, row, working, notes)
 }

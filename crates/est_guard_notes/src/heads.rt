@@ -1,12 +1,11 @@
 //! What waits first in queues.
 
-use crate::firing::push_name;
-use est_choices::firing::Firing;
+use crate::names::push_name;
+use crate::scene::Scene;
 use est_frames::system::Waiting;
+use est_guards::candidate::Candidate;
 use est_lexer::tokens::Tokens;
-use est_moves::walk::Walk;
 use est_semantics::situation::Item;
-use est_transitions::written::Written;
 use est_wanted::note::append_note;
 use est_wanted::place::spot_of;
 use std::alloc::{AllocError, Global};
@@ -59,15 +58,14 @@ fn push_heads(
 /// instance.
 pub(crate) fn append_heads(
     alloc: Global,
-    walk: &Walk,
-    tokens: &Tokens,
-    firing: &Firing,
-    transition: &Written,
+    scene: &Scene,
+    candidate: &Candidate,
     notes: &mut String,
 ) -> Result<(), AllocError> {
-    let Some(awaits) = transition.awaits else {
+    let Some(awaits) = candidate.transition.awaits else {
         return Ok(());
     };
+    let tokens = scene.tokens;
     let mut text = String::from_str(alloc, "it awaits")?;
     push_interaction(
         alloc,
@@ -78,8 +76,8 @@ pub(crate) fn append_heads(
     )?;
     text.push_str(", and first in the queues of its instance:")?;
     let before = text.len();
-    let queues = walk.system.queues.get().as_slice();
-    push_heads(alloc, &mut text, tokens, firing.instance, queues)?;
+    let queues = scene.system.queues.get().as_slice();
+    push_heads(alloc, &mut text, tokens, candidate.instance, queues)?;
     if text.len() == before {
         text.push_str(" nothing")?;
     }

@@ -1,11 +1,11 @@
 //! Transitions of which some choice is looked for.
 
+use crate::scene::Scene;
 use est_choices::firing::Firing;
 use est_frames::system::Working;
 use est_guards::candidate::Candidate;
 use est_guards::judging::judge;
 use est_guards::verdict::Verdict;
-use est_moves::walk::Walk;
 use est_semantics::situation::Row;
 use std::alloc::{AllocError, Global};
 
@@ -39,18 +39,18 @@ fn is_sought(sought: Sought, verdict: Verdict, priority: Option<i32>) -> bool {
 // The number of the first choice of a transition that is looked for.
 fn choice_sought(
     alloc: Global,
-    walk: &Walk,
+    scene: &Scene,
     candidate: &Candidate,
     sought: Sought,
     working: &mut Working,
 ) -> Result<Option<u32>, AllocError> {
     let transition = candidate.transition;
     for choice in 1..u32::MAX {
-        let Some(chosen) = walk.behaviour.choice_frame(alloc, transition.any, choice)? else {
+        let Some(chosen) = scene.behaviour.choice_frame(alloc, transition.any, choice)? else {
             return Ok(None);
         };
-        let text = walk.behaviour.text();
-        let verdict = judge(alloc, text, walk.limit, candidate, chosen, working)?;
+        let text = scene.behaviour.text();
+        let verdict = judge(alloc, text, scene.limit, candidate, chosen, working)?;
         if is_sought(sought, verdict, transition.priority) {
             return Ok(Some(choice));
         }
@@ -61,13 +61,13 @@ fn choice_sought(
 // The first choice that is looked for of the transition of a number.
 fn firing_sought(
     alloc: Global,
-    walk: &Walk,
+    scene: &Scene,
     row: &Row,
     number: u32,
     sought: Sought,
     working: &mut Working,
 ) -> Result<Option<Firing>, AllocError> {
-    let Some(transition) = walk.behaviour.transition(row.body, number) else {
+    let Some(transition) = scene.behaviour.transition(row.body, number) else {
         return Ok(None);
     };
     let candidate = Candidate {
@@ -76,7 +76,7 @@ fn firing_sought(
         number,
         transition,
     };
-    match choice_sought(alloc, walk, &candidate, sought, working)? {
+    match choice_sought(alloc, scene, &candidate, sought, working)? {
         None => Ok(None),
         Some(choice) => Ok(Some(Firing {
             instance: row.number,
@@ -89,17 +89,17 @@ fn firing_sought(
 /// The first choice of an instance that is looked for.
 pub(crate) fn first_sought(
     alloc: Global,
-    walk: &Walk,
+    scene: &Scene,
     row: &Row,
     sought: Sought,
     working: &mut Working,
 ) -> Result<Option<Firing>, AllocError> {
     let mut after: u32 = 0;
     for _ in 0..u32::MAX {
-        let Some(number) = walk.behaviour.next_fitting(row.body, row.state, after) else {
+        let Some(number) = scene.behaviour.next_fitting(row.body, row.state, after) else {
             return Ok(None);
         };
-        if let Some(firing) = firing_sought(alloc, walk, row, number, sought, working)? {
+        if let Some(firing) = firing_sought(alloc, scene, row, number, sought, working)? {
             return Ok(Some(firing));
         }
         after = number;

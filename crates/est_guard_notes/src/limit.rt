@@ -2,12 +2,11 @@
 
 use crate::passing::passing_place;
 use crate::scan::{Sought, first_sought};
+use crate::scene::Scene;
 use crate::seen::{Seen, see, view_of, working_of};
 use est_choices::firing::Firing;
 use est_frames::system::Working;
 use est_guards::candidate::Candidate;
-use est_lexer::tokens::Tokens;
-use est_moves::walk::Walk;
 use est_semantics::situation::Row;
 use est_transitions::written::Written;
 use est_wanted::note::append_note;
@@ -17,16 +16,15 @@ use std::alloc::{AllocError, Global};
 // The place of what passes the limit in the guard of a choice, or of the block of its transition.
 fn guard_place(
     alloc: Global,
-    walk: &Walk,
-    tokens: &Tokens,
+    scene: &Scene,
     candidate: &Candidate,
     choice: u32,
     working: &mut Working,
 ) -> Result<u32, AllocError> {
     let block = candidate.transition.block.place;
-    match see(alloc, walk, candidate, choice, working)? {
+    match see(alloc, scene, candidate, choice, working)? {
         Seen::Holds => {
-            let view = view_of(walk, tokens, candidate.instance, working);
+            let view = view_of(scene, candidate.instance, working);
             let place = passing_place(alloc, &view, candidate.transition)?;
             Ok(place.unwrap_or(block))
         }
@@ -37,15 +35,14 @@ fn guard_place(
 // Adds the guard of a choice of an instance, which passes the limit.
 fn append_guard_of(
     alloc: Global,
-    walk: &Walk,
-    tokens: &Tokens,
+    scene: &Scene,
     row: &Row,
     firing: &Firing,
     working: &mut Working,
     notes: &mut String,
 ) -> Result<(), AllocError> {
     let number = firing.transition;
-    let Some(transition) = walk.behaviour.transition(row.body, number) else {
+    let Some(transition) = scene.behaviour.transition(row.body, number) else {
         return Ok(());
     };
     let instance = row.number;
@@ -55,47 +52,59 @@ fn append_guard_of(
         number,
         transition,
     };
-    let place = guard_place(alloc, walk, tokens, &candidate, firing.choice, working)?;
+    let place = guard_place(alloc, scene, &candidate, firing.choice, working)?;
     let text = format!(in alloc;
         "the guard of transition {number} of instance {instance} passes the limit of statements"
     )?;
-    append_note(alloc, notes, spot_of("specification", tokens, place), &text)
+    let spot = spot_of("specification", scene.tokens, place);
+    append_note(alloc, notes, spot, &text)
 }
 
 // Adds the first guard that passes the limit, if one does, and answers whether that is so.
 fn append_guards(
     alloc: Global,
-    walk: &Walk,
-    tokens: &Tokens,
+    scene: &Scene,
     working: &mut Working,
     notes: &mut String,
 ) -> Result<bool, AllocError> {
-    for row in walk.system.rows.get().as_slice() {
+    for row in scene.system.rows.get().as_slice() {
         let row = row.get();
-        if let Some(firing) = first_sought(alloc, walk, row, Sought::Passing, working)? {
-            append_guard_of(alloc, walk, tokens, row, &firing, working, notes)?;
+        if let Some(firing) = first_sought(alloc, scene, row, Sought::Passing, working)? {
+            append_guard_of(alloc, scene, row, &firing, working, notes)?;
             return Ok(true);
         }
     }
     Ok(false)
 }
 
-/// Adds what passes the limit where this transition is to fire: a guard, or its block.
-pub(crate) fn append_limit(
+// Adds the guard that passes the limit, or that the block of this transition does.
+fn append_passing(
     alloc: Global,
-    walk: &Walk,
-    tokens: &Tokens,
+    scene: &Scene,
     transition: &Written,
+    working: &mut Working,
     notes: &mut String,
 ) -> Result<(), AllocError> {
-    let mut working = working_of(alloc, walk)?;
-    if append_guards(alloc, walk, tokens, &mut working, notes)? {
+    if append_guards(alloc, scene, working, notes)? {
         return Ok(());
     }
     append_note(
         alloc,
         notes,
-        spot_of("specification", tokens, transition.block.place),
+        spot_of("specification", scene.tokens, transition.block.place),
         "its block passes the limit of statements",
     )
+}
+
+/// Adds what passes the limit where this transition is to fire: a guard, or its block.
+pub fn append_limit(
+    alloc: Global,
+    scene: &Scene,
+    transition: &Written,
+    notes: &mut String,
+) -> Result<(), AllocError> {
+    let mut working = working_of(alloc, scene)?;
+    let done = append_passing(alloc, scene, transition, &mut working, notes);
+    drop(working);
+    done
 }

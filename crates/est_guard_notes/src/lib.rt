@@ -1,0 +1,16 @@
+//! What a person is told of the guard of a choice in the situation before it: what it awaits, which
+//! part of it fails or passes the limit of statements, and what goes before it.
+#![tactic(auto)]
+
+mod ahead;
+pub mod cause;
+mod guard;
+mod heads;
+pub mod limit;
+mod names;
+mod parts;
+mod passing;
+mod scan;
+pub mod scene;
+mod seen;
+pub mod states;
