@@ -1,13 +1,44 @@
 //! Why a choice is not possible.
 
 use crate::ahead::append_ahead;
+use crate::awaited::append_subscripts;
 use crate::guard::append_guard;
 use crate::heads::append_heads;
 use crate::scene::Scene;
-use crate::seen::{Seen, see, view_of, working_of};
+use crate::seen::{choose, see, view_of, working_of};
 use est_frames::system::Working;
 use est_guards::candidate::Candidate;
 use std::alloc::{AllocError, Global};
+
+// Adds what is awaited, if something is, and what waits.
+fn append_awaited(
+    alloc: Global,
+    scene: &Scene,
+    candidate: &Candidate,
+    working: &Working,
+    notes: &mut String,
+) -> Result<(), AllocError> {
+    let view = view_of(scene, candidate.instance, working);
+    match candidate.transition.awaits {
+        None => Ok(()),
+        Some(awaits) => append_heads(alloc, &view, &awaits, notes),
+    }
+}
+
+// Adds which subscript of what is awaited has no value, if one has none.
+fn append_unseen(
+    alloc: Global,
+    scene: &Scene,
+    candidate: &Candidate,
+    working: &Working,
+    notes: &mut String,
+) -> Result<(), AllocError> {
+    let view = view_of(scene, candidate.instance, working);
+    match candidate.transition.awaits {
+        None => Ok(()),
+        Some(awaits) => append_subscripts(alloc, &view, &awaits, notes),
+    }
+}
 
 // Adds what the guard of a choice says whose `from` and `when` hold, and answers whether it fails.
 fn append_failing(
@@ -21,21 +52,26 @@ fn append_failing(
     append_guard(alloc, &view, candidate.number, candidate.transition, notes)
 }
 
-// Adds what keeps a choice from firing, where its `from` and `when` hold.
-fn append_seen(
+// Adds the first of what keeps a choice from firing, beside a state or an interaction that is not
+// there.
+fn append_first(
     alloc: Global,
     scene: &Scene,
     candidate: &Candidate,
+    choice: u32,
     working: &mut Working,
     notes: &mut String,
 ) -> Result<(), AllocError> {
+    if !see(alloc, scene, candidate, choice, working)? {
+        return append_unseen(alloc, scene, candidate, working, notes);
+    }
     if append_failing(alloc, scene, candidate, working, notes)? {
         return Ok(());
     }
     append_ahead(alloc, scene, candidate, working, notes)
 }
 
-// The same of the choice of a number, and answers whether there is one.
+// The same with what is awaited, and answers whether there is such a choice.
 fn append_choice(
     alloc: Global,
     scene: &Scene,
@@ -44,19 +80,17 @@ fn append_choice(
     working: &mut Working,
     notes: &mut String,
 ) -> Result<bool, AllocError> {
-    match see(alloc, scene, candidate, choice, working)? {
-        Seen::NoChoice => Ok(false),
-        Seen::Fails => Ok(true),
-        Seen::Holds => {
-            append_seen(alloc, scene, candidate, working, notes)?;
-            Ok(true)
-        }
+    let found = choose(alloc, scene, candidate, choice, working)?;
+    append_awaited(alloc, scene, candidate, working, notes)?;
+    if found {
+        append_first(alloc, scene, candidate, choice, working, notes)?;
     }
+    Ok(found)
 }
 
-/// Adds what the choice of a number awaits, and the first of what keeps it from firing where its
-/// `from` and `when` hold: its condition, its delay, or what goes before it. Answers whether there
-/// is a choice of this number.
+/// Adds what the choice of a number awaits and what waits, and the first of what keeps it from
+/// firing: a subscript without a value, its condition, its delay, or what goes before it. Answers
+/// whether there is a choice of this number.
 pub fn append_cause(
     alloc: Global,
     scene: &Scene,
@@ -64,7 +98,6 @@ pub fn append_cause(
     choice: u32,
     notes: &mut String,
 ) -> Result<bool, AllocError> {
-    append_heads(alloc, scene, candidate, notes)?;
     let mut working = working_of(alloc, scene)?;
     let found = append_choice(alloc, scene, candidate, choice, &mut working, notes);
     drop(working);

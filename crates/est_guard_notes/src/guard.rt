@@ -1,6 +1,6 @@
 //! Conditions and delays that keep a transition from being offered.
 
-use crate::parts::{Came, View, append_came, evaluated, holds};
+use crate::parts::{Came, View, append_came, append_unvalued, evaluated, holds};
 use est_frames::system::{Stamp, System};
 use est_syntax::expression::Expr;
 use est_syntax::transition::Most;
@@ -8,6 +8,9 @@ use est_transitions::written::{Bounds, Provision, Written};
 use est_wanted::note::append_note;
 use est_wanted::place::spot_of;
 use std::alloc::{AllocError, Global};
+
+// What a bound of a delay is called.
+const BOUND: &str = "a bound of its delay";
 
 // Adds why the condition of a transition does not hold, if that is so, and answers whether it is.
 fn append_unmet(
@@ -107,23 +110,6 @@ fn append_early(
     Ok(true)
 }
 
-// Adds that a bound of a delay has no value, if that is so, and answers whether it is.
-fn append_unvalued(
-    alloc: Global,
-    view: &View,
-    part: &Expr,
-    came: Came,
-    notes: &mut String,
-) -> Result<bool, AllocError> {
-    match came {
-        Came::Ordinal(_) => Ok(false),
-        _ => {
-            append_came(alloc, view, part, "a bound of its delay", came, notes)?;
-            Ok(true)
-        }
-    }
-}
-
 // Adds that the later bound of a delay has no value, if that is so, and answers whether it is.
 fn append_most(
     alloc: Global,
@@ -134,7 +120,7 @@ fn append_most(
     match most {
         Most::Value(part) => {
             let came = evaluated(alloc, view, part.get())?;
-            append_unvalued(alloc, view, part.get(), came, notes)
+            append_unvalued(alloc, view, part.get(), BOUND, came, notes)
         }
         _ => Ok(false),
     }
@@ -150,7 +136,7 @@ fn append_delay(
     notes: &mut String,
 ) -> Result<bool, AllocError> {
     let least = evaluated(alloc, view, bounds.least)?;
-    if append_unvalued(alloc, view, bounds.least, least, notes)? {
+    if append_unvalued(alloc, view, bounds.least, BOUND, least, notes)? {
         return Ok(true);
     }
     if append_most(alloc, view, bounds.most, notes)? {

@@ -1,90 +1,67 @@
-//! What waits first in queues.
+//! What is awaited, and what waits first in queues.
 
-use crate::names::push_name;
-use crate::scene::Scene;
-use est_frames::system::Waiting;
-use est_guards::candidate::Candidate;
-use est_lexer::tokens::Tokens;
+use crate::names::name_at;
+use crate::parts::View;
+use crate::points::{push_access, push_point};
 use est_semantics::situation::Item;
-use est_wanted::note::append_note;
+use est_transitions::written::Awaits;
+use est_wanted::note::{append_note, printed};
 use est_wanted::place::spot_of;
 use std::alloc::{AllocError, Global};
 
-// Adds an interaction and its interaction point by the places of their names.
-fn push_interaction(
-    alloc: Global,
-    text: &mut String,
-    tokens: &Tokens,
-    point: u32,
-    signal: u32,
-) -> Result<(), AllocError> {
-    text.push_str(" ")?;
-    push_name(alloc, text, tokens, point)?;
-    text.push_str(".")?;
-    push_name(alloc, text, tokens, signal)
+// Adds an interaction with its interaction point.
+fn push_item(view: &View, text: &mut Vec<u8>, item: &Item) -> Result<(), AllocError> {
+    text.extend_from_slice(b" ")?;
+    push_point(view, text, &item.at)?;
+    text.extend_from_slice(b".")?;
+    text.extend_from_slice(name_at(view.tokens, item.signal))
 }
 
-// Adds an interaction, if it waits at this instance.
-fn push_head(
-    alloc: Global,
-    text: &mut String,
-    tokens: &Tokens,
-    instance: u32,
-    head: Option<&Item>,
-) -> Result<(), AllocError> {
+// Adds an interaction, if it waits at the instance.
+fn push_head(view: &View, text: &mut Vec<u8>, head: Option<&Item>) -> Result<(), AllocError> {
     match head {
-        Some(item) if item.at.instance == instance => {
-            push_interaction(alloc, text, tokens, item.at.declared, item.signal)
-        }
+        Some(item) if item.at.instance == view.site.instance => push_item(view, text, item),
         _ => Ok(()),
     }
 }
 
-// Adds what waits first in each queue of an instance.
-fn push_heads(
-    alloc: Global,
-    text: &mut String,
-    tokens: &Tokens,
-    instance: u32,
-    queues: &[Waiting],
-) -> Result<(), AllocError> {
-    for waiting in queues {
-        push_head(alloc, text, tokens, instance, waiting.items.head())?;
+// Adds what waits first in each queue of the instance.
+fn push_heads(view: &View, text: &mut Vec<u8>) -> Result<(), AllocError> {
+    text.extend_from_slice(b", and first in the queues of its instance:")?;
+    let before = text.len();
+    for waiting in view.working.system.queues.get().as_slice() {
+        push_head(view, text, waiting.items.head())?;
+    }
+    if text.len() == before {
+        text.extend_from_slice(b" nothing")?;
     }
     Ok(())
 }
 
-/// Adds what a transition awaits, if it awaits something, and what waits first in the queues of its
-/// instance.
+// Adds what is awaited.
+fn push_awaited(
+    alloc: Global,
+    view: &View,
+    text: &mut Vec<u8>,
+    awaits: &Awaits,
+) -> Result<(), AllocError> {
+    text.extend_from_slice(b"it awaits ")?;
+    push_access(alloc, view, text, awaits.at)?;
+    text.extend_from_slice(b".")?;
+    text.extend_from_slice(name_at(view.tokens, awaits.signal.place))
+}
+
+/// Adds what is awaited, and what waits first in the queues of the instance.
 pub(crate) fn append_heads(
     alloc: Global,
-    scene: &Scene,
-    candidate: &Candidate,
+    view: &View,
+    awaits: &Awaits,
     notes: &mut String,
 ) -> Result<(), AllocError> {
-    let Some(awaits) = candidate.transition.awaits else {
-        return Ok(());
-    };
-    let tokens = scene.tokens;
-    let mut text = String::from_str(alloc, "it awaits")?;
-    push_interaction(
-        alloc,
-        &mut text,
-        tokens,
-        awaits.at.name.place,
-        awaits.signal.place,
-    )?;
-    text.push_str(", and first in the queues of its instance:")?;
-    let before = text.len();
-    let queues = scene.system.queues.get().as_slice();
-    push_heads(alloc, &mut text, tokens, candidate.instance, queues)?;
-    if text.len() == before {
-        text.push_str(" nothing")?;
-    }
-    append_note(
-        alloc,
-        notes,
-        spot_of("specification", tokens, awaits.signal.place),
-        &text,
-    )
+    let mut text = Vec::new(alloc);
+    push_awaited(alloc, view, &mut text, awaits)?;
+    push_heads(view, &mut text)?;
+    let text = printed(alloc, &text)?;
+    let spot = spot_of("specification", view.tokens, awaits.signal.place);
+    append_note(alloc, notes, spot, &text)
 }

@@ -3,6 +3,7 @@
 #![tactic(auto)]
 
 mod ahead;
+mod awaited;
 pub mod cause;
 mod guard;
 mod heads;
@@ -10,6 +11,7 @@ pub mod limit;
 mod names;
 mod parts;
 mod passing;
+mod points;
 mod scan;
 pub mod scene;
 mod seen;

@@ -1,9 +1,9 @@
 //! What passes the limit of statements.
 
-use crate::passing::passing_place;
+use crate::passing::{passing_place, passing_subscript};
 use crate::scan::{Sought, first_sought};
 use crate::scene::Scene;
-use crate::seen::{Seen, see, view_of, working_of};
+use crate::seen::{see, view_of, working_of};
 use est_choices::firing::Firing;
 use est_frames::system::Working;
 use est_guards::candidate::Candidate;
@@ -21,15 +21,15 @@ fn guard_place(
     choice: u32,
     working: &mut Working,
 ) -> Result<u32, AllocError> {
-    let block = candidate.transition.block.place;
-    match see(alloc, scene, candidate, choice, working)? {
-        Seen::Holds => {
-            let view = view_of(scene, candidate.instance, working);
-            let place = passing_place(alloc, &view, candidate.transition)?;
-            Ok(place.unwrap_or(block))
-        }
-        _ => Ok(block),
-    }
+    let transition = candidate.transition;
+    let seen = see(alloc, scene, candidate, choice, working)?;
+    let view = view_of(scene, candidate.instance, working);
+    let place = if seen {
+        passing_place(alloc, &view, transition)?
+    } else {
+        passing_subscript(alloc, &view, transition)?
+    };
+    Ok(place.unwrap_or(transition.block.place))
 }
 
 // Adds the guard of a choice of an instance, which passes the limit.

@@ -1,19 +1,12 @@
 //! Names as they stand in the text.
 
 use est_lexer::tokens::Tokens;
-use est_wanted::note::printed;
-use std::alloc::{AllocError, Global};
 
-/// Adds the name that stands at a place.
-pub(crate) fn push_name(
-    alloc: Global,
-    text: &mut String,
-    tokens: &Tokens,
-    place: u32,
-) -> Result<(), AllocError> {
-    if place >= tokens.count() {
-        return Ok(());
+/// The name that stands at a place.
+pub(crate) fn name_at<'t>(tokens: &'t Tokens, place: u32) -> &'t [u8] {
+    if place < tokens.count() {
+        tokens.spelled(place)
+    } else {
+        &[]
     }
-    let name = printed(alloc, tokens.spelled(place))?;
-    text.push_str(&name)
 }

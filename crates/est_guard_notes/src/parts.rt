@@ -6,10 +6,12 @@ use est_frames::system::Working;
 use est_items::Twin;
 use est_lexer::tokens::Tokens;
 use est_operators::ordinals::is_true;
+use est_operators::taking::within_kind;
 use est_operators::values::ordinal;
 use est_semantics::fault::BlockFault;
 use est_semantics::stop::Stop;
 use est_syntax::expression::Expr;
+use est_syntax::kind::Kind;
 use est_values::value::Value;
 use est_wanted::note::append_note;
 use est_wanted::place::spot_of;
@@ -32,16 +34,21 @@ pub(crate) struct View<'v, 't> {
     pub tokens: &'v Tokens<'v>,
 }
 
+// What comes of an ordinal or its fault.
+fn came_by(number: Result<i32, BlockFault>) -> Came {
+    match number {
+        Ok(number) => Came::Ordinal(number),
+        Err(fault) => Came::Fault(fault),
+    }
+}
+
 // What comes of a value. Errs where memory ran out.
 fn came_of(value: Result<Value, Stop>) -> Result<Came, AllocError> {
     match value {
         Ok(value) => {
             let number = ordinal(&value);
             drop(value);
-            Ok(match number {
-                Ok(number) => Came::Ordinal(number),
-                Err(fault) => Came::Fault(fault),
-            })
+            Ok(came_by(number))
         }
         Err(Stop::Fault(fault)) => Ok(Came::Fault(fault)),
         Err(Stop::Limit) => Ok(Came::Limit),
@@ -56,6 +63,14 @@ pub(crate) fn evaluated(alloc: Global, view: &View, part: &Expr) -> Result<Came,
     let value = value_of(alloc, &view.site, part, &mut working, &mut left);
     drop(working);
     came_of(value)
+}
+
+/// What comes of a part whose ordinal has to be one of a kind.
+pub(crate) fn within(kind: &Kind, came: Came) -> Came {
+    match came {
+        Came::Ordinal(number) => came_by(within_kind(kind, number)),
+        _ => came,
+    }
 }
 
 /// Whether a condition of which this comes holds.
@@ -104,4 +119,23 @@ pub(crate) fn append_came(
         spot_of("specification", view.tokens, part.place),
         &text,
     )
+}
+
+/// Adds that a part of a guard has no value of which this comes, if that is so, and answers whether
+/// it is.
+pub(crate) fn append_unvalued(
+    alloc: Global,
+    view: &View,
+    part: &Expr,
+    subject: &str,
+    came: Came,
+    notes: &mut String,
+) -> Result<bool, AllocError> {
+    match came {
+        Came::Ordinal(_) => Ok(false),
+        _ => {
+            append_came(alloc, view, part, subject, came, notes)?;
+            Ok(true)
+        }
+    }
 }

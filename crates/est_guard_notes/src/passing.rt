@@ -62,3 +62,21 @@ pub(crate) fn passing_place(
         Some(bounds) => place_of_bound(alloc, view, &bounds),
     }
 }
+
+/// The place of the first subscript of what a transition awaits that passes the limit, if one does.
+pub(crate) fn passing_subscript(
+    alloc: Global,
+    view: &View,
+    transition: &Written,
+) -> Result<Option<u32>, AllocError> {
+    let Some(awaits) = transition.awaits else {
+        return Ok(None);
+    };
+    let index = awaits.at.index.as_slice();
+    for i in 0..index.len() {
+        if let Some(place) = place_in(alloc, view, &index[i])? {
+            return Ok(Some(place));
+        }
+    }
+    Ok(None)
+}

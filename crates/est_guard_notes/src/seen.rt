@@ -13,15 +13,6 @@ use std::alloc::{AllocError, Global};
 // How many levels calls may open within one another.
 const MOST_LEVELS: u32 = 32;
 
-/// What is known of a choice: that there is none of its number, that its `from` or its `when`
-/// fails, or that both hold.
-#[derive(Clone, Copy)]
-pub(crate) enum Seen {
-    NoChoice,
-    Fails,
-    Holds,
-}
-
 /// A system as guards are evaluated in it.
 pub(crate) fn working_of(alloc: Global, scene: &Scene) -> Result<Working, AllocError> {
     let system = scene.system.twin(alloc)?;
@@ -32,33 +23,51 @@ pub(crate) fn working_of(alloc: Global, scene: &Scene) -> Result<Working, AllocE
     })
 }
 
-// What is known of a choice with these values of its `any` variables.
+/// Adds the frame of the choice of a number, if there is one, and answers whether there is.
+pub(crate) fn choose(
+    alloc: Global,
+    scene: &Scene,
+    candidate: &Candidate,
+    choice: u32,
+    working: &mut Working,
+) -> Result<bool, AllocError> {
+    let any = candidate.transition.any;
+    match scene.behaviour.choice_frame(alloc, any, choice)? {
+        None => Ok(false),
+        Some(chosen) => {
+            working.frames.push(chosen)?;
+            Ok(true)
+        }
+    }
+}
+
+// Whether the `from` and the `when` of a choice with these values of its `any` variables hold.
 fn see_chosen(
     alloc: Global,
     scene: &Scene,
     candidate: &Candidate,
     chosen: Frame,
     working: &mut Working,
-) -> Result<Seen, AllocError> {
+) -> Result<bool, AllocError> {
     let text = scene.behaviour.text();
     let sight = look(alloc, text, scene.limit, candidate, chosen, working)?;
     let holds = sight.holds;
     drop(sight);
-    Ok(if holds { Seen::Holds } else { Seen::Fails })
+    Ok(holds)
 }
 
-/// What is known of the choice of a number. Where its `from` and `when` hold, the frames are then
-/// those of its guard.
+/// Whether the `from` and the `when` of the choice of a number hold. Where they do, the frames are
+/// then those of its guard.
 pub(crate) fn see(
     alloc: Global,
     scene: &Scene,
     candidate: &Candidate,
     choice: u32,
     working: &mut Working,
-) -> Result<Seen, AllocError> {
+) -> Result<bool, AllocError> {
     let any = candidate.transition.any;
     match scene.behaviour.choice_frame(alloc, any, choice)? {
-        None => Ok(Seen::NoChoice),
+        None => Ok(false),
         Some(chosen) => see_chosen(alloc, scene, candidate, chosen, working),
     }
 }

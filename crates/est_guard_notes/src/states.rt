@@ -1,13 +1,24 @@
 //! The states of instances and of transitions.
 
-use crate::names::push_name;
+use crate::names::name_at;
 use crate::scene::Scene;
 use est_guards::candidate::Candidate;
 use est_lexer::tokens::Tokens;
 use est_transitions::written::Written;
-use est_wanted::note::append_note;
+use est_wanted::note::{append_note, printed};
 use est_wanted::place::spot_of;
 use std::alloc::{AllocError, Global};
+
+// Adds the name that stands at a place.
+fn push_name(
+    alloc: Global,
+    text: &mut String,
+    tokens: &Tokens,
+    place: u32,
+) -> Result<(), AllocError> {
+    let name = printed(alloc, name_at(tokens, place))?;
+    text.push_str(&name)
+}
 
 // Adds the state of an instance.
 fn push_state(
