@@ -44,7 +44,11 @@ pub fn append_rejected(
     notes: &mut String,
 ) -> Result<(), AllocError> {
     match read_trace(alloc, checked, texts.trace) {
-        Ok(trace) => append_along(alloc, checked, texts, &trace, limits, notes),
+        Ok(trace) => {
+            let done = append_along(alloc, checked, texts, &trace, limits, notes);
+            drop(trace);
+            done
+        }
         Err(TraceError::Memory(error)) => Err(error),
         Err(_) => Ok(()),
     }
@@ -62,7 +66,11 @@ fn append_along(
     requires { IsAllowedTrace checked.now trace.now }
 {
     match read_explanation(alloc, texts.explanation) {
-        Ok(found) => append_replayed(alloc, checked, texts, trace, &found, limits, notes),
+        Ok(found) => {
+            let done = append_replayed(alloc, checked, texts, trace, &found, limits, notes);
+            drop(found);
+            done
+        }
         Err(ExplanationError::Memory(error)) => Err(error),
         Err(_) => Ok(()),
     }
