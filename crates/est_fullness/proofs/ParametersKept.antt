@@ -99,7 +99,7 @@ other_names None rs region r name s h =
 other_names (Some names) rs region r name s h =
     set_apart region (names ++ (name, s) ∷ []) r rs h
 
-own_names : (x : Option Region) (rs : List (ℕ × Region)) (region : ℕ) (name : List ℕ)
+pub own_names : (x : Option Region) (rs : List (ℕ × Region)) (region : ℕ) (name : List ℕ)
     (s : Standing) → lookup (nat_eq region) rs ≡ x
     → lookup (nat_eq region) (named_in x rs region name s)
     ≡ Some (unwrap_or x [] ++ (name, s) ∷ [])

@@ -211,7 +211,7 @@ module _ {B : ℕ → Type 0} (i j : ℕ) (o p : Outline) (l : i ≤ j)
   lead_on k =
       leading_later i j j j p l (omega arith) (keeps (leading_later i i i j o (omega arith) l k))
 
-statements_lead : {B : ℕ → Type 0} (w : Within) (ss : List Statement) (o : Outline) (i j : ℕ)
+pub statements_lead : {B : ℕ → Type 0} (w : Within) (ss : List Statement) (o : Outline) (i j : ℕ)
     → InOrder StatementPlaced i j ss → IsOpen B i w → Leading B i i o
     → Leading B j j (statements_declare w ss o)
 statements_lead {B} w ss o i j h is =
@@ -219,8 +219,8 @@ statements_lead {B} w ss o i j h is =
     (statements_keep B i j w ss o i j h (omega arith) (omega arith) (fits B i j w is))
 
 -- clauses
-clause_leads : {B : ℕ → Type 0} (w : Within) (c : Clause) (gs : List Given) (o : Outline) (i j : ℕ)
-    → ClausePlaced i j c → Leading B i i o → Leading B j j (clause_declares w c (gs, o)).1
+pub clause_leads : {B : ℕ → Type 0} (w : Within) (c : Clause) (gs : List Given) (o : Outline)
+    (i j : ℕ) → ClausePlaced i j c → Leading B i i o → Leading B j j (clause_declares w c (gs, o)).1
 clause_leads w (clauses.From states place) gs o i j h k =
     let e = clause_on i j (clauses.From states place) h in
     lying_keeps j j o (under w (dropped kind.From gs)) place (leading_later i i j j o e e k)
@@ -252,14 +252,14 @@ clause_leads w (clauses.Delay least most place) gs o i j h k =
     let e = clause_on i j (clauses.Delay least most place) h in
     lying_keeps j j o (under w (dropped kind.Delay gs)) place (leading_later i i j j o e e k)
 
-clauses_lead : {B : ℕ → Type 0} (w : Within) (cs : List Clause) (s : Clausal) (i j : ℕ)
+pub clauses_lead : {B : ℕ → Type 0} (w : Within) (cs : List Clause) (s : Clausal) (i j : ℕ)
     → InOrder ClausePlaced i j cs → Leading B i i s.1 → Leading B j j (clauses_declare w cs s).1
 clauses_lead w [] s i j h k = leading_later i i j j s.1 h h k
 clauses_lead w (c ∷ cs) s i j h k =
     clauses_lead w cs (clause_declares w c s) h.0 j h.2 (clause_leads w c s.0 s.1 i h.0 h.1 k)
 
 -- bodies and routines
-named_leads : {B : ℕ → Type 0} (w : Within) (name header : Used) (o : Outline) (i : ℕ)
+pub named_leads : {B : ℕ → Type 0} (w : Within) (name header : Used) (o : Outline) (i : ℕ)
     → i ≤ name.place
     → IsOpen B i w → Leading B i i o
     → Leading B (suc name.place) (suc name.place) (header_given name header (body_named w name o))
@@ -291,7 +291,7 @@ to_leads w (Some u) o i j h k =
     let e = name_on i j (Some u) h in
     lying_keeps j j o w u.place (leading_later i i j j o e e k)
 
-closed_leads : {B : ℕ → Type 0} (x : Part) (o : Outline) (j : ℕ) → Leading B j j o
+pub closed_leads : {B : ℕ → Type 0} (x : Part) (o : Outline) (j : ℕ) → Leading B j j o
     → Leading B j j (closed_by x o)
 unfolding out-Part denote.Hole.Carrier.out
 closed_leads (part.Routine' name formals result x parts statements place) o j k =
@@ -299,8 +299,9 @@ closed_leads (part.Routine' name formals result x parts statements place) o j k 
 closed_leads _ o j k = k
 
 mutual
-  part_leads : {B : ℕ → Type 0} (w : Within) (x : Part) (o : Outline) (i j : ℕ) → PartPlaced i j x
-      → IsOpen B i w → PartApart B x → Leading B i i o → Leading B j j (part_declares w x o)
+  pub part_leads : {B : ℕ → Type 0} (w : Within) (x : Part) (o : Outline) (i j : ℕ)
+      → PartPlaced i j x → IsOpen B i w → PartApart B x → Leading B i i o
+      → Leading B j j (part_declares w x o)
   part_leads {B} w (part.Consts cs) o i j h is out k =
       lead_on i j o (part_declares w (part.Consts cs) o) (part_on i j (part.Consts cs) h)
       (consts_keep B i j w cs o i j h (omega arith) (omega arith) (fits B i j w is)) k
@@ -355,7 +356,7 @@ mutual
       statements_lead v statements (row_parts v parts o3) place j h.8 (inl (omega arith), refl)
       (leading_later h.2 h.2 place place (row_parts v parts o3) q q k3)
 
-  parts_lead : {B : ℕ → Type 0} (w : Within) {n : _} (row : Row_of-Part n) (o : Outline)
+  pub parts_lead : {B : ℕ → Type 0} (w : Within) {n : _} (row : Row_of-Part n) (o : Outline)
       (i j : ℕ) → PartsPlaced i j row → IsOpen B i w → RowApart B row → Leading B i i o
       → Leading B j j (row_parts w row o)
   parts_lead w end_of-Part o i j h is out k = leading_later i i j j o h h k
@@ -365,7 +366,7 @@ mutual
       (open_later B i h.0 w (part_on i h.0 x h.1) is) out.1
       (closed_leads x o1 h.0 (part_leads w x o i h.0 h.1 is out.0 k))
 
-  first_leads : {B : ℕ → Type 0} (w : Within) (f : Held-Body-first) (o : Outline) (i j : ℕ)
+  pub first_leads : {B : ℕ → Type 0} (w : Within) (f : Held-Body-first) (o : Outline) (i j : ℕ)
       → FirstPlaced i j f → IsOpen B i w → FirstApart B f → Leading B i i o
       → Leading B j j (first_declares w f o)
   first_leads w first.None' o i j h is out k = leading_later i i j j o h h k
@@ -386,7 +387,7 @@ mutual
       (open_later B i h.0 w e is) out.1
       (transitions_lead w transitions ([], o) i h.0 h.1 is out.0 k)
 
-  transitions_lead : {B : ℕ → Type 0} (w : Within) {n : _} (row : Row_of-Transition n)
+  pub transitions_lead : {B : ℕ → Type 0} (w : Within) {n : _} (row : Row_of-Transition n)
       (s : Clausal) (i j : ℕ) → TransitionsPlaced i j row → IsOpen B i w
       → TransitionsApart B row → Leading B i i s.1 → Leading B j j (row_transitions w row s).1
   transitions_lead w end_of-Transition s i j h is out k = leading_later i i j j s.1 h h k
@@ -421,7 +422,7 @@ listed_lead {B} w (x ∷ xs) o i j h is out k =
     listed_lead w xs (closed_by x o1) h.0 j h.2 (open_later B i h.0 w (part_on i h.0 x h.1) is)
     out.1 (closed_leads x o1 h.0 (part_leads w x o i h.0 h.1 is out.0 k))
 
-nothing_leads : (B : ℕ → Type 0) (i : ℕ) → Leading B i i empty
+pub nothing_leads : (B : ℕ → Type 0) (i : ℕ) → Leading B i i empty
 nothing_leads B i = record {
   parameters = λ q e h p. absurd (none-some e h);
   items = λ r. tt;
