@@ -28,7 +28,9 @@ use Rattle.est_fullness.proofs.NoFaults.{parted}
 use Rattle.est_fullness.proofs.WholeSentences.{sentences_whole}
 use Rattle.est_writable.specs.WritableLaws.{ChoicesAreFew}
 use Rattle.est_writable.proofs.CountedChoices.{few_tuples}
-use Rattle.est_writable.proofs.FineClauses.{IsFineClause, transition_fine}
+use Rattle.est_writable.proofs.EachClause.{transition_has}
+use Rattle.est_writable.proofs.FineClauses.{IsFineClause, parts_fine}
+use Rattle.est_writable.proofs.NamedAnys.{anys_named}
 use Rattle.est_writable.proofs.NamedKinds.{variables_are}
 
 -- a list with nothing in it
@@ -59,7 +61,7 @@ any_given o (_ ∷ cs) place h e = let a = any_given o cs place h.1 e in
     record { names = a.names; stands = inr a.stands; fine = a.fine }
 
 pub choices_few : ChoicesAreFew
-choices_few spec sentence good named body number x is = by (any_of x) refl
+choices_few spec sentence good body number x is = by (any_of x) refl
   where
     o : Outline
     o = outline_of spec
@@ -74,7 +76,8 @@ choices_few spec sentence good named body number x is = by (any_of x) refl
         let said = declarations_said spec (length sentence.tokens)
         (let few = sentence.few in omega (arith, few))
         (specification_stands sentence.text sentence.tokens spec sentence.tree) in
-        transition_fine spec own.0 whole.1.0 said body number x is
+        transition_has (IsFineClause o) spec (parts_fine o spec.parts own.0 whole.1.0 said) body
+        number x is
 
     by : (a : Option ℕ) → any_of x ≡ a → length (ordinal_tuples
         (filter_map (kind_at o) (option_map_or (places_of o sort.Variable) a []))) ≤ most_tuples
@@ -83,7 +86,8 @@ choices_few spec sentence good named body number x is = by (any_of x) refl
         subst (λ ks. length (ordinal_tuples ks) ≤ most_tuples)
         (sym (ap (λ ps. filter_map (kind_at o)
         (filter (λ (p : ℕ). is_sort sort.Variable (entry_at o p)) ps))
-        (named body number x a.names place is a.stands) ∙ variables_are o a.names a.fine.said))
+        (anys_named spec sentence body number x a.names place is a.stands)
+        ∙ variables_are o a.names a.fine.said))
         (few_tuples o a.names place a.fine.whole
         (parted (domains_faults o a.names) (tuples_faults (tuples o (Some 1) a.names) place)
         a.fine.unbroken).1)

@@ -81,7 +81,7 @@ module _ (text : List ℕ) (tokens : List Token) where
         r.6,
       )
 
-  body_parts : (b : Body) → Reads text tokens (rule grammar.body) (node (a_body b))
+  pub body_parts : (b : Body) → Reads text tokens (rule grammar.body) (node (a_body b))
       → Reads text tokens (rep body_part) (nodes (map a_body_part (out-Body b).parts))
       × Reads text tokens (rep (rule grammar.transpart)) (nodes (map a_group (out-Body b).groups))
   body_parts b r =
@@ -92,18 +92,18 @@ module _ (text : List ℕ) (tokens : List Token) where
       let y = in_seq text tokens x.1 in (x.0, (in_seq text tokens y.1).0)
 
   -- what a part is read as, if it is a body
-  abbrev Content : PartForm → Type 0
+  abbrev pub Content : PartForm → Type 0
   Content (forms.Body b) = Reads text tokens (rule grammar.body) (node (a_body b))
   Content _ = Unit {0}
 
-  of_common : (x : PartForm) → Reads text tokens (rule grammar.common) (views.common_part x)
+  pub of_common : (x : PartForm) → Reads text tokens (rule grammar.common) (views.common_part x)
       → Content x
   of_common (forms.Body b) r =
       in_left text tokens (in_right text tokens (in_right text tokens (in_right text tokens
       (in_right text tokens (in_rule text tokens r)))))
   of_common _ r = tt
 
-  of_body : (x : PartForm) → Reads text tokens body_part (views.body_part x) → Content x
+  pub of_body : (x : PartForm) → Reads text tokens body_part (views.body_part x) → Content x
   of_body (forms.Body b) r = of_common (forms.Body b) (in_left text tokens r)
   of_body _ r = tt
 
@@ -154,16 +154,20 @@ module _ (text : List ℕ) (tokens : List Token) where
       joined_all IsFew (parts_within x) (flat_map parts_within xs)
       (within_few x (of_common (out-Part x) (in_node text tokens q.0))) (parts_few xs q.1)
 
-  sentence_few : (s : Spec) → HasOneTree text tokens s
-      → AllByRecursion IsFew (flat_map parts_within s.parts)
-  sentence_few s h =
+  -- the parts of a sentence
+  pub sentence_parts : (s : Spec) → HasOneTree text tokens s
+      → Reads text tokens (rep (rule grammar.common)) (nodes (map a_common_part s.parts))
+  sentence_parts s h =
       let r : Reads text tokens (rule grammar.specification) (node (a_specification s)) =
       (levels, 0, length tokens, h.shape, h.tree, h.shows, omega arith) in
       let q = in_seq text tokens (in_word text tokens
       (in_node text tokens (in_rule text tokens r))) in
       let w = in_seq text tokens (in_word text tokens q.1) in
-      let x = in_seq text tokens w.1 in
-      let y = in_seq text tokens x.1 in parts_few s.parts y.0
+      let x = in_seq text tokens w.1 in (in_seq text tokens x.1).0
+
+  sentence_few : (s : Spec) → HasOneTree text tokens s
+      → AllByRecursion IsFew (flat_map parts_within s.parts)
+  sentence_few s h = parts_few s.parts (sentence_parts s h)
 
   -- so has the one that is found by its name
   bodies_few : (xs : List Part) → AllByRecursion IsFew xs

@@ -23,7 +23,7 @@ use Rattle.est_search.specs.declared.verdict.Verdict.TheVariants.{Accepted, Refu
 use Rattle.est_search.specs.declared.verdict.Verdict.TheVariants.{OverFirings, OverAction}
 use Rattle.est_search.specs.Verdict.{IsRefused, IsOverAction, IsFirstFaulted}
 use Rattle.est_reports.specs.ReadableReports.{IsReadableFault, IsReadable}
-use Rattle.est_writable.specs.WritableLaws.{IsShort, HasTheirNames, VerdictsAreReadable}
+use Rattle.est_writable.specs.WritableLaws.{IsShort, VerdictsAreReadable}
 use Rattle.est_writable.proofs.WritableRuns.{firings_writable, runs_writable}
 
 -- what holds of each item of a list holds of each when it is read from its end
@@ -39,13 +39,13 @@ reversed_all P xs h k d l =
 front_short : {X : Type 0} (xs ys whole : List X) → whole ≡ xs ++ ys → length xs ≤ length whole
 front_short xs ys whole e = let l = ap length e in omega (arith, l, length-append xs ys)
 
-module _ (c : Setup) (short : IsShort c.spec) (names : HasTheirNames c.spec) (begun : IsBegun c)
+module _ (c : Setup) (short : IsShort c.spec) (begun : IsBegun c)
     (few : length c.trace ≤ most_events) where
   -- MOVES
 
   moves : (run : List Move) (p : Place) → IsBoundedRun c (reverse run) p → All IsWritableMove run
   moves run p is = reversed_all IsWritableMove run
-      (runs_writable c (reverse run) p short names begun is)
+      (runs_writable c (reverse run) p short begun is)
 
   yielding : (run : List Move) (k : ℕ) → Yields c (reverse run) k → All IsWritableMove run
   yielding run k (inl y) = moves run y.place y.is_run
@@ -59,7 +59,7 @@ module _ (c : Setup) (short : IsShort c.spec) (names : HasTheirNames c.spec) (be
 
   tried : (earlier : List Move) (f : Firing) (o : Outcome Situation (List Event))
       → ComesTo c earlier f o → IsWritableFiring f
-  tried earlier f o h = firings_writable c earlier h.place f short names begun
+  tried earlier f o h = firings_writable c earlier h.place f short begun
       (bounded_is_run c earlier h.place h.inner.is_run) h.possible
 
   faulted_readable : (faulted : Option Faulted) → IsFirstFaulted c faulted
@@ -123,13 +123,13 @@ module _ (c : Setup) (short : IsShort c.spec) (names : HasTheirNames c.spec) (be
       )
 
 pub verdicts_readable : VerdictsAreReadable
-verdicts_readable c budget (Accepted run) short names begun few below h =
+verdicts_readable c budget (Accepted run) short begun few below h =
     let e = h.first.has in record {
-      moves = moves c short names begun few run e.place e.is_run;
+      moves = moves c short begun few run e.place e.is_run;
       claim = omega (arith, few);
     }
-verdicts_readable c budget (Refused at run faulted) short names begun few below h =
-    refused_readable c short names begun few budget at run faulted h
-verdicts_readable c budget (OverFirings many) short names begun few below h = tt
-verdicts_readable c budget (OverAction run reached firing) short names begun few below h =
-    over_readable c short names begun few budget reached run firing below h
+verdicts_readable c budget (Refused at run faulted) short begun few below h =
+    refused_readable c short begun few budget at run faulted h
+verdicts_readable c budget (OverFirings many) short begun few below h = tt
+verdicts_readable c budget (OverAction run reached firing) short begun few below h =
+    over_readable c short begun few budget reached run firing below h

@@ -17,8 +17,7 @@ use Rattle.est_runs.specs.declared.run.Move.TheVariants.{Take, Fire}
 use Rattle.est_runs.specs.Run.{Setup, Place, IsBegun, IsRun}
 use Rattle.est_runs.proofs.RunLaws.{bounded_is_run}
 use Rattle.est_explanation.specs.CanonicalExplanation.{IsWritableMove}
-use Rattle.est_writable.specs.WritableLaws.{IsShort, HasTheirNames, FiringsAreWritable}
-use Rattle.est_writable.specs.WritableLaws.{RunsAreWritable}
+use Rattle.est_writable.specs.WritableLaws.{IsShort, FiringsAreWritable, RunsAreWritable}
 use Rattle.est_writable.proofs.FewChoices.{choices_few}
 use Rattle.est_writable.proofs.FewInstances.{instances_few}
 use Rattle.est_writable.proofs.FewTransitions.{transitions_few}
@@ -51,7 +50,7 @@ possible_choice limit t s f h =
     let a = or_true (is_offered_choice limit t s) (choice_of t s f) h.offered in (a.0, a.1)
 
 pub firings_writable : FiringsAreWritable
-firings_writable c run p f short names begun is possible =
+firings_writable c run p f short begun is possible =
     let t = text_of c.spec in
     let a = possible_choice c.limit t p.situation f possible in
     let b = then_some (choice_in t f) (row_of p.situation f.instance) a.0 a.1 in
@@ -71,23 +70,23 @@ firings_writable c run p f short names begun is possible =
           omega (
             arith,
             numbered_most (any_tuples t.outline d.0) f.choice e.0 e.1,
-            choices_few c.spec short.sentence short.good names b.0.body f.transition d.0 d.1,
+            choices_few c.spec short.sentence short.good b.0.body f.transition d.0 d.1,
           );
     }
 
 -- MOVES
 
 pub moves_writable : (c : Setup) (run : List Move) (p : Place) → IsShort c.spec
-    → HasTheirNames c.spec → IsBegun c → IsRun c run p → AllByRecursion IsWritableMove run
-moves_writable c [] p short names begun is = tt
-moves_writable c (Take ∷ earlier) p short names begun is =
-    (tt, moves_writable c earlier is.0 short names begun is.1)
-moves_writable c (Fire f ∷ earlier) p short names begun is = (
-  firings_writable c earlier is.0 f short names begun is.1 is.2.step.possible,
-  moves_writable c earlier is.0 short names begun is.1,
+    → IsBegun c → IsRun c run p → AllByRecursion IsWritableMove run
+moves_writable c [] p short begun is = tt
+moves_writable c (Take ∷ earlier) p short begun is =
+    (tt, moves_writable c earlier is.0 short begun is.1)
+moves_writable c (Fire f ∷ earlier) p short begun is = (
+  firings_writable c earlier is.0 f short begun is.1 is.2.step.possible,
+  moves_writable c earlier is.0 short begun is.1,
 )
 
 pub runs_writable : RunsAreWritable
-runs_writable c run p short names begun is =
+runs_writable c run p short begun is =
     all_of IsWritableMove run
-    (moves_writable c run p short names begun (bounded_is_run c run p is))
+    (moves_writable c run p short begun (bounded_is_run c run p is))

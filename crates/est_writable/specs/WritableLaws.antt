@@ -65,16 +65,19 @@ HasTheirNames spec = (body number : ℕ) (x : FullTransition) (names : List VarD
     → map (λ (n : List ℕ × Standing). n.1.place) (names_of (outline_of spec) place)
     ≡ declared_places (outline_of spec) (any_names names)
 
+-- so it is of each sentence
+abbrev pub AnysHaveTheirNames : Type 0
+AnysHaveTheirNames = (spec : Spec) → IsSentence spec → HasTheirNames spec
+
 -- no transition of a specification has more choices than the rules allow an `any`
 abbrev pub HasFewChoices : Spec → Type 0
 HasFewChoices spec = (body number : ℕ) (x : FullTransition)
     → numbered (transitions_of (text_of spec) body) number ≡ Some x
     → length (any_tuples (outline_of spec) x) ≤ most_tuples
 
--- so it is of a sentence that breaks no rule, where its `any`s have their names
+-- so it is of a sentence that breaks no rule
 abbrev pub ChoicesAreFew : Type 0
-ChoicesAreFew = (spec : Spec) → IsSentence spec → IsGood spec → HasTheirNames spec
-    → HasFewChoices spec
+ChoicesAreFew = (spec : Spec) → IsSentence spec → IsGood spec → HasFewChoices spec
 
 -- RUNS
 
@@ -84,22 +87,21 @@ pub record IsShort (spec : Spec) : Type 0 where
   pub few : length sentence.tokens ≤ most_parts
   pub good : IsGood spec
 
--- what is possible after a run of such a specification has numbers that an explanation may have,
--- where its `any`s have their names
+-- what is possible after a run of such a specification has numbers that an explanation may have
 abbrev pub FiringsAreWritable : Type 0
 FiringsAreWritable = (c : Setup) (run : List Move) (p : Place) (f : Firing) → IsShort c.spec
-    → HasTheirNames c.spec → IsBegun c → IsRun c run p
-    → IsPossible c.limit (text_of c.spec) p.situation f → IsWritableFiring f
+    → IsBegun c → IsRun c run p → IsPossible c.limit (text_of c.spec) p.situation f
+    → IsWritableFiring f
 
 -- so have all moves of a run
 abbrev pub RunsAreWritable : Type 0
-RunsAreWritable = (c : Setup) (run : List Move) (p : Place) → IsShort c.spec
-    → HasTheirNames c.spec → IsBegun c → IsBoundedRun c run p → All IsWritableMove run
+RunsAreWritable = (c : Setup) (run : List Move) (p : Place) → IsShort c.spec → IsBegun c
+    → IsBoundedRun c run p → All IsWritableMove run
 
 -- VERDICTS
 
 -- and so have verdicts, on a trace that is not too long
 abbrev pub VerdictsAreReadable : Type 0
-VerdictsAreReadable = (c : Setup) (budget : ℕ) (verdict : Verdict) → IsShort c.spec
-    → HasTheirNames c.spec → IsBegun c → length c.trace ≤ most_events → c.limit < 2 ^ 64
-    → IsVerdict c budget verdict → IsReadable c.limit (length c.trace) verdict
+VerdictsAreReadable = (c : Setup) (budget : ℕ) (verdict : Verdict) → IsShort c.spec → IsBegun c
+    → length c.trace ≤ most_events → c.limit < 2 ^ 64 → IsVerdict c budget verdict
+    → IsReadable c.limit (length c.trace) verdict

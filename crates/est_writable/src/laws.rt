@@ -1,8 +1,9 @@
 //! What is reported of a sentence that breaks no rule can be written and read. Each function does
 //! nothing; its clauses are the laws.
 ghost use Rattle.est_writable.specs.WritableLaws.{InstancesAreFew, TransitionsAreFew};
-ghost use Rattle.est_writable.specs.WritableLaws.{ChoicesAreFew, FiringsAreWritable};
-ghost use Rattle.est_writable.specs.WritableLaws.{RunsAreWritable, VerdictsAreReadable};
+ghost use Rattle.est_writable.specs.WritableLaws.{AnysHaveTheirNames, ChoicesAreFew};
+ghost use Rattle.est_writable.specs.WritableLaws.{FiringsAreWritable, RunsAreWritable};
+ghost use Rattle.est_writable.specs.WritableLaws.{VerdictsAreReadable};
 
 /// No instance of a run has a number above 999,999,999.
 pub fn instances_are_few()
@@ -14,8 +15,12 @@ pub fn transitions_are_few()
     ensures { TransitionsAreFew }
 {}
 
-/// No transition of a sentence that breaks no rule has more choices than the rules allow, where in
-/// the region of each `any` stand just the names that its text declares.
+/// In the region of each `any` of a sentence stand the names that its text declares, and no others.
+pub fn anys_have_their_names()
+    ensures { AnysHaveTheirNames }
+{}
+
+/// No transition of a sentence that breaks no rule has more choices than the rules allow.
 pub fn choices_are_few()
     ensures { ChoicesAreFew }
 {}
