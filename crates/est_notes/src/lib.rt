@@ -8,4 +8,5 @@ pub mod kinds;
 pub mod lines;
 pub mod near;
 pub mod similar;
+pub mod slots;
 pub mod sorts;

@@ -2,6 +2,7 @@
 
 use crate::declared::{append_declared, is_declared};
 use crate::lines::{Mark, append_place, append_token, begin_line, spelled};
+use crate::slots::{Slot, may_stand};
 use est_lexer::tokens::Tokens;
 use est_scope::declaration::{Meant, Sort};
 use est_scope::outline::Outline;
@@ -35,13 +36,18 @@ struct Found {
     reach: Reach,
 }
 
-/// The name at a place, in lower case.
-pub fn name_at(alloc: Global, tokens: &Tokens, place: u32) -> Result<Name, AllocError> {
+/// The name that is spelled so, in lower case.
+pub(crate) fn name_of(alloc: Global, bytes: &[u8]) -> Result<Name, AllocError> {
     Ok(Name {
         bytes: Bytes {
-            items: spelled(tokens, place).to_ascii_lowercase(alloc)?,
+            items: bytes.to_ascii_lowercase(alloc)?,
         },
     })
+}
+
+/// The name at a place, in lower case.
+pub fn name_at(alloc: Global, tokens: &Tokens, place: u32) -> Result<Name, AllocError> {
+    name_of(alloc, spelled(tokens, place))
 }
 
 // How a declaration in a region around a place is reached, which is in force after the place
@@ -189,7 +195,37 @@ fn append_reach(
     }
 }
 
-// Adds a line on a declaration of the name at a place.
+// Begins a line on the name at a place with what is declared at another one.
+fn begin_declared(
+    alloc: Global,
+    tokens: &Tokens,
+    outline: &Outline,
+    declared: u32,
+    place: u32,
+    notes: &mut String,
+) -> Result<(), AllocError> {
+    begin_line(tokens, Mark::Note, place, notes)?;
+    append_token(tokens, place, notes)?;
+    notes.push_str(" is ")?;
+    append_declared(alloc, tokens, outline, declared, notes)
+}
+
+/// Adds a line on the name at a place, which is declared at another one.
+pub fn append_declaration(
+    alloc: Global,
+    tokens: &Tokens,
+    outline: &Outline,
+    declared: u32,
+    place: u32,
+    notes: &mut String,
+) -> Result<(), AllocError> {
+    begin_declared(alloc, tokens, outline, declared, place, notes)?;
+    notes.push_str(", declared at ")?;
+    append_place(tokens, declared, notes)?;
+    notes.push_str("\n")
+}
+
+// Adds a line on a declaration of the name at a place, and where it stands as seen from there.
 fn append_found(
     alloc: Global,
     tokens: &Tokens,
@@ -198,26 +234,31 @@ fn append_found(
     place: u32,
     notes: &mut String,
 ) -> Result<(), AllocError> {
-    begin_line(tokens, Mark::Note, place, notes)?;
-    append_token(tokens, place, notes)?;
-    notes.push_str(" is ")?;
-    append_declared(alloc, tokens, outline, found.place, notes)?;
+    begin_declared(alloc, tokens, outline, found.place, place, notes)?;
     append_reach(tokens, outline, found, place, notes)?;
     notes.push_str("\n")
 }
 
 /// Adds a line for each declaration of the name at a place, nearest first and four at most, and
-/// answers how many these are.
+/// answers how many of these may stand in the slot there. Where they stand as seen from the place
+/// is told of these alone.
 pub fn append_near(
     alloc: Global,
     tokens: &Tokens,
     outline: &Outline,
+    slot: Slot,
     place: u32,
     notes: &mut String,
 ) -> Result<usize, AllocError> {
     let found = found_near(alloc, tokens, outline, place)?;
+    let mut count: usize = 0;
     for one in found.iter().take(MOST_DECLARED) {
-        append_found(alloc, tokens, outline, *one, place, notes)?;
+        if may_stand(outline, slot, one.place, place) {
+            append_found(alloc, tokens, outline, *one, place, notes)?;
+            count = count.saturating_add(1);
+        } else {
+            append_declaration(alloc, tokens, outline, one.place, place, notes)?;
+        }
     }
-    Ok(found.len())
+    Ok(count)
 }

@@ -45,15 +45,24 @@ pub fn member_word(member: Member) -> &'static str {
     }
 }
 
+/// The sort of a predeclared name.
+pub fn predeclared_sort(known: PredeclaredName) -> Sort {
+    match known {
+        PredeclaredName::Integer => Sort::TypeName,
+        PredeclaredName::Boolean => Sort::TypeName,
+        PredeclaredName::Char => Sort::TypeName,
+        PredeclaredName::False => Sort::Constant,
+        PredeclaredName::True => Sort::Constant,
+        PredeclaredName::Maxint => Sort::Constant,
+        _ => Sort::Function,
+    }
+}
+
 /// What a predeclared name is called.
 pub fn predeclared_word(known: PredeclaredName) -> &'static str {
-    match known {
-        PredeclaredName::Integer => "a predeclared type",
-        PredeclaredName::Boolean => "a predeclared type",
-        PredeclaredName::Char => "a predeclared type",
-        PredeclaredName::False => "a predeclared constant",
-        PredeclaredName::True => "a predeclared constant",
-        PredeclaredName::Maxint => "a predeclared constant",
+    match predeclared_sort(known) {
+        Sort::TypeName => "a predeclared type",
+        Sort::Constant => "a predeclared constant",
         _ => "a predeclared function",
     }
 }
