@@ -1,17 +1,22 @@
 //! All that is told of a rule that is broken at a place.
 
+use crate::led_to::append_led_to;
+use crate::members::{append_owner, append_similar_members};
 use crate::operators::append_operators;
-use crate::parameters::append_taken;
-use crate::selected::{is_name, selecting};
+use crate::owner::{Owner, owner_at, region_of};
+use crate::parameters::{append_parameters, append_taken};
+use crate::selected::{follows, is_name};
 use crate::sentences::rule_sentence;
 use crate::signals::append_signal;
+use crate::slot_at::slot_at;
 use crate::tight::append_tight;
 use crate::wanted::{append_target, append_wanted};
 use est_lexer::tokens::Tokens;
 use est_notes::alike_names::append_similar;
 use est_notes::lines::{Mark, append_line, append_token, begin_line};
-use est_notes::near::{append_near, name_at};
-use est_notes::sorts::predeclared_word;
+use est_notes::near::{append_declaration, append_near, name_at};
+use est_notes::slots::{Slot, takes};
+use est_notes::sorts::{predeclared_sort, predeclared_word};
 use est_scope::declaration::Meant;
 use est_scope::outline::Outline;
 use est_syntax::rule::Rule;
@@ -27,6 +32,25 @@ fn is_of_use(rule: Rule) -> bool {
     }
 }
 
+// Whether a rule is broken by what a name means.
+fn is_of_meaning(rule: Rule) -> bool {
+    matches!(
+        rule,
+        Rule::UnknownName | Rule::NotSeenHere | Rule::WrongSort
+    )
+}
+
+// What may stand where the name at a place does, where a rule is broken that asks for this.
+fn slot_for(tokens: &Tokens, place: u32, rule: Rule) -> Slot {
+    if rule == Rule::DeclaredTwice || follows(tokens, place, b".") {
+        Slot::Nothing
+    } else if is_of_meaning(rule) {
+        slot_at(tokens, place)
+    } else {
+        Slot::Any
+    }
+}
+
 // What the name at a place means there.
 fn meant_at(
     alloc: Global,
@@ -38,43 +62,133 @@ fn meant_at(
     Ok(outline.meant(&name, place))
 }
 
-// Adds a line on the predeclared name at a place, or lines on names that are similar to it.
-fn append_undeclared(
-    alloc: Global,
+// Adds a line on the name at a place where it is predeclared, and answers whether it may stand in
+// the slot there.
+fn append_predeclared(
     tokens: &Tokens,
-    outline: &Outline,
+    slot: Slot,
     meant: Meant,
     place: u32,
     notes: &mut String,
-) -> Result<(), AllocError> {
+) -> Result<bool, AllocError> {
     let Meant::Predeclared(known) = meant else {
-        return append_similar(alloc, tokens, outline, place, notes);
+        return Ok(false);
     };
     begin_line(tokens, Mark::Note, place, notes)?;
     append_token(tokens, place, notes)?;
     notes.push_str(" is ")?;
     notes.push_str(predeclared_word(known))?;
-    notes.push_str("\n")
+    notes.push_str("\n")?;
+    Ok(takes(slot, predeclared_sort(known)))
 }
 
-// Adds lines on a name at a place that stands by itself.
-fn append_alone(
+// Adds lines on what the name at a place is, and on similar names where it may not stand there, and
+// answers whether a name is told that may.
+fn append_meanings(
     alloc: Global,
     tokens: &Tokens,
     outline: &Outline,
+    slot: Slot,
     meant: Meant,
+    place: u32,
+    notes: &mut String,
+) -> Result<bool, AllocError> {
+    let is_fit = append_predeclared(tokens, slot, meant, place, notes)?;
+    let count = append_near(alloc, tokens, outline, slot, place, notes)?;
+    if is_fit || count > 0 {
+        return Ok(true);
+    }
+    Ok(append_similar(alloc, tokens, outline, slot, place, notes)? > 0)
+}
+
+// Adds lines on a name at a place that is looked up in the regions around.
+fn append_around(
+    alloc: Global,
+    tokens: &Tokens,
+    outline: &Outline,
     place: u32,
     rule: Rule,
     notes: &mut String,
 ) -> Result<(), AllocError> {
+    let meant = meant_at(alloc, tokens, outline, place)?;
+    let slot = slot_for(tokens, place, rule);
+    let is_told = append_meanings(alloc, tokens, outline, slot, meant, place, notes)?;
     match rule {
-        Rule::UnknownName => append_wanted(tokens, place, notes),
-        Rule::WrongSort => append_wanted(tokens, place, notes),
+        Rule::UnknownName => append_wanted(tokens, slot, is_told, place, notes),
+        Rule::WrongSort => append_wanted(tokens, slot, is_told, place, notes),
+        Rule::NotSeenHere if !is_told => append_wanted(tokens, slot, is_told, place, notes),
         Rule::WrongNumber => match meant {
             Meant::Seen(declared) => append_taken(alloc, tokens, outline, declared, place, notes),
             _ => Ok(()),
         },
         _ => Ok(()),
+    }
+}
+
+// Where the name at a place stands among those of its owner, if it does.
+fn standing_in(
+    alloc: Global,
+    tokens: &Tokens,
+    outline: &Outline,
+    owner: Owner<'_>,
+    place: u32,
+) -> Result<Option<u32>, AllocError> {
+    let Some(region) = region_of(owner) else {
+        return Ok(None);
+    };
+    let name = name_at(alloc, tokens, place)?;
+    Ok(match outline.standing(region, &name) {
+        None => None,
+        Some(standing) => Some(standing.place),
+    })
+}
+
+// Adds lines on what a name at a place is that does not stand in its owner.
+fn append_strange(
+    alloc: Global,
+    tokens: &Tokens,
+    outline: &Outline,
+    owner: Owner<'_>,
+    place: u32,
+    notes: &mut String,
+) -> Result<(), AllocError> {
+    append_near(alloc, tokens, outline, Slot::Nothing, place, notes)?;
+    append_similar_members(alloc, tokens, outline, owner, place, notes)
+}
+
+// Adds lines on a name at a place that is looked up in its owner.
+fn append_member(
+    alloc: Global,
+    tokens: &Tokens,
+    outline: &Outline,
+    owner: Owner<'_>,
+    place: u32,
+    rule: Rule,
+    notes: &mut String,
+) -> Result<(), AllocError> {
+    let standing = standing_in(alloc, tokens, outline, owner, place)?;
+    match standing {
+        None => append_strange(alloc, tokens, outline, owner, place, notes)?,
+        Some(declared) => {
+            append_declaration(alloc, tokens, outline, declared, place, notes)?;
+            if rule == Rule::WrongNumber {
+                append_parameters(alloc, tokens, outline, declared, place, notes)?;
+            }
+        },
+    }
+    match owner {
+        Owner::Signals {
+            point,
+            direction,
+            side,
+        } => append_signal(
+            tokens, outline, direction, point, side, standing, place, notes,
+        ),
+        _ => if is_of_meaning(rule) {
+            append_owner(alloc, tokens, outline, owner, place, notes)
+        } else {
+            Ok(())
+        },
     }
 }
 
@@ -87,13 +201,9 @@ fn append_name(
     rule: Rule,
     notes: &mut String,
 ) -> Result<(), AllocError> {
-    let meant = meant_at(alloc, tokens, outline, place)?;
-    if append_near(alloc, tokens, outline, place, notes)? == 0 {
-        append_undeclared(alloc, tokens, outline, meant, place, notes)?;
-    }
-    match selecting(tokens, place) {
-        None => append_alone(alloc, tokens, outline, meant, place, rule, notes),
-        Some(point) => append_signal(alloc, tokens, outline, point, place, rule, notes),
+    match owner_at(alloc, tokens, outline, place)? {
+        None => append_around(alloc, tokens, outline, place, rule, notes),
+        Some(owner) => append_member(alloc, tokens, outline, owner, place, rule, notes),
     }
 }
 
@@ -105,6 +215,7 @@ fn append_operand(
     place: u32,
     notes: &mut String,
 ) -> Result<(), AllocError> {
+    append_led_to(alloc, tokens, outline, place, notes)?;
     append_target(alloc, tokens, outline, place, notes)?;
     append_operators(tokens, place, notes)?;
     append_tight(tokens, place, notes)

@@ -3,11 +3,16 @@
 #![tactic(auto)]
 
 mod facts;
+mod heads;
+mod led_to;
+mod members;
 mod operators;
+mod owner;
 mod parameters;
 mod selected;
 mod sentences;
 mod signals;
+mod slot_at;
 mod tight;
 mod wanted;
 

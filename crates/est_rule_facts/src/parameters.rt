@@ -1,19 +1,12 @@
 //! What a name takes: its parameters, or its subscripts.
 
+use crate::members::count_in;
 use est_lexer::tokens::Tokens;
 use est_notes::kinds::append_kind;
 use est_notes::lines::{Mark, append_token, begin_line};
 use est_scope::declaration::{Entry, Section, SharedKinds, Sort};
 use est_scope::outline::Outline;
 use std::alloc::{AllocError, Global};
-
-// How many names a region has.
-fn count_in(outline: &Outline, region: u32) -> usize {
-    match outline.names(region) {
-        None => 0,
-        Some(names) => names.len(),
-    }
-}
 
 // The word before a parameter of a section, and none where the section declares no parameters.
 fn parameter_word(section: Section) -> Option<&'static str> {

@@ -1,4 +1,4 @@
-//! Names after a period, and what stands after names.
+//! Names after a period, and what stands before and after names.
 
 use est_lexer::kind::{Symbol, TokenKind};
 use est_lexer::tokens::Tokens;
@@ -23,17 +23,40 @@ pub(crate) fn follows(tokens: &Tokens, place: u32, bytes: &[u8]) -> bool {
     }
 }
 
+/// The depth in brackets or parentheses before the token at a place, from the one after it.
+pub(crate) fn depth_back(tokens: &Tokens, place: u32, depth: u32) -> u32 {
+    let Some(token) = tokens.token_at(place) else {
+        return depth;
+    };
+    match token.kind {
+        TokenKind::Symbol(Symbol::RightBracket) => depth.saturating_add(1),
+        TokenKind::Symbol(Symbol::RightParenthesis) => depth.saturating_add(1),
+        TokenKind::Symbol(Symbol::LeftBracket) => depth.saturating_sub(1),
+        TokenKind::Symbol(Symbol::LeftParenthesis) => depth.saturating_sub(1),
+        _ => depth,
+    }
+}
+
+/// The depth in brackets or parentheses after the token at a place, from the one before it.
+pub(crate) fn depth_on(tokens: &Tokens, place: u32, depth: u32) -> u32 {
+    let Some(token) = tokens.token_at(place) else {
+        return depth;
+    };
+    match token.kind {
+        TokenKind::Symbol(Symbol::LeftBracket) => depth.saturating_add(1),
+        TokenKind::Symbol(Symbol::LeftParenthesis) => depth.saturating_add(1),
+        TokenKind::Symbol(Symbol::RightBracket) => depth.saturating_sub(1),
+        TokenKind::Symbol(Symbol::RightParenthesis) => depth.saturating_sub(1),
+        _ => depth,
+    }
+}
+
 // The place of the `[` of the subscripts that end at a place.
 fn bracket_before(tokens: &Tokens, end: u32) -> Option<u32> {
     let mut depth: u32 = 0;
     for distance in 0..MOST_TOKENS {
         let place = end.checked_sub(distance)?;
-        let token = spelled(tokens, place);
-        if token == b"]".as_slice() {
-            depth = depth.saturating_add(1);
-        } else if token == b"[".as_slice() {
-            depth = depth.saturating_sub(1);
-        }
+        depth = depth_back(tokens, place, depth);
         if depth == 0 {
             return Some(place);
         }
@@ -41,19 +64,48 @@ fn bracket_before(tokens: &Tokens, end: u32) -> Option<u32> {
     None
 }
 
-/// The place of the name before the period after which a place stands, if there is one.
-pub(crate) fn selecting(tokens: &Tokens, place: u32) -> Option<u32> {
-    if !follows(tokens, place, b".") {
-        return None;
+// The place of the name at a place, or of the one before the subscripts that end there.
+fn name_before(tokens: &Tokens, end: u32) -> Option<u32> {
+    let mut place = end;
+    for _ in 0..MOST_TOKENS {
+        if is_name(tokens, place) {
+            return Some(place);
+        }
+        if spelled(tokens, place) != b"]".as_slice() {
+            return None;
+        }
+        place = bracket_before(tokens, place)?.checked_sub(1)?;
     }
-    let end = place.checked_sub(2)?;
-    if is_name(tokens, end) {
-        return Some(end);
+    None
+}
+
+/// The place of the name that subscripts and fields select from which end before a place.
+pub(crate) fn first_before(tokens: &Tokens, end: u32) -> Option<u32> {
+    let mut last = end.checked_sub(1)?;
+    for _ in 0..MOST_TOKENS {
+        let place = name_before(tokens, last)?;
+        if !follows(tokens, place, b".") {
+            return Some(place);
+        }
+        last = place.checked_sub(2)?;
     }
-    if spelled(tokens, end) != b"]".as_slice() {
-        return None;
+    None
+}
+
+/// The place after the name at a place and the subscripts in one pair of brackets after it.
+pub(crate) fn after_subscripts(tokens: &Tokens, place: u32) -> u32 {
+    let first = place.saturating_add(1);
+    if spelled(tokens, first) != b"[".as_slice() {
+        return first;
     }
-    bracket_before(tokens, end)?.checked_sub(1)
+    let mut depth: u32 = 0;
+    for at in first..first.saturating_add(MOST_TOKENS) {
+        depth = depth_on(tokens, at, depth);
+        if depth == 0 {
+            return at.saturating_add(1);
+        }
+    }
+    first
 }
 
 // Whether the token at a place selects, or is selected, outside brackets.

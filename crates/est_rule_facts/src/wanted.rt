@@ -1,11 +1,14 @@
 //! What a place takes, by the tokens beside it.
 
-use crate::selected::{follows, is_name};
+use crate::led_to::{append_tokens, kind_to};
+use crate::selected::{first_before, follows};
 use est_lexer::kind::{ReservedWord, TokenKind};
 use est_lexer::tokens::Tokens;
 use est_notes::declared::append_declared;
+use est_notes::kinds::append_kind;
 use est_notes::lines::{Mark, append_line, append_token, begin_line, spelled};
 use est_notes::near::name_at;
+use est_notes::slots::Slot;
 use est_scope::declaration::Meant;
 use est_scope::outline::Outline;
 use std::alloc::{AllocError, Global};
@@ -34,28 +37,124 @@ fn sentence_at(tokens: &Tokens, place: u32) -> Option<&'static str> {
     }
 }
 
-/// Adds a line on what the name at a place should be, where the tokens beside it tell.
-pub(crate) fn append_wanted(
-    tokens: &Tokens,
-    place: u32,
-    notes: &mut String,
-) -> Result<(), AllocError> {
-    match sentence_at(tokens, place) {
-        None => Ok(()),
-        Some(sentence) => append_line(tokens, Mark::Note, place, sentence, notes),
+// What a name is in a slot.
+fn slot_phrase(slot: Slot) -> Option<&'static str> {
+    match slot {
+        Slot::Any => None,
+        Slot::Nothing => None,
+        Slot::Target => None,
+        Slot::Constant => Some("a constant"),
+        Slot::TypeName => Some("a type"),
+        Slot::Channel => Some("a channel"),
+        Slot::Header => Some("a module header"),
+        Slot::HeaderOrType => Some("a module header or a type"),
+        Slot::Body => Some("a module body"),
+        Slot::State => Some("a state"),
+        Slot::StateOrSet => Some("a state or a state set"),
+        Slot::Point => Some("an interaction point"),
+        Slot::ModuleVariable => Some("a module variable"),
+        Slot::PointOrModule => Some("an interaction point or a module variable"),
+        Slot::Procedure => Some("a procedure"),
+        Slot::Function => Some("a function"),
+        Slot::Operand => Some("a constant, a variable or a function"),
+        Slot::Selected => Some("a variable, or a module variable before an export"),
     }
 }
 
-// The name to which what stands at a place is assigned, if it stands alone before `:=`.
-fn target_before(tokens: &Tokens, place: u32) -> Option<u32> {
-    let target = place.checked_sub(2)?;
-    let is_target = follows(tokens, place, b":=")
-        && is_name(tokens, target)
-        && !follows(tokens, target, b".");
-    if is_target { Some(target) } else { None }
+// What stands at a place where a word may stand as well as a name.
+fn word_or_name(tokens: &Tokens, slot: Slot, place: u32) -> Option<&'static str> {
+    if slot == Slot::Operand && follows(tokens, place, b"provided") {
+        return Some("after provided stands a condition, or the word otherwise");
+    }
+    let is_clause = follows(tokens, place, b"to")
+        && !follows(tokens, place.saturating_sub(1), b"initialize");
+    if slot == Slot::State && is_clause {
+        return Some("after to stands a state, or the word same");
+    }
+    None
 }
 
-/// Adds a line on the variable to which what stands at a place is assigned.
+// Adds a line on what the name at a place should be, by its slot.
+fn append_slot(
+    tokens: &Tokens,
+    slot: Slot,
+    place: u32,
+    notes: &mut String,
+) -> Result<(), AllocError> {
+    if let Some(sentence) = word_or_name(tokens, slot, place) {
+        return append_line(tokens, Mark::Note, place, sentence, notes);
+    }
+    let Some(phrase) = slot_phrase(slot) else {
+        return Ok(());
+    };
+    begin_line(tokens, Mark::Note, place, notes)?;
+    write!(notes, "here stands {phrase}\n")
+}
+
+/// Adds a line on what the name at a place should be: what the tokens beside it say, or else the
+/// slot, where no name is told that may stand there.
+pub(crate) fn append_wanted(
+    tokens: &Tokens,
+    slot: Slot,
+    is_told: bool,
+    place: u32,
+    notes: &mut String,
+) -> Result<(), AllocError> {
+    if slot == Slot::Nothing {
+        return Ok(());
+    }
+    match sentence_at(tokens, place) {
+        Some(sentence) => append_line(tokens, Mark::Note, place, sentence, notes),
+        None if !is_told => append_slot(tokens, slot, place, notes),
+        None => Ok(()),
+    }
+}
+
+// Adds a line on what it is that what stands at a place is assigned to, of which this is the first
+// name.
+fn append_first(
+    alloc: Global,
+    tokens: &Tokens,
+    outline: &Outline,
+    first: u32,
+    place: u32,
+    notes: &mut String,
+) -> Result<(), AllocError> {
+    let name = name_at(alloc, tokens, first)?;
+    let Meant::Seen(declared) = outline.meant(&name, first) else {
+        return Ok(());
+    };
+    begin_line(tokens, Mark::Note, place, notes)?;
+    notes.push_str("it is assigned to ")?;
+    append_token(tokens, first, notes)?;
+    notes.push_str(", ")?;
+    append_declared(alloc, tokens, outline, declared, notes)?;
+    notes.push_str("\n")
+}
+
+// Adds a line on what it is that what stands at a place is assigned to, where selectors lead there
+// from this name.
+fn append_part(
+    alloc: Global,
+    tokens: &Tokens,
+    outline: &Outline,
+    first: u32,
+    place: u32,
+    notes: &mut String,
+) -> Result<(), AllocError> {
+    let end = place.saturating_sub(1);
+    let Some(kind) = kind_to(alloc, tokens, outline, first, end)? else {
+        return Ok(());
+    };
+    begin_line(tokens, Mark::Note, place, notes)?;
+    notes.push_str("it is assigned to ")?;
+    append_tokens(tokens, first, end, notes)?;
+    notes.push_str(", of type ")?;
+    append_kind(alloc, tokens, kind, notes)?;
+    notes.push_str("\n")
+}
+
+/// Adds a line on what it is that what stands at a place is assigned to.
 pub(crate) fn append_target(
     alloc: Global,
     tokens: &Tokens,
@@ -63,17 +162,16 @@ pub(crate) fn append_target(
     place: u32,
     notes: &mut String,
 ) -> Result<(), AllocError> {
-    let Some(target) = target_before(tokens, place) else {
+    if !follows(tokens, place, b":=") {
         return Ok(());
-    };
-    let name = name_at(alloc, tokens, target)?;
-    let Meant::Seen(declared) = outline.meant(&name, target) else {
-        return Ok(());
-    };
-    begin_line(tokens, Mark::Note, place, notes)?;
-    notes.push_str("it is assigned to ")?;
-    append_token(tokens, target, notes)?;
-    notes.push_str(", ")?;
-    append_declared(alloc, tokens, outline, declared, notes)?;
-    notes.push_str("\n")
+    }
+    let end = place.saturating_sub(1);
+    match first_before(tokens, end) {
+        None => Ok(()),
+        Some(first) => if first.saturating_add(1) == end {
+            append_first(alloc, tokens, outline, first, place, notes)
+        } else {
+            append_part(alloc, tokens, outline, first, place, notes)
+        },
+    }
 }
