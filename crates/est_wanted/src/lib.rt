@@ -9,6 +9,7 @@ mod forms;
 mod left_out;
 mod marks;
 mod missing;
+mod misspelled;
 pub mod note;
 pub mod place;
 pub mod refused;

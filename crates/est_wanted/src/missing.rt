@@ -3,7 +3,7 @@
 use crate::candidate::Candidate;
 use crate::note::{append_note, printed};
 use crate::place::{begin_of, end_before, front_of, gap_before, kind_before, spot_at, spot_of};
-use crate::wanted::{MOST_TRIED, could_go_on};
+use crate::wanted::{MOST_TRIED, could_go_on, count_left};
 use est_lexer::kind::{ReservedWord, Symbol, TokenKind};
 use est_lexer::tokens::Tokens;
 use std::alloc::{AllocError, Global};
@@ -91,6 +91,20 @@ fn missing_mark(
         return Ok(Some("a ',' may be missing here"));
     }
     Ok(None)
+}
+
+/// How many tokens are left from the first bad one on where a mark stands before the token of a
+/// place.
+pub(crate) fn left_with_mark(
+    alloc: Global,
+    text: &[u8],
+    tokens: &Tokens,
+    place: u32,
+) -> Result<u32, AllocError> {
+    let (before, next) = text.split_at(begin_of(tokens, place).min(text.len()));
+    let semicolon = count_left(alloc, before, b" ; ", next)?;
+    let comma = count_left(alloc, before, b" , ", next)?;
+    Ok(semicolon.min(comma))
 }
 
 /// Adds that a mark may be missing at the end of a line.

@@ -5,7 +5,8 @@ use crate::candidate::Candidate;
 use crate::comments::append_comment;
 use crate::forms::{form_text, is_for_type};
 use crate::left_out::left_out_text;
-use crate::missing::{append_end, append_mark, closes, lacks_end};
+use crate::missing::{append_end, closes, lacks_end};
+use crate::misspelled::append_slip;
 use crate::note::{Spot, append_note, printed};
 use crate::place::{front_of, gap_before, kind_before, spot_of};
 use crate::wanted::{MOST_TOLD, wanted};
@@ -24,7 +25,7 @@ pub fn append_refused(
 ) -> Result<(), AllocError> {
     append_candidates(alloc, text, tokens, place, notes)?;
     append_form(alloc, tokens, place, notes)?;
-    append_mark(alloc, text, tokens, place, notes)?;
+    append_slip(alloc, text, tokens, place, notes)?;
     append_set(alloc, text, tokens, place, notes)?;
     append_comment(alloc, text, tokens, place, notes)
 }

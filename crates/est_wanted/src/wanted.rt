@@ -87,6 +87,19 @@ pub fn could_follow(alloc: Global, before: &[u8], candidate: Candidate) -> Resul
     is_beginning(alloc, &text)
 }
 
+// A text of three parts.
+fn joined(
+    alloc: Global,
+    before: &[u8],
+    missing: &[u8],
+    next: &[u8],
+) -> Result<Vec<u8>, AllocError> {
+    let mut text = Vec::from_slice(alloc, before)?;
+    text.extend_from_slice(missing)?;
+    text.extend_from_slice(next)?;
+    Ok(text)
+}
+
 /// Whether these bytes could follow a text, after others that are missing between.
 pub(crate) fn could_go_on(
     alloc: Global,
@@ -94,10 +107,29 @@ pub(crate) fn could_go_on(
     missing: &[u8],
     next: &[u8],
 ) -> Result<bool, AllocError> {
-    let mut text = Vec::from_slice(alloc, before)?;
-    text.extend_from_slice(missing)?;
-    text.extend_from_slice(next)?;
-    is_beginning(alloc, &text)
+    is_beginning(alloc, &joined(alloc, before, missing, next)?)
+}
+
+/// How many tokens are left from the first bad one on in the text of these three parts: none where
+/// it is a specification, or the beginning of one. A long text is not looked at.
+pub(crate) fn count_left(
+    alloc: Global,
+    before: &[u8],
+    missing: &[u8],
+    next: &[u8],
+) -> Result<u32, AllocError> {
+    let text = joined(alloc, before, missing, next)?;
+    if text.len() > MOST_BYTES {
+        return Ok(u32::MAX);
+    }
+    let tokens = lex(alloc, &text)?;
+    match parse(alloc, &tokens) {
+        Ok(tree) => {
+            drop(tree);
+            Ok(0)
+        }
+        Err(error) => left_from(&tokens, error),
+    }
 }
 
 // Whether a text is the beginning of a specification. A long one is not looked at.
@@ -129,4 +161,15 @@ fn is_early(tokens: &Tokens, error: ParseError) -> Result<bool, AllocError>
         ParseError::TooDeep { place: _ } => Ok(false),
         ParseError::Memory(error) => Err(error),
     }
+}
+
+// How many tokens are left from the refused one on.
+fn left_from(tokens: &Tokens, error: ParseError) -> Result<u32, AllocError> {
+    let place = match error {
+        ParseError::BadToken { place } => place,
+        ParseError::LeftOut { place } => place,
+        ParseError::TooDeep { place } => place,
+        ParseError::Memory(error) => return Err(error),
+    };
+    Ok(tokens.count().saturating_sub(place))
 }
