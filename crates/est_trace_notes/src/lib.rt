@@ -7,3 +7,4 @@ mod kinds;
 mod ports;
 pub mod position;
 pub mod trace;
+mod values;

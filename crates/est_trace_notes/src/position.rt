@@ -48,6 +48,14 @@ pub(crate) fn spelled<'t>(tokens: &'t Tokens, place: u32) -> &'t [u8] {
     }
 }
 
+/// Whether an item of a list is to stand at a place, or the rest of one: none after a whole one.
+pub(crate) fn wants_item(tokens: &Tokens, place: u32) -> bool {
+    match spelled(tokens, place.saturating_sub(1)) {
+        [b'(' | b'[' | b',' | b'+' | b'-'] => true,
+        _ => false,
+    }
+}
+
 // Whether the token of a place is this word or symbol.
 fn is_word(tokens: &Tokens, place: u32, word: &[u8]) -> bool {
     word.eq_ignore_ascii_case(spelled(tokens, place))

@@ -4,7 +4,8 @@ use crate::kinds::{push_bytes, push_kind};
 use crate::ports::{
     passes, port_of, push_ports, push_signals, signal_of, signals_at, subscripts_at,
 };
-use crate::position::{Event, Position, position_of, spelled};
+use crate::position::{Event, Position, position_of, spelled, wants_item};
+use crate::values::push_within;
 use est_check::Checked;
 use est_lexer::kind::TokenKind;
 use est_lexer::tokens::Tokens;
@@ -102,10 +103,13 @@ fn wanted_text(
             event,
             signal,
             whole,
-            depth,
+            depth: 0,
         } => {
-            let item = wanted_value(tokens, place, whole, depth);
+            let item = wanted_item(tokens, place, whole);
             value_text(alloc, ports, tokens, event, signal, item)
+        }
+        Position::Value { event, signal, .. } => {
+            within_text(alloc, ports, tokens, event, signal, place)
         }
         Position::End => String::from_str(alloc, "nothing stands after 'end'"),
     }
@@ -209,18 +213,10 @@ fn subscripts_text(
 
 // Which item is to stand at a place in a list, after so many: none after an item that is whole.
 fn wanted_item(tokens: &Tokens, place: u32, whole: u32) -> Option<u32> {
-    match spelled(tokens, place.saturating_sub(1)) {
-        [b'(' | b'[' | b',' | b'+' | b'-'] => Some(whole),
-        _ => None,
-    }
-}
-
-// Which value is to stand at a place, after so many, with so many brackets open in it.
-fn wanted_value(tokens: &Tokens, place: u32, whole: u32, depth: u32) -> Option<u32> {
-    if depth > 0 {
+    if wants_item(tokens, place) {
         Some(whole)
     } else {
-        wanted_item(tokens, place, whole)
+        None
     }
 }
 
@@ -375,5 +371,22 @@ fn value_text(
     let mut text = String::new(alloc);
     push_quoted(alloc, &mut text, spelled(tokens, signal))?;
     push_item(alloc, &mut text, "value", kinds, item)?;
+    Ok(text)
+}
+
+// What could stand at a place within a value.
+fn within_text(
+    alloc: Global,
+    ports: &Ports,
+    tokens: &Tokens,
+    event: Event,
+    signal: u32,
+    place: u32,
+) -> Result<String, AllocError> {
+    let kinds = values_of(ports, tokens, event, signal);
+    let mut text = String::new(alloc);
+    push_quoted(alloc, &mut text, spelled(tokens, signal))?;
+    push_count(alloc, &mut text, "value", kinds.len())?;
+    push_within(alloc, &mut text, tokens, kinds, signal, place)?;
     Ok(text)
 }
