@@ -13,6 +13,23 @@ use est_wanted::note::append_note;
 use est_wanted::place::spot_of;
 use std::alloc::{AllocError, Global};
 
+// The place of what passes the limit, if something does, in the guard of a choice of which it is
+// known whether its `from` and `when` hold.
+fn place_in_guard(
+    alloc: Global,
+    scene: &Scene,
+    candidate: &Candidate,
+    seen: bool,
+    working: &Working,
+) -> Result<Option<u32>, AllocError> {
+    let view = view_of(scene, candidate.instance, working);
+    if seen {
+        passing_place(alloc, &view, candidate.transition)
+    } else {
+        passing_subscript(alloc, &view, candidate.transition)
+    }
+}
+
 // The place of what passes the limit in the guard of a choice, or of the block of its transition.
 fn guard_place(
     alloc: Global,
@@ -21,15 +38,9 @@ fn guard_place(
     choice: u32,
     working: &mut Working,
 ) -> Result<u32, AllocError> {
-    let transition = candidate.transition;
     let seen = see(alloc, scene, candidate, choice, working)?;
-    let view = view_of(scene, candidate.instance, working);
-    let place = if seen {
-        passing_place(alloc, &view, transition)?
-    } else {
-        passing_subscript(alloc, &view, transition)?
-    };
-    Ok(place.unwrap_or(transition.block.place))
+    let place = place_in_guard(alloc, scene, candidate, seen, working)?;
+    Ok(place.unwrap_or(candidate.transition.block.place))
 }
 
 // Adds the guard of a choice of an instance, which passes the limit.
