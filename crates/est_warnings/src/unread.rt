@@ -9,7 +9,16 @@ use est_scope::outline::Outline;
 use est_syntax::channel::Role;
 use est_syntax::specification::Spec;
 use est_syntax::statement::Statement;
+use indexmap::IndexMap;
 use std::alloc::{AllocError, Global};
+
+const NOBODY: Senders = Senders {
+    first: false,
+    second: false,
+};
+
+// Who sends anything in the channels that were looked at, by the places of their names.
+type Known = IndexMap<u32, Senders>;
 
 // The word before a place, if one stands there.
 fn word_before(tokens: &Tokens, place: u32) -> Option<ReservedWord> {
@@ -50,19 +59,11 @@ fn reads(alloc: Global, tokens: &Tokens, outline: &Outline) -> Result<Vec<bool>,
     Ok(read)
 }
 
-// Whether a role of a channel is sent an interaction with these senders.
+// Whether a role of a channel is sent something where these send.
 fn is_sent_to(role: Role, senders: Senders) -> bool {
     match role {
         Role::First => senders.second,
         Role::Second => senders.first,
-    }
-}
-
-// Whether what a channel has at a place may come at this side of it.
-fn may_come(outline: &Outline, side: Side, place: u32) -> bool {
-    match outline.member(place) {
-        Some(Member::Interaction(senders)) => is_sent_to(side.role, senders),
-        _ => false,
     }
 }
 
@@ -74,15 +75,36 @@ fn count_in(outline: &Outline, region: u32) -> usize {
     }
 }
 
-// Whether something may come at this side of a channel.
-fn receives(outline: &Outline, side: Side) -> bool {
-    for number in 0..count_in(outline, side.channel) {
-        let place = outline.nth(side.channel, number).unwrap_or(0);
-        if may_come(outline, side, place) {
-            return true;
-        }
+// Who sends what a channel has at a place.
+fn senders_at(outline: &Outline, place: u32) -> Senders {
+    match outline.member(place) {
+        Some(Member::Interaction(senders)) => senders,
+        _ => NOBODY,
     }
-    false
+}
+
+// Who sends anything in a channel.
+fn senders_in(outline: &Outline, channel: u32) -> Senders {
+    let mut all = NOBODY;
+    for number in 0..count_in(outline, channel) {
+        let place = outline.nth(channel, number).unwrap_or(0);
+        let senders = senders_at(outline, place);
+        all = Senders {
+            first: all.first || senders.first,
+            second: all.second || senders.second,
+        };
+    }
+    all
+}
+
+// Whether something may come at this side of a channel. Each channel is looked at once.
+fn receives(outline: &Outline, side: Side, known: &mut Known) -> Result<bool, AllocError> {
+    if let Some(senders) = known.get(&side.channel) {
+        return Ok(is_sent_to(side.role, *senders));
+    }
+    let senders = senders_in(outline, side.channel);
+    known.insert(side.channel, senders)?;
+    Ok(is_sent_to(side.role, senders))
 }
 
 // The header of the module that a specification starts with.
@@ -95,14 +117,36 @@ fn header_of(outline: &Outline, spec: &Spec) -> Option<u32> {
 }
 
 // Whether an interaction point is declared at a place, at which something may come.
-fn is_receiver(outline: &Outline, place: u32) -> bool {
+fn is_receiver(outline: &Outline, place: u32, known: &mut Known) -> Result<bool, AllocError> {
     let Some(entry) = outline.entry(place) else {
-        return false;
+        return Ok(false);
     };
     match (entry.declared.sort, entry.side) {
-        (Sort::Point, Some(side)) => receives(outline, side),
-        _ => false,
+        (Sort::Point, Some(side)) => receives(outline, side, known),
+        _ => Ok(false),
     }
+}
+
+// Adds the interaction points of a header at which something may come and that are not read.
+fn push_receivers(
+    alloc: Global,
+    outline: &Outline,
+    header: u32,
+    read: &[bool],
+    found: &mut Vec<Warning>,
+) -> Result<(), AllocError> {
+    let mut known = IndexMap::new(alloc);
+    for number in 0..count_in(outline, header) {
+        let place = outline.nth(header, number).unwrap_or(0);
+        let has_readers = read.get(place as usize).copied().unwrap_or(true);
+        if !has_readers && is_receiver(outline, place, &mut known)? {
+            found.push(Warning {
+                place,
+                slip: Slip::NotRead,
+            })?;
+        }
+    }
+    Ok(())
 }
 
 /// Adds the ports at which something may come that no transition takes: no `when` names them, and
@@ -118,15 +162,5 @@ pub(crate) fn push_unread(
         return Ok(());
     };
     let read = reads(alloc, tokens, outline)?;
-    for number in 0..count_in(outline, header) {
-        let place = outline.nth(header, number).unwrap_or(0);
-        let has_readers = read.get(place as usize).copied().unwrap_or(true);
-        if !has_readers && is_receiver(outline, place) {
-            found.push(Warning {
-                place,
-                slip: Slip::NotRead,
-            })?;
-        }
-    }
-    Ok(())
+    push_receivers(alloc, outline, header, &read, found)
 }
