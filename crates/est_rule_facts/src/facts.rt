@@ -5,7 +5,7 @@ use crate::members::{append_owner, append_similar_members};
 use crate::operators::append_operators;
 use crate::owner::{Owner, owner_at, region_of};
 use crate::parameters::{append_parameters, append_taken};
-use crate::selected::{follows, is_name};
+use crate::selected::is_name;
 use crate::sentences::rule_sentence;
 use crate::signals::append_signal;
 use crate::slot_at::slot_at;
@@ -40,14 +40,12 @@ fn is_of_meaning(rule: Rule) -> bool {
     )
 }
 
-// What may stand where the name at a place does, where a rule is broken that asks for this.
+// What may stand where the name at a place does, which a rule is broken at.
 fn slot_for(tokens: &Tokens, place: u32, rule: Rule) -> Slot {
-    if rule == Rule::DeclaredTwice || follows(tokens, place, b".") {
+    if rule == Rule::DeclaredTwice {
         Slot::Nothing
-    } else if is_of_meaning(rule) {
-        slot_at(tokens, place)
     } else {
-        Slot::Any
+        slot_at(tokens, place)
     }
 }
 
@@ -82,8 +80,8 @@ fn append_predeclared(
     Ok(takes(slot, predeclared_sort(known)))
 }
 
-// Adds lines on what the name at a place is, and on similar names where it may not stand there, and
-// answers whether a name is told that may.
+// Adds lines on what the name at a place is, and on similar names where it may not stand there and
+// the rule says so, and answers whether a name is told that may.
 fn append_meanings(
     alloc: Global,
     tokens: &Tokens,
@@ -91,12 +89,13 @@ fn append_meanings(
     slot: Slot,
     meant: Meant,
     place: u32,
+    rule: Rule,
     notes: &mut String,
 ) -> Result<bool, AllocError> {
     let is_fit = append_predeclared(tokens, slot, meant, place, notes)?;
     let count = append_near(alloc, tokens, outline, slot, place, notes)?;
-    if is_fit || count > 0 {
-        return Ok(true);
+    if is_fit || count > 0 || !is_of_meaning(rule) {
+        return Ok(is_fit || count > 0);
     }
     Ok(append_similar(alloc, tokens, outline, slot, place, notes)? > 0)
 }
@@ -112,7 +111,7 @@ fn append_around(
 ) -> Result<(), AllocError> {
     let meant = meant_at(alloc, tokens, outline, place)?;
     let slot = slot_for(tokens, place, rule);
-    let is_told = append_meanings(alloc, tokens, outline, slot, meant, place, notes)?;
+    let is_told = append_meanings(alloc, tokens, outline, slot, meant, place, rule, notes)?;
     match rule {
         Rule::UnknownName => append_wanted(tokens, slot, is_told, place, notes),
         Rule::WrongSort => append_wanted(tokens, slot, is_told, place, notes),
