@@ -1,18 +1,14 @@
 -- What holds of each clause that stands in the bodies of a specification holds of those of each
 -- transition, with the clauses that it has of those before it.
-use Rattle.std.specs.Prelude.{if◌then◌else◌, find, slice_get, take}
-use Rattle.std.proofs.Common.{◌≡◌, refl, sym, subst, ℕ, zero, suc, Bool, true, false, nat_eq, not}
-use Rattle.std.proofs.Common.{List, [], ◌∷◌, Option, Some, None, inl, inr}
-use Rattle.std.specs.List.{AllByRecursion, cons_option, filter_map, flat_map, prefix_len}
-use Rattle.std.specs.Option.{option_map_or}
+use Rattle.std.specs.Prelude.{slice_get, take}
+use Rattle.std.proofs.Common.{◌≡◌, sym, subst, ℕ, zero, suc, not, List, [], ◌∷◌, Some, inl, inr}
+use Rattle.std.specs.List.{AllByRecursion, flat_map, prefix_len}
 use Rattle.std.proofs.lemmas.Option.{same_Some, none-some}
 use Rattle.est_syntax.specs.Least.{IsIn}
 use Rattle.est_syntax.specs.declared.body.Body.{Body, Body', out-Body, Row_of-Group, end_of-Group}
 use Rattle.est_syntax.specs.declared.body.Body.{more_of-Group, items-the_row-Group}
 use Rattle.est_syntax.specs.declared.body.Body.{items_shown-the_row-Group-1}
-use Rattle.est_syntax.specs.declared.body.Part.{Part, out-Part, Row_of-Part, end_of-Part}
-use Rattle.est_syntax.specs.declared.body.Part.{more_of-Part}
-use Rattle.est_syntax.specs.declared.body.Part.TheVariants as part
+use Rattle.est_syntax.specs.declared.body.Part.{out-Part}
 use Rattle.est_syntax.specs.declared.specification.Spec.{Spec}
 use Rattle.est_syntax.specs.declared.transition.Clause.{Clause}
 use Rattle.est_syntax.specs.declared.transition.Group.{Group', out-Group, Row_of-Transition}
@@ -20,14 +16,15 @@ use Rattle.est_syntax.specs.declared.transition.Group.{end_of-Transition, more_o
 use Rattle.est_syntax.specs.declared.transition.Group.{items-the_row-Transition}
 use Rattle.est_syntax.specs.declared.transition.Group.{items_shown-the_row-Transition-2}
 use Rattle.est_syntax.specs.declared.transition.Transition.{Transition}
-use Rattle.est_semantics.specs.TextByPlace.{text_of, parts_within, row_parts, parts_of, body_in}
+use Rattle.est_semantics.specs.TextByPlace.{text_of}
 use Rattle.est_choices.specs.ClauseContexts.{FullTransition, GivenClause, is_same_kind, before}
 use Rattle.est_choices.specs.ClauseContexts.{context_with, context_after, full_after}
 use Rattle.est_choices.specs.ClauseContexts.{group_transitions, transitions_of}
 use Rattle.est_choices.specs.TransitionChoices.{numbered}
 use Rattle.est_upkeep.proofs.ParentsOlder.{joined_all}
+use Rattle.est_writable.proofs.EachBody.{AllBodies, transitions_are}
 
--- each clause of transitions, of groups of them, and of the bodies among parts
+-- each clause of transitions, of groups of them, and of a body
 abbrev pub TransitionsHave : (Clause → Type 0) → {n : _} → Row_of-Transition n → Type 0
 TransitionsHave P end_of-Transition = Unit {0}
 TransitionsHave P (more_of-Transition cs name a parts ss place rest) =
@@ -38,19 +35,8 @@ GroupsHave P end_of-Group = Unit {0}
 GroupsHave P (more_of-Group (Group' a transitions) rest) =
     TransitionsHave P transitions × GroupsHave P rest
 
-abbrev mutual
-  pub PartHas : (Clause → Type 0) → Part → Type 0
-  PartHas P (part.Body (Body' name header a parts f b groups)) =
-      RowHas P parts × GroupsHave P groups
-  PartHas P _ = Unit {0}
-
-  pub RowHas : (Clause → Type 0) → {n : _} → Row_of-Part n → Type 0
-  RowHas P end_of-Part = Unit {0}
-  RowHas P (more_of-Part x rest) = PartHas P x × RowHas P rest
-
-abbrev pub PartsHave : (Clause → Type 0) → List Part → Type 0
-PartsHave P [] = Unit {0}
-PartsHave P (x ∷ xs) = PartHas P x × PartsHave P xs
+abbrev pub BodyHas : (Clause → Type 0) → Body → Type 0
+BodyHas P (Body' name header a parts f b groups) = GroupsHave P groups
 
 -- LISTS
 
@@ -78,11 +64,11 @@ one_in P x [] h is = absurd is
 one_in P x (y ∷ ys) h (inl e) = subst P e h.0
 one_in P x (y ∷ ys) h (inr is) = one_in P x ys h.1 is
 
+-- TRANSITIONS
+
 module _ (P : Clause → Type 0) where
   abbrev Has : FullTransition → Type 0
   Has x = AllByRecursion P x.clauses
-
-  -- TRANSITIONS
 
   context_has : (cs ds : List Clause) → AllByRecursion P cs → AllByRecursion P ds
       → AllByRecursion P (context_after cs ds)
@@ -113,82 +99,17 @@ module _ (P : Clause → Type 0) where
       (λ gs. transitions_have gs [] transitions tt h.0) _)
       (groups_have rest h.1)
 
-  -- BODIES
-
-  abbrev BodyHas : Body → Type 0
-  BodyHas b = AllByRecursion Has (flat_map group_transitions (out-Body b).groups)
-
-  abbrev OwnHas : Part → Type 0
-  OwnHas x = (b : Body) → body_in x ≡ Some b → BodyHas b
-
-  own_has : (x : Part) → PartHas P x → OwnHas x
-  unfolding out-Part out-Body denote.Hole.Carrier.out denote.Hole.Carrier.shown
-  own_has (part.Body (Body' name header a parts f c groups)) h b e =
-      subst BodyHas (same_Some _ b e)
-      (subst (λ gs. AllByRecursion Has (flat_map group_transitions gs))
-      (sym (items_shown-the_row-Group-1 c groups)) (groups_have groups h.1))
-  own_has _ h b e = absurd (none-some b e)
-
-  mutual
-    within_has : (x : Part) → PartHas P x → AllByRecursion OwnHas (parts_within x)
-    within_has (part.Body (Body' name header a parts f b groups)) h =
-        (own_has (part.Body (Body' name header a parts f b groups)) h, row_has parts h.0)
-    within_has (part.Consts x) h = (own_has (part.Consts x) h, tt)
-    within_has (part.Types x) h = (own_has (part.Types x) h, tt)
-    within_has (part.Channel x) h = (own_has (part.Channel x) h, tt)
-    within_has (part.Header x) h = (own_has (part.Header x) h, tt)
-    within_has (part.Modvars x) h = (own_has (part.Modvars x) h, tt)
-    within_has (part.Points x) h = (own_has (part.Points x) h, tt)
-    within_has (part.Vars x) h = (own_has (part.Vars x) h, tt)
-    within_has (part.States x) h = (own_has (part.States x) h, tt)
-    within_has (part.StateSets x) h = (own_has (part.StateSets x) h, tt)
-    within_has (part.Routine' name formals result a parts ss place) h =
-        (own_has (part.Routine' name formals result a parts ss place) h, tt)
-
-    row_has : {n : _} (row : Row_of-Part n) → RowHas P row → AllByRecursion OwnHas (row_parts row)
-    row_has end_of-Part h = tt
-    row_has (more_of-Part x rest) h =
-        joined_all OwnHas (parts_within x) (row_parts rest) (within_has x h.0) (row_has rest h.1)
-
-  parts_have : (xs : List Part) → PartsHave P xs
-      → AllByRecursion OwnHas (flat_map parts_within xs)
-  parts_have [] h = tt
-  parts_have (x ∷ xs) h =
-      joined_all OwnHas (parts_within x) (flat_map parts_within xs) (within_has x h.0)
-      (parts_have xs h.1)
-
-  bodies_have : (xs : List Part) → AllByRecursion OwnHas xs
-      → AllByRecursion BodyHas (filter_map body_in xs)
-  bodies_have [] h = tt
-  bodies_have (x ∷ xs) h = one (body_in x) h.0 (bodies_have xs h.1)
-    where
-      one : (y : Option Body) → ((b : Body) → y ≡ Some b → BodyHas b)
-          → AllByRecursion BodyHas (filter_map body_in xs)
-          → AllByRecursion BodyHas (cons_option y (filter_map body_in xs))
-      one None f rest = rest
-      one (Some b) f rest = (f b refl, rest)
-
-  found_has : (test : Body → Bool) (bs : List Body) → AllByRecursion BodyHas bs
-      → AllByRecursion Has (option_map_or
-      (λ (b : Body). flat_map group_transitions (out-Body b).groups) (find test bs) [])
-  found_has test [] h = tt
-  found_has test (b ∷ bs) h = one (test b) (found_has test bs h.1)
-    where
-      one : (c : Bool)
-          → AllByRecursion Has (option_map_or
-          (λ (b : Body). flat_map group_transitions (out-Body b).groups) (find test bs) [])
-          → AllByRecursion Has (option_map_or
-          (λ (b : Body). flat_map group_transitions (out-Body b).groups)
-          (if c then Some b else find test bs) [])
-      one true g = h.0
-      one false g = g
+  body_has : (b : Body) → BodyHas P b
+      → AllByRecursion Has (flat_map group_transitions (out-Body b).groups)
+  unfolding out-Body denote.Hole.Carrier.out denote.Hole.Carrier.shown
+  body_has (Body' name header a parts f b groups) h =
+      subst (λ gs. AllByRecursion Has (flat_map group_transitions gs))
+      (sym (items_shown-the_row-Group-1 b groups)) (groups_have groups h)
 
   -- a transition of a body of a specification
-  pub transition_has : (spec : Spec) → PartsHave P spec.parts → (body number : ℕ)
+  pub transition_has : (spec : Spec) → AllBodies (BodyHas P) spec.parts → (body number : ℕ)
       (x : FullTransition) → numbered (transitions_of (text_of spec) body) number ≡ Some x
       → AllByRecursion P x.clauses
   transition_has spec h body number x is =
-      let t = text_of spec in
-      numbered_one Has (transitions_of t body) number x
-      (found_has (λ (b : Body). nat_eq body (out-Body b).name.place)
-      (filter_map body_in (parts_of t)) (bodies_have (parts_of t) (parts_have spec.parts h))) is
+      numbered_one Has (transitions_of (text_of spec) body) number x
+      (transitions_are (BodyHas P) (AllByRecursion Has) tt body_has spec h body) is

@@ -20,7 +20,8 @@ use Rattle.est_fullness.specs.WholeBodies.{PartLacksNothing, RowOfPartsLacksNoth
 use Rattle.est_fullness.specs.WholeBodies.{PartsLackNothing}
 use Rattle.est_fullness.proofs.NoFaults.{parted}
 use Rattle.est_fullness.proofs.NotBroken.{three}
-use Rattle.est_writable.proofs.EachClause.{TransitionsHave, GroupsHave, PartHas, RowHas, PartsHave}
+use Rattle.est_writable.proofs.EachBody.{PartBodies, RowBodies, AllBodies}
+use Rattle.est_writable.proofs.EachClause.{TransitionsHave, GroupsHave, BodyHas}
 
 module _ (o : Outline) where
   -- a clause breaks no rule, lacks nothing, and declares what the outline says
@@ -56,17 +57,17 @@ module _ (o : Outline) where
 
   mutual
     part_fine : (x : Part) → part_faults o x ≡ [] → PartLacksNothing o x → PartSaid o x
-        → PartHas IsFineClause x
+        → PartBodies (BodyHas IsFineClause) x
     part_fine (part.Body (Body' name header a parts f b groups)) h k s =
         let own = parted _ (row_groups_faults o groups) h in (
+          groups_fine groups own.1 k.3 s.3,
           row_fine parts (parted _ (row_faults o parts)
               (parted _ (first_faults o f) own.0).0).1 k.1 s.1,
-          groups_fine groups own.1 k.3 s.3,
         )
     part_fine _ h k s = tt
 
     row_fine : {n : _} (row : Row_of-Part n) → row_faults o row ≡ []
-        → RowOfPartsLacksNothing o row → PartsSaid o row → RowHas IsFineClause row
+        → RowOfPartsLacksNothing o row → PartsSaid o row → RowBodies (BodyHas IsFineClause) row
     row_fine end_of-Part h k s = tt
     row_fine (more_of-Part x rest) h k s =
         let own = parted (part_faults o x) (row_faults o rest) h in
@@ -74,7 +75,7 @@ module _ (o : Outline) where
 
   -- parts that break no rule and lack nothing
   pub parts_fine : (xs : List Part) → parts_faults o xs ≡ [] → PartsLackNothing o xs
-      → Each (PartSaid o) xs → PartsHave IsFineClause xs
+      → Each (PartSaid o) xs → AllBodies (BodyHas IsFineClause) xs
   parts_fine [] h k s = tt
   parts_fine (x ∷ xs) h k s =
       let own = parted (part_faults o x) (parts_faults o xs) h in

@@ -1,4 +1,5 @@
 pub mod CountedChoices
+pub mod EachBody
 pub mod EachClause
 pub mod FewChoices
 pub mod FewInstances
@@ -8,6 +9,7 @@ pub mod ListedNames
 pub mod NamedAnys
 pub mod NamedKinds
 pub mod ReadAnys
+pub mod ReadBodies
 pub mod ReadableVerdicts
 pub mod RegionsStay
 pub mod WritableRuns

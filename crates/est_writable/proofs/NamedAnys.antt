@@ -54,11 +54,12 @@ use Rattle.est_fullness.proofs.ParametersLead.{statements_lead, named_leads, clo
 use Rattle.est_fullness.proofs.ParametersLead.{part_leads, parts_lead, first_leads}
 use Rattle.est_fullness.proofs.ParametersLead.{transitions_lead, nothing_leads}
 use Rattle.est_writable.specs.WritableLaws.{declared_places, any_names, AnysHaveTheirNames}
-use Rattle.est_writable.proofs.EachClause.{TransitionsHave, GroupsHave, PartHas, RowHas, PartsHave}
-use Rattle.est_writable.proofs.EachClause.{one_in, transition_has}
-use Rattle.est_writable.proofs.FewTransitions.{sentence_parts}
+use Rattle.est_writable.proofs.EachBody.{PartBodies, RowBodies, AllBodies}
+use Rattle.est_writable.proofs.EachClause.{TransitionsHave, GroupsHave, BodyHas, one_in}
+use Rattle.est_writable.proofs.EachClause.{transition_has}
 use Rattle.est_writable.proofs.ListedNames.{listed, any_under, same_places, vars_listed}
 use Rattle.est_writable.proofs.ReadAnys.{IsShortText, HasShortText, IsRead, sentence_read}
+use Rattle.est_writable.proofs.ReadBodies.{sentence_parts}
 use Rattle.est_writable.proofs.RegionsStay.{IsNot, Stays, stays_then, grown_stays, closed_stays}
 
 -- the region of an `any` has the names that its text declares
@@ -238,8 +239,9 @@ module _ (text : List ℕ) (tokens : List Token) (f : Outline) where
 
   mutual
     part_named : (w : Within) (x : Part) (o : Outline) (i j : ℕ) → PartPlaced i j x → j ≤ 2 ^ 32
-        → w.region < i → IsOpen B i w → PartApart B x → PartHas (IsRead text tokens) x
-        → IsBefore i o → Leading B i i o → Lasts i j (part_declares w x o) → PartHas (IsNamed f) x
+        → w.region < i → IsOpen B i w → PartApart B x → PartBodies (BodyHas (IsRead text tokens)) x
+        → IsBefore i o → Leading B i i o → Lasts i j (part_declares w x o)
+        → PartBodies (BodyHas (IsNamed f)) x
     part_named w (part.Body (Body' name header x parts g y groups)) o i j h fits l is out read
         before k rest =
         let p = h.2 in
@@ -278,17 +280,17 @@ module _ (text : List ℕ) (tokens : List Token) (f : Outline) where
         lasts_before till h.0 h.1 o3 o4 d e
         (λ r m n. first_grows (IsNot r) false h.0 h.1 (omega arith) v (inl (λ z. omega arith)) g o3
         h.0 h.1 h.5 (omega arith) (omega arith)) rest4 in (
-          row_named v parts o2 till h.0 h.4 (omega arith) (omega arith) (inl (omega arith), refl)
-              out.0 read.0 before2 k2 rest3,
           groups_named v groups o4 h.1 j h.6 fits (omega arith) (inl (omega arith), refl) out.2
-              read.1 before4 k4 (λ r m n. rest r (omega arith) n),
+              read.0 before4 k4 (λ r m n. rest r (omega arith) n),
+          row_named v parts o2 till h.0 h.4 (omega arith) (omega arith) (inl (omega arith), refl)
+              out.0 read.1 before2 k2 rest3,
         )
     part_named w _ o i j h fits l is out read before k rest = tt
 
     row_named : (w : Within) {n : _} (row : Row_of-Part n) (o : Outline) (i j : ℕ)
         → PartsPlaced i j row → j ≤ 2 ^ 32 → w.region < i → IsOpen B i w → RowApart B row
-        → RowHas (IsRead text tokens) row → IsBefore i o → Leading B i i o
-        → Lasts i j (row_parts w row o) → RowHas (IsNamed f) row
+        → RowBodies (BodyHas (IsRead text tokens)) row → IsBefore i o → Leading B i i o
+        → Lasts i j (row_parts w row o) → RowBodies (BodyHas (IsNamed f)) row
     row_named w end_of-Part o i j h fits l is out read before k rest = tt
     row_named w (more_of-Part x more) o i j h fits l is out read before k rest =
         let e = part_on i h.0 x h.1 in
@@ -314,8 +316,8 @@ module _ (text : List ℕ) (tokens : List Token) (f : Outline) where
 
   pub parts_named : (w : Within) (xs : List Part) (o : Outline) (i j : ℕ)
       → InOrder PartPlaced i j xs → j ≤ 2 ^ 32 → w.region < i → IsOpen B i w → AllApart B xs
-      → PartsHave (IsRead text tokens) xs → IsBefore i o → Leading B i i o
-      → Lasts i j (parts_declare w xs o) → PartsHave (IsNamed f) xs
+      → AllBodies (BodyHas (IsRead text tokens)) xs → IsBefore i o → Leading B i i o
+      → Lasts i j (parts_declare w xs o) → AllBodies (BodyHas (IsNamed f)) xs
   parts_named w [] o i j h fits l is out read before k rest = tt
   parts_named w (x ∷ xs) o i j h fits l is out read before k rest =
       let e = part_on i h.0 x h.1 in
@@ -341,7 +343,7 @@ module _ (text : List ℕ) (tokens : List Token) (f : Outline) where
 
 -- the names of the outline of a sentence
 outline_named : (spec : Spec) (sentence : IsSentence spec)
-    → PartsHave (IsNamed (outline_of spec)) spec.parts
+    → AllBodies (BodyHas (IsNamed (outline_of spec))) spec.parts
 outline_named spec sentence =
     let text = sentence.text in
     let tokens = sentence.tokens in

@@ -8,13 +8,10 @@ use Rattle.est_lexer.specs.declared.kind.ReservedWord.TheVariants as words
 use Rattle.est_lexer.specs.declared.kind.Symbol.TheVariants as symbols
 use Rattle.est_lexer.specs.declared.kind.Token.{Token}
 use Rattle.est_lexer.specs.declared.kind.TokenKind.TheVariants.{Reserved}
-use Rattle.est_syntax.specs.declared.body.Body.{Body', out-Body, Row_of-Group, end_of-Group}
+use Rattle.est_syntax.specs.declared.body.Body.{Body, Body', out-Body, Row_of-Group, end_of-Group}
 use Rattle.est_syntax.specs.declared.body.Body.{more_of-Group, items-the_row-Group}
 use Rattle.est_syntax.specs.declared.body.Body.{items_shown-the_row-Group-1}
-use Rattle.est_syntax.specs.declared.body.Part.{Part, out-Part, Row_of-Part, end_of-Part}
-use Rattle.est_syntax.specs.declared.body.Part.{more_of-Part, items-the_row-Part}
-use Rattle.est_syntax.specs.declared.body.Part.{items_shown-the_row-Part-0}
-use Rattle.est_syntax.specs.declared.body.Part.TheVariants as part
+use Rattle.est_syntax.specs.declared.body.Part.{out-Part}
 use Rattle.est_syntax.specs.declared.specification.Spec.{Spec}
 use Rattle.est_syntax.specs.declared.transition.Clause.{Clause}
 use Rattle.est_syntax.specs.declared.transition.Clause.TheVariants as clauses
@@ -33,10 +30,10 @@ use Rattle.est_language.specs.Shown.{s_first, s_second}
 use Rattle.est_reader.specs.Going.{Shape}
 use Rattle.est_reader.specs.Tests.{Test, kind, holds}
 use Rattle.est_reader.proofs.Apart.{apart-holds}
-use Rattle.est_productions.specs.Nodes.{View, choice, a_clause, a_common_part, a_body_part, a_group}
+use Rattle.est_productions.specs.Nodes.{View, choice, a_body, a_clause, a_group}
 use Rattle.est_productions.specs.Nodes.{a_parameter, a_short_type, a_transition, layer}
 use Rattle.est_productions.specs.Productions as grammar
-use Rattle.est_productions.specs.Productions.{Rule, production, body_part, several, symbol, params}
+use Rattle.est_productions.specs.Productions.{Rule, production, several, symbol, params}
 use Rattle.est_grammar.specs.Answer.{HasOneTree}
 use Rattle.est_order.proofs.FromTexts.{short_placed}
 use Rattle.est_order.proofs.Placed.{ShortPlaced}
@@ -44,9 +41,9 @@ use Rattle.est_fullness.proofs.Apart.{IsBegin}
 use Rattle.est_fullness.proofs.Reading.{TreeOf, Reads, reads_stands, in_word, in_rule, in_node}
 use Rattle.est_fullness.proofs.Reading.{in_here, in_left, in_right, in_seq, in_list, in_rep}
 use Rattle.est_fullness.proofs.Reading.{no_list}
-use Rattle.est_writable.proofs.EachClause.{TransitionsHave, GroupsHave, PartHas, RowHas, PartsHave}
-use Rattle.est_writable.proofs.FewTransitions.{Content, of_common, of_body, body_parts}
-use Rattle.est_writable.proofs.FewTransitions.{sentence_parts}
+use Rattle.est_writable.proofs.EachBody.{AllBodies}
+use Rattle.est_writable.proofs.EachClause.{TransitionsHave, GroupsHave, BodyHas}
+use Rattle.est_writable.proofs.ReadBodies.{body_parts, bodies_read}
 
 -- a type is a name or a range, so its text declares nothing
 abbrev pub IsShortText : TypeText → Type 0
@@ -215,41 +212,15 @@ module _ (text : List ℕ) (tokens : List Token) where
 
   -- BODIES
 
-  mutual
-    unfolding out-Part out-Body denote.Hole.Carrier.out denote.Hole.Carrier.shown
-
-    part_read : (x : Part) → Content text tokens (out-Part x) → PartHas IsRead x
-    part_read (part.Body (Body' name header a ps f b groups)) r =
-        let q = body_parts text tokens (Body' name header a ps f b groups) r in (
-          row_read ps
-              (subst (λ l. Reads text tokens (rep body_part) (nodes (map a_body_part l)))
-              (items_shown-the_row-Part-0 a ps) q.0),
-          groups_read groups
-              (subst (λ l. Reads text tokens (rep (rule grammar.transpart)) (nodes (map a_group l)))
-              (items_shown-the_row-Group-1 b groups) q.1),
-        )
-    part_read _ r = tt
-
-    row_read : {n : _} (row : Row_of-Part n)
-        → Reads text tokens (rep body_part) (nodes (map a_body_part (items-the_row-Part n row)))
-        → RowHas IsRead row
-    row_read end_of-Part r = tt
-    row_read (more_of-Part x rest) r =
-        let q = in_rep text tokens r in (
-          part_read x (of_body text tokens (out-Part x) (in_node text tokens q.0)),
-          row_read rest q.1,
-        )
-
-  parts_read : (xs : List Part)
-      → Reads text tokens (rep (rule grammar.common)) (nodes (map a_common_part xs))
-      → PartsHave IsRead xs
-  parts_read [] r = tt
-  parts_read (x ∷ xs) r =
-      let q = in_rep text tokens r in (
-        part_read x (of_common text tokens (out-Part x) (in_node text tokens q.0)),
-        parts_read xs q.1,
-      )
+  body_read : (b : Body) → Reads text tokens (rule grammar.body) (node (a_body b))
+      → BodyHas IsRead b
+  unfolding out-Body denote.Hole.Carrier.out denote.Hole.Carrier.shown
+  body_read (Body' name header a ps f c groups) r =
+      groups_read groups
+      (subst (λ l. Reads text tokens (rep (rule grammar.transpart)) (nodes (map a_group l)))
+      (items_shown-the_row-Group-1 c groups)
+      (body_parts text tokens (Body' name header a ps f c groups) r).1)
 
   -- each `any` of a sentence is read so
-  pub sentence_read : (s : Spec) → HasOneTree text tokens s → PartsHave IsRead s.parts
-  sentence_read s h = parts_read s.parts (sentence_parts text tokens s h)
+  pub sentence_read : (s : Spec) → HasOneTree text tokens s → AllBodies (BodyHas IsRead) s.parts
+  sentence_read s h = bodies_read text tokens (BodyHas IsRead) body_read s h
