@@ -34,8 +34,8 @@ pub(crate) enum Asked<'w> {
 
 /// What words ask for: `advise` with the files of a specification, a trace and an explanation, of
 /// which the last ones may be missing and after which the limits of a replay may stand; `next` with
-/// the files of a specification and a trace, after which the limits of a search may stand; or `warn`
-/// with the file of a specification.
+/// the files of a specification and a trace, after which the limits of a search may stand; or
+/// `warn` with the file of a specification.
 pub(crate) fn asked_of(alloc: Global, words: &[String]) -> Result<Option<Asked<'_>>, AllocError> {
     let [command, specification, rest @ ..] = words else {
         return Ok(None);
