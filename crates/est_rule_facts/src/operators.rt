@@ -1,4 +1,4 @@
-//! The operators beside an operand, and what they take.
+//! The operators beside an operand, and what they take and yield.
 
 use crate::selected::after_operand;
 use est_lexer::kind::{ReservedWord, Symbol, TokenKind};
@@ -6,24 +6,28 @@ use est_lexer::tokens::Tokens;
 use est_notes::lines::{Mark, append_token, begin_line};
 use std::alloc::AllocError;
 
-const NUMBERS: &str = " takes integers, or sets of one type";
+const NUMBERS: &str = " takes integers, or sets of one type, and yields one of these";
 
-const VALUES: &str = " compares ordinals of one type, or sets of one type";
+const VALUES: &str = " compares ordinals of one type, or sets of one type, and yields a boolean";
 
-// What an operator takes that is a word.
+const ORDINALS: &str = " compares ordinals of one type, and yields a boolean";
+
+const MEMBER: &str = " takes an ordinal, and a set of ordinals of its type, and yields a boolean";
+
+// What an operator takes and yields that is a word.
 fn word_sentence(word: ReservedWord) -> Option<&'static str> {
     match word {
-        ReservedWord::And => Some(" takes booleans"),
-        ReservedWord::Or => Some(" takes booleans"),
-        ReservedWord::Not => Some(" takes a boolean"),
-        ReservedWord::Div => Some(" takes integers"),
-        ReservedWord::Mod => Some(" takes integers"),
-        ReservedWord::In => Some(" takes an ordinal, and a set of ordinals of its type"),
+        ReservedWord::And => Some(" takes booleans and yields one"),
+        ReservedWord::Or => Some(" takes booleans and yields one"),
+        ReservedWord::Not => Some(" takes a boolean and yields one"),
+        ReservedWord::Div => Some(" takes integers and yields one"),
+        ReservedWord::Mod => Some(" takes integers and yields one"),
+        ReservedWord::In => Some(MEMBER),
         _ => None,
     }
 }
 
-// What an operator takes that is a symbol.
+// What an operator takes and yields that is a symbol.
 fn symbol_sentence(symbol: Symbol) -> Option<&'static str> {
     match symbol {
         Symbol::Plus => Some(NUMBERS),
@@ -33,13 +37,13 @@ fn symbol_sentence(symbol: Symbol) -> Option<&'static str> {
         Symbol::Unequal => Some(VALUES),
         Symbol::AtMost => Some(VALUES),
         Symbol::AtLeast => Some(VALUES),
-        Symbol::Below => Some(" compares ordinals of one type"),
-        Symbol::Above => Some(" compares ordinals of one type"),
+        Symbol::Below => Some(ORDINALS),
+        Symbol::Above => Some(ORDINALS),
         _ => None,
     }
 }
 
-// What the operator at a place takes, if one stands there.
+// What the operator at a place takes and yields, if one stands there.
 fn sentence_at(tokens: &Tokens, place: u32) -> Option<&'static str> {
     match tokens.token_at(place)?.kind {
         TokenKind::Reserved(word) => word_sentence(word),
@@ -75,6 +79,11 @@ fn is_operand(tokens: &Tokens, place: u32) -> bool {
             _ => false,
         },
     }
+}
+
+/// Whether an operand begins at a place after which no operator stands.
+pub(crate) fn is_alone(tokens: &Tokens, place: u32) -> bool {
+    is_operand(tokens, place) && sentence_at(tokens, after_operand(tokens, place)).is_none()
 }
 
 /// Adds lines on the operators before and after the operand that begins at a place.

@@ -1,6 +1,7 @@
 //! What a place takes, by the tokens beside it.
 
 use crate::led_to::{append_tokens, kind_to};
+use crate::operators::is_alone;
 use crate::selected::{first_before, follows};
 use est_lexer::kind::{ReservedWord, TokenKind};
 use est_lexer::tokens::Tokens;
@@ -110,6 +111,15 @@ pub(crate) fn append_wanted(
     }
 }
 
+// What is assigned where an operand begins at a place: the operand, or what it is the first one of.
+fn assigned_at(tokens: &Tokens, place: u32) -> &'static str {
+    if is_alone(tokens, place) {
+        "it is assigned to "
+    } else {
+        "the whole expression is assigned to "
+    }
+}
+
 // Adds a line on what it is that what stands at a place is assigned to, of which this is the first
 // name.
 fn append_first(
@@ -125,7 +135,7 @@ fn append_first(
         return Ok(());
     };
     begin_line(tokens, Mark::Note, place, notes)?;
-    notes.push_str("it is assigned to ")?;
+    notes.push_str(assigned_at(tokens, place))?;
     append_token(tokens, first, notes)?;
     notes.push_str(", ")?;
     append_declared(alloc, tokens, outline, declared, notes)?;
@@ -147,7 +157,7 @@ fn append_part(
         return Ok(());
     };
     begin_line(tokens, Mark::Note, place, notes)?;
-    notes.push_str("it is assigned to ")?;
+    notes.push_str(assigned_at(tokens, place))?;
     append_tokens(tokens, first, end, notes)?;
     notes.push_str(", of type ")?;
     append_kind(alloc, tokens, kind, notes)?;
