@@ -1,6 +1,6 @@
 //! All that is told of a rule that is broken at a place.
 
-use crate::led_to::append_led_to;
+use crate::led_to::{append_led_to, leads_on};
 use crate::members::{append_owner, append_similar_members};
 use crate::operators::append_operators;
 use crate::owner::{Owner, owner_at, region_of};
@@ -155,6 +155,27 @@ fn append_strange(
     append_similar_members(alloc, tokens, outline, owner, place, notes)
 }
 
+// Adds a line on what the name at a place takes, which is declared in its owner: an interaction its
+// parameters, and what a module has its subscripts.
+fn append_taken_of(
+    alloc: Global,
+    tokens: &Tokens,
+    outline: &Outline,
+    owner: Owner<'_>,
+    declared: u32,
+    place: u32,
+    notes: &mut String,
+) -> Result<(), AllocError> {
+    match owner {
+        Owner::Signals {
+            point: _,
+            direction: _,
+            side: _,
+        } => append_parameters(alloc, tokens, outline, declared, place, notes),
+        _ => append_taken(alloc, tokens, outline, declared, place, notes),
+    }
+}
+
 // Adds lines on a name at a place that is looked up in its owner.
 fn append_member(
     alloc: Global,
@@ -171,7 +192,7 @@ fn append_member(
         Some(declared) => {
             append_declaration(alloc, tokens, outline, declared, place, notes)?;
             if rule == Rule::WrongNumber {
-                append_parameters(alloc, tokens, outline, declared, place, notes)?;
+                append_taken_of(alloc, tokens, outline, owner, declared, place, notes)?;
             }
         },
     }
@@ -215,7 +236,9 @@ fn append_operand(
     notes: &mut String,
 ) -> Result<(), AllocError> {
     append_led_to(alloc, tokens, outline, place, notes)?;
-    append_target(alloc, tokens, outline, place, notes)?;
+    if leads_on(alloc, tokens, outline, place)? {
+        append_target(alloc, tokens, outline, place, notes)?;
+    }
     append_operators(tokens, place, notes)?;
     append_tight(tokens, place, notes)
 }

@@ -160,6 +160,23 @@ pub(crate) fn kind_to<'o>(
     })
 }
 
+/// Whether nothing selects from what stands at a place, or all that does leads to something.
+pub(crate) fn leads_on(
+    alloc: Global,
+    tokens: &Tokens,
+    outline: &Outline,
+    place: u32,
+) -> Result<bool, AllocError> {
+    let next = spelled(tokens, place.saturating_add(1));
+    if !is_name(tokens, place) || next != b".".as_slice() && next != b"[".as_slice() {
+        return Ok(true);
+    }
+    match kind_to(alloc, tokens, outline, place, after_operand(tokens, place))? {
+        None => Ok(false),
+        Some(_) => Ok(true),
+    }
+}
+
 /// Adds the tokens from a place up to another one, with blanks around words.
 pub(crate) fn append_tokens(
     tokens: &Tokens,

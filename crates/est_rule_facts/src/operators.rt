@@ -8,6 +8,8 @@ use std::alloc::AllocError;
 
 const NUMBERS: &str = " takes integers, or sets of one type, and yields one of these";
 
+const SIGN: &str = " takes an integer and yields one";
+
 const VALUES: &str = " compares ordinals of one type, or sets of one type, and yields a boolean";
 
 const ORDINALS: &str = " compares ordinals of one type, and yields a boolean";
@@ -43,10 +45,34 @@ fn symbol_sentence(symbol: Symbol) -> Option<&'static str> {
     }
 }
 
+// Whether an operand ends with the token before a place.
+fn is_after_operand(tokens: &Tokens, place: u32) -> bool {
+    let Some(before) = place.checked_sub(1) else {
+        return false;
+    };
+    match tokens.token_at(before) {
+        None => false,
+        Some(token) => match token.kind {
+            TokenKind::Identifier => true,
+            TokenKind::Number => true,
+            TokenKind::Character => true,
+            TokenKind::Symbol(Symbol::RightParenthesis) => true,
+            TokenKind::Symbol(Symbol::RightBracket) => true,
+            _ => false,
+        },
+    }
+}
+
+// Whether this symbol at a place is a sign.
+fn is_sign(tokens: &Tokens, symbol: Symbol, place: u32) -> bool {
+    (symbol == Symbol::Plus || symbol == Symbol::Minus) && !is_after_operand(tokens, place)
+}
+
 // What the operator at a place takes and yields, if one stands there.
 fn sentence_at(tokens: &Tokens, place: u32) -> Option<&'static str> {
     match tokens.token_at(place)?.kind {
         TokenKind::Reserved(word) => word_sentence(word),
+        TokenKind::Symbol(symbol) if is_sign(tokens, symbol, place) => Some(SIGN),
         TokenKind::Symbol(symbol) => symbol_sentence(symbol),
         _ => None,
     }
