@@ -27,6 +27,15 @@ pub(crate) fn place_of(rejected: &Rejected) -> u32 {
     place_after(&rejected.moves[..before])
 }
 
+// Why a move is rejected that asks for more events than the trace has.
+fn reason_after_all(why: Why) -> &'static str {
+    match why {
+        Why::WrongOutput => "something is sent out, and the trace has no event left",
+        Why::NoEvent => "the trace has no event left",
+        _ => reason(why),
+    }
+}
+
 // Why a move is rejected.
 fn reason(why: Why) -> &'static str {
     match why {
@@ -86,7 +95,11 @@ fn append_place(
 ) -> Result<(), AllocError> {
     let at = rejected.at;
     let count = rejected.trace.len();
-    let reason = reason(rejected.why);
+    let reason = if happened < count {
+        reason(rejected.why)
+    } else {
+        reason_after_all(rejected.why)
+    };
     let text = format!(in alloc;
         "this is move {at}, after {happened} of {count} events: {reason}"
     )?;

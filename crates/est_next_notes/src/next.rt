@@ -1,7 +1,7 @@
 //! The notes on the event at which a trace is refused.
 ghost use Rattle.est_choices.specs.AllowedEvents.{IsAllowedTrace};
 
-use crate::texts::text_of;
+use crate::texts::{receives, text_of};
 use est_check::Checked;
 use est_choices::event::Trace;
 use est_lexer::tokens::Tokens;
@@ -18,6 +18,9 @@ use std::alloc::{AllocError, Global};
 
 const NOTHING: &str = "after the events before, nothing leaves within the limits until something \
     arrives or time passes";
+
+const NOTHING_BUT_TIME: &str =
+    "after the events before, nothing leaves within the limits until time passes";
 
 /// Adds what could stand in place of the first event of a trace that no run of a specification
 /// yields within the limits, where there is one. It takes as long as the search for that event.
@@ -71,5 +74,10 @@ fn append_others(
     if others.events.len() > 0 {
         return Ok(());
     }
-    append_note(alloc, notes, spot, NOTHING)
+    let nothing = if receives(ports) {
+        NOTHING
+    } else {
+        NOTHING_BUT_TIME
+    };
+    append_note(alloc, notes, spot, nothing)
 }

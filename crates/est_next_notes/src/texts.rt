@@ -2,6 +2,7 @@
 
 use est_next_events::noted::Others;
 use est_ports::ports::Ports;
+use est_syntax::ports::Signals;
 use est_wanted::note::printed;
 use est_written_traces::trace::append_trace;
 use std::alloc::{AllocError, Global};
@@ -10,6 +11,9 @@ use std::alloc::{AllocError, Global};
 const MOST_TOLD: usize = 8;
 
 const MOST_CHARACTERS: usize = 160;
+
+// So many ports are looked at for what may arrive.
+const MOST_PORTS: u32 = 100_000;
 
 const BEGIN: &str = "could stand here: ";
 
@@ -69,13 +73,43 @@ fn push_more(alloc: Global, others: &Others, text: &mut String) -> Result<(), Al
     push_item(text, &item)
 }
 
+// Whether one of these signals is received.
+fn is_received(signals: &Signals) -> bool {
+    for signal in signals.as_slice() {
+        if signal.receives {
+            return true;
+        }
+    }
+    false
+}
+
+/// Whether something may arrive: at one of the first ports, or there are more than are looked at.
+pub(crate) fn receives(ports: &Ports) -> bool {
+    for number in 0..MOST_PORTS {
+        match ports.signals(number) {
+            None => return false,
+            Some(signals) => if is_received(signals) {
+                return true;
+            },
+        }
+    }
+    true
+}
+
 /// The events that could leave, and what may stand wherever a run ends.
 pub(crate) fn text_of(alloc: Global, ports: &Ports, others: &Others) -> Result<String, AllocError> {
     let mut text = String::from_str(alloc, BEGIN)?;
     push_events(alloc, ports, others, &mut text)?;
     push_more(alloc, others, &mut text)?;
     if others.is_end {
-        push_item(&mut text, "'in', 'time' or 'end'")?;
+        push_item(
+            &mut text,
+            if receives(ports) {
+                "'in', 'time' or 'end'"
+            } else {
+                "'time' or 'end'"
+            },
+        )?;
     }
     Ok(text)
 }

@@ -227,6 +227,8 @@ fn append_name(
     }
 }
 
+const UNSELECTED: &str = "nothing can be selected from it so";
+
 // Adds lines on the operand at a place.
 fn append_operand(
     alloc: Global,
@@ -238,6 +240,8 @@ fn append_operand(
     append_led_to(alloc, tokens, outline, place, notes)?;
     if leads_on(alloc, tokens, outline, place)? {
         append_target(alloc, tokens, outline, place, notes)?;
+    } else {
+        append_line(tokens, Mark::Note, place, UNSELECTED, notes)?;
     }
     append_operators(tokens, place, notes)?;
     append_tight(tokens, place, notes)
