@@ -36,7 +36,7 @@ use Rattle.est_choices.specs.DelayStamps.{since}
 
 -- a number as an expression; 0 and 1 stand for false and true
 abbrev number : ℕ → Expr
-number n = Expr' (Simple' false false (Term' (factor.Number n 0) [] end_of-ProductStep) []
+number n = Expr' (Simple' None (Term' (factor.Number n 0) [] end_of-ProductStep) []
     end_of-SumStep) Expr-relation-None' 0
 
 -- PARTS

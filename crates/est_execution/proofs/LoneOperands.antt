@@ -1,6 +1,8 @@
 -- An expression that is an operand and nothing else: what it yields, and what it weighs.
-use Rattle.std.proofs.Common.{◌≡◌, refl, ap, ◌∙◌, ℕ, ◌+◌, ◌≤◌, List, [], ◌∷◌, Bool, true, false}
+use Rattle.std.proofs.Common.{◌≡◌, refl, ap, ◌∙◌, ℕ, ◌+◌, ◌≤◌, List, [], ◌∷◌}
 use Rattle.std.proofs.Common.{Option, Some, None, arith}
+use Rattle.est_syntax.specs.declared.constant.Sign.{Sign}
+use Rattle.est_syntax.specs.declared.constant.Sign.TheVariants.{Plus, Minus}
 use Rattle.est_syntax.specs.declared.expression.Expr.{Expr, out-Expr}
 use Rattle.est_syntax.specs.declared.expression.Factor.{Factor}
 use Rattle.est_syntax.specs.declared.expression.ProductStep.{ProductStep}
@@ -15,7 +17,8 @@ use Rattle.est_semantics.specs.WorkingState.{View}
 use Rattle.est_semantics.specs.ExpressionValues.{value_of, simple_of, term_of, factor_of}
 use Rattle.est_semantics.specs.ExpressionValues.{related_in, sums_in, products_in}
 use Rattle.est_semantics.proofs.ExpressionLayers.{value_at, simple_at, term_at}
-use Rattle.est_execution.specs.LoneOperands.{lone_product, lone_sum, lone_by, lone_operand}
+use Rattle.est_execution.specs.LoneOperands.{lone_product, lone_term, lone_sum, lone_by}
+use Rattle.est_execution.specs.LoneOperands.{lone_operand}
 use Rattle.est_execution.proofs.Weights.{expr_weight, simple_weight, term_weight, factor_weight}
 use Rattle.est_execution.proofs.Weights.{expr_weighs, simple_weighs, term_weighs}
 
@@ -40,22 +43,28 @@ product_value x [] f v n h =
     onward_give (factor_of x v n) ∙ ap (λ g. factor_of g v n) (one_some x f h)
 product_value x (s ∷ ss) f v n h = none_some f h
 
-sum_value : (b : Bool) (t : Term) (ss : List SumStep) (f : Factor) (v : View) (n : ℕ)
-    → lone_sum b t ss ≡ Some f
-    → (term_of t v >>= λ a. signed b a >>= λ c. sums_in ss c v) n ≡ factor_of f v n
-sum_value false t [] f v n h =
+bare_sum_value : (t : Term) (ss : List SumStep) (f : Factor) (v : View) (n : ℕ)
+    → lone_sum None t ss ≡ Some f
+    → (term_of t v >>= λ a. give a >>= λ c. sums_in ss c v) n ≡ factor_of f v n
+bare_sum_value t [] f v n h =
     onward_give (term_of t v n) ∙ term_at t v n
     ∙ product_value (out-Term t).first (out-Term t).rest f v n h
-sum_value false t (s ∷ ss) f v n h = none_some f h
-sum_value true t [] f v n h = none_some f h
-sum_value true t (s ∷ ss) f v n h = none_some f h
+bare_sum_value t (s ∷ ss) f v n h = none_some f h
+
+sum_value : (sign : Option Sign) (t : Term) (ss : List SumStep) (f : Factor) (v : View) (n : ℕ)
+    → lone_sum sign t ss ≡ Some f
+    → (term_of t v >>= λ a. signed sign a >>= λ c. sums_in ss c v) n ≡ factor_of f v n
+sum_value None t ss f v n h = bare_sum_value t ss f v n h
+sum_value (Some Plus) t [] f v n h = bare_sum_value t [] f v n h
+sum_value (Some Plus) t (s ∷ ss) f v n h = none_some f h
+sum_value (Some Minus) t ss f v n h = none_some f h
 
 relation_value : (s : Simple) (r : Option Relation) (f : Factor) (v : View) (n : ℕ)
     → lone_by s r ≡ Some f
     → (simple_of s v >>= λ a. related_in r a v) n ≡ factor_of f v n
 relation_value s None f v n h =
     onward_give (simple_of s v n) ∙ simple_at s v n
-    ∙ sum_value (out-Simple s).minus (out-Simple s).first (out-Simple s).rest f v n h
+    ∙ sum_value (out-Simple s).sign (out-Simple s).first (out-Simple s).rest f v n h
 relation_value s (Some r) f v n h = none_some f h
 
 pub lone_value : (e : Expr) (f : Factor) (v : View) (n : ℕ) → lone_operand e ≡ Some f
@@ -70,23 +79,28 @@ product_weighs : (x : Factor) (ss : List ProductStep) (f : Factor) → lone_prod
 product_weighs x [] f h = let e : f ≡ x = cc in ap factor_weight e
 product_weighs x (s ∷ ss) f h = none_some f h
 
-sum_weighs : (b : Bool) (t : Term) (ss : List SumStep) (f : Factor) → lone_sum b t ss ≡ Some f
+lone_term_weighs : (t : Term) (f : Factor) → lone_term t ≡ Some f
     → factor_weight f + 1 ≤ term_weight t
-sum_weighs false t [] f h = omega (
+lone_term_weighs t f h = omega (
   arith,
   term_weighs t,
   product_weighs (out-Term t).first (out-Term t).rest f h,
 )
-sum_weighs false t (s ∷ ss) f h = none_some f h
-sum_weighs true t [] f h = none_some f h
-sum_weighs true t (s ∷ ss) f h = none_some f h
+
+sum_weighs : (sign : Option Sign) (t : Term) (ss : List SumStep) (f : Factor)
+    → lone_sum sign t ss ≡ Some f → factor_weight f + 1 ≤ term_weight t
+sum_weighs None t [] f h = lone_term_weighs t f h
+sum_weighs None t (s ∷ ss) f h = none_some f h
+sum_weighs (Some Plus) t [] f h = lone_term_weighs t f h
+sum_weighs (Some Plus) t (s ∷ ss) f h = none_some f h
+sum_weighs (Some Minus) t ss f h = none_some f h
 
 relation_weighs : (s : Simple) (r : Option Relation) (f : Factor) → lone_by s r ≡ Some f
     → factor_weight f + 2 ≤ simple_weight s
 relation_weighs s None f h = omega (
   arith,
   simple_weighs s,
-  sum_weighs (out-Simple s).minus (out-Simple s).first (out-Simple s).rest f h,
+  sum_weighs (out-Simple s).sign (out-Simple s).first (out-Simple s).rest f h,
 )
 relation_weighs s (Some r) f h = none_some f h
 

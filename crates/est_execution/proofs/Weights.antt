@@ -1,6 +1,7 @@
 -- How much text expressions and statements have, by which their execution ends.
 use Rattle.std.proofs.Common.{◌≡◌, refl, sym, ap, ◌∙◌, ℕ, zero, suc, ◌+◌, ◌<◌, ◌≤◌, List, []}
-use Rattle.std.proofs.Common.{◌∷◌, length, get_or, Bool, true, false, Option, Some, None, arith}
+use Rattle.std.proofs.Common.{◌∷◌, length, get_or, Option, Some, None, arith}
+use Rattle.est_syntax.specs.declared.constant.Sign.{Sign}
 use Rattle.est_syntax.specs.declared.expression.Expr.{Expr, Expr', out-Expr, outs-Expr'}
 use Rattle.est_syntax.specs.declared.expression.Expr.{Held-Expr-relation, Expr-relation-None'}
 use Rattle.est_syntax.specs.declared.expression.Expr.{Expr-relation-Some', view-Expr-relation}
@@ -61,7 +62,7 @@ abbrev mutual
   relation_weight (Relation' op right) = simple_weight right + 1
 
   pub simple_weight : Simple → ℕ
-  simple_weight (Simple' minus sign first n rest) = term_weight first + row_sum_weight rest + 1
+  simple_weight (Simple' sign first n rest) = term_weight first + row_sum_weight rest + 1
 
   pub row_sum_weight : {n : _} → Row_of-SumStep n → ℕ
   row_sum_weight end_of-SumStep = 0
@@ -206,11 +207,11 @@ relation_weighs (Relation' op right) =
 
 pub simple_weighs : (s : Simple) → simple_weight s
     ≡ term_weight (out-Simple s).first + sums_weight (out-Simple s).rest + 1
-simple_weighs (Simple' minus sign first n rest) =
+simple_weighs (Simple' sign first n rest) =
     ap (λ k. term_weight first + k + 1)
     (sums_row _ rest ∙ ap sums_weight (sym (items_shown-the_row-SumStep-5 n rest)))
     ∙ ap (λ (l : Simple-F Factor Selector Expr Member ProductStep Relation Simple SumStep Term).
-    term_weight l.first + sums_weight l.rest + 1) (sym (outs-Simple' minus sign first n rest))
+    term_weight l.first + sums_weight l.rest + 1) (sym (outs-Simple' sign first n rest))
 
 pub sum_step_weighs : (s : SumStep) → sum_step_weight s ≡ term_weight (out-SumStep s).right + 1
 sum_step_weighs (SumStep' op right) =
@@ -303,16 +304,15 @@ bare_product_weighs : (x : Factor) (ss : List ProductStep) (y : Used × List Sel
 bare_product_weighs x [] y h = bare_factor_weighs x y h
 bare_product_weighs x (s ∷ ss) y h = none_some y h
 
-bare_sum_weighs : (b : Bool) (t : Term) (ss : List SumStep) (y : Used × List Selector)
-    → bare_sum b t ss ≡ Some y → path_weight y.1 + 5 ≤ term_weight t
-bare_sum_weighs false t [] y h = omega (
+bare_sum_weighs : (sign : Option Sign) (t : Term) (ss : List SumStep) (y : Used × List Selector)
+    → bare_sum sign t ss ≡ Some y → path_weight y.1 + 5 ≤ term_weight t
+bare_sum_weighs None t [] y h = omega (
   arith,
   term_weighs t,
   bare_product_weighs (out-Term t).first (out-Term t).rest y h,
 )
-bare_sum_weighs false t (s ∷ ss) y h = none_some y h
-bare_sum_weighs true t [] y h = none_some y h
-bare_sum_weighs true t (s ∷ ss) y h = none_some y h
+bare_sum_weighs None t (s ∷ ss) y h = none_some y h
+bare_sum_weighs (Some sign) t ss y h = none_some y h
 
 bare_by_weighs : (s : Simple) (r : Option Relation) (y : Used × List Selector)
     → bare_by s r ≡ Some y → path_weight y.1 + 5 ≤ simple_weight s

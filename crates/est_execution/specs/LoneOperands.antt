@@ -1,5 +1,7 @@
 -- The operand that an expression is, where it has no operator and no minus.
-use Rattle.std.specs.Prelude.{Bool, true, false, List, [], ◌∷◌, Option, Some, None}
+use Rattle.std.specs.Prelude.{List, [], ◌∷◌, Option, Some, None}
+use Rattle.est_syntax.specs.declared.constant.Sign.{Sign}
+use Rattle.est_syntax.specs.declared.constant.Sign.TheVariants.{Minus}
 use Rattle.est_syntax.specs.declared.expression.Expr.{Expr, out-Expr}
 use Rattle.est_syntax.specs.declared.expression.Factor.{Factor}
 use Rattle.est_syntax.specs.declared.expression.ProductStep.{ProductStep}
@@ -17,14 +19,13 @@ abbrev pub lone_term : Term → Option Factor
 lone_term t = lone_product (out-Term t).first (out-Term t).rest
 
 -- of a sum, with these steps after its first product
-abbrev pub lone_sum : Bool → Term → List SumStep → Option Factor
-lone_sum false t [] = lone_term t
-lone_sum false t (s ∷ ss) = None
-lone_sum true t [] = None
-lone_sum true t (s ∷ ss) = None
+abbrev pub lone_sum : Option Sign → Term → List SumStep → Option Factor
+lone_sum (Some Minus) t ss = None
+lone_sum _ t [] = lone_term t
+lone_sum _ t (s ∷ ss) = None
 
 abbrev pub lone_simple : Simple → Option Factor
-lone_simple s = lone_sum (out-Simple s).minus (out-Simple s).first (out-Simple s).rest
+lone_simple s = lone_sum (out-Simple s).sign (out-Simple s).first (out-Simple s).rest
 
 -- of a sum, with a relation after it or none
 abbrev pub lone_by : Simple → Option Relation → Option Factor

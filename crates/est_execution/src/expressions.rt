@@ -34,7 +34,7 @@ use crate::lone::lone_operand;
 use crate::loops::{
     children_of, distance, head_of_all, header_of, is_chosen, nth_slot, turn_value,
 };
-use crate::operands::{add_span, add_value, join, negate, number, put_set, sign};
+use crate::operands::{add_span, add_value, join, negate, number, put_set, put_sign};
 use crate::reached::{Reached, begun, loaded, placed, with_component, with_field, with_subscript};
 use crate::site::{Site, declared_of, dims_of, head_at, host_at, is_given_place, meaning_at};
 use crate::statements::statements_in;
@@ -150,7 +150,7 @@ fn simple_of(
     ensures world { OnOk result (LooksSame working.old working.new) }
 {
     term_of(alloc, site, &simple.first, value, working, left)?;
-    sign(simple.minus, value)?;
+    put_sign(simple.sign, value)?;
     for step in simple.rest.as_slice() {
         with_term(alloc, site, step, value, working, left)?;
     }

@@ -3,6 +3,7 @@ ghost use Rattle.std.specs.Prelude.{◌≡◌};
 ghost use Rattle.std.specs.Option.{option_copied};
 ghost use Rattle.est_execution.specs.LoneOperands.{lone_operand, lone_simple, lone_term};
 
+use est_syntax::constant::Sign;
 use est_syntax::expression::{Expr, Factor, Simple, Term};
 
 // The operand that a product is.
@@ -20,10 +21,13 @@ fn lone_term(term: &Term) -> Option<&Factor>
 fn lone_simple(simple: &Simple) -> Option<&Factor>
     ensures { option_copied result ≡ lone_simple simple.now }
 {
-    if !simple.minus && simple.rest.as_slice().is_empty() {
-        lone_term(&simple.first)
-    } else {
-        None
+    match simple.sign {
+        Some(Sign::Minus) => None,
+        _ => if simple.rest.as_slice().is_empty() {
+            lone_term(&simple.first)
+        } else {
+            None
+        },
     }
 }
 

@@ -15,6 +15,7 @@ use est_operators::values::{joined, negated, ordinal, signed};
 use est_semantics::fault::BlockFault;
 use est_semantics::frame::Slot;
 use est_semantics::stop::Stop;
+use est_syntax::constant::Sign;
 use est_syntax::expression::Operator;
 use est_values::value::Value;
 use std::alloc::{AllocError, Global};
@@ -31,11 +32,11 @@ pub fn number(value: Value) -> Result<i32, BlockFault>
 
 /// Puts a sign before a value.
 #[inline(never)]
-pub fn sign(minus: bool, value: &mut Value) -> Result<(), BlockFault>
-    ensures { (n : ℕ) → signed minus value.old n ≡ lift (answer_of result value.new) n }
+pub fn put_sign(sign: Option<Sign>, value: &mut Value) -> Result<(), BlockFault>
+    ensures { (n : ℕ) → signed sign value.old n ≡ lift (answer_of result value.new) n }
 {
     let operand = mem::replace(value, Value::Undefined);
-    *value = signed(minus, operand)?;
+    *value = signed(sign, operand)?;
     Ok(())
 }
 

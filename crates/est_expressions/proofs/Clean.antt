@@ -17,6 +17,7 @@ use Rattle.est_syntax.specs.declared.expression.Factor.{end_of-Selector, more_of
 use Rattle.est_syntax.specs.declared.expression.Factor.TheVariants as factor
 use Rattle.est_syntax.specs.declared.expression.Member.{Member, Member', Held-Member-high}
 use Rattle.est_syntax.specs.declared.expression.Member.{Member-high-None', Member-high-Some'}
+use Rattle.est_syntax.specs.declared.constant.Sign.{Sign}
 use Rattle.est_syntax.specs.declared.expression.Operator.{Operator}
 use Rattle.est_syntax.specs.declared.expression.Relation.{Relation, Relation'}
 use Rattle.est_syntax.specs.declared.expression.Selector.{Selector}
@@ -127,10 +128,10 @@ operated_clean op (Some l) (Some r) x first second h =
     by true h = (refl, met (do_match op l r) (Some (result_of op l r)) x second rule.WrongKind h)
     by false h = absurd (none-some x h)
 
-sign_clean : (sign : Bool) (t : Option Yielded) (x : Yielded) (place : ℕ) → signed sign t ≡ Some x
-    → Has t × (sign_faults sign t place ≡ [])
-sign_clean true t x place h = taken_clean wanted.Integer t x place h
-sign_clean false t x place h = ((x, h), refl)
+sign_clean : (sign : Option Sign) (t : Option Yielded) (x : Yielded) (place : ℕ)
+    → signed sign t ≡ Some x → Has t × (sign_faults sign t place ≡ [])
+sign_clean (Some sign) t x place h = taken_clean wanted.Integer t x place h
+sign_clean None t x place h = ((x, h), refl)
 
 -- members of sets
 kept_same : (w : Wanted) (t : Option Yielded) (x : Yielded) → kept w t ≡ Some x → t ≡ Some x
@@ -368,7 +369,7 @@ mutual
 
   simple_clean : (o : Outline) (s : Simple) (x : Yielded) → simple_type o s ≡ Some x
       → simple_faults o s ≡ []
-  simple_clean o (Simple' minus sign first n rest) x h =
+  simple_clean o (Simple' sign first n rest) x h =
       let s = sum_clean o (signed sign (term_type o first)) (sign_place sign (term_place first))
       rest x h in
       let f = sign_clean sign (term_type o first) s.0.0 (term_place first) s.0.1 in

@@ -82,9 +82,9 @@ term_place_out (Term' first n rest) =
 
 pub simple_place_out : (s : Simple)
     → simple_place s ≡ sign_place (out-Simple s).sign (term_place (out-Simple s).first)
-simple_place_out (Simple' minus sign first n rest) =
+simple_place_out (Simple' sign first n rest) =
     ap (λ (l : Simple-F Factor Selector Expr Member ProductStep Relation Simple SumStep Term).
-    sign_place l.sign (term_place l.first)) (sym (outs-Simple' minus sign first n rest))
+    sign_place l.sign (term_place l.first)) (sym (outs-Simple' sign first n rest))
 
 pub ruleset places = (term_place_out, simple_place_out)
 
@@ -368,12 +368,12 @@ relation_out o t place (Relation' op right) =
 pub simple_type_out : (o : Outline) (s : Simple)
     → simple_type o s ≡ summed o (signed (out-Simple s).sign (term_type o (out-Simple s).first))
     (out-Simple s).rest
-simple_type_out o (Simple' minus sign first n rest) =
+simple_type_out o (Simple' sign first n rest) =
     sum_row o (signed sign (term_type o first)) _ rest
     ∙ ap (summed o (signed sign (term_type o first))) (sym (items_shown-the_row-SumStep-5 n rest))
     ∙ ap (λ (l : Simple-F Factor Selector Expr Member ProductStep Relation Simple SumStep Term).
     summed o (signed l.sign (term_type o l.first)) l.rest)
-    (sym (outs-Simple' minus sign first n rest))
+    (sym (outs-Simple' sign first n rest))
 
 pub simple_out : (o : Outline) (s : Simple)
     → simple_faults o s ≡ term_faults o (out-Simple s).first
@@ -381,7 +381,7 @@ pub simple_out : (o : Outline) (s : Simple)
     (term_place (out-Simple s).first)
     ++ summed_faults o (signed (out-Simple s).sign (term_type o (out-Simple s).first))
     (sign_place (out-Simple s).sign (term_place (out-Simple s).first)) (out-Simple s).rest
-simple_out o (Simple' minus sign first n rest) =
+simple_out o (Simple' sign first n rest) =
     ap (λ l. term_faults o first ++ sign_faults sign (term_type o first) (term_place first) ++ l)
     (sum_broken_row o (signed sign (term_type o first)) (sign_place sign (term_place first)) _ rest
     ∙ ap (summed_faults o (signed sign (term_type o first)) (sign_place sign (term_place first)))
@@ -390,7 +390,7 @@ simple_out o (Simple' minus sign first n rest) =
     term_faults o l.first ++ sign_faults l.sign (term_type o l.first) (term_place l.first)
     ++ summed_faults o (signed l.sign (term_type o l.first))
     (sign_place l.sign (term_place l.first)) l.rest)
-    (sym (outs-Simple' minus sign first n rest))
+    (sym (outs-Simple' sign first n rest))
 
 pub sum_step_type_out : (o : Outline) (t : Option Yielded) (s : SumStep)
     → with_term o t s ≡ operated (out-SumStep s).operator t (term_type o (out-SumStep s).right)

@@ -1,8 +1,9 @@
 -- The places of expressions, and numbers in them (ISO 7185, 6.7.1).
-use Rattle.std.specs.Prelude.{ℕ, ◌-◌, Bool, nat_le, List, []}
+use Rattle.std.specs.Prelude.{ℕ, ◌-◌, nat_le, List, []}
 use Rattle.std.specs.Prelude.{Option, Some, None, if◌then◌else◌}
 use Rattle.est_syntax.specs.Faults.{broken}
 use Rattle.est_syntax.specs.Kinds.{maxint}
+use Rattle.est_syntax.specs.declared.constant.Sign.{Sign}
 use Rattle.est_syntax.specs.declared.expression.Expr.{Expr, out-Expr}
 use Rattle.est_syntax.specs.declared.expression.Factor.{Factor}
 use Rattle.est_syntax.specs.declared.expression.Factor.TheVariants as factor
@@ -28,12 +29,13 @@ abbrev pub term_place : Term → ℕ
 term_place (Term' first n rest) = factor_place first
 
 -- that of a sum whose first operand begins at this place: a sign stands before it
-abbrev pub sign_place : Bool → ℕ → ℕ
-sign_place sign place = if sign then place - 1 else place
+abbrev pub sign_place : Option Sign → ℕ → ℕ
+sign_place None place = place
+sign_place (Some sign) place = place - 1
 
 -- that of a sum
 abbrev pub simple_place : Simple → ℕ
-simple_place (Simple' minus sign first n rest) = sign_place sign (term_place first)
+simple_place (Simple' sign first n rest) = sign_place sign (term_place first)
 
 -- that of an expression
 abbrev pub expr_place : Expr → ℕ

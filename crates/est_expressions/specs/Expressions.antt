@@ -53,7 +53,7 @@ abbrev mutual
   with_simple o t (Relation' op right) = operated op t (simple_type o right)
 
   pub simple_type : Outline → Simple → Option Yielded
-  simple_type o (Simple' minus sign first n rest) = row_sum o (signed sign (term_type o first)) rest
+  simple_type o (Simple' sign first n rest) = row_sum o (signed sign (term_type o first)) rest
 
   pub row_sum : Outline → Option Yielded → {n : _} → Row_of-SumStep n → Option Yielded
   row_sum o t end_of-SumStep = t
@@ -146,7 +146,7 @@ abbrev mutual
       (simple_place right)
 
   pub simple_faults : Outline → Simple → List Fault
-  simple_faults o (Simple' minus sign first n rest) =
+  simple_faults o (Simple' sign first n rest) =
       term_faults o first ++ sign_faults sign (term_type o first) (term_place first)
       ++ row_sum_faults o (signed sign (term_type o first)) (sign_place sign (term_place first))
       rest

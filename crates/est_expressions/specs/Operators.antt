@@ -2,6 +2,7 @@
 use Rattle.std.specs.Prelude.{ℕ, Bool, true, false, ◌||◌, List, []}
 use Rattle.std.specs.Prelude.{Option, Some, None, if◌then◌else◌}
 use Rattle.est_syntax.specs.Faults.{broken}
+use Rattle.est_syntax.specs.declared.constant.Sign.{Sign}
 use Rattle.est_syntax.specs.declared.expression.Operator.{Operator}
 use Rattle.est_syntax.specs.declared.expression.Operator.TheVariants as operator
 use Rattle.est_syntax.specs.declared.rule.Fault.{Fault}
@@ -128,12 +129,14 @@ right_faults op (Some l) (Some r) place =
 right_faults op _ _ place = []
 
 -- what an operand yields after its sign, if there is one, which wants an integer
-abbrev pub signed : Bool → Option Yielded → Option Yielded
-signed sign t = if sign then kept wanted.Integer t else t
+abbrev pub signed : Option Sign → Option Yielded → Option Yielded
+signed None t = t
+signed (Some sign) t = kept wanted.Integer t
 
 -- what the operand breaks there
-abbrev pub sign_faults : Bool → Option Yielded → ℕ → List Fault
-sign_faults sign t place = if sign then wants wanted.Integer t place else []
+abbrev pub sign_faults : Option Sign → Option Yielded → ℕ → List Fault
+sign_faults None t place = []
+sign_faults (Some sign) t place = wants wanted.Integer t place
 
 -- a set of members of a host, if it has some, with one more of this host
 abbrev pub with_host : Option Host → Host → Option Yielded

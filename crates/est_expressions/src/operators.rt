@@ -13,6 +13,7 @@ ghost use Rattle.est_expressions.specs.Operators.{member_disagrees, spanned, spa
 
 use est_alike::types::{Host, ValueType, are_hosts_one, is_assignable};
 use est_scope::least::Least;
+use est_syntax::constant::Sign;
 use est_syntax::expression::Operator;
 use est_syntax::rule::Rule;
 
@@ -258,22 +259,22 @@ pub fn operate<'k>(
 }
 
 /// What the first operand of a sum yields after its sign, if there is one.
-pub fn signed<'k>(sign: bool, kind: Option<ValueType<'k>>) -> Option<ValueType<'k>>
+pub fn signed<'k>(sign: Option<Sign>, kind: Option<ValueType<'k>>) -> Option<ValueType<'k>>
     ensures { yielded result ≡ signed sign (yielded kind.entry) }
 {
-    if sign {
-        kept(Wanted::Integer, kind)
-    } else {
-        kind
+    match sign {
+        None => kind,
+        Some(_) => kept(Wanted::Integer, kind),
     }
 }
 
 /// Notes a sign before what is no integer.
-pub fn check_sign(sign: bool, kind: Option<ValueType<'_>>, place: u32, least: &mut Least)
+pub fn check_sign(sign: Option<Sign>, kind: Option<ValueType<'_>>, place: u32, least: &mut Least)
     ensures { least.new.at ≡ least_with least.old.at (sign_faults sign (yielded kind.entry) place) }
 {
-    if sign {
-        wants(Wanted::Integer, kind, place, least);
+    match sign {
+        None => (),
+        Some(_) => wants(Wanted::Integer, kind, place, least),
     }
 }
 

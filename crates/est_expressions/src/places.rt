@@ -10,6 +10,7 @@ ghost use Rattle.est_expressions.specs.ExpressionPlaces.{number_type, too_large_
 
 use est_alike::types::{Host, ValueType};
 use est_scope::least::Least;
+use est_syntax::constant::Sign;
 use est_syntax::expression::{Factor, Simple, Term};
 use est_syntax::kind::MAXINT;
 use est_syntax::rule::Rule;
@@ -45,10 +46,13 @@ pub fn term_place(term: &Term) -> u32
 }
 
 /// The place of the sign before an operand, where one was written, else of the operand.
-pub fn sign_place(sign: bool, place: u32) -> u32
+pub fn sign_place(sign: Option<Sign>, place: u32) -> u32
     ensures { result ≡ sign_place sign place }
 {
-    if sign { place.saturating_sub(1) } else { place }
+    match sign {
+        None => place,
+        Some(_) => place.saturating_sub(1),
+    }
 }
 
 /// The place of the first token of a sum.

@@ -6,6 +6,9 @@ use Rattle.std.proofs.Common.{arith}
 use Rattle.std.proofs.lemmas.Int.{ints}
 use Rattle.std.proofs.lemmas.Bool.Decides.{nat_tests}
 use Rattle.est_syntax.specs.Kinds.{maxint}
+use Rattle.est_syntax.specs.Signs.{is_minus}
+use Rattle.est_syntax.specs.declared.constant.Sign.{Sign}
+use Rattle.est_syntax.specs.declared.constant.Sign.TheVariants.{Plus, Minus}
 use Rattle.est_syntax.specs.declared.constant.Constant.{Constant}
 use Rattle.est_syntax.specs.declared.constant.Constant.TheVariants as constants
 use Rattle.est_syntax.specs.declared.kind.Kind.{out-Kind}
@@ -70,28 +73,28 @@ used_fits o u (meant.Seen p) full is h =
     )
 
 -- its sign
-with_fits : (minus : Bool) (v : Valued) → is_integer v.host ≡ true
-    → MayBeNegated v.host v.ordinal → HasValue (with_sign minus v)
-with_fits false v i n = (v, ap (λ x. if x then Some v else None) i, n)
-with_fits true v i n =
+with_fits : (sign : Sign) (v : Valued) → is_integer v.host ≡ true
+    → MayBeNegated v.host v.ordinal → HasValue (with_sign sign v)
+with_fits Plus v i n = (v, ap (λ x. if x then Some v else None) i, n)
+with_fits Minus v i n =
     let w = valued v.host (pos 0 -ℤ v.ordinal) in (
       w,
       ap (λ x. if x then negated v else None) i ∙ ap (λ x. if x then None else Some w) (n i).1,
       λ j. negated_fits v.ordinal (n i),
     )
 
-sign_fits : (minus sign : Bool) (v : Valued) (place : ℕ) → MayBeNegated v.host v.ordinal
-    → sign_faults sign place (Some v) ≡ [] → HasValue (signed_value minus sign (Some v))
-sign_fits minus false v place n h = (v, refl, n)
-sign_fits minus true v place n h =
-    with_fits minus v (unbroken (is_integer v.host) place WrongSort h) n
+sign_fits : (sign : Option Sign) (v : Valued) (place : ℕ) → MayBeNegated v.host v.ordinal
+    → sign_faults sign place (Some v) ≡ [] → HasValue (signed_value sign (Some v))
+sign_fits None v place n h = (v, refl, n)
+sign_fits (Some sign) v place n h =
+    with_fits sign v (unbroken (is_integer v.host) place WrongSort h) n
 
-signed_fits : (minus sign : Bool) (k : Option Valued) (place : ℕ) → HasValue k
-    → sign_faults sign place k ≡ [] → HasValue (signed_value minus sign k)
-signed_fits minus sign k place n h =
-    let f = sign_fits minus sign n.0 place n.2
+signed_fits : (sign : Option Sign) (k : Option Valued) (place : ℕ) → HasValue k
+    → sign_faults sign place k ≡ [] → HasValue (signed_value sign k)
+signed_fits sign k place n h =
+    let f = sign_fits sign n.0 place n.2
     (subst (λ x. sign_faults sign place x ≡ []) n.1 h) in
-    (f.0, ap (signed_value minus sign) n.1 ∙ f.1, f.2)
+    (f.0, ap (signed_value sign) n.1 ∙ f.1, f.2)
 
 no_integer : is_integer kind.Char ≡ false
 unfolding out-Kind denote.Hole.Carrier.out
@@ -102,14 +105,17 @@ at_most n m h = grind (arith, nat_tests)
 
 pub constant_fits : (o : Outline) (c : Constant) → OfConstant (IsFullAt o) c
     → constant_faults o c ≡ [] → HasValue (constant_value o c)
-constant_fits o (constants.Number minus sign n place) full h =
+constant_fits o (constants.Number sign n place) full h =
     let le = unbroken (nat_le n maxint) (number_place sign place) NumberTooLarge h in
-    let v = valued kind.Integer (if minus then pos 0 -ℤ pos n else pos n) in
-    (v, ap (λ x. if x then Some v else None) le, λ j. number_fits minus n (at_most n maxint le))
-constant_fits o (constants.Named minus sign u place) full h =
+    let v = valued kind.Integer (if is_minus sign then pos 0 -ℤ pos n else pos n) in (
+      v,
+      ap (λ x. if x then Some v else None) le,
+      λ j. number_fits (is_minus sign) n (at_most n maxint le),
+    )
+constant_fits o (constants.Named sign u place) full h =
     let k = parted (constant_used o u (meaning o u)) (sign_faults sign u.place (named_value o u)) h
     in
-    signed_fits minus sign (named_value o u) u.place
+    signed_fits sign (named_value o u) u.place
     (used_fits o u (meaning o u) full refl k.0) k.1
 constant_fits o (constants.Character code place) full h =
     (valued kind.Char (pos code), refl, λ j. absurd (true≢false (sym j ∙ no_integer)))

@@ -116,7 +116,7 @@ mutual
 
   simple_full : (o : Outline) (s : Simple) → IsWhole o → simple_faults o s ≡ []
       → IsThere (simple_type o s)
-  simple_full o (Simple' minus sign first n rest) w h =
+  simple_full o (Simple' sign first n rest) w h =
       let s = three (term_faults o first) (sign_faults sign (term_type o first) (term_place first))
       (row_sum_faults o (signed sign (term_type o first)) (sign_place sign (term_place first)) rest)
       h in

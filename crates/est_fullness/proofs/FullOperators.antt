@@ -3,6 +3,7 @@ use Rattle.std.specs.Prelude.{if◌then◌else◌}
 use Rattle.std.proofs.Common.{◌≡◌, refl, ap, subst, ◌∙◌, ℕ, Bool, true, false, [], Option, Some}
 use Rattle.std.proofs.Common.{None}
 use Rattle.std.proofs.lemmas.Option.{none-some}
+use Rattle.est_syntax.specs.declared.constant.Sign.{Sign}
 use Rattle.est_syntax.specs.declared.expression.Operator.{Operator}
 use Rattle.est_syntax.specs.declared.rule.Rule.TheVariants as rule
 use Rattle.est_alike.specs.Types.{Yielded, Ordinal, Set, Group, are_hosts_one, is_assignable}
@@ -45,7 +46,7 @@ operated_full op (Some l) (Some r) first second h k w f =
           ∙ ap (λ (b : Bool). if b then Some (result_of op l r) else None) m,
     )
 
-pub signed_full : (sign : Bool) (t : Option Yielded) (place : ℕ) → IsThere t
+pub signed_full : (sign : Option Sign) (t : Option Yielded) (place : ℕ) → IsThere t
     → sign_faults sign t place ≡ [] → IsThere (signed sign t)
 signed_full true t place h k = kept_full wanted.Integer t place h k
 signed_full false t place h k = h

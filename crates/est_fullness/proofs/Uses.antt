@@ -25,8 +25,8 @@ FieldsBefore b row = FieldsUse (λ u. u.place < b) row
 -- what holds of names so holds of them otherwise
 module _ (Q R : Used → Type 0) (f : (u : Used) → Q u → R u) where
   pub constant_then : (c : Constant) → OfConstant Q c → OfConstant R c
-  constant_then (constants.Named minus sign u place) q = f u q
-  constant_then (constants.Number minus sign n place) q = tt
+  constant_then (constants.Named sign u place) q = f u q
+  constant_then (constants.Number sign n place) q = tt
   constant_then (constants.Character code place) q = tt
 
   mutual
@@ -49,8 +49,8 @@ module _ (Q R : Used → Type 0) (f : (u : Used) → Q u → R u) where
 -- what holds of every name holds of those
 module _ (Q : Used → Type 0) (all : (u : Used) → Q u) where
   pub of_constant : (c : Constant) → OfConstant Q c
-  of_constant (constants.Named minus sign u place) = all u
-  of_constant (constants.Number minus sign n place) = tt
+  of_constant (constants.Named sign u place) = all u
+  of_constant (constants.Number sign n place) = tt
   of_constant (constants.Character code place) = tt
 
   mutual

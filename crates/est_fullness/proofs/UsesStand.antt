@@ -22,8 +22,8 @@ use Rattle.est_fullness.proofs.Uses.{NameBefore, UsesBefore, RowBefore, FieldsBe
 
 -- before the end of a constant or a text, or a later place
 name_before : (i j d : ℕ) (c : Constant) → j ≤ d → ConstantPlaced i j c → NameBefore d c
-name_before i j d (constants.Named minus sign u place) le h = omega (arith, h.2)
-name_before i j d (constants.Number minus sign n place) le h = tt
+name_before i j d (constants.Named sign u place) le h = omega (arith, h.2)
+name_before i j d (constants.Number sign n place) le h = tt
 name_before i j d (constants.Character code place) le h = tt
 
 mutual
@@ -55,8 +55,8 @@ mutual
 
 -- up to their last place
 pub name_to_last : (c : Constant) → NameBefore (suc (constant_last c)) c
-name_to_last (constants.Named minus sign u place) = omega arith
-name_to_last (constants.Number minus sign n place) = tt
+name_to_last (constants.Named sign u place) = omega arith
+name_to_last (constants.Number sign n place) = tt
 name_to_last (constants.Character code place) = tt
 
 mutual

@@ -14,7 +14,7 @@ use Rattle.est_syntax.specs.declared.type_text.TypeText.TheVariants as text
 -- the name that a constant uses, and each name that the text of a type does
 module _ (Q : Used → Type 0) where
   abbrev pub OfConstant : Constant → Type 0
-  OfConstant (constants.Named minus sign u place) = Q u
+  OfConstant (constants.Named sign u place) = Q u
   OfConstant _ = Unit {0}
 
   abbrev mutual

@@ -6,6 +6,8 @@ use Rattle.std.proofs.Common.{false, List, [], ◌∷◌, ◌++◌, Option, Some
 use Rattle.est_syntax.specs.Faults.{broken, broken_if}
 use Rattle.est_syntax.specs.Kinds.{maxint, is_ordinal}
 use Rattle.est_syntax.specs.declared.name.Used.{Used}
+use Rattle.est_syntax.specs.declared.constant.Sign.{Sign}
+use Rattle.est_syntax.specs.declared.constant.Sign.TheVariants.{Plus, Minus}
 use Rattle.est_syntax.specs.declared.constant.Constant.{Constant}
 use Rattle.est_syntax.specs.declared.constant.Constant.TheVariants as constant
 use Rattle.est_syntax.specs.declared.rule.Fault.{Fault}
@@ -78,19 +80,21 @@ used_clean o u (meant.Predeclared n) v h = ap (λ k. broken_if (is_none k) u.pla
 used_clean o u (meant.Unseen p) v h = absurd (none-some v h)
 used_clean o u (meant.Seen p) v h = value_clean (entry_at o p) v u.place h
 
-sign_clean : (minus sign : Bool) (k : Option Valued) (v : Valued) (place : ℕ)
-    → signed_value minus sign k ≡ Some v → Has k × (sign_faults sign place k ≡ [])
-sign_clean minus sign None v place h = absurd (none-some v h)
-sign_clean minus false (Some w) v place h = ((w, refl), refl)
-sign_clean minus true (Some w) v place h =
+sign_clean : (sign : Option Sign) (k : Option Valued) (v : Valued) (place : ℕ)
+    → signed_value sign k ≡ Some v → Has k × (sign_faults sign place k ≡ [])
+sign_clean sign None v place h = absurd (none-some v h)
+sign_clean None (Some w) v place h = ((w, refl), refl)
+sign_clean (Some Plus) (Some w) v place h =
+    ((w, refl), met (is_integer w.host) _ v place rule.WrongSort h)
+sign_clean (Some Minus) (Some w) v place h =
     ((w, refl), met (is_integer w.host) _ v place rule.WrongSort h)
 
 pub constant_clean : (o : Outline) (c : Constant) (v : Valued) → constant_value o c ≡ Some v
     → constant_faults o c ≡ []
-constant_clean o (constant.Number minus sign n place) v h = met (nat_le n maxint) _ v
+constant_clean o (constant.Number sign n place) v h = met (nat_le n maxint) _ v
     (number_place sign place) rule.NumberTooLarge h
-constant_clean o (constant.Named minus sign name place) v h =
-    let s = sign_clean minus sign (named_value o name) v name.place h in
+constant_clean o (constant.Named sign name place) v h =
+    let s = sign_clean sign (named_value o name) v name.place h in
     joined (constant_used o name (meaning o name)) (sign_faults sign name.place
     (named_value o name)) (used_clean o name (meaning o name) s.0.0 s.0.1) s.1
 constant_clean o (constant.Character code place) v h = refl

@@ -4,6 +4,9 @@ use Rattle.std.specs.Prelude.{nat_le, List, [], ◌++◌, Option, Some, None, is
 use Rattle.est_syntax.specs.Faults.{broken, broken_if}
 use Rattle.est_syntax.specs.Kinds.{maxint}
 use Rattle.est_syntax.specs.declared.name.Used.{Used}
+use Rattle.est_syntax.specs.Signs.{is_minus}
+use Rattle.est_syntax.specs.declared.constant.Sign.{Sign}
+use Rattle.est_syntax.specs.declared.constant.Sign.TheVariants.{Plus, Minus}
 use Rattle.est_syntax.specs.declared.constant.Constant.{Constant}
 use Rattle.est_syntax.specs.declared.constant.Constant.TheVariants as constant
 use Rattle.est_syntax.specs.declared.kind.Kind.{Kind, out-Kind}
@@ -51,19 +54,20 @@ abbrev pub negated : Valued → Option Valued
 negated v = negated_by v.host (pos 0 -ℤ v.ordinal)
 
 -- the integer that is written, without a sign or with one
-abbrev pub number_value : Bool → ℕ → Option Valued
-number_value minus n =
-    if nat_le n maxint then Some (valued kind.Integer (if minus then pos 0 -ℤ pos n else pos n))
-    else None
+abbrev pub number_value : Option Sign → ℕ → Option Valued
+number_value sign n = if nat_le n maxint
+    then Some (valued kind.Integer (if is_minus sign then pos 0 -ℤ pos n else pos n)) else None
 
 -- the value after a sign, which has to be an integer
-abbrev pub with_sign : Bool → Valued → Option Valued
-with_sign minus v = if is_integer v.host then (if minus then negated v else Some v) else None
+abbrev pub with_sign : Sign → Valued → Option Valued
+with_sign Plus v = if is_integer v.host then Some v else None
+with_sign Minus v = if is_integer v.host then negated v else None
 
 -- the value after a sign or none
-abbrev pub signed_value : Bool → Bool → Option Valued → Option Valued
-signed_value minus sign None = None
-signed_value minus sign (Some v) = if sign then with_sign minus v else Some v
+abbrev pub signed_value : Option Sign → Option Valued → Option Valued
+signed_value sign None = None
+signed_value None (Some v) = Some v
+signed_value (Some sign) (Some v) = with_sign sign v
 
 -- the value of this kind with this ordinal, where there are both
 abbrev pub value_with : Option Measured → Option ℤ → Option Valued
@@ -87,25 +91,25 @@ named_value o u = value_meant o (meaning o u)
 
 -- the value of a constant
 abbrev pub constant_value : Outline → Constant → Option Valued
-constant_value o (constant.Number minus sign n place) = number_value minus n
-constant_value o (constant.Named minus sign name place) =
-    signed_value minus sign (named_value o name)
+constant_value o (constant.Number sign n place) = number_value sign n
+constant_value o (constant.Named sign name place) = signed_value sign (named_value o name)
 constant_value o (constant.Character code place) = Some (valued kind.Char (pos code))
 
 -- the place of the first token of a constant
 abbrev pub constant_place : Constant → ℕ
-constant_place (constant.Number minus sign n place) = place
-constant_place (constant.Named minus sign name place) = place
+constant_place (constant.Number sign n place) = place
+constant_place (constant.Named sign name place) = place
 constant_place (constant.Character code place) = place
 
 -- the place of a number, which stands after its sign (places are numbers of 32 bits)
-abbrev pub number_place : Bool → ℕ → ℕ
-number_place sign place = if sign then min (suc place) (2 ^ 32 - 1) else place
+abbrev pub number_place : Option Sign → ℕ → ℕ
+number_place None place = place
+number_place (Some sign) place = min (suc place) (2 ^ 32 - 1)
 
 -- the place of the last token of a constant
 abbrev pub constant_last : Constant → ℕ
-constant_last (constant.Number minus sign n place) = number_place sign place
-constant_last (constant.Named minus sign name place) = name.place
+constant_last (constant.Number sign n place) = number_place sign place
+constant_last (constant.Named sign name place) = name.place
 constant_last (constant.Character code place) = place
 
 -- a name of this meaning where a constant is wanted
@@ -115,19 +119,19 @@ constant_used o u m = meaning_faults m u.place
     (other_sort_faults o sort.Constant u.place)
 
 -- a sign before the name of a constant that is no integer
-abbrev pub sign_faults : Bool → ℕ → Option Valued → List Fault
+abbrev pub sign_faults : Option Sign → ℕ → Option Valued → List Fault
 sign_faults sign place None = []
-sign_faults sign place (Some v) =
-    if sign then (if is_integer v.host then [] else broken place WrongSort) else []
+sign_faults None place (Some v) = []
+sign_faults (Some sign) place (Some v) = if is_integer v.host then [] else broken place WrongSort
 
 -- a number that exceeds the greatest integer
-abbrev pub number_faults : Bool → ℕ → ℕ → List Fault
+abbrev pub number_faults : Option Sign → ℕ → ℕ → List Fault
 number_faults sign n place =
     if nat_le n maxint then [] else broken (number_place sign place) NumberTooLarge
 
 -- what a constant breaks
 abbrev pub constant_faults : Outline → Constant → List Fault
-constant_faults o (constant.Number minus sign n place) = number_faults sign n place
-constant_faults o (constant.Named minus sign name place) =
+constant_faults o (constant.Number sign n place) = number_faults sign n place
+constant_faults o (constant.Named sign name place) =
     constant_used o name (meaning o name) ++ sign_faults sign name.place (named_value o name)
 constant_faults o (constant.Character code place) = []

@@ -17,7 +17,7 @@ use est_scope::declaration::{Entry, Meant, Sort};
 use est_scope::least::Least;
 use est_scope::outline::Outline;
 use est_scope::predeclared::PredeclaredName;
-use est_syntax::constant::Constant;
+use est_syntax::constant::{Constant, Sign, is_minus};
 use est_syntax::kind::{Kind, MAXINT};
 use est_syntax::name::Used;
 use est_syntax::rule::Rule;
@@ -60,8 +60,8 @@ fn negated(value: Valued) -> Option<Valued>
 }
 
 // The integer that is written, without a sign or with one.
-fn number_value(minus: bool, number: u64) -> Option<Valued>
-    ensures { result ≡ number_value minus number }
+fn number_value(sign: Option<Sign>, number: u64) -> Option<Valued>
+    ensures { result ≡ number_value sign number }
 {
     if number > MAXINT as u64 {
         return None;
@@ -69,35 +69,32 @@ fn number_value(minus: bool, number: u64) -> Option<Valued>
     let ordinal = number as i32;
     Some(Valued {
         host: Kind::Integer,
-        ordinal: if minus { -ordinal } else { ordinal },
+        ordinal: if is_minus(sign) { -ordinal } else { ordinal },
     })
 }
 
 // The value after a sign, which has to be an integer.
-fn with_sign(minus: bool, value: Valued) -> Option<Valued>
-    ensures { result ≡ with_sign minus value }
+fn with_sign(sign: Sign, value: Valued) -> Option<Valued>
+    ensures { result ≡ with_sign sign value }
 {
     if !is_integer(&value.host) {
         drop(value);
-        None
-    } else if minus {
-        negated(value)
-    } else {
-        Some(value)
+        return None;
+    }
+    match sign {
+        Sign::Plus => Some(value),
+        Sign::Minus => negated(value),
     }
 }
 
 // The value after a sign, which has to be an integer, or after none.
-fn signed(minus: bool, sign: bool, value: Option<Valued>) -> Option<Valued>
-    ensures { result ≡ signed_value minus sign value }
+fn signed(sign: Option<Sign>, value: Option<Valued>) -> Option<Valued>
+    ensures { result ≡ signed_value sign value }
 {
-    match value {
-        None => None,
-        Some(value) => if sign {
-            with_sign(minus, value)
-        } else {
-            Some(value)
-        },
+    match (sign, value) {
+        (_, None) => None,
+        (None, Some(value)) => Some(value),
+        (Some(sign), Some(value)) => with_sign(sign, value),
     }
 }
 
@@ -139,10 +136,13 @@ fn meant_value(outline: &Outline, meant: Meant) -> Result<Option<Valued>, AllocE
 }
 
 // The place of the last token of a number, which stands after its sign.
-fn number_place(sign: bool, place: u32) -> u32
+fn number_place(sign: Option<Sign>, place: u32) -> u32
     ensures { result ≡ number_place sign place }
 {
-    if sign { place.saturating_add(1) } else { place }
+    match sign {
+        None => place,
+        Some(_) => place.saturating_add(1),
+    }
 }
 
 /// The place of the first token of a constant.
@@ -184,45 +184,38 @@ fn check_used(outline: &Outline, used: &Used, meant: Meant, least: &mut Least)
 }
 
 // Notes a sign before the name of a constant that is no integer.
-fn check_sign(sign: bool, place: u32, value: &Option<Valued>, least: &mut Least)
+fn check_sign(sign: Option<Sign>, place: u32, value: &Option<Valued>, least: &mut Least)
     ensures { least.new.at ≡ least_with least.old.at (sign_faults sign place value.now) }
 {
-    match value {
-        None => (),
-        Some(value) => if sign && !is_integer(&value.host) {
+    match (sign, value) {
+        (Some(_), Some(value)) => if !is_integer(&value.host) {
             least.note(place, Rule::WrongSort);
         },
+        _ => (),
     }
 }
 
 // Checks a number, and answers its value.
-fn check_number(
-    minus: bool,
-    sign: bool,
-    number: u64,
-    place: u32,
-    least: &mut Least,
-) -> Option<Valued>
-    ensures value { result ≡ number_value minus number }
+fn check_number(sign: Option<Sign>, number: u64, place: u32, least: &mut Least) -> Option<Valued>
+    ensures value { result ≡ number_value sign number }
     ensures faults { least.new.at
         ≡ least_with least.old.at (number_faults sign number place) }
 {
     if number > MAXINT as u64 {
         least.note(number_place(sign, place), Rule::NumberTooLarge);
     }
-    number_value(minus, number)
+    number_value(sign, number)
 }
 
 // Checks the name of a constant, with a sign before it or none, and answers the value.
 fn check_named(
     outline: &Outline,
-    minus: bool,
-    sign: bool,
+    sign: Option<Sign>,
     used: &Used,
     least: &mut Least,
 ) -> Result<Option<Valued>, AllocError>
     ensures value { IfOk result
-        (λ v. v ≡ signed_value minus sign (named_value outline.now used.now)) }
+        (λ v. v ≡ signed_value sign (named_value outline.now used.now)) }
     ensures faults { OnOk result (least.new.at ≡ least_with least.old.at
         (constant_used outline.now used.now (meaning outline.now used.now)
         ++ sign_faults sign used.now.place (named_value outline.now used.now))) }
@@ -231,7 +224,7 @@ fn check_named(
     check_used(outline, used, meant, least);
     let value = meant_value(outline, meant)?;
     check_sign(sign, used.place, &value, least);
-    Ok(signed(minus, sign, value))
+    Ok(signed(sign, value))
 }
 
 /// Checks a constant, and answers its value, where it has one.
@@ -246,17 +239,15 @@ pub fn check_constant(
 {
     match constant {
         Constant::Number {
-            minus,
             sign,
             number,
             place,
-        } => Ok(check_number(*minus, *sign, *number, *place, least)),
+        } => Ok(check_number(*sign, *number, *place, least)),
         Constant::Named {
-            minus,
             sign,
             name,
             place: _,
-        } => check_named(outline, *minus, *sign, name, least),
+        } => check_named(outline, *sign, name, least),
         Constant::Character { code, place: _ } => Ok(Some(Valued {
             host: Kind::Char,
             ordinal: *code as i32,

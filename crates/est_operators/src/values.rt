@@ -11,6 +11,7 @@ use crate::ordinals::{exact, is_true, truth};
 use crate::sets::{combined, decided, is_member};
 use est_semantics::fault::BlockFault;
 use est_semantics::stop::Stop;
+use est_syntax::constant::{Sign, is_minus};
 use est_syntax::expression::Operator;
 use est_syntax::kind::MAXINT;
 use est_values::arithmetic::negative;
@@ -104,10 +105,10 @@ pub fn joined(alloc: Global, op: Operator, a: &Value, b: Value) -> Result<Value,
 }
 
 /// An operand after its sign.
-pub fn signed(minus: bool, a: Value) -> Result<Value, BlockFault>
-    ensures { (n : ℕ) → signed minus a n ≡ lift result n }
+pub fn signed(sign: Option<Sign>, a: Value) -> Result<Value, BlockFault>
+    ensures { (n : ℕ) → signed sign a n ≡ lift result n }
 {
-    if !minus {
+    if !is_minus(sign) {
         return Ok(a);
     }
     let z = ordinal(&a);

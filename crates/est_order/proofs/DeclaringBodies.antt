@@ -92,8 +92,8 @@ statement_ends i j (statement.Attach own child point place) h =
 statement_ends i j _ h = h.1
 
 constant_begins : (i j : ℕ) (c : Constant) → ConstantPlaced i j c → i ≤ constant_place c
-constant_begins i j (constant.Number minus sign n place) h = h.0
-constant_begins i j (constant.Named minus sign name place) h = h.0
+constant_begins i j (constant.Number sign n place) h = h.0
+constant_begins i j (constant.Named sign name place) h = h.0
 constant_begins i j (constant.Character code place) h = h.0
 
 module _ (R : ℕ → Type 0) (unfinished : Bool) (a b : ℕ) (fits : b ≤ 2 ^ 32) where

@@ -1,6 +1,7 @@
 -- What stands in order as a view stands as its rows do: names, constants and the texts of types.
-use Rattle.std.proofs.Common.{ℕ, suc, true, false, List, [], ◌∷◌, map}
+use Rattle.std.proofs.Common.{ℕ, suc, List, [], ◌∷◌, map}
 use Rattle.std.proofs.Common.{subst, arith}
+use Rattle.std.proofs.Common.{Some, None}
 use Rattle.est_syntax.specs.declared.name.Used.{Used}
 use Rattle.est_syntax.specs.declared.constant.Constant.{Constant}
 use Rattle.est_syntax.specs.declared.constant.Constant.TheVariants as constant
@@ -37,29 +38,24 @@ names_placed (u ∷ us) (o_more (o_node (o_at l (o_kept m))) y) =
 
 -- constants
 unnamed_placed : (c : Constant) {i j : ℕ} → Stand (shown.unnamed c) i j → ConstantPlaced i j c
-unnamed_placed (constant.Number minus true number place)
+unnamed_placed (constant.Number (Some sign) number place)
     (o_at l (o_second (o_first (o_pair x (o_first (o_kept m)))))) =
     (l, omega (arith, goes_on layer x))
-unnamed_placed (constant.Number false false number place) (o_at l (o_first (o_kept m))) = (l, m)
-unnamed_placed (constant.Number true false number place) d = elim d [ ]
-unnamed_placed (constant.Named minus true name place)
+unnamed_placed (constant.Number None number place) (o_at l (o_first (o_kept m))) = (l, m)
+unnamed_placed (constant.Named (Some sign) name place)
     (o_at l (o_second (o_first (o_pair x (o_second (o_at m (o_kept n))))))) =
     (l, omega (arith, goes_on layer x), n)
-unnamed_placed (constant.Named minus false name place) d = elim d [ ]
+unnamed_placed (constant.Named None name place) d = elim d [ ]
 unnamed_placed (constant.Character code place) (o_at l (o_second (o_second (o_kept m)))) = (l, m)
 
 pub constant_placed : (c : Constant) {i j : ℕ} → Stand (node (a_constant c)) i j
     → ConstantPlaced i j c
-constant_placed (constant.Named false false name place)
+constant_placed (constant.Named None name place)
     (o_node (o_second (o_at l (o_at m (o_kept n))))) = (l, m, n)
-constant_placed (constant.Named false true name place) (o_node (o_first x)) =
-    unnamed_placed (constant.Named false true name place) x
-constant_placed (constant.Named true false name place) (o_node (o_first x)) =
-    unnamed_placed (constant.Named true false name place) x
-constant_placed (constant.Named true true name place) (o_node (o_first x)) =
-    unnamed_placed (constant.Named true true name place) x
-constant_placed (constant.Number minus sign number place) (o_node (o_first x)) =
-    unnamed_placed (constant.Number minus sign number place) x
+constant_placed (constant.Named (Some sign) name place) (o_node (o_first x)) =
+    unnamed_placed (constant.Named (Some sign) name place) x
+constant_placed (constant.Number sign number place) (o_node (o_first x)) =
+    unnamed_placed (constant.Number sign number place) x
 constant_placed (constant.Character code place) (o_node (o_first x)) =
     unnamed_placed (constant.Character code place) x
 
@@ -73,17 +69,13 @@ pair_placed low high {k = k} x y = (k, unnamed_placed low x, constant_placed hig
 
 range_placed : (low high : Constant) {i j : ℕ} → Stand (shown.range low high) i j
     → RangePlaced i j low high
-range_placed (constant.Named false false name place) high
+range_placed (constant.Named None name place) high
     (o_second (o_at l (o_pair {k = k} (o_at m (o_kept n)) (o_given y)))) =
     (k, (l, m, n), constant_placed high y)
-range_placed (constant.Named false true name place) high (o_first (o_pair x y)) =
-    pair_placed (constant.Named false true name place) high x y
-range_placed (constant.Named true false name place) high (o_first (o_pair x y)) =
-    pair_placed (constant.Named true false name place) high x y
-range_placed (constant.Named true true name place) high (o_first (o_pair x y)) =
-    pair_placed (constant.Named true true name place) high x y
-range_placed (constant.Number minus sign number place) high (o_first (o_pair x y)) =
-    pair_placed (constant.Number minus sign number place) high x y
+range_placed (constant.Named (Some sign) name place) high (o_first (o_pair x y)) =
+    pair_placed (constant.Named (Some sign) name place) high x y
+range_placed (constant.Number sign number place) high (o_first (o_pair x y)) =
+    pair_placed (constant.Number sign number place) high x y
 range_placed (constant.Character code place) high (o_first (o_pair x y)) =
     pair_placed (constant.Character code place) high x y
 

@@ -1,6 +1,8 @@
 -- Where names, constants and the texts of types stand, as these are made of rows.
-use Rattle.std.proofs.Common.{ℕ, suc, ◌<◌, ◌≤◌, ◌^◌, Bool, true, false, List}
+use Rattle.std.proofs.Common.{ℕ, suc, ◌<◌, ◌≤◌, ◌^◌, List}
 use Rattle.std.proofs.Common.{[], ◌∷◌, arith}
+use Rattle.std.proofs.Common.{Option, Some, None}
+use Rattle.est_syntax.specs.declared.constant.Sign.{Sign}
 use Rattle.est_syntax.specs.declared.name.Used.{Used}
 use Rattle.est_syntax.specs.declared.constant.Constant.{Constant}
 use Rattle.est_syntax.specs.declared.constant.Constant.TheVariants as constant
@@ -19,8 +21,8 @@ NamesPlaced i j (u ∷ us) = (i ≤ u.place) × NamesPlaced (suc u.place) j us
 
 -- a constant stands between two places
 abbrev pub ConstantPlaced : ℕ → ℕ → Constant → Type 0
-ConstantPlaced i j (constant.Number minus sign n place) = (i ≤ place) × (place < j)
-ConstantPlaced i j (constant.Named minus sign name place) =
+ConstantPlaced i j (constant.Number sign n place) = (i ≤ place) × (place < j)
+ConstantPlaced i j (constant.Named sign name place) =
     (i ≤ place) × (place ≤ name.place) × (name.place < j)
 ConstantPlaced i j (constant.Character code place) = (i ≤ place) × (place < j)
 
@@ -71,8 +73,8 @@ names_on i j [] h = h
 names_on i j (u ∷ us) h = omega (arith, h.0, names_on (suc u.place) j us h.1)
 
 pub constant_on : (i j : ℕ) (c : Constant) → ConstantPlaced i j c → i < j
-constant_on i j (constant.Number minus sign n place) h = omega (arith, h.0, h.1)
-constant_on i j (constant.Named minus sign name place) h = omega (arith, h.0, h.1, h.2)
+constant_on i j (constant.Number sign n place) h = omega (arith, h.0, h.1)
+constant_on i j (constant.Named sign name place) h = omega (arith, h.0, h.1, h.2)
 constant_on i j (constant.Character code place) h = omega (arith, h.0, h.1)
 
 mutual
@@ -116,15 +118,16 @@ names_upto i j d (u ∷ us) h l =
     (h.0, names_upto (suc u.place) j u.place us h.1 (omega arith))
 
 -- a constant and the text of a type begin and end after what they stand after
-number_from : (m place : ℕ) (sign : Bool) → m ≤ place → place < 2 ^ 32 → m ≤ number_place sign place
-number_from m place true l n = omega arith
-number_from m place false l n = l
+number_from : (m place : ℕ) (sign : Option Sign) → m ≤ place → place < 2 ^ 32
+    → m ≤ number_place sign place
+number_from m place (Some sign) l n = omega arith
+number_from m place None l n = l
 
 pub constant_from : (i j : ℕ) (c : Constant) → j ≤ 2 ^ 32 → ConstantPlaced i j c
     → (i ≤ constant_place c) × (i ≤ constant_last c)
-constant_from i j (constant.Number minus sign n place) fits h =
+constant_from i j (constant.Number sign n place) fits h =
     (h.0, number_from i place sign h.0 (omega (arith, h.1)))
-constant_from i j (constant.Named minus sign name place) fits h = (h.0, omega (arith, h.0, h.1))
+constant_from i j (constant.Named sign name place) fits h = (h.0, omega (arith, h.0, h.1))
 constant_from i j (constant.Character code place) fits h = (h.0, h.0)
 
 mutual
@@ -159,8 +162,8 @@ mutual
 
 -- a constant begins before its end
 pub constant_within : (i j : ℕ) (c : Constant) → ConstantPlaced i j c → constant_place c < j
-constant_within i j (constant.Number minus sign n place) h = h.1
-constant_within i j (constant.Named minus sign name place) h = omega (arith, h.1, h.2)
+constant_within i j (constant.Number sign n place) h = h.1
+constant_within i j (constant.Named sign name place) h = omega (arith, h.1, h.2)
 constant_within i j (constant.Character code place) h = h.1
 
 -- the text of a type begins after what it stands after

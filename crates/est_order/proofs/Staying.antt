@@ -38,9 +38,9 @@ module _ (a c : ℕ) (o p : Outline) (later : Later a c o p) where
 
   pub constant_stays : (i j : ℕ) (k : Constant) → ConstantPlaced i j k
       → ((q : ℕ) → q < j → q ≤ constant_last k → q ≤ c) → constant_value p k ≡ constant_value o k
-  constant_stays i j (constant.Number minus sign n place) h reach = refl
-  constant_stays i j (constant.Named minus sign name place) h reach =
-      ap (signed_value minus sign)
+  constant_stays i j (constant.Number sign n place) h reach = refl
+  constant_stays i j (constant.Named sign name place) h reach =
+      ap (signed_value sign)
       (value_stays a c o p later name (reach name.place h.2 (omega arith)))
   constant_stays i j (constant.Character code place) h reach = refl
 

@@ -89,7 +89,7 @@ module _ (b : ℕ) where
 
     simple_before : (s : Simple) (i j : ℕ) → j ≤ b → Stand (node (a_simple s)) i j
         → AreBefore b (simple_names s)
-    simple_before (Simple' minus sign first n rest) i j l
+    simple_before (Simple' sign first n rest) i j l
         (o_node (o_pair {k = k} x (o_pair {k = m} y z))) =
         let o = goes_on layer z in
         both_before b (term_names first) (sum_row rest) (term_before first k m (omega arith) y)

@@ -54,8 +54,8 @@ module _ (b : ℕ) where
   -- constants
   constant_before : (c : Constant) (i j : ℕ) → j ≤ b → ConstantPlaced i j c
       → AreBefore b (constant_names c)
-  constant_before (constant.Number minus sign n place) i j l h = tt
-  constant_before (constant.Named minus sign name place) i j l h = let q = h.2 in (omega arith, tt)
+  constant_before (constant.Number sign n place) i j l h = tt
+  constant_before (constant.Named sign name place) i j l h = let q = h.2 in (omega arith, tt)
   constant_before (constant.Character code place) i j l h = tt
 
   constants_before : (cs : List Constant) (i j : ℕ) → j ≤ b → Stand (nodes (map a_constant cs)) i j

@@ -1,8 +1,9 @@
 -- The layers of the parts that the readers make.
-use Rattle.std.proofs.Common.{◌≡◌, ℕ, Bool, true, false, List, [], ◌∷◌, Option}
+use Rattle.std.proofs.Common.{◌≡◌, ℕ, List, [], ◌∷◌, Option}
 use Rattle.std.proofs.Common.{Some, None, ◌++◌, map, ap, refl, sym, length}
 use Rattle.std.specs.Prelude.{option_to_list}
 use Rattle.est_syntax.specs.declared.name.Used.{Used}
+use Rattle.est_syntax.specs.declared.constant.Sign.{Sign}
 use Rattle.est_syntax.specs.declared.constant.Constant.{Constant}
 use Rattle.est_syntax.specs.declared.constant.Constant.TheVariants as constants
 use Rattle.est_syntax.specs.declared.type_text.TypeText.{TypeText, out-TypeText, Named}
@@ -122,12 +123,11 @@ relation_made o r =
     ap (λ x. given (pair (node_of.relational_operator x.operator) (node (a_simple x.right))))
     (out-roll-Relation record { operator = o; right = r })
 
-pub simple_made : (m s : Bool) (f : Term) (rest : List SumStep)
-    → layer (a_simple (roll-Simple record { minus = m; sign = s; first = f; rest = rest }))
-    ≡ pair (node_of.sign m s) (pair (node (a_term f)) (nodes (map a_sum_step rest)))
-simple_made m s f rest = ap (λ x. pair (node_of.sign x.minus x.sign) (pair (node (a_term x.first))
+pub simple_made : (s : Option Sign) (f : Term) (rest : List SumStep)
+    → layer (a_simple (roll-Simple record { sign = s; first = f; rest = rest }))
+    ≡ pair (node_of.sign s) (pair (node (a_term f)) (nodes (map a_sum_step rest)))
+simple_made s f rest = ap (λ x. pair (node_of.sign x.sign) (pair (node (a_term x.first))
     (nodes (map a_sum_step x.rest)))) (out-roll-Simple record {
-      minus = m;
       sign = s;
       first = f;
       rest = rest;
@@ -196,21 +196,17 @@ field_of_made u = ap node_of.selector (factors.outs-Field u)
 -- What shows as a constant that is no bare name is one, in each of the places where one may stand.
 pub unnamed_constant : (c : Constant) (t : Shape Kept) → Shows layer (first (unnamed c)) t
     → Shows layer (constant c) t
-unnamed_constant (constants.Number minus sign n p) t s = s
-unnamed_constant (constants.Named true true u p) t s = s
-unnamed_constant (constants.Named false true u p) t s = s
-unnamed_constant (constants.Named true false u p) t s = s
-unnamed_constant (constants.Named false false u p) t (s_first s) = elim s [ ]
+unnamed_constant (constants.Number sign n p) t s = s
+unnamed_constant (constants.Named (Some sign) u p) t s = s
+unnamed_constant (constants.Named None u p) t (s_first s) = elim s [ ]
 unnamed_constant (constants.Character c p) t s = s
 
 pub unnamed_range : (low high : Constant) (t : Shape Kept)
     → Shows layer (first (pair (unnamed low) (node (a_constant high)))) t
     → Shows layer (range low high) t
-unnamed_range (constants.Number minus sign n p) high t s = s
-unnamed_range (constants.Named true true u p) high t s = s
-unnamed_range (constants.Named false true u p) high t s = s
-unnamed_range (constants.Named true false u p) high t s = s
-unnamed_range (constants.Named false false u p) high t (s_first (s_pair s r)) = elim s [ ]
+unnamed_range (constants.Number sign n p) high t s = s
+unnamed_range (constants.Named (Some sign) u p) high t s = s
+unnamed_range (constants.Named None u p) high t (s_first (s_pair s r)) = elim s [ ]
 unnamed_range (constants.Character c p) high t s = s
 
 -- what shows as a short type shows as a type

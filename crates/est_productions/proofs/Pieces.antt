@@ -3,6 +3,8 @@
 use Rattle.std.proofs.Common.{◌≡◌, ℕ, Bool, true, false, List, [], ◌∷◌}
 use Rattle.std.proofs.Common.{map, Option, Some, None, refl, ◌∙◌, ap}
 use Rattle.est_syntax.specs.declared.name.Used.{Used}
+use Rattle.est_syntax.specs.declared.constant.Sign.{Sign}
+use Rattle.est_syntax.specs.declared.constant.Sign.TheVariants.{Plus, Minus}
 use Rattle.est_syntax.specs.declared.constant.Constant.{Constant}
 use Rattle.est_syntax.specs.declared.constant.Constant.TheVariants as constant
 use Rattle.est_syntax.specs.declared.constant.ConstDef.{ConstDef}
@@ -307,6 +309,15 @@ pub name_given_back : (o : Option Used) → name_given_in (shown.name_given o) �
 name_given_back None = refl
 name_given_back (Some u) = refl
 
+-- which sign stands there
+abbrev pub written_in : View → Sign
+written_in (second v) = Minus
+written_in v = Plus
+
+written_back : (s : Sign) → written_in (shown.written_sign s) ≡ s
+written_back Plus = refl
+written_back Minus = refl
+
 -- whether the second of two words stands there
 abbrev pub is_second : View → Bool
 is_second (second v) = true
@@ -314,60 +325,57 @@ is_second v = false
 
 -- CONSTANTS AND TYPES
 
-abbrev pub signed_in : Bool → ℕ → View → Constant
-signed_in minus place (first (kept (kinds.value number))) = constant.Number minus true number place
-signed_in minus place (second (at p (kept (kinds.name bytes)))) = constant.Named minus true
-    (spelled bytes p) place
-signed_in minus place v = constant.Number false false 0 0
+abbrev pub signed_in : Sign → ℕ → View → Constant
+signed_in sign place (first (kept (kinds.value number))) =
+    constant.Number (Some sign) number place
+signed_in sign place (second (at p (kept (kinds.name bytes)))) =
+    constant.Named (Some sign) (spelled bytes p) place
+signed_in sign place v = constant.Number None 0 0
 
 abbrev pub unnamed_in : View → Constant
-unnamed_in (at place (first (kept (kinds.value number)))) = constant.Number false false number place
-unnamed_in (at place (second (first (pair w v)))) = signed_in (is_second w) place v
+unnamed_in (at place (first (kept (kinds.value number)))) = constant.Number None number place
+unnamed_in (at place (second (first (pair w v)))) = signed_in (written_in w) place v
 unnamed_in (at place (second (second (kept (kinds.code code))))) = constant.Character code place
-unnamed_in v = constant.Number false false 0 0
+unnamed_in v = constant.Number None 0 0
 
 unnamed_back : (c : Constant) {t : Shape} → Has (shown.unnamed c) t
     → unnamed_in (shown.unnamed c) ≡ c
-unnamed_back (constant.Number true true number place) d = refl
-unnamed_back (constant.Number false true number place) d = refl
-unnamed_back (constant.Number false false number place) d = refl
-unnamed_back (constant.Number true false number place) d = elim d [ ]
-unnamed_back (constant.Named true true name place) d = refl
-unnamed_back (constant.Named false true name place) d = refl
-unnamed_back (constant.Named true false name place) d = elim d [ ]
-unnamed_back (constant.Named false false name place) d = elim d [ ]
+unnamed_back (constant.Number (Some sign) number place) d =
+    ap (λ s. constant.Number (Some s) number place) (written_back sign)
+unnamed_back (constant.Number None number place) d = refl
+unnamed_back (constant.Named (Some sign) name place) d =
+    ap (λ s. constant.Named (Some s) name place) (written_back sign)
+unnamed_back (constant.Named None name place) d = elim d [ ]
 unnamed_back (constant.Character code place) d = refl
 
 abbrev pub constant_in : View → Constant
-constant_in (second (at place v)) = constant.Named false false (used_in v) place
+constant_in (second (at place v)) = constant.Named None (used_in v) place
 constant_in (first v) = unnamed_in v
-constant_in v = constant.Number false false 0 0
+constant_in v = constant.Number None 0 0
 
 pub constant_back : (c : Constant) {t : Shape} → Has (shown.constant c) t
     → constant_in (shown.constant c) ≡ c
-constant_back (constant.Number minus sign number place) (s_first d) =
-    unnamed_back (constant.Number minus sign number place) d
-constant_back (constant.Named false false name place) d = refl
-constant_back (constant.Named true false name place) (s_first d) = elim d [ ]
-constant_back (constant.Named true true name place) d = refl
-constant_back (constant.Named false true name place) d = refl
+constant_back (constant.Number sign number place) (s_first d) =
+    unnamed_back (constant.Number sign number place) d
+constant_back (constant.Named None name place) d = refl
+constant_back (constant.Named (Some sign) name place) (s_first d) =
+    unnamed_back (constant.Named (Some sign) name place) d
 constant_back (constant.Character code place) d = refl
 
 abbrev pub short_in : View → Option TypeTextForm
 short_in (second (at place (pair v empty))) = Some (text.Named (used_in v))
 short_in (second (at place (pair v (given (node (a_constant high)))))) =
-    Some (text.Range (constant.Named false false (used_in v) place) high)
+    Some (text.Range (constant.Named None (used_in v) place) high)
 short_in (first (pair v (node (a_constant high)))) = Some (text.Range (unnamed_in v) high)
 short_in v = None
 
 range_back : (low high : Constant) {t : Shape} → Has (shown.range low high) t
     → short_in (shown.range low high) ≡ Some (text.Range low high)
-range_back (constant.Number minus sign number place) high (s_first (s_pair d e)) =
-    ap (λ c. Some (text.Range c high)) (unnamed_back (constant.Number minus sign number place) d)
-range_back (constant.Named false false name place) high d = refl
-range_back (constant.Named true false name place) high (s_first (s_pair d e)) = elim d [ ]
-range_back (constant.Named true true name place) high d = refl
-range_back (constant.Named false true name place) high d = refl
+range_back (constant.Number sign number place) high (s_first (s_pair d e)) =
+    ap (λ c. Some (text.Range c high)) (unnamed_back (constant.Number sign number place) d)
+range_back (constant.Named None name place) high d = refl
+range_back (constant.Named (Some sign) name place) high (s_first (s_pair d e)) =
+    ap (λ c. Some (text.Range c high)) (unnamed_back (constant.Named (Some sign) name place) d)
 range_back (constant.Character code place) high d = refl
 
 pub short_back : (x : TypeTextForm) {t : Shape} → Has (shown.short_type x) t
@@ -647,23 +655,14 @@ relation_back (Some r) (s_given (s_pair d e)) =
     ap (λ o. Some (roll-Relation record { operator = o; right = (out-Relation r).right }))
     (relational_back (out-Relation r).operator d) ∙ ap (λ x. Some x) (roll-out-Relation r)
 
--- the sign before a sum: "-" alone is told by what no tree shows
-abbrev pub minus_in : View → Bool
-minus_in (given v) = is_second v
-minus_in nowhere = true
-minus_in v = false
+-- the sign before a sum
+abbrev pub sign_in : View → Option Sign
+sign_in (given v) = Some (written_in v)
+sign_in v = None
 
-pub minus_back : (minus sign : Bool) → minus_in (shown.sign minus sign) ≡ minus
-minus_back false false = refl
-minus_back true false = refl
-minus_back true true = refl
-minus_back false true = refl
-
-pub sign_back : (minus sign : Bool) → is_given (shown.sign minus sign) ≡ sign
-sign_back false false = refl
-sign_back true false = refl
-sign_back true true = refl
-sign_back false true = refl
+pub sign_back : (sign : Option Sign) → sign_in (shown.sign sign) ≡ sign
+sign_back None = refl
+sign_back (Some s) = ap (λ x. Some x) (written_back s)
 
 abbrev pub exprs_given_in : View → List Expr
 exprs_given_in (given (pair (nodes ns) empty)) = read expr_of ns

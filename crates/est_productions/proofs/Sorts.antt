@@ -2,6 +2,8 @@
 use Rattle.std.proofs.Common.{◌≡◌, ℕ, Bool, true, false, List, []}
 use Rattle.std.proofs.Common.{◌∷◌, map, Option, Some, None, refl}
 use Rattle.est_syntax.specs.declared.name.Used.{Used}
+use Rattle.est_syntax.specs.declared.constant.Sign.{Sign}
+use Rattle.est_syntax.specs.declared.constant.Sign.TheVariants.{Plus, Minus}
 use Rattle.est_syntax.specs.declared.constant.Constant.{Constant}
 use Rattle.est_syntax.specs.declared.constant.Constant.TheVariants as constant
 use Rattle.est_syntax.specs.declared.type_text.TypeText.{TypeText}
@@ -134,26 +136,19 @@ abbrev of_unnamed : Sort
 of_unnamed = of_at (of_choice of_kept (of_choice (of_pair of_either (of_choice of_kept of_used))
     of_kept))
 
-written_sign_is : (minus : Bool) → IsOf of_either (shown.written_sign minus)
-written_sign_is false = f_first f_empty
-written_sign_is true = f_second f_empty
+written_sign_is : (s : Sign) → IsOf of_either (shown.written_sign s)
+written_sign_is Plus = f_first f_empty
+written_sign_is Minus = f_second f_empty
 
 unnamed_is : (c : Constant) → IsOf of_unnamed (shown.unnamed c)
-unnamed_is (constant.Number true true number place) =
-    f_at place (f_second (f_first (f_pair (written_sign_is true)
+unnamed_is (constant.Number (Some sign) number place) =
+    f_at place (f_second (f_first (f_pair (written_sign_is sign)
     (f_first (f_kept (kinds.value number))))))
-unnamed_is (constant.Number false true number place) =
-    f_at place (f_second (f_first (f_pair (written_sign_is false)
-    (f_first (f_kept (kinds.value number))))))
-unnamed_is (constant.Number false false number place) =
+unnamed_is (constant.Number None number place) =
     f_at place (f_first (f_kept (kinds.value number)))
-unnamed_is (constant.Number true false number place) = f_nowhere
-unnamed_is (constant.Named true true name place) =
-    f_at place (f_second (f_first (f_pair (written_sign_is true) (f_second (used_is name)))))
-unnamed_is (constant.Named false true name place) =
-    f_at place (f_second (f_first (f_pair (written_sign_is false) (f_second (used_is name)))))
-unnamed_is (constant.Named true false name place) = f_nowhere
-unnamed_is (constant.Named false false name place) = f_nowhere
+unnamed_is (constant.Named (Some sign) name place) =
+    f_at place (f_second (f_first (f_pair (written_sign_is sign) (f_second (used_is name)))))
+unnamed_is (constant.Named None name place) = f_nowhere
 unnamed_is (constant.Character code place) =
     f_at place (f_second (f_second (f_kept (kinds.code code))))
 
@@ -161,14 +156,11 @@ abbrev pub of_constant : Sort
 of_constant = of_choice of_unnamed (of_at of_used)
 
 pub constant_is : (c : Constant) → IsOf of_constant (shown.constant c)
-constant_is (constant.Number minus sign number place) =
-    f_first (unnamed_is (constant.Number minus sign number place))
-constant_is (constant.Named false false name place) = f_second (f_at place (used_is name))
-constant_is (constant.Named true false name place) = f_first f_nowhere
-constant_is (constant.Named true true name place) =
-    f_first (unnamed_is (constant.Named true true name place))
-constant_is (constant.Named false true name place) =
-    f_first (unnamed_is (constant.Named false true name place))
+constant_is (constant.Number sign number place) =
+    f_first (unnamed_is (constant.Number sign number place))
+constant_is (constant.Named None name place) = f_second (f_at place (used_is name))
+constant_is (constant.Named (Some sign) name place) =
+    f_first (unnamed_is (constant.Named (Some sign) name place))
 constant_is (constant.Character code place) = f_first (unnamed_is (constant.Character code place))
 
 abbrev pub of_short : Sort
@@ -176,18 +168,13 @@ of_short = of_choice (of_pair of_unnamed (of_part constants))
     (of_at (of_pair of_used (of_option (of_part constants))))
 
 range_is : (low high : Constant) → IsOf of_short (shown.range low high)
-range_is (constant.Number minus sign number place) high =
-    f_first (f_pair (unnamed_is (constant.Number minus sign number place))
+range_is (constant.Number sign number place) high =
+    f_first (f_pair (unnamed_is (constant.Number sign number place))
     (f_part (a_constant high) refl))
-range_is (constant.Named false false name place) high =
+range_is (constant.Named None name place) high =
     f_second (f_at place (f_pair (used_is name) (f_in (f_part (a_constant high) refl))))
-range_is (constant.Named true false name place) high =
-    f_first (f_pair f_nowhere (f_part (a_constant high) refl))
-range_is (constant.Named true true name place) high =
-    f_first (f_pair (unnamed_is (constant.Named true true name place))
-    (f_part (a_constant high) refl))
-range_is (constant.Named false true name place) high =
-    f_first (f_pair (unnamed_is (constant.Named false true name place))
+range_is (constant.Named (Some sign) name place) high =
+    f_first (f_pair (unnamed_is (constant.Named (Some sign) name place))
     (f_part (a_constant high) refl))
 range_is (constant.Character code place) high =
     f_first (f_pair (unnamed_is (constant.Character code place)) (f_part (a_constant high) refl))
@@ -379,11 +366,9 @@ relation_is None = f_out
 relation_is (Some r) = f_in (f_pair (relational_is (out-Relation r).operator)
     (f_part (a_simple (out-Relation r).right) refl))
 
-pub sign_is : (minus sign : Bool) → IsOf (of_option of_either) (shown.sign minus sign)
-sign_is false false = f_out
-sign_is true false = f_nowhere
-sign_is true true = f_in (written_sign_is true)
-sign_is false true = f_in (written_sign_is false)
+pub sign_is : (sign : Option Sign) → IsOf (of_option of_either) (shown.sign sign)
+sign_is None = f_out
+sign_is (Some s) = f_in (written_sign_is s)
 
 abbrev pub of_exprs_given : Sort
 of_exprs_given = of_option (of_pair (of_parts exprs) of_nothing)

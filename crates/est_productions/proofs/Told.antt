@@ -80,8 +80,8 @@ use Rattle.est_productions.proofs.Pieces.{queue_given_in, queue_given_back, dime
 use Rattle.est_productions.proofs.Pieces.{dimensions_back, place_in, place_back, is_first}
 use Rattle.est_productions.proofs.Pieces.{attribute_back, is_given, by_place_back, routine_in}
 use Rattle.est_productions.proofs.Pieces.{routine_back, adding_in, adding_back, multiplying_in}
-use Rattle.est_productions.proofs.Pieces.{multiplying_back, relation_in, relation_back, minus_in}
-use Rattle.est_productions.proofs.Pieces.{minus_back, sign_back, exprs_given_in, exprs_given_back}
+use Rattle.est_productions.proofs.Pieces.{multiplying_back, relation_in, relation_back, sign_in}
+use Rattle.est_productions.proofs.Pieces.{sign_back, exprs_given_in, exprs_given_back}
 use Rattle.est_productions.proofs.Pieces.{factor_in, factor_back, selector_in, selector_back}
 use Rattle.est_productions.proofs.Pieces.{expr_given_in, expr_given_back, access_given_in}
 use Rattle.est_productions.proofs.Pieces.{access_given_back}
@@ -548,8 +548,7 @@ from exprs (at place (pair (node (a_simple s)) w)) =
     Some (an_expr (roll-Expr record { left = s; relation = relation_in w; place = place }))
 from simples (pair v (pair (node (a_term x)) (nodes ns))) =
     Some (a_simple (roll-Simple record {
-      minus = minus_in v;
-      sign = is_given v;
+      sign = sign_in v;
       first = x;
       rest = read sum_step_of ns;
     }))
@@ -679,8 +678,7 @@ told (an_expr e) t (s_at p (s_pair d d')) =
     }))) (relation_back (out-Expr e).relation d') ∙ ap (λ y. Some (an_expr y)) (roll-out-Expr e)
 told (a_simple s) t d =
     (λ i. Some (a_simple (roll-Simple record {
-      minus = minus_back (out-Simple s).minus (out-Simple s).sign i;
-      sign = sign_back (out-Simple s).minus (out-Simple s).sign i;
+      sign = sign_back (out-Simple s).sign i;
       first = (out-Simple s).first;
       rest = sum_steps_back (out-Simple s).rest i;
     }))) ∙ ap (λ y. Some (a_simple y)) (roll-out-Simple s)

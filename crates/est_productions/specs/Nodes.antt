@@ -4,6 +4,8 @@
 use Rattle.std.specs.Prelude.{ℕ, zero, suc, Bool, true, false, List}
 use Rattle.std.specs.Prelude.{[], ◌∷◌, Option, Some, None, map}
 use Rattle.est_syntax.specs.declared.name.Used.{Used}
+use Rattle.est_syntax.specs.declared.constant.Sign.{Sign}
+use Rattle.est_syntax.specs.declared.constant.Sign.TheVariants.{Plus, Minus}
 use Rattle.est_syntax.specs.declared.constant.Constant.{Constant}
 use Rattle.est_syntax.specs.declared.constant.Constant.TheVariants as constants
 use Rattle.est_syntax.specs.declared.constant.ConstDef.{ConstDef}
@@ -121,27 +123,25 @@ name_given (Some u) = given (used u)
 
 -- Constants.
 
--- a sign that is written: "+", or "-" (true)
-abbrev pub written_sign : Bool → View
-written_sign false = first empty
-written_sign true = second empty
+-- a sign that is written
+abbrev pub written_sign : Sign → View
+written_sign Plus = first empty
+written_sign Minus = second empty
 
 -- a constant that is no bare name
 abbrev pub unnamed : Constant → View
-unnamed (constants.Number minus true number place) =
-    at place (choice 1 (pair (written_sign minus) (first (kept (kinds.value number)))))
-unnamed (constants.Number false false number place) =
-    at place (choice 0 (kept (kinds.value number)))
-unnamed (constants.Number true false number place) = nowhere
-unnamed (constants.Named minus true name place) =
-    at place (choice 1 (pair (written_sign minus) (second (used name))))
-unnamed (constants.Named minus false name place) = nowhere
+unnamed (constants.Number (Some sign) number place) =
+    at place (choice 1 (pair (written_sign sign) (first (kept (kinds.value number)))))
+unnamed (constants.Number None number place) = at place (choice 0 (kept (kinds.value number)))
+unnamed (constants.Named (Some sign) name place) =
+    at place (choice 1 (pair (written_sign sign) (second (used name))))
+unnamed (constants.Named None name place) = nowhere
 unnamed (constants.Character character place) =
     at place (last_choice 2 (kept (kinds.code character)))
 
 -- a constant
 abbrev pub constant : Constant → View
-constant (constants.Named false false name place) = second (at place (used name))
+constant (constants.Named None name place) = second (at place (used name))
 constant c = first (unnamed c)
 
 -- a definition of a constant
@@ -156,7 +156,7 @@ TypeTextForm = texts.TypeText-F TypeText VarDef
 
 -- a range: where its lower bound is a bare name, the name stands alone before the choice
 abbrev pub range : Constant → Constant → View
-range (constants.Named false false name place) high =
+range (constants.Named None name place) high =
     second (at place (pair (used name) (given (node (a_constant high)))))
 range low high = first (pair (unnamed low) (node (a_constant high)))
 
@@ -353,16 +353,15 @@ relation (Some r) = let x = out-Relation r in
 abbrev pub expr : Expr → View
 expr e = let x = out-Expr e in at x.place (pair (node (a_simple x.left)) (relation x.relation))
 
--- the sign before a sum: whether it is "-", and whether one is written
-abbrev pub sign : Bool → Bool → View
-sign false false = empty
-sign true false = nowhere
-sign minus true = given (written_sign minus)
+-- the sign before a sum, where one is written
+abbrev pub sign : Option Sign → View
+sign None = empty
+sign (Some s) = given (written_sign s)
 
 -- a sum
 abbrev pub simple : Simple → View
 simple s = let x = out-Simple s in
-    pair (sign x.minus x.sign) (pair (node (a_term x.first)) (nodes (map a_sum_step x.rest)))
+    pair (sign x.sign) (pair (node (a_term x.first)) (nodes (map a_sum_step x.rest)))
 
 -- one more term of a sum
 abbrev pub sum_step : SumStep → View

@@ -14,7 +14,7 @@ ghost use Rattle.est_productions.specs.Syntax.{estelle};
 
 use est_lexer::kind::{Symbol, TokenKind};
 use est_reader::Reader;
-use est_syntax::constant::Constant;
+use est_syntax::constant::{Constant, Sign};
 
 /// constant = [ "+" | "-" ] ( number | ident ) | character .
 pub fn constant(reader: &mut Reader) -> Constant
@@ -27,8 +27,7 @@ pub fn constant(reader: &mut Reader) -> Constant
     let place = reader.at;
     let name = reader.name();
     Constant::Named {
-        minus: false,
-        sign: false,
+        sign: None,
         name,
         place,
     }
@@ -51,8 +50,7 @@ pub fn unnamed(reader: &mut Reader) -> Constant
     }
     let number = reader.value();
     Constant::Number {
-        minus: false,
-        sign: false,
+        sign: None,
         number,
         place,
     }
@@ -65,33 +63,31 @@ fn signed(reader: &mut Reader) -> Constant
     ensures { Goes estelle grammar.unnamed reader.old (view.unnamed result) reader.new }
 {
     let place = reader.at;
-    let minus = plus_or_minus(reader);
+    let sign = plus_or_minus(reader);
     if reader.sees(TokenKind::Identifier) {
         let name = reader.name();
         return Constant::Named {
-            minus,
-            sign: true,
+            sign: Some(sign),
             name,
             place,
         };
     }
     let number = reader.value();
     Constant::Number {
-        minus,
-        sign: true,
+        sign: Some(sign),
         number,
         place,
     }
 }
 
-/// "+" | "-", and whether it is "-".
-pub fn plus_or_minus(reader: &mut Reader) -> bool
+/// "+" | "-"
+pub fn plus_or_minus(reader: &mut Reader) -> Sign
     ensures { Goes estelle grammar.plus_or_minus reader.old (view.written_sign result) reader.new }
 {
     if reader.sees(TokenKind::Symbol(Symbol::Minus)) {
         reader.symbol(Symbol::Minus);
-        return true;
+        return Sign::Minus;
     }
     reader.symbol(Symbol::Plus);
-    false
+    Sign::Plus
 }

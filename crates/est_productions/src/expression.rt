@@ -22,6 +22,7 @@ use crate::operator::{
 };
 use est_lexer::kind::{ReservedWord, Symbol, TokenKind};
 use est_reader::Reader;
+use est_syntax::constant::Sign;
 use est_syntax::expression::{
     Expr, Exprs, Factor, Member, Members, ProductStep, ProductSteps, Relation, Selector, Selectors,
     Simple, SumStep, SumSteps, Term,
@@ -77,31 +78,25 @@ fn simple(reader: &mut Reader) -> Simple
     ensures { Goes estelle (rule grammar.simple) reader.old
         (node (view.a_simple result)) reader.new }
 {
-    let (minus, sign) = sign(reader);
+    let sign = sign(reader);
     let first = term(reader);
     let rest = sum_steps(reader);
-    Simple {
-        minus,
-        sign,
-        first,
-        rest,
-    }
+    Simple { sign, first, rest }
 }
 
-// [ "+" | "-" ]: whether it is "-", and whether there is one.
-fn sign(reader: &mut Reader) -> (bool, bool)
-    ensures { Goes estelle (opt grammar.plus_or_minus) reader.old
-        (view.sign result.0 result.1) reader.new }
+// [ "+" | "-" ]
+fn sign(reader: &mut Reader) -> Option<Sign>
+    ensures { Goes estelle (opt grammar.plus_or_minus) reader.old (view.sign result) reader.new }
 {
     if reader.sees(TokenKind::Symbol(Symbol::Plus)) {
         reader.symbol(Symbol::Plus);
-        return (false, true);
+        return Some(Sign::Plus);
     }
     if reader.sees(TokenKind::Symbol(Symbol::Minus)) {
         reader.symbol(Symbol::Minus);
-        return (true, true);
+        return Some(Sign::Minus);
     }
-    (false, false)
+    None
 }
 
 // { ( "+" | "-" | "or" ) term }

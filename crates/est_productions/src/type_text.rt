@@ -53,8 +53,7 @@ fn named_type(reader: &mut Reader) -> TypeText
     reader.symbol(Symbol::DoublePeriod);
     let high = constant(reader);
     let low = Constant::Named {
-        minus: false,
-        sign: false,
+        sign: None,
         name,
         place,
     };

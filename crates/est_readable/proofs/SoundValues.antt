@@ -6,6 +6,9 @@ use Rattle.std.proofs.Common.{None, arith}
 use Rattle.std.proofs.lemmas.Bool.Decides.{nat_tests, Decides-eqb}
 use Rattle.std.proofs.lemmas.Int.{ints}
 use Rattle.std.proofs.lemmas.Option.{same_Some, none-some}
+use Rattle.est_syntax.specs.Signs.{is_minus}
+use Rattle.est_syntax.specs.declared.constant.Sign.{Sign}
+use Rattle.est_syntax.specs.declared.constant.Sign.TheVariants.{Plus, Minus}
 use Rattle.est_syntax.specs.Kinds.{maxint, Holds}
 use Rattle.est_syntax.specs.declared.constant.Constant.{Constant}
 use Rattle.est_syntax.specs.declared.constant.Constant.TheVariants as constant
@@ -177,15 +180,16 @@ module _ (o : Outline) where
       integer_value (pos 0 -ℤ pos n) (omega (arith, ints, h)) (omega (arith, ints, h))
   number_of false n h = integer_value (pos n) (omega (arith, ints, h)) (omega (arith, ints, h))
 
-  number_sound : (minus : Bool) (n : ℕ) (v : Valued) → number_value minus n ≡ Some v
+  number_sound : (sign : Option Sign) (n : ℕ) (v : Valued) → number_value sign n ≡ Some v
       → IsSoundValue v
-  number_sound minus n v h = by (nat_le n maxint) refl h
+  number_sound sign n v h = by (nat_le n maxint) refl h
     where
       by : (b : Bool) → nat_le n maxint ≡ b
-          → (if b then Some (valued kind.Integer (if minus then pos 0 -ℤ pos n else pos n))
+          → (if b
+          then Some (valued kind.Integer (if is_minus sign then pos 0 -ℤ pos n else pos n))
           else None)
           ≡ Some v → IsSoundValue v
-      by true e q = is_value _ v q (number_of minus n (at_most n maxint e))
+      by true e q = is_value _ v q (number_of (is_minus sign) n (at_most n maxint e))
       by false e q = absurd (none-some v q)
 
   -- signs
@@ -232,22 +236,27 @@ module _ (o : Outline) where
       by true q = absurd (none-some w q)
       by false q = is_value _ w q (negated_sound v is sound)
 
-  with_sound : (minus : Bool) (v w : Valued) → IsSoundValue v → with_sign minus v ≡ Some w
+  with_sound : (sign : Sign) (v w : Valued) → IsSoundValue v → with_sign sign v ≡ Some w
       → IsSoundValue w
-  with_sound minus v w sound h = by (is_integer v.host) minus refl h
+  with_sound sign v w sound h = by sign (is_integer v.host) refl h
     where
-      by : (b m : Bool) → is_integer v.host ≡ b
-          → (if b then (if m then negated v else Some v) else None) ≡ Some w → IsSoundValue w
-      by true true e q = minus_sound v w e sound q
-      by true false e q = is_value v w q sound
-      by false m e q = absurd (none-some w q)
+      by : (sign : Sign) (b : Bool) → is_integer v.host ≡ b → with_sign sign v ≡ Some w
+          → IsSoundValue w
+      by Plus true e q =
+          is_value v w (ap (λ x. if x then Some v else None) (sym e) ∙ q) sound
+      by Minus true e q =
+          minus_sound v w e sound (ap (λ x. if x then negated v else None) (sym e) ∙ q)
+      by Plus false e q =
+          absurd (none-some w (ap (λ x. if x then Some v else None) (sym e) ∙ q))
+      by Minus false e q =
+          absurd (none-some w (ap (λ x. if x then negated v else None) (sym e) ∙ q))
 
-  signed_sound : (minus sign : Bool) (k : Option Valued) (w : Valued)
-      → ((v : Valued) → k ≡ Some v → IsSoundValue v) → signed_value minus sign k ≡ Some w
+  signed_sound : (sign : Option Sign) (k : Option Valued) (w : Valued)
+      → ((v : Valued) → k ≡ Some v → IsSoundValue v) → signed_value sign k ≡ Some w
       → IsSoundValue w
-  signed_sound minus sign None w sound h = absurd (none-some w h)
-  signed_sound minus false (Some v) w sound h = is_value v w h (sound v refl)
-  signed_sound minus true (Some v) w sound h = with_sound minus v w (sound v refl) h
+  signed_sound sign None w sound h = absurd (none-some w h)
+  signed_sound None (Some v) w sound h = is_value v w h (sound v refl)
+  signed_sound (Some sign) (Some v) w sound h = with_sound sign v w (sound v refl) h
 
   -- names
   for_constant : (s : Sort) (e : Entry) → same_sort sort.Constant s ≡ true → IsSoundFor s e
@@ -276,9 +285,9 @@ module _ (o : Outline) where
 
   pub value_sound : (c : Constant) (v : Valued) → OfConstant IsSoundAt c → CodeFits c
       → constant_value o c ≡ Some v → IsSoundValue v
-  value_sound (constant.Number minus sign n place) v sound code h = number_sound minus n v h
-  value_sound (constant.Named minus sign u place) v sound code h =
-      signed_sound minus sign (named_value o u) v
+  value_sound (constant.Number sign n place) v sound code h = number_sound sign n v h
+  value_sound (constant.Named sign u place) v sound code h =
+      signed_sound sign (named_value o u) v
       (λ w e. meant_sound u (meaning o u) w refl sound e) h
   value_sound (constant.Character code place) v sound fits h =
       is_value (valued kind.Char (pos code)) v h (char_value code fits)

@@ -1,5 +1,6 @@
 -- What a view shows of constants and of the texts of types is spelled so.
-use Rattle.std.proofs.Common.{true, false, subst, List, [], ◌∷◌, map}
+use Rattle.std.proofs.Common.{subst, List, [], ◌∷◌, map}
+use Rattle.std.proofs.Common.{Some, None}
 use Rattle.est_syntax.specs.declared.name.Used.{Used}
 use Rattle.est_syntax.specs.declared.constant.Constant.{Constant}
 use Rattle.est_syntax.specs.declared.constant.Constant.TheVariants as constant
@@ -39,13 +40,13 @@ names_spelt (u ∷ us) (w_more (w_node (w_at (w_kept p))) s) = (p, names_spelt u
 
 -- constants
 unnamed_fits : (c : Constant) → Says (views.unnamed c) → CodeFits c
-unnamed_fits (constant.Number minus sign number place) s = tt
-unnamed_fits (constant.Named minus sign name place) s = tt
+unnamed_fits (constant.Number sign number place) s = tt
+unnamed_fits (constant.Named sign name place) s = tt
 unnamed_fits (constant.Character code place) (w_at (w_second (w_second (w_kept p)))) = p
 
 pub constant_fits : (c : Constant) → Says (node (a_constant c)) → CodeFits c
-constant_fits (constant.Number minus sign number place) s = tt
-constant_fits (constant.Named minus sign name place) s = tt
+constant_fits (constant.Number sign number place) s = tt
+constant_fits (constant.Named sign name place) s = tt
 constant_fits (constant.Character code place) (w_node (w_first s)) =
     unnamed_fits (constant.Character code place) s
 
@@ -55,16 +56,12 @@ pair_fits : (low high : Constant) → Says (views.unnamed low) → Says (node (a
 pair_fits low high x y = (unnamed_fits low x, constant_fits high y)
 
 range_fits : (low high : Constant) → Says (views.range low high) → CodeFits low × CodeFits high
-range_fits (constant.Named false false name place) high
+range_fits (constant.Named None name place) high
     (w_second (w_at (w_pair x (w_given y)))) = (tt, constant_fits high y)
-range_fits (constant.Named false true name place) high (w_first (w_pair x y)) =
-    pair_fits (constant.Named false true name place) high x y
-range_fits (constant.Named true false name place) high (w_first (w_pair x y)) =
-    pair_fits (constant.Named true false name place) high x y
-range_fits (constant.Named true true name place) high (w_first (w_pair x y)) =
-    pair_fits (constant.Named true true name place) high x y
-range_fits (constant.Number minus sign number place) high (w_first (w_pair x y)) =
-    pair_fits (constant.Number minus sign number place) high x y
+range_fits (constant.Named (Some sign) name place) high (w_first (w_pair x y)) =
+    pair_fits (constant.Named (Some sign) name place) high x y
+range_fits (constant.Number sign number place) high (w_first (w_pair x y)) =
+    pair_fits (constant.Number sign number place) high x y
 range_fits (constant.Character code place) high (w_first (w_pair x y)) =
     pair_fits (constant.Character code place) high x y
 

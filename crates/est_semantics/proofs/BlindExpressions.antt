@@ -168,8 +168,8 @@ module _ (x : Situation) where
 
     simple_blind : (e : Simple) (v : View) → Blind x v.site.deeper
         → simple_of e (seen_from x v) ≡ simple_of e v
-    simple_blind (Simple' minus sign first n rest) v h =
-        λ i. term_blind first v h i >>= λ a. signed minus a >>= λ b. sum_blind rest b v h i
+    simple_blind (Simple' sign first n rest) v h =
+        λ i. term_blind first v h i >>= λ a. signed sign a >>= λ b. sum_blind rest b v h i
 
     sum_blind : {n : _} (r : Row_of-SumStep n) (a : Value) (v : View) → Blind x v.site.deeper
         → row_sum r a (seen_from x v) ≡ row_sum r a v

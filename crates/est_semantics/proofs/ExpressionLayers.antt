@@ -141,15 +141,15 @@ related_at (Relation' op right) a v n =
     joined l.operator a (simple_of l.right v) n) (sym (outs-Relation' op right))
 
 pub simple_at : (s : Simple) (v : View) (n : ℕ) → simple_of s v n
-    ≡ (term_of (out-Simple s).first v >>= λ a. signed (out-Simple s).minus a
+    ≡ (term_of (out-Simple s).first v >>= λ a. signed (out-Simple s).sign a
     >>= λ b. sums_in (out-Simple s).rest b v) n
-simple_at (Simple' minus sign first k rest) v n =
-    (λ i. (term_of first v >>= λ a. signed minus a >>= λ b. sums_row _ rest b v i) n)
-    ∙ ap (λ xs. (term_of first v >>= λ a. signed minus a >>= λ b. sums_in xs b v) n)
+simple_at (Simple' sign first k rest) v n =
+    (λ i. (term_of first v >>= λ a. signed sign a >>= λ b. sums_row _ rest b v i) n)
+    ∙ ap (λ xs. (term_of first v >>= λ a. signed sign a >>= λ b. sums_in xs b v) n)
     (sym (items_shown-the_row-SumStep-5 k rest))
     ∙ ap (λ (l : Simple-F Factor Selector Expr Member ProductStep Relation Simple SumStep Term).
-    (term_of l.first v >>= λ a. signed l.minus a >>= λ b. sums_in l.rest b v) n)
-    (sym (outs-Simple' minus sign first k rest))
+    (term_of l.first v >>= λ a. signed l.sign a >>= λ b. sums_in l.rest b v) n)
+    (sym (outs-Simple' sign first k rest))
 
 pub with_term_at : (s : SumStep) (a : Value) (v : View) (n : ℕ) → with_term s a v n
     ≡ joined (out-SumStep s).operator a (term_of (out-SumStep s).right v) n

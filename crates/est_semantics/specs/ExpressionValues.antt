@@ -66,9 +66,9 @@ abbrev mutual
 
   -- what a sum yields
   pub simple_of : Simple → View → Counts Value
-  simple_of (Simple' minus sign first n rest) v = do
+  simple_of (Simple' sign first n rest) v = do
     a ← term_of first v
-    b ← signed minus a
+    b ← signed sign a
     row_sum rest b v
 
   pub row_sum : {n : _} → Row_of-SumStep n → Value → View → Counts Value

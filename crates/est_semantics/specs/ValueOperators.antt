@@ -1,7 +1,10 @@
 -- Operators on values (ISO 7185, 6.7.2). Operands are evaluated in the order of the text, which the
 -- standard leaves open (6.7.2.1).
-use Rattle.std.specs.Prelude.{ℕ, nat_le, ℤ, pos, Bool, true, false, not, List}
+use Rattle.std.specs.Prelude.{ℕ, nat_le, ℤ, pos, not, List}
 use Rattle.std.specs.Prelude.{Result, Ok, Err, if◌then◌else◌}
+use Rattle.std.specs.Prelude.{Option, Some}
+use Rattle.est_syntax.specs.declared.constant.Sign.{Sign}
+use Rattle.est_syntax.specs.declared.constant.Sign.TheVariants.{Minus}
 use Rattle.est_syntax.specs.Kinds.{maxint}
 use Rattle.est_syntax.specs.declared.expression.Operator.{Operator}
 use Rattle.est_syntax.specs.declared.expression.Operator.TheVariants as operator
@@ -58,9 +61,9 @@ joined operator.And a right = ordinal a >>= λ z. choose z right (give a)
 joined op a right = right >>= λ b. lift (operated op a b)
 
 -- an operand after its sign
-abbrev pub signed : Bool → Value → Counts Value
-signed false a = give a
-signed true a = ordinal a >>= λ z. lift (exact (negative z)) >>= λ y. give (value.Ordinal y)
+abbrev pub signed : Option Sign → Value → Counts Value
+signed (Some Minus) a = ordinal a >>= λ z. lift (exact (negative z)) >>= λ y. give (value.Ordinal y)
+signed _ a = give a
 
 -- the other boolean (ISO 7185, 6.7.2.3)
 abbrev pub negated : Value → Counts Value

@@ -338,13 +338,13 @@ module _ (v : View) (steady : IsSteady v.site.text.outline)
 
     simple_yields : (e : Simple) (t : Yielded) (l : ℕ) → simple_type o e ≡ Some t
         → Gives (Y t) (simple_of e v l)
-    simple_yields (Simple' minus sign first n rest) t l h =
+    simple_yields (Simple' sign first n rest) t l h =
         let s = sum_some o rest (types.signed sign (term_type o first)) t h in
         let k = subst (λ x. rules.row_sum o x rest ≡ Some t) s.1 h in
         given_on (Y s.0) (Y t) (term_of first v l) _
         (term_yields first s.0 l (signed_same sign (term_type o first) s.0 s.1))
-        (λ a m q. given_on (Y s.0) (Y t) (signed minus a m) _
-        (signed_yields steady.sizes minus a s.0 m q)
+        (λ a m q. given_on (Y s.0) (Y t) (signed sign a m) _
+        (signed_yields steady.sizes sign a s.0 m q)
         (λ b i r. sum_yields rest s.0 t b i k r))
 
     sum_yields : {n : _} (row : Row_of-SumStep n) (s t : Yielded) (a : Value) (l : ℕ)

@@ -3,6 +3,8 @@ use Rattle.std.specs.Prelude.{if◌then◌else◌, nat_le, length}
 use Rattle.std.proofs.Common.{◌≡◌, refl, sym, ap, subst, ◌∙◌, ℕ, ℤ, pos, Bool, true, false, List}
 use Rattle.std.proofs.Common.{Option, Some, None, Result, Ok, Err, true≢false}
 use Rattle.std.proofs.lemmas.Option.{none-some}
+use Rattle.est_syntax.specs.declared.constant.Sign.{Sign}
+use Rattle.est_syntax.specs.declared.constant.Sign.TheVariants.{Plus, Minus}
 use Rattle.est_syntax.specs.declared.expression.Operator.{Operator}
 use Rattle.est_syntax.specs.Kinds.{maxint}
 use Rattle.est_syntax.specs.declared.expression.Operator.TheVariants as operator
@@ -183,10 +185,11 @@ module _ (sizes : ℕ → ℕ) where
   joined_yields operator.And a right s r t l h i g = and_yields a right s r t l h g
   joined_yields op a right s r t l h i g = both_yield op a right s r t l i g
 
-  pub signed_yields : (minus : Bool) (a : Value) (t : Yielded) (l : ℕ) → IsYielded sizes t a
-      → Gives (IsYielded sizes t) (signed minus a l)
-  signed_yields false a t l h = h
-  signed_yields true a t l h = then_gives (IsYielded sizes t) (ordinal a l) _
+  pub signed_yields : (sign : Option Sign) (a : Value) (t : Yielded) (l : ℕ)
+      → IsYielded sizes t a → Gives (IsYielded sizes t) (signed sign a l)
+  signed_yields None a t l h = h
+  signed_yields (Some Plus) a t l h = h
+  signed_yields (Some Minus) a t l h = then_gives (IsYielded sizes t) (ordinal a l) _
       (λ z m. then_gives (IsYielded sizes t) (lift (exact (negative z)) m) _
       (λ y k. ordinal_simple y t))
 
@@ -220,10 +223,10 @@ kept_same w (Some s) t h = by (types.is_taken w s) h
     by true e = e
     by false e = absurd (none-some t e)
 
-pub signed_same : (sign : Bool) (x : Option Yielded) (t : Yielded) → types.signed sign x ≡ Some t
-    → x ≡ Some t
-signed_same true x t h = kept_same wanted.Integer x t h
-signed_same false x t h = h
+pub signed_same : (sign : Option Sign) (x : Option Yielded) (t : Yielded)
+    → types.signed sign x ≡ Some t → x ≡ Some t
+signed_same (Some sign) x t h = kept_same wanted.Integer x t h
+signed_same None x t h = h
 
 -- the types of both operands
 pub operand_types : (op : Operator) (x y : Option Yielded) (t : Yielded)

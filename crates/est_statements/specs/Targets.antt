@@ -5,6 +5,7 @@ use Rattle.std.specs.Prelude.{◌++◌, Option, Some, None, is_some, unwrap_or, 
 use Rattle.std.specs.Prelude.{length, slice_get}
 use Rattle.std.specs.List.{list_any}
 use Rattle.std.specs.Option.{option_map}
+use Rattle.est_syntax.specs.declared.constant.Sign.{Sign}
 use Rattle.est_syntax.specs.Faults.{broken}
 use Rattle.est_syntax.specs.declared.expression.Expr.{Expr, out-Expr}
 use Rattle.est_syntax.specs.declared.expression.Factor.{Factor, out-Factor}
@@ -229,8 +230,8 @@ abbrev pub bare_term : Term → Option Variable
 bare_term t = bare_product (out-Term t).first (out-Term t).rest
 
 -- that of a sum of a sign, if there is one, this operand and these steps
-abbrev pub bare_sum : Bool → Term → List SumStep → Option Variable
-bare_sum false t [] = bare_term t
+abbrev pub bare_sum : Option Sign → Term → List SumStep → Option Variable
+bare_sum None t [] = bare_term t
 bare_sum _ t ss = None
 
 -- that of a sum

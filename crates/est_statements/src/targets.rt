@@ -393,7 +393,7 @@ fn bare_term(term: &Term) -> Option<VariableAccess<'_>>
 fn bare_simple(simple: &Simple) -> Option<VariableAccess<'_>>
     ensures { variable_of result ≡ bare_simple simple.now }
 {
-    if !simple.sign && simple.rest.as_slice().is_empty() {
+    if simple.sign.is_none() && simple.rest.as_slice().is_empty() {
         bare_term(&simple.first)
     } else {
         None

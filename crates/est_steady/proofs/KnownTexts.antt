@@ -6,6 +6,8 @@ use Rattle.std.proofs.Common.{nat_eq, nat_lt}
 use Rattle.std.specs.Prelude.{slice_get, if◌then◌else◌, ◌-ℤ◌, int_lt, pos, nat_le}
 use Rattle.std.specs.List.{AllByRecursion}
 use Rattle.std.proofs.lemmas.Option.{same_Some, none-some}
+use Rattle.est_syntax.specs.declared.constant.Sign.{Sign}
+use Rattle.est_syntax.specs.declared.constant.Sign.TheVariants.{Plus, Minus}
 use Rattle.est_syntax.specs.Kinds.{is_ordinal, maxint}
 use Rattle.est_syntax.specs.declared.constant.Constant.{Constant}
 use Rattle.est_syntax.specs.declared.constant.Constant.TheVariants as constant
@@ -115,21 +117,24 @@ module _ (n : ℕ → ℕ) (c : ℕ) where
     given_hosted : (v : Valued) → Bounded n c v.host → Hosted (Some v)
     given_hosted v h w e = subst (λ (x : Valued). Bounded n c x.host) (same_Some v w e) h
 
-    signed_hosted : (minus sign : Bool) (x : Option Valued) → Hosted x
-        → Hosted (signed_value minus sign x)
-    signed_hosted minus sign None h = nothing_hosted
-    signed_hosted minus sign (Some v) h = let g = h v refl in
-        if_hosted sign (with_sign minus v) (Some v)
-        (if_hosted (is_integer v.host) (if minus then negated v else Some v) None
-        (if_hosted minus (negated v) (Some v) (negated_hosted v g) (given_hosted v g))
-        nothing_hosted) (given_hosted v g)
+    with_hosted : (sign : Sign) (v : Valued) → Bounded n c v.host → Hosted (with_sign sign v)
+    with_hosted Plus v h =
+        if_hosted (is_integer v.host) (Some v) None (given_hosted v h) nothing_hosted
+    with_hosted Minus v h =
+        if_hosted (is_integer v.host) (negated v) None (negated_hosted v h) nothing_hosted
+
+    signed_hosted : (sign : Option Sign) (x : Option Valued) → Hosted x
+        → Hosted (signed_value sign x)
+    signed_hosted sign None h = nothing_hosted
+    signed_hosted None (Some v) h = given_hosted v (h v refl)
+    signed_hosted (Some sign) (Some v) h = with_hosted sign v (h v refl)
 
     pub constant_hosted : (x : Constant) → Hosted (constant_value o x)
-    constant_hosted (constant.Number minus sign m place) =
+    constant_hosted (constant.Number sign m place) =
         if_hosted (nat_le m maxint) (Some (valued kind.Integer _)) None
         (hosted_as kind.Integer _ integer_bounded) nothing_hosted
-    constant_hosted (constant.Named minus sign name place) =
-        signed_hosted minus sign (named_value o name) (named_hosted name)
+    constant_hosted (constant.Named sign name place) =
+        signed_hosted sign (named_value o name) (named_hosted name)
     constant_hosted (constant.Character code place) =
         hosted_as kind.Char (pos code) char_bounded
 

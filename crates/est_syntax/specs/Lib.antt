@@ -2,3 +2,4 @@ pub mod Faults
 pub mod Kinds
 pub mod Least
 pub mod Names
+pub mod Signs

@@ -1,22 +1,40 @@
 //! Constants (ISO 7185, 6.3).
 
+ghost use Rattle.std.specs.Prelude.{◌≡◌};
+ghost use Rattle.est_syntax.specs.Signs.{is_minus};
+
 use crate::name::Used;
 use est_items::Items;
 
-/// A constant (ISO 7185, constant): a number, the name of a constant, or a character. `sign` says
-/// whether a `+` or `-` was written, `minus` whether it was a `-`. The place is that of the first
-/// token, so that of the sign where there is one.
+/// A sign that is written, `+` or `-` (ISO 7185, sign).
+#[derive(Clone, Copy, PartialEq, Eq)]
+pub enum Sign {
+    Plus,
+    Minus,
+}
+
+/// Whether what follows is negated: whether the sign before it, if there is one, is `-`.
+pub fn is_minus(sign: Option<Sign>) -> bool
+    ensures { result ≡ is_minus sign }
+{
+    match sign {
+        Some(Sign::Minus) => true,
+        _ => false,
+    }
+}
+
+/// A constant (ISO 7185, constant): a number, the name of a constant, or a character. `sign` is the
+/// sign before it, where one is written. The place is that of the first token, so that of the sign
+/// where there is one.
 #[derive(Drop)]
 pub enum Constant {
     Number {
-        minus: bool,
-        sign: bool,
+        sign: Option<Sign>,
         number: u64,
         place: u32,
     },
     Named {
-        minus: bool,
-        sign: bool,
+        sign: Option<Sign>,
         name: Used,
         place: u32,
     },

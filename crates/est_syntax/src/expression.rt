@@ -2,6 +2,7 @@
 //!
 //! Sums and products are a first operand and a list, so a tree is as deep as its brackets.
 
+use crate::constant::Sign;
 use crate::name::Used;
 use est_items::{Boxed, Items};
 
@@ -117,13 +118,12 @@ pub struct SumStep {
 /// The steps of a sum in the order of the text.
 pub type SumSteps = Items<SumStep>;
 
-/// A sum (ISO 7185, simple-expression). `sign` says whether a `+` or `-` was written, `minus`
-/// whether it was a `-`.
+/// A sum (ISO 7185, simple-expression). `sign` is the sign before its first operand, where one is
+/// written.
 #[cycle(expression)]
 #[derive(Drop)]
 pub struct Simple {
-    pub minus: bool,
-    pub sign: bool,
+    pub sign: Option<Sign>,
     pub first: Term,
     pub rest: SumSteps,
 }

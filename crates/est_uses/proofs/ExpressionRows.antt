@@ -150,12 +150,12 @@ relation_out (Relation' operator right) =
 
 pub simple_out : (s : Simple)
     → simple_names s ≡ term_names (out-Simple s).first ++ sum_steps_names (out-Simple s).rest
-simple_out (Simple' minus sign first n rest) =
+simple_out (Simple' sign first n rest) =
     ap (λ l. term_names first ++ l) (sum_listed _ rest)
     ∙ ap (λ l. term_names first ++ sum_steps_names l) (sym (items_shown-the_row-SumStep-5 n rest))
     ∙ ap (λ (l : Simple-F Factor Selector Expr Member ProductStep Relation Simple SumStep Term).
     term_names l.first ++ sum_steps_names l.rest)
-    (sym (outs-Simple' minus sign first n rest))
+    (sym (outs-Simple' sign first n rest))
 
 pub sum_step_out : (s : SumStep) → sum_step_names s ≡ term_names (out-SumStep s).right
 sum_step_out (SumStep' operator right) =

@@ -42,7 +42,7 @@ abbrev mutual
 
   -- A sum looks up what its operands do.
   pub simple_names : Simple → List Used
-  simple_names (Simple' minus sign first n rest) = term_names first ++ sum_row rest
+  simple_names (Simple' sign first n rest) = term_names first ++ sum_row rest
 
   -- The steps of a sum look up what their operands do.
   pub sum_row : {n : _} → Row_of-SumStep n → List Used

@@ -12,7 +12,7 @@ use Rattle.est_syntax.specs.declared.type_text.VarDef.{VarDef}
 
 -- A constant looks up the name that it is.
 abbrev pub constant_names : Constant → List Used
-constant_names (constant.Named minus sign name place) = name ∷ []
+constant_names (constant.Named sign name place) = name ∷ []
 constant_names _ = []
 
 -- Constants look up what each of them does.

@@ -4,6 +4,7 @@ use crate::warning::{Outside, Slip, Warning};
 use est_names::heads::Head;
 use est_names::names::head;
 use est_scope::outline::Outline;
+use est_syntax::constant::is_minus;
 use est_syntax::expression::{Expr, Factor, Selector, Simple};
 use est_syntax::kind::{Kind, MAXINT};
 use est_syntax::name::Used;
@@ -45,7 +46,7 @@ fn simple_ordinal(outline: &Outline, simple: &Simple) -> Option<i32> {
         return None;
     }
     let ordinal = factor_ordinal(outline, &simple.first.first)?;
-    if simple.minus {
+    if is_minus(simple.sign) {
         0i32.checked_sub(ordinal)
     } else {
         Some(ordinal)

@@ -11,11 +11,11 @@ use Rattle.est_productions.proofs.constant.signed.Goals as goal
 pub returns-then-sees : goal.returns-then-sees
 returns-then-sees c =
     here_goes K (chosen_by K 1 (kind (Symbol symbols.Plus) ∷ kind (Symbol symbols.Minus) ∷ [])
-    refl c.requires (then K refl c.plus_or_minus-minus.ensures (chosen K 1 (kind Identifier) refl
+    refl c.requires (then K refl c.plus_or_minus-sign.ensures (chosen K 1 (kind Identifier) refl
     c.if-sees.ensures (name_goes K c.name-name.ensures))))
 
 pub returns : goal.returns
 returns c = here_goes K (chosen_by K 1 (kind (Symbol symbols.Plus) ∷ kind (Symbol symbols.Minus)
-    ∷ []) refl c.requires (then K refl c.plus_or_minus-minus.ensures
+    ∷ []) refl c.requires (then K refl c.plus_or_minus-sign.ensures
     (first_else K (kind Identifier ∷ []) refl refl refl refl (c.if-sees.ensures, tt)
     (value_goes K c.value-number.ensures))))

@@ -51,8 +51,8 @@ relation-returns t c = goes_is (sym (made.relation_made _ _)) (opt_in_by K token
     (then K refl c.relational_operator-operator.ensures c.simple-right.ensures))
 
 pub simple-returns : goal.simple-returns
-simple-returns t c = part (made.simple_made _ _ _ _)
-    (rule_goes K (then K refl c.sign-minus.ensures (then K refl c.term-first.ensures
+simple-returns t c = part (made.simple_made _ _ _)
+    (rule_goes K (then K refl c.sign-sign.ensures (then K refl c.term-first.ensures
     c.sum_steps-rest.ensures)))
 
 pub sum_steps-loop-reader-init : goal.sum_steps-loop-reader-init
