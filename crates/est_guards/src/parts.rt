@@ -1,6 +1,7 @@
 //! The parts of guards, each of which is evaluated by itself.
-ghost use Rattle.std.specs.Prelude.{◌≡◌, IfOk, false, pos, int_le};
+ghost use Rattle.std.specs.Prelude.{◌≡◌, IfOk, OnErr, IsErrAnd, false, pos, int_le};
 ghost use Rattle.std.specs.List.{list_any};
+ghost use Rattle.est_semantics.specs.AnswersOfCalls.{IsMemory};
 ghost use Rattle.est_semantics.specs.BlockLevels.{most_levels, site};
 ghost use Rattle.est_semantics.specs.TakenValues.{within_kind};
 ghost use Rattle.est_choices.specs.GuardParts.{part_of};
@@ -60,7 +61,8 @@ fn held_by(number: Result<i32, BlockFault>) -> Evaluated
 
 // What comes of the ordinal that a value is. Errs where memory ran out.
 fn ordinal_of(value: Result<Value, Stop>) -> Result<Evaluated, AllocError>
-    ensures { IfOk result (λ part. IsOrdinalOf value part) }
+    ensures ok { IfOk result (λ part. IsOrdinalOf value part) }
+    ensures err { OnErr result (IsErrAnd value (λ stop. IsMemory stop)) }
 {
     match value {
         Ok(value) => {

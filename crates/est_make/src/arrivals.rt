@@ -1,5 +1,5 @@
 //! What may arrive at the ports of a specification.
-ghost use Rattle.std.specs.Prelude.{◌≡◌, ◌++◌, IfOk, OnOk};
+ghost use Rattle.std.specs.Prelude.{◌≡◌, ◌≤◌, ◌^◌, ◌++◌, IfOk, OnOk, OnErr};
 ghost use Rattle.est_make.specs.Arrivals.{arrivals_of, received_from};
 
 use est_ports::ports::Ports;
@@ -15,7 +15,8 @@ pub struct Arrival {
 
 // A number of 32 bits. Errs where there is none.
 fn number_of(place: usize) -> Result<u32, AllocError>
-    ensures { IfOk result (λ number. number ≡ place) }
+    ensures ok { IfOk result (λ number. number ≡ place) }
+    ensures err { OnErr result (2 ^ 32 ≤ place) }
 {
     if place > u32::MAX as usize {
         return Err(AllocError);

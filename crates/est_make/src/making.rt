@@ -346,8 +346,8 @@ fn made_of(turn: Turn, making: Making) -> Made
 }
 
 /// Makes a trace on a world that stands at the start of each specification of which it speaks, with
-/// these events and at these ports. Each draw lists the possible firings at most once, and the
-/// world keeps the last situation alone.
+/// these events and at these ports. Each draw lists the possible firings at most once, and earlier
+/// situations are let go of, which no clause says.
 pub fn make_in<W: World>(
     alloc: Global,
     world: &mut W,

@@ -1,6 +1,6 @@
 //! The outside ports of a specification.
-ghost use Rattle.std.specs.Prelude.{◌≡◌, [], ◌∷◌, ◌++◌, IfOk, OnOk, Some};
-ghost use Rattle.std.specs.Prelude.{option_and_then, slice_get};
+ghost use Rattle.std.specs.Prelude.{◌≡◌, ◌≤◌, ◌^◌, [], ◌∷◌, ◌++◌, IfOk, OnOk, OnErr, Some};
+ghost use Rattle.std.specs.Prelude.{IsSomeAnd, option_and_then, slice_get};
 ghost use Rattle.std.specs.List.{position};
 ghost use Rattle.std.specs.Option.{option_map};
 ghost use Rattle.est_outline.specs.Bodies.{outline_of};
@@ -37,7 +37,8 @@ const MOST_PORTS: u64 = 4294967296;
 
 // The number of a signal, which errs where 32 bits cannot tell it.
 fn told(number: Option<usize>) -> Result<Option<u32>, AllocError>
-    ensures { IfOk result (λ told. told ≡ number) }
+    ensures ok { IfOk result (λ told. told ≡ number) }
+    ensures err { OnErr result (IsSomeAnd number (λ place. 2 ^ 32 ≤ place)) }
 {
     match number {
         None => Ok(None),

@@ -1,5 +1,5 @@
 //! The tuples of ordinals by their numbers.
-ghost use Rattle.std.specs.Prelude.{◌≡◌, ◌+ℤ◌, pos, slice_get, IfOk};
+ghost use Rattle.std.specs.Prelude.{◌≡◌, ◌^◌, ◌+ℤ◌, ◌≤ℤ◌, pos, slice_get, IfOk, OnErr};
 ghost use Rattle.est_ports.specs.OrdinalValues.{first_value, tuples_of};
 
 use est_items::Items;
@@ -24,7 +24,8 @@ fn first_value(kind: &Kind) -> i32
 
 // The ordinal that lies so far above another one. Errs where it does not fit.
 fn above(low: i32, distance: u32) -> Result<i32, AllocError>
-    ensures { IfOk result (λ ordinal. ordinal ≡ low +ℤ pos distance) }
+    ensures ok { IfOk result (λ ordinal. ordinal ≡ low +ℤ pos distance) }
+    ensures err { OnErr result (pos (2 ^ 31) ≤ℤ low +ℤ pos distance) }
 {
     let ordinal = low as i64 + distance as i64;
     if ordinal > i32::MAX as i64 {

@@ -1,7 +1,7 @@
 //! Where signals were found before.
 
-ghost use Rattle.std.specs.Prelude.{◌≡◌, true, map, slice_get, Some};
-ghost use Rattle.std.specs.Prelude.{IfOk, IfSome, is_some, bytes_eq};
+ghost use Rattle.std.specs.Prelude.{◌≡◌, ◌≤◌, ◌^◌, true, map, slice_get, Some};
+ghost use Rattle.std.specs.Prelude.{IfOk, IfSome, OnErr, is_some, bytes_eq};
 ghost use Rattle.est_port_names.specs.PortNames as names;
 ghost use Rattle.est_port_names.specs.PortNames.{signal_name, IsNumberOf};
 
@@ -123,7 +123,8 @@ pub fn passes(signal: &Signal, direction: Direction) -> bool
 
 // A number, where 32 bits tell it.
 fn told(number: usize) -> Result<Option<u32>, AllocError>
-    ensures { IfOk result (λ found. found ≡ Some number) }
+    ensures ok { IfOk result (λ found. found ≡ Some number) }
+    ensures err { OnErr result (2 ^ 32 ≤ number) }
 {
     if number <= u32::MAX as usize {
         Ok(Some(number as u32))

@@ -17,8 +17,8 @@ pub fn write_trace(alloc: Global, ports: &Ports, trace: &Trace) -> Result<Vec<u8
     Ok(text)
 }
 
-/// Adds the canonical text of the trace of these events to a text, or a part of it where memory
-/// runs out.
+/// Adds the canonical text of the trace of these events to a text. Where memory runs out, no clause
+/// says what the text holds.
 pub fn append_trace(
     alloc: Global,
     text: &mut Vec<u8>,

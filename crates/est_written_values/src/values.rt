@@ -30,7 +30,8 @@ pub fn write_value(
     into.extend_from_slice(text.as_slice())
 }
 
-/// Adds the canonical text of a value of a kind to a text, or a part of it where memory runs out.
+/// Adds the canonical text of a value of a kind to a text. Where memory runs out, no clause says
+/// what the text holds.
 #[cycle(value)]
 pub fn append_value(text: &mut Vec<u8>, value: &Value, kind: &Kind) -> Result<(), AllocError>
     ensures { OnOk result (text.new.items ≡ text.old.items ++ value_text kind.now value.now) }
