@@ -2,6 +2,7 @@
 #![tactic(auto)]
 
 mod clauses;
+mod links;
 mod points;
 mod range;
 mod statements;

@@ -1,7 +1,7 @@
 //! What is found in the statements of a specification.
 
+use crate::links::{Found, mark_child, mark_end, mark_made, mark_own};
 use crate::range::push_assigned;
-use crate::warning::Warning;
 use est_items::Boxed;
 use est_scope::outline::Outline;
 use est_syntax::body::{Block, Body, FirstPart, Part};
@@ -9,11 +9,32 @@ use est_syntax::statement::{Arm, Statement};
 use est_syntax::transition::{Group, Transition};
 use std::alloc::AllocError;
 
+// Notes what a link or an `init` names.
+fn mark_named(outline: &Outline, statement: &Statement, found: &mut Found) {
+    match statement {
+        Statement::Init { target, .. } => mark_made(outline, target, found),
+        Statement::Connect { one, other, .. } => {
+            mark_end(outline, one, found);
+            mark_end(outline, other, found);
+        },
+        Statement::Attach {
+            own,
+            child,
+            point,
+            ..
+        } => {
+            mark_own(outline, own, found);
+            mark_child(outline, child, point, found);
+        },
+        _ => (),
+    }
+}
+
 // Adds what is found in a statement that has no statement in it.
 fn push_plain(
     outline: &Outline,
     statement: &Statement,
-    found: &mut Vec<Warning>,
+    found: &mut Found,
 ) -> Result<(), AllocError> {
     match statement {
         Statement::Assign {
@@ -21,8 +42,17 @@ fn push_plain(
             path,
             value,
             ..
-        } => push_assigned(outline, target, path.as_slice(), value.get(), found),
-        _ => Ok(()),
+        } => push_assigned(
+            outline,
+            target,
+            path.as_slice(),
+            value.get(),
+            &mut found.warnings,
+        ),
+        _ => {
+            mark_named(outline, statement, found);
+            Ok(())
+        },
     }
 }
 
@@ -31,7 +61,7 @@ fn push_plain(
 fn push_statement(
     outline: &Outline,
     statement: &Statement,
-    found: &mut Vec<Warning>,
+    found: &mut Found,
 ) -> Result<(), AllocError> {
     match statement {
         Statement::Compound { turn, .. } => push_statements(outline, turn.as_slice(), found),
@@ -53,7 +83,7 @@ fn push_statement(
 fn push_second(
     outline: &Outline,
     second: &Option<Boxed<Statement>>,
-    found: &mut Vec<Warning>,
+    found: &mut Found,
 ) -> Result<(), AllocError> {
     match second {
         None => Ok(()),
@@ -63,7 +93,7 @@ fn push_second(
 
 // Adds what is found in the choices of a `case`.
 #[cycle(statement)]
-fn push_arms(outline: &Outline, arms: &[Arm], found: &mut Vec<Warning>) -> Result<(), AllocError> {
+fn push_arms(outline: &Outline, arms: &[Arm], found: &mut Found) -> Result<(), AllocError> {
     for arm in arms {
         push_statement(outline, &arm.turn, found)?;
     }
@@ -75,7 +105,7 @@ fn push_arms(outline: &Outline, arms: &[Arm], found: &mut Vec<Warning>) -> Resul
 fn push_statements(
     outline: &Outline,
     statements: &[Statement],
-    found: &mut Vec<Warning>,
+    found: &mut Found,
 ) -> Result<(), AllocError> {
     for statement in statements {
         push_statement(outline, statement, found)?;
@@ -85,11 +115,7 @@ fn push_statements(
 
 // Adds what is found in a block, and in the routines that it declares.
 #[cycle(block)]
-fn push_block(
-    outline: &Outline,
-    block: &Block,
-    found: &mut Vec<Warning>,
-) -> Result<(), AllocError> {
+fn push_block(outline: &Outline, block: &Block, found: &mut Found) -> Result<(), AllocError> {
     push_blocks(outline, block.parts.as_slice(), found)?;
     push_statements(outline, block.statements.as_slice(), found)
 }
@@ -99,7 +125,7 @@ fn push_block(
 fn push_first(
     outline: &Outline,
     first: &Option<FirstPart>,
-    found: &mut Vec<Warning>,
+    found: &mut Found,
 ) -> Result<(), AllocError> {
     match first {
         None => Ok(()),
@@ -112,7 +138,7 @@ fn push_first(
 fn push_transitions(
     outline: &Outline,
     transitions: &[Transition],
-    found: &mut Vec<Warning>,
+    found: &mut Found,
 ) -> Result<(), AllocError> {
     for transition in transitions {
         push_block(outline, &transition.block, found)?;
@@ -122,11 +148,7 @@ fn push_transitions(
 
 // Adds what is found in the blocks of groups of transitions.
 #[cycle(block)]
-fn push_groups(
-    outline: &Outline,
-    groups: &[Group],
-    found: &mut Vec<Warning>,
-) -> Result<(), AllocError> {
+fn push_groups(outline: &Outline, groups: &[Group], found: &mut Found) -> Result<(), AllocError> {
     for group in groups {
         push_transitions(outline, group.transitions.as_slice(), found)?;
     }
@@ -135,7 +157,7 @@ fn push_groups(
 
 // Adds what is found in the blocks of a body.
 #[cycle(block)]
-fn push_body(outline: &Outline, body: &Body, found: &mut Vec<Warning>) -> Result<(), AllocError> {
+fn push_body(outline: &Outline, body: &Body, found: &mut Found) -> Result<(), AllocError> {
     push_blocks(outline, body.parts.as_slice(), found)?;
     push_first(outline, &body.first, found)?;
     push_groups(outline, body.groups.as_slice(), found)
@@ -143,7 +165,7 @@ fn push_body(outline: &Outline, body: &Body, found: &mut Vec<Warning>) -> Result
 
 // Adds what is found in the blocks of a part.
 #[cycle(block)]
-fn push_part(outline: &Outline, part: &Part, found: &mut Vec<Warning>) -> Result<(), AllocError> {
+fn push_part(outline: &Outline, part: &Part, found: &mut Found) -> Result<(), AllocError> {
     match part {
         Part::Routine(routine) => push_block(outline, &routine.block, found),
         Part::Body(body) => push_body(outline, body, found),
@@ -156,7 +178,7 @@ fn push_part(outline: &Outline, part: &Part, found: &mut Vec<Warning>) -> Result
 pub(crate) fn push_blocks(
     outline: &Outline,
     parts: &[Part],
-    found: &mut Vec<Warning>,
+    found: &mut Found,
 ) -> Result<(), AllocError> {
     for part in parts {
         push_part(outline, part, found)?;

@@ -1,8 +1,9 @@
 //! The warnings of a specification.
 
+use crate::links::{Found, push_unjoined};
 use crate::statements::push_blocks;
 use crate::unread::push_unread;
-use crate::unused::push_unused;
+use crate::unused::{push_unused, uses};
 use crate::walk::{push_parts, push_points};
 use crate::warning::{Warning, append_warning};
 use est_lexer::tokens::Tokens;
@@ -27,6 +28,37 @@ fn push_queue(alloc: Global, spec: &Spec, found: &mut Vec<Warning>) -> Result<()
     Ok(())
 }
 
+// What is found in the statements of a specification, where it is known which names are used.
+fn found_in_statements(
+    alloc: Global,
+    outline: &Outline,
+    spec: &Spec,
+    used: &[bool],
+) -> Result<Vec<Warning>, AllocError> {
+    let mut found = Found::new(alloc, used.len())?;
+    push_blocks(outline, spec.parts.as_slice(), &mut found)?;
+    push_unjoined(outline, spec, used, &mut found)?;
+    Ok(found.into_warnings())
+}
+
+// What is found in a specification, in the order of the text, where it is known which names are
+// used.
+fn found_with(
+    alloc: Global,
+    tokens: &Tokens,
+    outline: &Outline,
+    spec: &Spec,
+    used: &[bool],
+) -> Result<Vec<Warning>, AllocError> {
+    let mut found = found_in_statements(alloc, outline, spec, used)?;
+    push_parts(alloc, outline, spec.parts.as_slice(), &mut found)?;
+    push_queue(alloc, spec, &mut found)?;
+    push_unread(alloc, tokens, outline, spec, &mut found)?;
+    push_unused(tokens, outline, used, &mut found)?;
+    found.sort_by_key(|warning| warning.place)?;
+    Ok(found)
+}
+
 // What is found in a specification, in the order of the text.
 fn found_in(
     alloc: Global,
@@ -34,14 +66,10 @@ fn found_in(
     outline: &Outline,
     spec: &Spec,
 ) -> Result<Vec<Warning>, AllocError> {
-    let mut found = Vec::new(alloc);
-    push_parts(alloc, outline, spec.parts.as_slice(), &mut found)?;
-    push_blocks(outline, spec.parts.as_slice(), &mut found)?;
-    push_queue(alloc, spec, &mut found)?;
-    push_unread(alloc, tokens, outline, spec, &mut found)?;
-    push_unused(alloc, tokens, outline, &mut found)?;
-    found.sort_by_key(|warning| warning.place)?;
-    Ok(found)
+    let used = uses(alloc, tokens, outline)?;
+    let found = found_with(alloc, tokens, outline, spec, &used);
+    drop(used);
+    found
 }
 
 /// Adds the warnings of a specification that declares this: lines

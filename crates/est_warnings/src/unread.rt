@@ -67,8 +67,8 @@ fn is_sent_to(role: Role, senders: Senders) -> bool {
     }
 }
 
-// How many names a region has.
-fn count_in(outline: &Outline, region: u32) -> usize {
+/// How many names a region has.
+pub(crate) fn count_in(outline: &Outline, region: u32) -> usize {
     match outline.names(region) {
         None => 0,
         Some(names) => names.len(),
@@ -107,8 +107,8 @@ fn receives(outline: &Outline, side: Side, known: &mut Known) -> Result<bool, Al
     Ok(is_sent_to(side.role, senders))
 }
 
-// The header of the module that a specification starts with.
-fn header_of(outline: &Outline, spec: &Spec) -> Option<u32> {
+/// The header of the module that a specification starts with.
+pub(crate) fn header_of(outline: &Outline, spec: &Spec) -> Option<u32> {
     let Statement::Init { target, .. } = &spec.first else {
         return None;
     };

@@ -44,8 +44,12 @@ pub(crate) fn mark(used: &mut Vec<bool>, declared: Option<u32>) {
     }
 }
 
-// For each place, whether what is declared there is used.
-fn uses(alloc: Global, tokens: &Tokens, outline: &Outline) -> Result<Vec<bool>, AllocError> {
+/// For each place, whether what is declared there is used.
+pub(crate) fn uses(
+    alloc: Global,
+    tokens: &Tokens,
+    outline: &Outline,
+) -> Result<Vec<bool>, AllocError> {
     let mut used = vec![in alloc; false; tokens.count() as usize]?;
     for place in 0..tokens.count() {
         if is_use(tokens, outline, place) {
@@ -83,14 +87,13 @@ fn is_candidate(tokens: &Tokens, outline: &Outline, place: u32) -> bool {
     }
 }
 
-/// Adds the names that are declared and not used.
+/// Adds the names that are declared and not used, where it is known of each place whether it is.
 pub(crate) fn push_unused(
-    alloc: Global,
     tokens: &Tokens,
     outline: &Outline,
+    used: &[bool],
     found: &mut Vec<Warning>,
 ) -> Result<(), AllocError> {
-    let used = uses(alloc, tokens, outline)?;
     for place in 0..tokens.count() {
         let is_used = used.get(place as usize).copied().unwrap_or(true);
         if !is_used && is_candidate(tokens, outline, place) {

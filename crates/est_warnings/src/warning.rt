@@ -33,6 +33,10 @@ pub(crate) enum Slip {
     NoQueue,
     /// A port at which no transition takes what comes.
     NotRead,
+    /// An interaction point that no link joins to another one.
+    NotJoined,
+    /// A module variable that is named in a link, and of which no module is made.
+    NotMade,
     /// A constant that is assigned where it is out of range.
     OutOfRange(Outside),
 }
@@ -65,6 +69,11 @@ impl Slip {
                 " has no queue discipline, and there is no default: its queue is an individual one",
             ),
             Slip::NotRead => ("no transition takes what comes at ", ""),
+            Slip::NotJoined => (
+                "no connect and no attach joins ",
+                " to another interaction point: what is sent there is lost",
+            ),
+            Slip::NotMade => ("no init makes a module of ", ", which a link names"),
             Slip::OutOfRange(_) => ("", " is outside of the range of "),
         }
     }
