@@ -11,7 +11,7 @@ use crate::ordinals::{exact, is_true, truth};
 use crate::sets::{combined, decided, is_member};
 use est_semantics::fault::BlockFault;
 use est_semantics::stop::Stop;
-use est_syntax::constant::{Sign, is_minus};
+use est_syntax::constant::Sign;
 use est_syntax::expression::Operator;
 use est_syntax::kind::MAXINT;
 use est_values::arithmetic::negative;
@@ -108,13 +108,15 @@ pub fn joined(alloc: Global, op: Operator, a: &Value, b: Value) -> Result<Value,
 pub fn signed(sign: Option<Sign>, a: Value) -> Result<Value, BlockFault>
     ensures { (n : ℕ) → signed sign a n ≡ lift result n }
 {
-    if !is_minus(sign) {
-        return Ok(a);
+    match sign {
+        Some(Sign::Minus) => {
+            let z = ordinal(&a);
+            drop(a);
+            let opposite = exact(negative(z?))?;
+            Ok(Value::Ordinal(opposite))
+        }
+        _ => Ok(a),
     }
-    let z = ordinal(&a);
-    drop(a);
-    let opposite = exact(negative(z?))?;
-    Ok(Value::Ordinal(opposite))
 }
 
 /// The other boolean.
