@@ -48,8 +48,8 @@ operated_full op (Some l) (Some r) first second h k w f =
 
 pub signed_full : (sign : Option Sign) (t : Option Yielded) (place : ℕ) → IsThere t
     → sign_faults sign t place ≡ [] → IsThere (signed sign t)
-signed_full true t place h k = kept_full wanted.Integer t place h k
-signed_full false t place h k = h
+signed_full (Some sign) t place h k = kept_full wanted.Integer t place h k
+signed_full None t place h k = h
 
 -- ordinals, and sets of them
 pub ordinal_full : (t : Option Yielded) (place : ℕ) → IsThere t → wants wanted.Ordinal t place ≡ []

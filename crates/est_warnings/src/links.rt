@@ -156,7 +156,8 @@ fn push_point(outline: &Outline, place: u32, found: &mut Found) -> Result<(), Al
     found.warnings.push(Warning {
         place,
         slip: Slip::NotJoined,
-    })
+    })?;
+    Ok(())
 }
 
 // Adds those of a header, each header once.
