@@ -25,7 +25,7 @@ fn first_value(kind: &Kind) -> i32
 // The ordinal that lies so far above another one. Errs where it does not fit.
 fn above(low: i32, distance: u32) -> Result<i32, AllocError>
     ensures ok { IfOk result (λ ordinal. ordinal ≡ low +ℤ pos distance) }
-    ensures err { OnErr result (pos (2 ^ 31) ≤ℤ low +ℤ pos distance) }
+    ensures err { OnErr result (pos (2 ^ 31) ≤ℤ (low +ℤ pos distance)) }
 {
     let ordinal = low as i64 + distance as i64;
     if ordinal > i32::MAX as i64 {

@@ -2,6 +2,7 @@
 
 use crate::unread::{count_in, header_of};
 use crate::warning::{Slip, Warning};
+use est_lexer::tokens::Tokens;
 use est_scope::declaration::{Meant, Section, Sort};
 use est_scope::outline::Outline;
 use est_syntax::expression::{Access, EndPoint};
@@ -226,6 +227,7 @@ fn push_at(
 /// used, which no link names; and the module variables that links name and of which no `init` makes
 /// a module.
 pub(crate) fn push_unjoined(
+    tokens: &Tokens,
     outline: &Outline,
     spec: &Spec,
     used: &[bool],
@@ -235,8 +237,9 @@ pub(crate) fn push_unjoined(
     if let Statement::Init { target, .. } = &spec.first {
         mark_made(outline, target, found);
     }
-    for (place, is_used) in used.iter().enumerate() {
-        push_at(outline, place as u32, *is_used, found)?;
+    for place in 0..tokens.count() {
+        let is_used = used.get(place as usize).copied().unwrap_or(false);
+        push_at(outline, place, is_used, found)?;
     }
     Ok(())
 }

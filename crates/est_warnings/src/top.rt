@@ -31,13 +31,14 @@ fn push_queue(alloc: Global, spec: &Spec, found: &mut Vec<Warning>) -> Result<()
 // What is found in the statements of a specification, where it is known which names are used.
 fn found_in_statements(
     alloc: Global,
+    tokens: &Tokens,
     outline: &Outline,
     spec: &Spec,
     used: &[bool],
 ) -> Result<Vec<Warning>, AllocError> {
     let mut found = Found::new(alloc, used.len())?;
     push_blocks(outline, spec.parts.as_slice(), &mut found)?;
-    push_unjoined(outline, spec, used, &mut found)?;
+    push_unjoined(tokens, outline, spec, used, &mut found)?;
     Ok(found.into_warnings())
 }
 
@@ -50,7 +51,7 @@ fn found_with(
     spec: &Spec,
     used: &[bool],
 ) -> Result<Vec<Warning>, AllocError> {
-    let mut found = found_in_statements(alloc, outline, spec, used)?;
+    let mut found = found_in_statements(alloc, tokens, outline, spec, used)?;
     push_parts(alloc, outline, spec.parts.as_slice(), &mut found)?;
     push_queue(alloc, spec, &mut found)?;
     push_unread(alloc, tokens, outline, spec, &mut found)?;

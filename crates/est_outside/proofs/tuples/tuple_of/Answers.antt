@@ -22,7 +22,7 @@ loop-i-preserved c =
     c.index-kinds-i.result c.count-values.result _ _
     (omega arith) (omega arith) c.index-kinds-i.is
     c.count-values.ensures c.if-values-eq0.false c.first_value.ensures
-    (simp to_z-of_z at c.in_ok-above.ensures)
+    (simp to_z-of_z at c.in_ok-above.ensures.ok)
     c.loop-i.invariant)
 
 pub returns-then-rest-ne0 : goal.returns-then-rest-ne0
