@@ -22,7 +22,7 @@ loop-i-preserved c =
           (ap (λ (y : Signal). y.receives) c.index-signals-i.is ∙ w.if-signals-i.true)
           (ap (λ v. v.items) w.into-is ∙ w.in_ok-push.ensures.items)
           (ap (λ n. let a : Arrival = record { port = port; signal = n } in a)
-          w.in_ok-signal.ensures) ∙ c.loop-i.invariant
+          w.in_ok-signal.ensures.ok) ∙ c.loop-i.invariant
       | else-signals-i w ↦
           received_later port i xs x into more c.loop-i-test.true c.index-signals-i.is
           (ap (λ (y : Signal). y.receives) c.index-signals-i.is ∙ w.if-signals-i.false)
