@@ -21,7 +21,7 @@ CRATES = pathlib.Path(__file__).resolve().parent.parent / "crates"
 IMPORT = re.compile(r"(?:ghost )?(?:pub )?use Rattle\.(\w+)\.specs\.([\w.'-]+?)(?:\.\{([^}]*)\}| as (\w+))?;?$")
 HEAD = re.compile(r"\s*(?:(?:pub|unfoldable|opaque) )*(?:abbrev|unfoldable|opaque|record|data)(?: pub)? ([^\s:({]+)")
 MUTUAL = re.compile(r"\s*abbrev mutual")
-WITHIN = re.compile(r"\s*module _")
+WITHIN = re.compile(r"(module _ .*)|mutual$")
 PART = re.compile(r"\s+(?:pub )?((?:[\w'-]+ )+):")
 WORD = re.compile(r"[A-Za-z_][\w'-]*(?:\.[A-Za-z_][\w'-]*)*|>>=|>>")
 BINDER = re.compile(r"[({]((?:[\w'-]+ )+):|λ ([^.]*)\.(?:\s|$)|let ([\w'-]+) =")
@@ -45,15 +45,17 @@ class Definition:
     @property
     def counted(self):
         """How many lines it has, without comments and blank lines."""
-        return sum(1 for line in self.text if line.strip() and not line.lstrip().startswith("--"))
+        return sum(1 for line in self.text if line.strip() and not line.startswith("module _") and not line.lstrip().startswith("--"))
 
 
 @dataclasses.dataclass(eq=False)
 class File:
-    """A file of definitions: its head, its definitions by their names, and where its other names come from."""
+    """A file of definitions: its head, its definitions by their names, and where its other names come from. Definitions may
+    stand within others of a module, whose line is the last one of these so far."""
 
     path: str
     head: str = ""
+    within: str = ""
     definitions: list = dataclasses.field(default_factory=list)
     named: dict = dataclasses.field(default_factory=dict)
     imports: dict = dataclasses.field(default_factory=dict)
@@ -107,9 +109,10 @@ def begun(file, line, number, comments):
         found = Definition(file.path, number, "mutual", "", said(comments), [])
     elif head := HEAD.match(line):
         role = next((word for word in ("record", "data") if f"{word} " in line.split(head[1])[0]), "abbrev")
-        found = Definition(file.path, number, role, head[1], said(comments), [])
+        first = [file.within] if file.within and line.startswith(" ") else [other for other in comments if other.startswith("infix")]
+        found = Definition(file.path, number, role, head[1], said(comments), first)
         file.named[head[1]] = found
-        found.parts[head[1]] = (role, 0)
+        found.parts[head[1]] = (role, len(found.text))
     else:
         return None
     file.definitions.append(found)
@@ -122,7 +125,8 @@ def take_line(file, definition, number, line, comments):
         if found := IMPORT.match(line):
             note_import(file, found)
         return definition
-    if WITHIN.match(line):
+    if found := WITHIN.match(line):
+        file.within = found[1] or ""
         return None
     new = begun(file, line, number, comments)
     definition = new or definition
@@ -254,10 +258,10 @@ def clauses(definition):
     if definition.role not in ("abbrev", "mutual"):
         return [range(len(definition.text))]
     lines = definition.text
-    code = [i for i, line in enumerate(lines) if line.strip() and not line.lstrip().startswith("--")]
+    code = [i for i, line in enumerate(lines) if line.strip() and not line.lstrip().startswith("--") and not line.startswith("module _")]
     indent = lambda i: len(lines[i]) - len(lines[i].lstrip())
     base = min((indent(i) for i in code[1 if definition.role == "mutual" else 0 :]), default=0)
-    starts = [i for i in code if indent(i) == base]
+    starts = [*([0] if lines[0].startswith("module _") else []), *(i for i in code if indent(i) == base)]
     return [range(a, b) for a, b in zip(starts, [*starts[1:], len(lines)])]
 
 
@@ -286,9 +290,10 @@ def mentions(definition, strict=True):
     if definition.path.endswith(".rt"):
         yield from code_mentions(file, definition)
         return
+    around = variables(file, definition, definition.text[0]) if strict and definition.text[0].startswith("module _") else set()
     for lines in clauses(definition):
         text = "\n".join(definition.text[i] for i in lines if not definition.text[i].lstrip().startswith("--"))
-        bound = variables(file, definition, text) if strict else set()
+        bound = around | variables(file, definition, text) if strict else set()
         for i in lines:
             for word in code_words(definition.text[i]):
                 if word[0].split(".")[0] not in bound and (found := meant(file, word[0])):
