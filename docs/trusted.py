@@ -30,6 +30,11 @@ CODE_HEAD = re.compile(r"pub (enum|struct|type|trait) (\w+)")
 CODE_NAME = re.compile(r"[A-Z]\w*")
 
 
+def is_code(line):
+    """Whether a line of definitions says something that is no comment."""
+    return bool(line.strip()) and not line.lstrip().startswith("--")
+
+
 @dataclasses.dataclass(eq=False)
 class Definition:
     """A definition with its text, and the names that it defines: of each its role, and its line in the text."""
@@ -45,7 +50,7 @@ class Definition:
     @property
     def counted(self):
         """How many lines it has, without comments and blank lines."""
-        return sum(1 for line in self.text if line.strip() and not line.startswith("module _") and not line.lstrip().startswith("--"))
+        return sum(1 for line in self.text if is_code(line) and not line.startswith("module _"))
 
 
 @dataclasses.dataclass(eq=False)
@@ -63,7 +68,8 @@ class File:
 
 def said(comments):
     """The sentence of comment lines."""
-    return " ".join(line.strip().lstrip("-/!").strip() for line in comments if not line.startswith("infix")).strip()
+    texts = [line.strip().lstrip("-/!").strip() for line in comments if not line.startswith("infix")]
+    return " ".join(texts).strip()
 
 
 def module_file(crate, parts):
@@ -109,7 +115,9 @@ def begun(file, line, number, comments):
         found = Definition(file.path, number, "mutual", "", said(comments), [])
     elif head := HEAD.match(line):
         role = next((word for word in ("record", "data") if f"{word} " in line.split(head[1])[0]), "abbrev")
-        first = [file.within] if file.within and line.startswith(" ") else [other for other in comments if other.startswith("infix")]
+        first = [other for other in comments if other.startswith("infix")]
+        if file.within and line.startswith(" "):
+            first = [file.within]
         found = Definition(file.path, number, role, head[1], said(comments), first)
         file.named[head[1]] = found
         found.parts[head[1]] = (role, len(found.text))
@@ -258,7 +266,7 @@ def clauses(definition):
     if definition.role not in ("abbrev", "mutual"):
         return [range(len(definition.text))]
     lines = definition.text
-    code = [i for i, line in enumerate(lines) if line.strip() and not line.lstrip().startswith("--") and not line.startswith("module _")]
+    code = [i for i, line in enumerate(lines) if is_code(line) and not line.startswith("module _")]
     indent = lambda i: len(lines[i]) - len(lines[i].lstrip())
     base = min((indent(i) for i in code[1 if definition.role == "mutual" else 0 :]), default=0)
     starts = [*([0] if lines[0].startswith("module _") else []), *(i for i in code if indent(i) == base)]
