@@ -7,13 +7,14 @@ ghost use Rattle.est_frames.specs.HeldSystems.{situation_of};
 ghost use Rattle.est_frames.specs.HeldFrames.{Leaves};
 ghost use Rattle.est_links.specs.ChangedSystems.{tied, fastened, unfastened};
 
-use crate::attachments::{above, bottom};
-use crate::links::{link, linked, unlink};
-use crate::points::{is_point, queue_of};
-use crate::queues::transfer;
+use est_attachments::attachments::{above, bottom};
+use est_attachments::links::{link, linked, unlink};
 use est_frames::system::System;
 use est_items::Twin;
 use est_names::text::Text;
+use est_points::points::is_point;
+use est_queues::keys::queue_of;
+use est_queues::queues::transfer;
 use est_semantics::fault::BlockFault;
 use est_semantics::situation::InteractionPoint;
 use est_semantics::stop::Stop;
