@@ -45,6 +45,25 @@ fn first_leading<'p>(
     points.iter().find(|from| leads_to(links, from, to))
 }
 
+// The same, as one of its own.
+fn leading(
+    alloc: Global,
+    links: &Links,
+    points: &[InteractionPoint],
+    to: &InteractionPoint,
+) -> Result<Option<InteractionPoint>, AllocError>
+    ensures { IfOk result (λ outer. outer
+        ≡ find (λ from. leads_to to.now (linked links.now from)) points.now) }
+{
+    match first_leading(links, points, to) {
+        None => Ok(None),
+        Some(outer) => {
+            let outer = outer.twin(alloc)?;
+            Ok(Some(outer))
+        }
+    }
+}
+
 // The external interaction point of an instance that is attached to one of a child.
 fn above_in(
     alloc: Global,
@@ -57,13 +76,9 @@ fn above_in(
         ≡ above_in text.now (situation_of system.now) parent point.now) }
 {
     let points = external_of(alloc, text.outline(), system, parent)?;
-    match first_leading(system.downs.get(), points.as_slice(), point) {
-        None => Ok(None),
-        Some(outer) => {
-            let outer = outer.twin(alloc)?;
-            Ok(Some(outer))
-        }
-    }
+    let outer = leading(alloc, system.downs.get(), points.as_slice(), point);
+    drop(points);
+    outer
 }
 
 /// The interaction point of the parent that is attached to one of a child, if there is one. Errs

@@ -1,9 +1,9 @@
 //! Instances that are begun.
-ghost use Rattle.std.specs.Prelude.{◌≡◌, ◌++◌, Some, IfOk, OnOk};
+ghost use Rattle.std.specs.Prelude.{◌≡◌, ◌++◌, map, Some, IfOk, OnOk};
 ghost use Rattle.std.specs.List.{position};
 ghost use Rattle.est_semantics.specs.GlobalSituation.{is_holding, holding, with_row};
-ghost use Rattle.est_semantics.specs.InstanceEffects.{empty_elements, new_row, with_next, holds};
-ghost use Rattle.est_semantics.specs.InstanceEffects.{in_state};
+ghost use Rattle.est_semantics.specs.InstanceEffects.{empty_element, empty_elements, new_row};
+ghost use Rattle.est_semantics.specs.InstanceEffects.{with_next, holds, in_state};
 ghost use Rattle.est_frames.specs.HeldSystems.{situation_of};
 ghost use Rattle.est_births.specs.NewInstances.{elements_at, elements_of, placed};
 
@@ -17,7 +17,28 @@ use est_scope::declaration::Sort;
 use est_scope::outline::Outline;
 use est_semantics::frame::Frame;
 use est_semantics::situation::{Element, Holding, Holdings, Row};
+use est_syntax::kind::Ordinals;
 use std::alloc::{AllocError, Global};
+
+// Adds the elements of a module variable with these subscripts, which hold nothing.
+fn add_each(
+    alloc: Global,
+    declared: u32,
+    indices: &[Ordinals],
+    holdings: &mut Holdings,
+) -> Result<(), AllocError>
+    ensures { OnOk result (holdings.new
+        ≡ holdings.old ++ map (empty_element declared) indices.now) }
+{
+    for index in indices {
+        let index = index.twin(alloc)?;
+        holdings.push(Holding {
+            element: Element { declared, index },
+            number: None,
+        })?;
+    }
+    Ok(())
+}
 
 // Adds the elements of a module variable, which hold nothing.
 fn add_elements(
@@ -30,13 +51,9 @@ fn add_elements(
         ≡ holdings.old ++ empty_elements outline.now declared) }
 {
     let indices = indices_of(alloc, outline, declared)?;
-    for index in indices.as_slice() {
-        let index = index.twin(alloc)?;
-        holdings.push(Holding {
-            element: Element { declared, index },
-            number: None,
-        })?;
-    }
+    let added = add_each(alloc, declared, indices.as_slice(), holdings);
+    drop(indices);
+    added?;
     Ok(())
 }
 
@@ -56,8 +73,9 @@ fn elements_of(alloc: Global, outline: &Outline, body: u32) -> Result<Shared<Hol
     ensures { IfOk result (λ holdings. holdings ≡ elements_of outline.now body) }
 {
     let places = places_of(alloc, outline, Sort::ModuleVariable, body)?;
-    let holdings = elements_at(alloc, outline, places.as_slice())?;
-    Shared::new(alloc, holdings)
+    let holdings = elements_at(alloc, outline, places.as_slice());
+    drop(places);
+    Shared::new(alloc, holdings?)
 }
 
 // A new instance, with nothing in its module variables.
@@ -71,7 +89,10 @@ fn new_row(
 ) -> Result<Shared<Row>, AllocError>
     ensures { IfOk result (λ row. row ≡ new_row outline.now number parent body variables) }
 {
-    let children = elements_of(alloc, outline, body)?;
+    let Ok(children) = elements_of(alloc, outline, body) else {
+        drop(variables);
+        return Err(AllocError);
+    };
     let row = Row {
         number,
         parent,
@@ -123,6 +144,21 @@ fn give(element: &Element, number: u32, holdings: &mut Holdings)
     }
 }
 
+// An element of a row is given an instance.
+fn hold_in(
+    alloc: Global,
+    element: &Element,
+    number: u32,
+    row: &mut Shared<Row>,
+) -> Result<(), AllocError>
+    ensures { OnOk result (row.new ≡ holds element.now number row.old) }
+{
+    let row = row.own(alloc)?;
+    let holdings = row.children.own(alloc)?;
+    give(element, number, holdings);
+    Ok(())
+}
+
 // An element of an instance is given another instance.
 fn hold(
     alloc: Global,
@@ -138,9 +174,7 @@ fn hold(
         None => Ok(()),
         Some(at) => {
             let rows = system.rows.own(alloc)?;
-            let row = rows.items[at].own(alloc)?;
-            let holdings = row.children.own(alloc)?;
-            give(element, number, holdings);
+            hold_in(alloc, element, number, &mut rows.items[at])?;
             Ok(())
         }
     }

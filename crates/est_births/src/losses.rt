@@ -37,7 +37,11 @@ pub fn keep_rows(alloc: Global, gone: &[u32], rows: &mut Shared<Rows>) -> Result
 }
 
 /// The stamps of other instances are left. Errs where memory runs out.
-pub fn keep_stamps(alloc: Global, gone: &[u32], stamps: &mut Shared<Stamps>) -> Result<(), AllocError>
+pub fn keep_stamps(
+    alloc: Global,
+    gone: &[u32],
+    stamps: &mut Shared<Stamps>,
+) -> Result<(), AllocError>
     ensures { OnOk result (stamped stamps.new ≡ stamps_without gone.now (stamped stamps.old)) }
 {
     let stamps = stamps.own(alloc)?;

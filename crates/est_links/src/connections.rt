@@ -88,7 +88,10 @@ fn move_items(
 {
     let out_of = queue_of(alloc, text, from)?;
     let into = queue_of(alloc, text, to)?;
-    transfer(alloc, from, &out_of, to, &into, &mut system.queues)?;
+    let done = transfer(alloc, from, &out_of, to, &into, &mut system.queues);
+    drop(out_of);
+    drop(into);
+    done?;
     Ok(())
 }
 
@@ -104,7 +107,9 @@ fn fasten(
         ≡ fastened text.now outer.now inner.now (situation_of system.old)) }
 {
     let innermost = bottom(alloc, system, inner)?;
-    move_items(alloc, text, outer, &innermost, system)?;
+    let done = move_items(alloc, text, outer, &innermost, system);
+    drop(innermost);
+    done?;
     link(alloc, outer, inner, &mut system.downs)?;
     Ok(())
 }
@@ -144,7 +149,9 @@ pub fn disconnect(
         None => Ok(()),
         Some(other) => {
             let other = other.twin(alloc)?;
-            unlink(alloc, &other, &mut system.peers)?;
+            let first = unlink(alloc, &other, &mut system.peers);
+            drop(other);
+            first?;
             unlink(alloc, point, &mut system.peers)?;
             Ok(())
         }
@@ -162,7 +169,9 @@ fn loosen(
         ≡ unfastened text.now outer.now (situation_of system.old)) }
 {
     let innermost = bottom(alloc, system, outer)?;
-    move_items(alloc, text, &innermost, outer, system)?;
+    let done = move_items(alloc, text, &innermost, outer, system);
+    drop(innermost);
+    done?;
     unlink(alloc, outer, &mut system.downs)?;
     Ok(())
 }
@@ -200,7 +209,9 @@ pub fn detach_above(
     match above(alloc, text, system, inner)? {
         None => Ok(()),
         Some(outer) => {
-            detach(alloc, text, &outer, system)?;
+            let done = detach(alloc, text, &outer, system);
+            drop(outer);
+            done?;
             Ok(())
         }
     }

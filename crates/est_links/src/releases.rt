@@ -65,7 +65,9 @@ fn untie_all(alloc: Global, text: &Text, child: u32, system: &mut System) -> Res
         ≡ all_untied text.now child (situation_of system.old)) }
 {
     let points = external_of(alloc, text.outline(), system, child)?;
-    untie_each(alloc, text, points.as_slice(), system)?;
+    let done = untie_each(alloc, text, points.as_slice(), system);
+    drop(points);
+    done?;
     Ok(())
 }
 
@@ -82,6 +84,8 @@ pub fn release(
 {
     untie_all(alloc, text, child, system)?;
     let gone = descendants(alloc, child, system.rows.get())?;
-    remove(alloc, gone.as_slice(), system)?;
+    let done = remove(alloc, gone.as_slice(), system);
+    drop(gone);
+    done?;
     Ok(())
 }

@@ -1,5 +1,6 @@
 //! What outputs do.
-ghost use Rattle.std.specs.Prelude.{◌≡◌, None, IfOk, OnOk};
+ghost use Rattle.std.specs.Prelude.{◌≡◌, ◌∷◌, [], None, IfOk, OnOk};
+ghost use Rattle.est_semantics.specs.QueueEffects.{appended};
 ghost use Rattle.est_semantics.specs.OutputEffects.{is_outside, delivered_at, crossed, sent};
 ghost use Rattle.est_frames.specs.HeldSystems.{linked, situation_of};
 ghost use Rattle.est_outputs.specs.SentItems.{sent_of};
@@ -12,7 +13,7 @@ use est_items::Twin;
 use est_names::text::Text;
 use est_points::declared::is_declared;
 use est_queues::keys::queue_of;
-use est_queues::queues::put;
+use est_queues::queues::{at_point, put};
 use est_semantics::situation::{InteractionPoint, Item};
 use std::alloc::{AllocError, Global};
 
@@ -38,6 +39,21 @@ fn is_outside(
     }
 }
 
+// An item goes to the end of the queue of its interaction point.
+fn put_at(alloc: Global, text: &Text, item: Item, system: &mut System) -> Result<(), AllocError>
+    ensures { OnOk result (situation_of system.new
+        ≡ appended text.now item.at (item ∷ []) (situation_of system.old)) }
+{
+    let Ok(key) = queue_of(alloc, text, &item.at) else {
+        drop(item);
+        return Err(AllocError);
+    };
+    let done = put(alloc, &key, item, &mut system.queues);
+    drop(key);
+    done?;
+    Ok(())
+}
+
 /// An item goes into the queue of the innermost interaction point below one. Errs where memory runs
 /// out.
 pub fn deliver_at(
@@ -50,10 +66,11 @@ pub fn deliver_at(
     ensures { OnOk result (situation_of system.new
         ≡ delivered_at text.now point.now item (situation_of system.old)) }
 {
-    let mut item = item;
-    item.at = bottom(alloc, system, point)?;
-    let key = queue_of(alloc, text, &item.at)?;
-    put(alloc, &key, item, &mut system.queues)?;
+    let Ok(at) = bottom(alloc, system, point) else {
+        drop(item);
+        return Err(AllocError);
+    };
+    put_at(alloc, text, at_point(at, item), system)?;
     Ok(())
 }
 
@@ -86,13 +103,22 @@ fn leave(
         ≡ crossed text.now item top None (sent_of working.old)) }
     ensures frames { OnOk result (working.new.frames ≡ working.old.frames) }
 {
-    if !is_outside(alloc, text, &working.system, &top)? {
-        return Ok(());
+    match is_outside(alloc, text, &working.system, &top) {
+        Err(error) => {
+            drop(top);
+            drop(item);
+            Err(error)
+        }
+        Ok(false) => {
+            drop(top);
+            drop(item);
+            Ok(())
+        }
+        Ok(true) => {
+            working.outs.push(at_point(top, item))?;
+            Ok(())
+        }
     }
-    let mut item = item;
-    item.at = top;
-    working.outs.push(item)?;
-    Ok(())
 }
 
 /// An item is sent: it climbs from its interaction point, crosses a connection and goes down into a
@@ -107,13 +133,24 @@ pub fn deliver(
         ≡ sent text.now item (sent_of working.old)) }
     ensures frames { OnOk result (working.new.frames ≡ working.old.frames) }
 {
-    let top = up(alloc, text, &working.system, &item.at)?;
-    match other_end(alloc, &working.system, &top)? {
-        Some(other) => {
-            deliver_at(alloc, text, &other, item, &mut working.system)?;
+    let Ok(top) = up(alloc, text, &working.system, &item.at) else {
+        drop(item);
+        return Err(AllocError);
+    };
+    match other_end(alloc, &working.system, &top) {
+        Err(error) => {
+            drop(top);
+            drop(item);
+            Err(error)
+        }
+        Ok(Some(other)) => {
+            drop(top);
+            let done = deliver_at(alloc, text, &other, item, &mut working.system);
+            drop(other);
+            done?;
             Ok(())
         }
-        None => {
+        Ok(None) => {
             leave(alloc, text, top, item, working)?;
             Ok(())
         }

@@ -12,10 +12,32 @@ use est_names::declared::places_of;
 use est_scope::declaration::Sort;
 use est_scope::outline::Outline;
 use est_semantics::situation::InteractionPoint;
+use est_syntax::kind::Ordinals;
 use std::alloc::{AllocError, Global};
 
 /// Interaction points in order.
 pub type Points = Items<InteractionPoint>;
+
+// Adds the interaction points of an instance with these subscripts.
+fn add_each(
+    alloc: Global,
+    instance: u32,
+    declared: u32,
+    indices: &[Ordinals],
+    points: &mut Points,
+) -> Result<(), AllocError>
+    ensures { OnOk result (points.new ≡ points.old ++ map (point instance declared) indices.now) }
+{
+    for index in indices {
+        let index = index.twin(alloc)?;
+        points.push(InteractionPoint {
+            instance,
+            declared,
+            index,
+        })?;
+    }
+    Ok(())
+}
 
 // Adds the interaction points of an instance that are declared at a place.
 fn add_points(
@@ -29,14 +51,9 @@ fn add_points(
         ≡ points.old ++ map (point instance declared) (indices_of outline.now declared)) }
 {
     let indices = indices_of(alloc, outline, declared)?;
-    for index in indices.as_slice() {
-        let index = index.twin(alloc)?;
-        points.push(InteractionPoint {
-            instance,
-            declared,
-            index,
-        })?;
-    }
+    let added = add_each(alloc, instance, declared, indices.as_slice(), points);
+    drop(indices);
+    added?;
     Ok(())
 }
 
@@ -67,7 +84,9 @@ pub fn points_of(
     ensures { IfOk result (λ points. points ≡ points_of outline.now instance header) }
 {
     let places = places_of(alloc, outline, Sort::Point, header)?;
-    points_at(alloc, outline, instance, places.as_slice())
+    let points = points_at(alloc, outline, instance, places.as_slice());
+    drop(places);
+    points
 }
 
 // Whether an interaction point is declared at a place, with its subscripts.

@@ -63,6 +63,8 @@ pub fn take_head(
         ≡ without_head text.now point.now (situation_of system.old)) }
 {
     let key = queue_of(alloc, text, point)?;
-    let item = take(alloc, &key, &mut system.queues)?;
+    let taken = take(alloc, &key, &mut system.queues);
+    drop(key);
+    let item = taken?;
     Ok(item)
 }

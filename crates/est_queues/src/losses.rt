@@ -20,7 +20,11 @@ fn owner(key: &QueueKey) -> u32
 }
 
 /// The queues of other instances are left. Errs where memory runs out.
-pub fn keep_queues(alloc: Global, gone: &[u32], queues: &mut Shared<Queues>) -> Result<(), AllocError>
+pub fn keep_queues(
+    alloc: Global,
+    gone: &[u32],
+    queues: &mut Shared<Queues>,
+) -> Result<(), AllocError>
     ensures { OnOk result (waiting_in queues.new
         ≡ queues_without gone.now (waiting_in queues.old)) }
 {

@@ -24,6 +24,16 @@ fn position(key: &QueueKey, queues: &Queues) -> Option<usize>
         .position(|waiting| is_queue(key, &waiting.queue))
 }
 
+// A queue in which no item waits.
+fn fresh(alloc: Global, key: &QueueKey) -> Result<Waiting, AllocError>
+    ensures queue { IfOk result (λ waiting. waiting.queue ≡ key.now) }
+    ensures items { IfOk result (λ waiting. waiting.items ≡ []) }
+{
+    let queue = key.twin(alloc)?;
+    let items = Queue::new(alloc)?;
+    Ok(Waiting { queue, items })
+}
+
 // Where a queue stands, which is put there if it is not.
 fn room(alloc: Global, key: &QueueKey, queues: &mut Queues) -> Result<usize, AllocError>
     ensures same { OnOk result (waiting_in queues.new ≡ waiting_in queues.old) }
@@ -34,9 +44,8 @@ fn room(alloc: Global, key: &QueueKey, queues: &mut Queues) -> Result<usize, All
         Some(at) => Ok(at),
         None => {
             let at = queues.len();
-            let queue = key.twin(alloc)?;
-            let items = Queue::new(alloc)?;
-            queues.push(Waiting { queue, items })?;
+            let waiting = fresh(alloc, key)?;
+            queues.push(waiting)?;
             Ok(at)
         }
     }
@@ -129,13 +138,28 @@ fn unparted(alloc: Global, queue: &Queue<Item>) -> Result<Parted, AllocError>
     })
 }
 
+/// An item that belongs to this interaction point.
+pub fn at_point(at: InteractionPoint, item: Item) -> Item
+    ensures { result ≡ passed_to at item }
+{
+    let Item {
+        at: before,
+        signal,
+        values,
+    } = item;
+    drop(before);
+    Item { at, signal, values }
+}
+
 // An item that belongs to another interaction point.
 fn passed_to(alloc: Global, to: &InteractionPoint, item: Item) -> Result<Item, AllocError>
     ensures { IfOk result (λ passed. passed ≡ passed_to to.now item) }
 {
-    let mut item = item;
-    item.at = to.twin(alloc)?;
-    Ok(item)
+    let Ok(at) = to.twin(alloc) else {
+        drop(item);
+        return Err(AllocError);
+    };
+    Ok(at_point(at, item))
 }
 
 // An item moves if it belongs to an interaction point, and else stays.
@@ -223,6 +247,8 @@ pub fn transfer(
         to.now (queue_of into.now) (waiting_in queues.old)) }
 {
     let moved = take_out(alloc, from, to, out_of, queues)?;
-    append(alloc, into, moved.as_slice(), queues)?;
+    let appended = append(alloc, into, moved.as_slice(), queues);
+    drop(moved);
+    appended?;
     Ok(())
 }
