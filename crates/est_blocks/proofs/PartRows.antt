@@ -20,7 +20,7 @@ use Rattle.est_scope.specs.declared.declaration.Sort.TheVariants as sort
 use Rattle.est_scope.specs.Outline.{Outline}
 use Rattle.est_scope.specs.Uses.{use_faults}
 use Rattle.est_scope.proofs.LeastLaws.{least_append}
-use Rattle.est_outline.specs.declared.context.Given.{Given}
+use Rattle.est_declares.specs.declared.context.Given.{Given}
 use Rattle.est_sizes.proofs.SizeRows.{scalars_hidden, scalars_shown}
 use Rattle.est_blocks.specs.Clauses.{clauses_faults, with_clauses, delay_faults, next_faults}
 use Rattle.est_blocks.specs.BlockFaults.{block_faults, part_faults, row_faults, parts_faults}

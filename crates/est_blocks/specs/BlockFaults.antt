@@ -15,8 +15,8 @@ use Rattle.est_syntax.specs.declared.transition.Group.{end_of-Transition, more_o
 use Rattle.est_scope.specs.declared.declaration.Sort.TheVariants as sort
 use Rattle.est_scope.specs.Outline.{Outline}
 use Rattle.est_scope.specs.Uses.{use_faults}
-use Rattle.est_outline.specs.declared.context.Given.{Given}
-use Rattle.est_outline.specs.Bodies.{outline_of}
+use Rattle.est_declares.specs.declared.context.Given.{Given}
+use Rattle.est_declares.specs.Bodies.{outline_of}
 use Rattle.est_sizes.specs.Scalars.{row_scalars, scalars_faults}
 use Rattle.est_statements.specs.Statements.{statement_faults, statements_faults}
 use Rattle.est_blocks.specs.Clauses.{clauses_faults, with_clauses, delay_faults, next_faults}

@@ -25,10 +25,12 @@ use Rattle.est_kinds.specs.declared.value.Valued.{Valued}
 use Rattle.est_kinds.specs.Constants.{is_integer, constant_value, constant_faults, constant_place}
 use Rattle.est_kinds.specs.TypeTexts.{text_type, count, multiplied}
 use Rattle.est_kinds.specs.Dims.{dim_faults}
-use Rattle.est_outline.specs.declared.context.ClauseKind.{ClauseKind}
-use Rattle.est_outline.specs.declared.context.ClauseKind.TheVariants as given
-use Rattle.est_outline.specs.declared.context.Given.{Given}
-use Rattle.est_outline.specs.Contexts as context
+use Rattle.est_declares.specs.declared.context.ClauseKind.{ClauseKind}
+use Rattle.est_declares.specs.declared.context.ClauseKind.TheVariants as given
+use Rattle.est_declares.specs.declared.context.Given.{Given}
+use Rattle.est_declares.specs.Contexts as context
+use Rattle.est_syntax.specs.Clauses.{clause_place}
+use Rattle.est_declares.specs.Contexts.{kind_of}
 use Rattle.est_expressions.specs.declared.operators.Wanted.TheVariants as wanted
 use Rattle.est_statements.specs.Signals.{signal_faults}
 use Rattle.est_statements.specs.Statements.{wanted_faults}
@@ -140,28 +142,6 @@ clause_faults o (clause.Delay least most place) =
 abbrev pub clauses_faults : Outline → List Clause → List Fault
 clauses_faults o [] = []
 clauses_faults o (c ∷ cs) = clause_faults o c ++ clauses_faults o cs
-
--- the kind of a clause: an `otherwise` stands where a `provided` may
-abbrev pub kind_of : Clause → ClauseKind
-kind_of (clause.From states place) = given.From
-kind_of (clause.To state place) = given.To
-kind_of (clause.When at signal place) = given.When
-kind_of (clause.Provided condition place) = given.Provided
-kind_of (clause.Otherwise place) = given.Provided
-kind_of (clause.Any names place) = given.Any
-kind_of (clause.Priority value place) = given.Priority
-kind_of (clause.Delay least most place) = given.Delay
-
--- the place of its first token
-abbrev pub clause_place : Clause → ℕ
-clause_place (clause.From states place) = place
-clause_place (clause.To state place) = place
-clause_place (clause.When at signal place) = place
-clause_place (clause.Provided condition place) = place
-clause_place (clause.Otherwise place) = place
-clause_place (clause.Any names place) = place
-clause_place (clause.Priority value place) = place
-clause_place (clause.Delay least most place) = place
 
 -- The clauses of a transition with one more, by the place of its first token: a clause takes the
 -- place of that of its kind, and of all that were given after that one.

@@ -12,7 +12,7 @@ ghost use Rattle.est_blocks.specs.inside.BlockParts.{routine_faults};
 
 use crate::clauses::{check_clauses, check_next};
 use crate::context::{check_delay, give_clauses};
-use est_outline::context::Context;
+use est_declares::context::Context;
 use est_scope::declaration::Sort;
 use est_scope::least::Least;
 use est_scope::outline::Outline;

@@ -3,54 +3,24 @@
 
 ghost use Rattle.std.specs.Prelude.{◌≡◌, OnOk};
 ghost use Rattle.est_scope.specs.LeastSoFar.{least_with};
-ghost use Rattle.est_blocks.specs.Clauses.{kind_of, clause_place, with_clause, with_clauses};
+ghost use Rattle.est_blocks.specs.Clauses.{with_clause, with_clauses};
+ghost use Rattle.est_syntax.specs.Clauses.{clause_place};
+ghost use Rattle.est_declares.specs.Contexts.{kind_of};
 ghost use Rattle.est_blocks.specs.Clauses.{has, delay_faults};
 
-use est_outline::context::{ClauseKind, Context, Given, give};
+use est_declares::context::{ClauseKind, Context, Given, give};
 use est_scope::least::Least;
 use est_syntax::rule::Rule;
 use est_syntax::transition::Clause;
 use std::alloc::AllocError;
 
-// The kind of a clause.
-fn kind_of(clause: &Clause) -> ClauseKind
-    ensures { result ≡ kind_of clause.now }
-{
-    match clause {
-        Clause::From { .. } => ClauseKind::From,
-        Clause::To { .. } => ClauseKind::To,
-        Clause::When { .. } => ClauseKind::When,
-        Clause::Provided { .. } => ClauseKind::Provided,
-        Clause::Otherwise { .. } => ClauseKind::Provided,
-        Clause::Any { .. } => ClauseKind::Any,
-        Clause::Priority { .. } => ClauseKind::Priority,
-        Clause::Delay { .. } => ClauseKind::Delay,
-    }
-}
-
-// The place of its first token.
-fn clause_place(clause: &Clause) -> u32
-    ensures { result ≡ clause_place clause.now }
-{
-    match clause {
-        Clause::From { place, .. } => *place,
-        Clause::To { place, .. } => *place,
-        Clause::When { place, .. } => *place,
-        Clause::Provided { place, .. } => *place,
-        Clause::Otherwise { place } => *place,
-        Clause::Any { place, .. } => *place,
-        Clause::Priority { place, .. } => *place,
-        Clause::Delay { place, .. } => *place,
-    }
-}
-
 // Gives a clause.
 fn give_clause(clause: &Clause, context: &mut Context) -> Result<(), AllocError>
     ensures { OnOk result (context.new ≡ with_clause context.old clause.now) }
 {
-    let kind = kind_of(clause);
+    let kind = ClauseKind::of(clause);
     kind.renew(context);
-    give(context, kind, Some(clause_place(clause)))
+    give(context, kind, Some(clause.place()))
 }
 
 /// Gives the clauses of a transition, each with the place of its first token.

@@ -3,7 +3,7 @@
 
 ghost use Rattle.std.specs.Prelude.{◌≡◌, IfOk, IfErr, None};
 ghost use Rattle.est_scope.specs.LeastSoFar.{least_with};
-ghost use Rattle.est_outline.specs.Bodies.{outline_of};
+ghost use Rattle.est_declares.specs.Bodies.{outline_of};
 ghost use Rattle.est_check.specs.LeastFault.{IsGood};
 ghost use Rattle.est_counts.specs.Counts.{counts_of};
 ghost use Rattle.est_types.specs.DeclarationFaults.{declaration_faults};

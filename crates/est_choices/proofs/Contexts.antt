@@ -8,10 +8,10 @@ use Rattle.est_syntax.specs.Faults.{broken_if}
 use Rattle.est_syntax.specs.declared.rule.Rule.TheVariants.{DelayNotAlone}
 use Rattle.est_syntax.specs.declared.transition.Clause.{Clause}
 use Rattle.est_syntax.specs.declared.transition.Clause.TheVariants as clause
-use Rattle.est_outline.specs.declared.context.ClauseKind.{ClauseKind}
-use Rattle.est_outline.specs.declared.context.ClauseKind.TheVariants as kind
-use Rattle.est_outline.specs.declared.context.Given.{Given}
-use Rattle.est_outline.specs.Contexts.{is_same, dropped, region_of}
+use Rattle.est_declares.specs.declared.context.ClauseKind.{ClauseKind}
+use Rattle.est_declares.specs.declared.context.ClauseKind.TheVariants as kind
+use Rattle.est_declares.specs.declared.context.Given.{Given}
+use Rattle.est_declares.specs.Contexts.{is_same, dropped, region_of}
 use Rattle.est_blocks.specs.Clauses as rules
 use Rattle.est_choices.specs.ClauseContexts.{is_same_kind, before, context_with}
 use Rattle.est_choices.specs.ClauseContexts.{given_by, awaited_in, variables_in, delay_in, noted}

@@ -10,9 +10,9 @@ use Rattle.est_syntax.specs.declared.transition.Group.{end_of-Transition, more_o
 use Rattle.est_scope.specs.declared.declaration.Entry.{Entry}
 use Rattle.est_scope.specs.Outline.{Outline, Region, names_of, entry_at}
 use Rattle.est_kinds.specs.TypeTexts.{added}
-use Rattle.est_outline.specs.Bodies.{outline_of}
+use Rattle.est_declares.specs.Bodies.{outline_of}
 use Rattle.est_counts.specs.declared.counts.Counts.{Counts}
-use Rattle.est_statements.specs.Modules.{started_header}
+use Rattle.est_declares.specs.LookUps.{started_header}
 
 -- the bodies that parts declare, those within bodies too
 abbrev mutual

@@ -26,8 +26,8 @@ use Rattle.est_syntax.specs.declared.transition.Group.{items-the_row-Transition}
 use Rattle.est_syntax.specs.declared.transition.Group.{items_shown-the_row-Transition-2}
 use Rattle.est_syntax.specs.declared.transition.Transition.{Transition}
 use Rattle.est_scope.specs.Outline.{Outline}
-use Rattle.est_outline.specs.Bodies.{outline_of}
-use Rattle.est_outline.specs.declared.context.Given.{Given}
+use Rattle.est_declares.specs.Bodies.{outline_of}
+use Rattle.est_declares.specs.declared.context.Given.{Given}
 use Rattle.est_types.specs.DeclarationFaults.{declaration_faults}
 use Rattle.est_statements.specs.Statements.{statement_faults, statements_faults}
 use Rattle.est_blocks.specs.Clauses.{with_clauses}

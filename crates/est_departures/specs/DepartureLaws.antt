@@ -7,7 +7,7 @@ use Rattle.est_syntax.specs.declared.specification.Spec.{Spec}
 use Rattle.est_values.specs.declared.value.Value.{Value}
 use Rattle.est_values.specs.declared.value.Value.TheVariants.{Undefined, Ordinal, Set}
 use Rattle.est_values.specs.FittingValues.{is_scalar, AscendFrom, Fits}
-use Rattle.est_outline.specs.Bodies.{outline_of}
+use Rattle.est_declares.specs.Bodies.{outline_of}
 use Rattle.est_check.specs.LeastFault.{IsGood}
 use Rattle.est_semantics.specs.Outcome.{Done}
 use Rattle.est_semantics.specs.TextByPlace.{text_of}

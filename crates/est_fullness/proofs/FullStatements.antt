@@ -33,18 +33,20 @@ use Rattle.est_expressions.specs.ExpressionPlaces.{expr_place}
 use Rattle.est_expressions.specs.Expressions.{expr_type, expr_faults, selected_faults, are_taken}
 use Rattle.est_expressions.specs.Expressions.{are_taken_faults}
 use Rattle.est_expressions.specs.Operators.{wants, kept, gives, is_given}
-use Rattle.est_expressions.specs.Receivers.{dims_in}
+use Rattle.est_declares.specs.LookUps.{dims_in}
 use Rattle.est_expressions.specs.Selections.{Selection, Broken, Value, Component, Modules, Module}
 use Rattle.est_expressions.specs.Selections.{SomeModule, variable_head, module_head}
-use Rattle.est_expressions.specs.Selections.{required_function}
+use Rattle.est_declares.specs.RequiredFunctions.{required_function}
 use Rattle.est_expressions.specs.Variables.{selected_type}
-use Rattle.est_expressions.specs.declared.names.Required.{Required}
+use Rattle.est_declares.specs.declared.required.Required.{Required}
 use Rattle.est_expressions.specs.declared.operators.Wanted.TheVariants as wanted
 use Rattle.est_expressions.specs.declared.receivers.Receiver.{Receiver}
 use Rattle.est_expressions.specs.declared.receivers.Receiver.TheVariants as receiver
-use Rattle.est_statements.specs.Modules.{header_at, started_faults, body_faults, parameters_of}
+use Rattle.est_statements.specs.Modules.{started_faults, body_faults, parameters_of}
+use Rattle.est_declares.specs.LookUps.{header_at}
 use Rattle.est_statements.specs.Modules.{init_faults}
-use Rattle.est_statements.specs.Signals.{point_side, direction_faults, standing_faults}
+use Rattle.est_statements.specs.Signals.{direction_faults, standing_faults}
+use Rattle.est_declares.specs.LookUps.{point_side}
 use Rattle.est_statements.specs.Signals.{signal_by_faults, signal_faults, signal_in}
 use Rattle.est_statements.specs.Signals.{signal_standing, signal_of, sending_faults}
 use Rattle.est_statements.specs.Statements.{control_type, bound_faults, for_faults}

@@ -37,8 +37,8 @@ use Rattle.est_kinds.specs.TypeTexts.{row_arrays, row_fields}
 use Rattle.est_kinds.specs.TypeTexts.{row_index_faults, row_field_faults, text_place, no_fields}
 use Rattle.est_kinds.specs.TypeTexts.{array_faults, set_faults, record_faults}
 use Rattle.est_kinds.specs.Dims.{dims_of, dims_faults}
-use Rattle.est_outline.specs.Lasts.{names_last, text_last, channel_last, header_last}
-use Rattle.est_outline.specs.Declares.{side_of}
+use Rattle.est_declares.specs.Lasts.{names_last, text_last, channel_last, header_last}
+use Rattle.est_declares.specs.Declares.{side_of}
 use Rattle.est_types.specs.declared.modules.Owner.{Owner}
 use Rattle.est_types.specs.DeclarationFaults.{constdef_faults, constdefs_faults, typedef_faults}
 use Rattle.est_types.specs.DeclarationFaults.{typedefs_faults, vardef_faults, vardefs_faults}

@@ -26,9 +26,9 @@ use Rattle.est_scope.specs.Outline.{Outline}
 use Rattle.est_scope.specs.Uses.{use_faults, twice_faults}
 use Rattle.est_kinds.specs.TypeTexts.{text_type, text_faults, named_type, text_place}
 use Rattle.est_kinds.specs.Dims.{ordinal_faults}
-use Rattle.est_outline.specs.declared.context.Given.{Given}
-use Rattle.est_outline.specs.Lasts.{text_last}
-use Rattle.est_outline.specs.Bodies.{over_header, body_header, outline_of}
+use Rattle.est_declares.specs.declared.context.Given.{Given}
+use Rattle.est_declares.specs.Lasts.{text_last}
+use Rattle.est_declares.specs.Bodies.{over_header, body_header, outline_of}
 use Rattle.est_types.specs.declared.modules.Owner.{Owner}
 use Rattle.est_types.specs.declared.modules.Owner.TheVariants as owners
 use Rattle.est_sizes.specs.Scalars.{row_scalars, scalars_faults}

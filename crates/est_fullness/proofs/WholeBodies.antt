@@ -28,8 +28,8 @@ use Rattle.est_scope.specs.declared.declaration.Meant.TheVariants as meant
 use Rattle.est_scope.specs.declared.declaration.Sort.TheVariants as sort
 use Rattle.est_kinds.specs.Constants.{constant_value, constant_faults, constant_place}
 use Rattle.est_kinds.specs.declared.value.Valued.{Valued}
-use Rattle.est_outline.specs.Bodies.{outline_of}
-use Rattle.est_outline.specs.declared.context.Given.{Given}
+use Rattle.est_declares.specs.Bodies.{outline_of}
+use Rattle.est_declares.specs.declared.context.Given.{Given}
 use Rattle.est_order.specs.PlaceOrder.{Stands, o_node, o_pair}
 use Rattle.est_order.specs.Said.{Each}
 use Rattle.est_order.proofs.Ascending.{specification_stands}

@@ -26,10 +26,10 @@ use Rattle.est_kinds.specs.Constants.{constant_value, constant_faults, constant_
 use Rattle.est_kinds.specs.Constants.{value_with}
 use Rattle.est_kinds.specs.TypeTexts.{text_type, text_faults, named_type, enumeration}
 use Rattle.est_kinds.specs.Dims.{dims_of, dims_faults}
-use Rattle.est_outline.specs.Entries.{ordinal_of}
-use Rattle.est_outline.specs.Declares.{side_of, states_named}
-use Rattle.est_outline.specs.Bodies.{body_header}
-use Rattle.est_outline.specs.Lasts.{text_last}
+use Rattle.est_declares.specs.Entries.{ordinal_of}
+use Rattle.est_declares.specs.Declares.{side_of, states_named}
+use Rattle.est_declares.specs.Bodies.{body_header}
+use Rattle.est_declares.specs.Lasts.{text_last}
 use Rattle.est_types.specs.declared.modules.Owner.{Owner}
 use Rattle.est_types.specs.DeclarationFaults.{constdef_faults, typedef_faults, vardef_faults}
 use Rattle.est_types.specs.DeclarationFaults.{point_faults, modvar_faults, formal_faults}

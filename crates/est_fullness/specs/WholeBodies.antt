@@ -26,7 +26,7 @@ use Rattle.est_scope.specs.declared.declaration.Meant.TheVariants.{Seen}
 use Rattle.est_scope.specs.declared.declaration.Sort.TheVariants as sort
 use Rattle.est_kinds.specs.Constants.{constant_value}
 use Rattle.est_kinds.specs.declared.value.Valued.{Valued}
-use Rattle.est_outline.specs.Bodies.{outline_of}
+use Rattle.est_declares.specs.Bodies.{outline_of}
 use Rattle.est_order.specs.Said.{Each}
 use Rattle.est_expressions.specs.declared.operators.Wanted.TheVariants as wanted
 use Rattle.est_blocks.specs.BlockFaults.{function_of, parts_faults}

@@ -9,7 +9,7 @@ use Rattle.est_semantics.specs.GlobalSituation.{Situation}
 use Rattle.est_semantics.specs.Outcome.{Done}
 use Rattle.est_semantics.specs.TextByPlace.{text_of}
 use Rattle.est_choices.specs.declared.event.Event.{Event}
-use Rattle.est_ports.specs.PortList.{ports_of}
+use Rattle.est_declares.specs.PortList.{ports_of}
 use Rattle.est_choices.specs.FiringSteps.{start_of}
 use Rattle.est_choices.specs.OutsideEvents.{after_event, units_of}
 use Rattle.est_choices.proofs.Outside.{events_are_outside}

@@ -9,7 +9,7 @@ use Rattle.est_syntax.specs.Least.{IsIn}
 use Rattle.est_syntax.specs.declared.ports.Port.{Port}
 use Rattle.est_syntax.specs.declared.ports.Signal.{Signal}
 use Rattle.est_syntax.proofs.Members.{in_at}
-use Rattle.est_ports.specs.PortList.{ports_of}
+use Rattle.est_declares.specs.PortList.{ports_of}
 use Rattle.est_semantics.specs.GlobalSituation.{Situation}
 use Rattle.est_semantics.specs.Outcome.{Done, Fault}
 use Rattle.est_semantics.specs.TextByPlace.{text_of}

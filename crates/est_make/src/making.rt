@@ -2,7 +2,7 @@
 ghost use Rattle.std.specs.Prelude.{◌≡◌, ◌+◌, ◌-◌, ◌/◌, ◌%◌, ◌<◌, ◌≤◌, ◌^◌, ◌↔◌, ◌⊎◌, []};
 ghost use Rattle.std.specs.Prelude.{IsTrue, IfOk, OnOk};
 ghost use Rattle.est_syntax.specs.declared.specification.Spec.{Spec};
-ghost use Rattle.est_ports.specs.PortList.{ports_of};
+ghost use Rattle.est_declares.specs.PortList.{ports_of};
 ghost use Rattle.est_semantics.specs.Outcome.{Done};
 ghost use Rattle.est_semantics.specs.TextByPlace.{text_of};
 ghost use Rattle.est_choices.specs.FiringSteps.{start_of};

@@ -5,7 +5,7 @@ ghost use Rattle.est_semantics.specs.FunctionCalls.{required_value, required_by}
 
 use crate::ordinals::exact;
 use est_alike::types::Host;
-use est_expressions::names::{Required, required_function};
+use est_declares::required::{Required, required_function};
 use est_scope::predeclared::PredeclaredName;
 use est_semantics::fault::BlockFault;
 use est_syntax::kind::MAXINT;

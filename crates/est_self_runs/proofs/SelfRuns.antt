@@ -7,7 +7,7 @@ use Rattle.est_lexer.specs.declared.kind.Token.{Token}
 use Rattle.est_lexer.specs.TokenList.{IsTokenList}
 use Rattle.est_lexer.proofs.TokenLaws.{tokens_few}
 use Rattle.est_syntax.specs.declared.specification.Spec.{Spec}
-use Rattle.est_ports.specs.PortList.{ports_of}
+use Rattle.est_declares.specs.PortList.{ports_of}
 use Rattle.est_check.specs.LeastFault.{IsGood}
 use Rattle.est_semantics.specs.GlobalSituation.{Situation}
 use Rattle.est_semantics.specs.Outcome.{Done}

@@ -4,6 +4,7 @@ pub mod BlindFunctions
 pub mod ExpressionLayers
 pub mod FirstChanged
 pub mod FittingTaken
+pub mod HostLayers
 pub mod KeptByBlocks
 pub mod MutualPeers
 pub mod NumbersAscend

@@ -29,12 +29,12 @@ use Rattle.est_scope.specs.declared.declaration.Meant.{Meant}
 use Rattle.est_scope.specs.declared.declaration.Meant.TheVariants.{Seen, Predeclared}
 use Rattle.est_scope.specs.declared.predeclared.PredeclaredName.{PredeclaredName}
 use Rattle.est_scope.specs.Uses.{meaning}
-use Rattle.est_statements.specs.Targets.{bare}
+use Rattle.est_declares.specs.BareVariables.{bare}
 use Rattle.est_semantics.specs.declared.frame.Slot.{Slot}
 use Rattle.est_semantics.specs.declared.frame.Slot.TheVariants as slot
 use Rattle.est_semantics.specs.Outcome.{◌>>=◌, give, junk, lift, known}
 use Rattle.est_semantics.specs.SetOperators.{set_of}
-use Rattle.est_semantics.specs.HostOrdinals.{host_of}
+use Rattle.est_semantics.specs.OperandHosts.{host_of}
 use Rattle.est_semantics.specs.NamesInRuns.{head, dims_at, takes_place}
 use Rattle.est_semantics.specs.WorkingState.{View, Counts}
 use Rattle.est_semantics.specs.ValueOperators.{unsigned_integer, ordinal, joined, signed}
@@ -116,8 +116,7 @@ abbrev mutual
   row_required (more_of-Expr e rest) v name = do
     a ← value_of e v
     z ← ordinal a
-    h ← known (host_of v.site.text.outline e)
-    y ← lift (required_by name h z)
+    y ← lift (required_by name (host_of v.site.text.outline e) z)
     give (value.Ordinal y)
 
   -- the members of a set, with those before them
@@ -243,8 +242,7 @@ required_in [] v name = junk
 required_in (e ∷ es) v name = do
   a ← value_of e v
   z ← ordinal a
-  h ← known (host_of v.site.text.outline e)
-  y ← lift (required_by name h z)
+  y ← lift (required_by name (host_of v.site.text.outline e) z)
   give (value.Ordinal y)
 
 -- the value of a call

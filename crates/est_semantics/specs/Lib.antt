@@ -12,6 +12,7 @@ pub mod KeepingLaws
 pub mod LinkEffects
 pub mod LoopEffects
 pub mod NamesInRuns
+pub mod OperandHosts
 pub mod OrdinalOperators
 pub mod Outcome
 pub mod OutputEffects

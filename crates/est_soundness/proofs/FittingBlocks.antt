@@ -29,7 +29,7 @@ use Rattle.est_values.specs.FittingValues.{IsOrdinalOf, is_scalar, Fits}
 use Rattle.est_values.specs.declared.value.Value.TheVariants as value
 use Rattle.est_scope.specs.Outline.{entry_at, names_of, Outline}
 use Rattle.est_scope.specs.declared.declaration.Sort.TheVariants as sort
-use Rattle.est_ports.specs.PortList.{kinds_in}
+use Rattle.est_declares.specs.PortList.{kinds_in}
 use Rattle.est_alike.specs.declared.types.Host.{Host}
 use Rattle.est_alike.specs.Types.{Yielded, type_of, is_assignable}
 use Rattle.est_expressions.specs.Accesses.{access_faults}

@@ -33,7 +33,8 @@ use Rattle.est_expressions.specs.Selections.{Selection, Broken, Value, SomeModul
 use Rattle.est_expressions.specs.Selections.{value_head, variable_head, module_head}
 use Rattle.est_expressions.specs.Selections.{function_head}
 use Rattle.est_expressions.specs.Variables.{indexed, component, chosen_by, field_found, field_of}
-use Rattle.est_expressions.specs.Variables.{is_export, header_in, of_header, export_by}
+use Rattle.est_expressions.specs.Variables.{is_export, of_header, export_by}
+use Rattle.est_declares.specs.LookUps.{header_in}
 use Rattle.est_expressions.specs.Variables.{has_exports, export_of, selected_type}
 use Rattle.est_expressions.specs.Expressions as rules
 use Rattle.est_expressions.specs.Selections as select

@@ -2,7 +2,7 @@
 -- and the trace that it is of is explained.
 use Rattle.std.specs.Prelude.{◌≡◌, ℕ, List, ◌++◌, length}
 use Rattle.est_syntax.specs.declared.specification.Spec.{Spec}
-use Rattle.est_ports.specs.PortList.{ports_of}
+use Rattle.est_declares.specs.PortList.{ports_of}
 use Rattle.est_semantics.specs.declared.fault.BlockFault.{BlockFault}
 use Rattle.est_semantics.specs.GlobalSituation.{Situation}
 use Rattle.est_semantics.specs.Outcome.{Done}

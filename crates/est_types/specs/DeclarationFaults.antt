@@ -41,8 +41,8 @@ use Rattle.est_kinds.specs.Constants.{constant_faults}
 use Rattle.est_kinds.specs.TypeTexts.{text_faults, type_faults}
 use Rattle.est_kinds.specs.Dims.{dims_faults}
 use Rattle.est_sizes.specs.Scalars.{row_scalars, scalars_faults}
-use Rattle.est_outline.specs.Declares.{member_named}
-use Rattle.est_outline.specs.Bodies.{outline_of}
+use Rattle.est_declares.specs.Declares.{member_named}
+use Rattle.est_declares.specs.Bodies.{outline_of}
 use Rattle.est_types.specs.declared.modules.Owner.{Owner}
 use Rattle.est_types.specs.declared.modules.Owner.TheVariants as owners
 

@@ -6,7 +6,7 @@ ghost use Rattle.est_syntax.specs.Least.{IsIn, IsLeast};
 ghost use Rattle.est_scope.specs.Outline.{meant};
 ghost use Rattle.est_scope.specs.LeastSoFar.{least_with};
 ghost use Rattle.est_kinds.specs.Constants.{value_by};
-ghost use Rattle.est_outline.specs.Bodies.{outline_of};
+ghost use Rattle.est_declares.specs.Bodies.{outline_of};
 ghost use Rattle.est_types.specs.DeclarationFaults.{parts_faults, declaration_faults};
 ghost use Rattle.est_types.specs.Table.{declaration, kind_of, constant_of, dims_at};
 ghost use Rattle.est_types.specs.declared.modules.Owner.TheVariants as owners;

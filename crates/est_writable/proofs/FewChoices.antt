@@ -15,7 +15,7 @@ use Rattle.est_values.specs.OrdinalTuples.{ordinal_tuples}
 use Rattle.est_scope.specs.Outline.{Outline, entry_at}
 use Rattle.est_scope.specs.Uses.{is_sort}
 use Rattle.est_scope.specs.declared.declaration.Sort.TheVariants as sort
-use Rattle.est_outline.specs.Bodies.{outline_of}
+use Rattle.est_declares.specs.Bodies.{outline_of}
 use Rattle.est_types.specs.DeclarationFaults.{declaration_faults}
 use Rattle.est_blocks.specs.BlockFaults.{parts_faults, bodies_faults}
 use Rattle.est_blocks.specs.Clauses.{most_tuples, domains_faults, tuples, tuples_faults}

@@ -9,7 +9,7 @@ use Rattle.est_syntax.specs.declared.transition.Clause.{Clause}
 use Rattle.est_syntax.specs.declared.transition.Group.{Group', Row_of-Transition}
 use Rattle.est_syntax.specs.declared.transition.Group.{end_of-Transition, more_of-Transition}
 use Rattle.est_scope.specs.Outline.{Outline}
-use Rattle.est_outline.specs.declared.context.Given.{Given}
+use Rattle.est_declares.specs.declared.context.Given.{Given}
 use Rattle.est_blocks.specs.BlockFaults.{part_faults, row_faults, first_faults, parts_faults}
 use Rattle.est_blocks.specs.BlockFaults.{row_groups_faults, row_transitions_faults}
 use Rattle.est_blocks.specs.Clauses.{clause_faults, clauses_faults, with_clauses, delay_faults}

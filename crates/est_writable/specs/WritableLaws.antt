@@ -8,7 +8,7 @@ use Rattle.est_syntax.specs.declared.transition.Clause.TheVariants as clause
 use Rattle.est_syntax.specs.declared.type_text.VarDef.{VarDef}
 use Rattle.est_scope.specs.Outline.{Outline, entry_at, names_of}
 use Rattle.est_scope.specs.declared.declaration.Standing.{Standing}
-use Rattle.est_outline.specs.Bodies.{outline_of}
+use Rattle.est_declares.specs.Bodies.{outline_of}
 use Rattle.est_blocks.specs.Clauses.{most_tuples}
 use Rattle.est_check.specs.LeastFault.{IsGood}
 use Rattle.est_check.specs.Small.{most_parts}

@@ -1,5 +1,5 @@
 use Rattle.std.proofs.Common.{◌∙◌, sym, ap, subst}
-use Rattle.est_ports.specs.PortList.{ports_of}
+use Rattle.est_declares.specs.PortList.{ports_of}
 use Rattle.est_semantics.specs.TextByPlace.{Text, text_of}
 use Rattle.est_choices.specs.FiringSteps.{start_of}
 use Rattle.est_make.specs.Recipe.{task_of, IsMade}

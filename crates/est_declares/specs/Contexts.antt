@@ -1,12 +1,25 @@
 -- The clauses that a transition has: its own, and those before it in its group that none of its own
 -- replaces (ISO 9074, transition-group).
 use Rattle.std.specs.Prelude.{ℕ, Bool, List, [], ◌∷◌, ◌++◌, Option, None, if◌then◌else◌}
+use Rattle.est_syntax.specs.declared.transition.Clause.{Clause}
+use Rattle.est_syntax.specs.declared.transition.Clause.TheVariants as clauses
 use Rattle.est_scope.specs.declared.declaration.Within.{Within}
-use Rattle.est_outline.specs.declared.context.ClauseKind.{ClauseKind}
-use Rattle.est_outline.specs.declared.context.ClauseKind.TheVariants as clause
-use Rattle.est_outline.specs.declared.context.Given.{Given}
-use Rattle.est_outline.specs.contracts.context.ClauseKindPartialEq.TheImpl.{ghosts}
-use Rattle.est_outline.specs.Entries.{with_region}
+use Rattle.est_declares.specs.declared.context.ClauseKind.{ClauseKind}
+use Rattle.est_declares.specs.declared.context.ClauseKind.TheVariants as clause
+use Rattle.est_declares.specs.declared.context.Given.{Given}
+use Rattle.est_declares.specs.contracts.context.ClauseKindPartialEq.TheImpl.{ghosts}
+use Rattle.est_declares.specs.Entries.{with_region}
+
+-- the kind of a clause: an `otherwise` stands where a `provided` may
+abbrev pub kind_of : Clause → ClauseKind
+kind_of (clauses.From states place) = clause.From
+kind_of (clauses.To state place) = clause.To
+kind_of (clauses.When at signal place) = clause.When
+kind_of (clauses.Provided condition place) = clause.Provided
+kind_of (clauses.Otherwise place) = clause.Provided
+kind_of (clauses.Any names place) = clause.Any
+kind_of (clauses.Priority value place) = clause.Priority
+kind_of (clauses.Delay least most place) = clause.Delay
 
 -- whether two kinds of clause are one: the comparison that the type derives
 abbrev pub is_same : ClauseKind → ClauseKind → Bool

@@ -10,7 +10,7 @@ use est_expressions::expressions::check_expr;
 use est_kinds::constants::constant_value;
 use est_scope::least::Least;
 use est_scope::outline::Outline;
-pub use est_statements::targets::{VariableAccess, bare};
+pub use est_declares::variables::{VariableAccess, bare};
 use est_syntax::constant::Constant;
 use est_syntax::expression::Expr;
 use std::alloc::AllocError;

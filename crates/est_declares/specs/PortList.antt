@@ -19,10 +19,10 @@ use Rattle.est_scope.specs.declared.declaration.Sort.TheVariants as sort
 use Rattle.est_scope.specs.declared.declaration.Standing.{Standing}
 use Rattle.est_scope.specs.Outline.{Outline, Region, names_of, entry_at, member_at}
 use Rattle.est_scope.specs.Uses.{same_sort}
-use Rattle.est_outline.specs.Bodies.{outline_of}
-use Rattle.est_statements.specs.Signals.{may_pass}
-use Rattle.est_statements.specs.Modules.{started_header}
-use Rattle.est_ports.specs.OrdinalValues.{tuples_of}
+use Rattle.est_declares.specs.Bodies.{outline_of}
+use Rattle.est_declares.specs.LookUps.{may_pass}
+use Rattle.est_declares.specs.LookUps.{started_header}
+use Rattle.est_declares.specs.OrdinalValues.{tuples_of}
 
 -- the kind of a parameter, where one is declared and has a kind
 abbrev pub kind_by : Option Entry → List Kind

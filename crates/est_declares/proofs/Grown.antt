@@ -1,9 +1,8 @@
 -- What holds of the outline of every tree.
-use Rattle.std.proofs.Common.{ℕ, Bool, List, [], ◌∷◌, Option, Some, None}
+use Rattle.std.proofs.Common.{ℕ, List, [], ◌∷◌, Option, Some, None}
 use Rattle.est_syntax.specs.declared.name.Used.{Used}
 use Rattle.est_syntax.specs.declared.constant.Constant.{Constant}
 use Rattle.est_syntax.specs.declared.type_text.TypeText.{TypeText}
-use Rattle.est_syntax.specs.declared.type_text.VarDef.{VarDef}
 use Rattle.est_syntax.specs.declared.statement.Statement.{Statement, Row_of-Statement}
 use Rattle.est_syntax.specs.declared.statement.Statement.{end_of-Statement, more_of-Statement}
 use Rattle.est_syntax.specs.declared.statement.Statement.{Row_of-Arm, end_of-Arm, more_of-Arm}
@@ -15,10 +14,10 @@ use Rattle.est_syntax.specs.declared.transition.Clause.TheVariants as clauses
 use Rattle.est_syntax.specs.declared.body.Part.{Part, out-Part, Row_of-Part}
 use Rattle.est_syntax.specs.declared.body.Part.{end_of-Part, more_of-Part}
 use Rattle.est_syntax.specs.declared.body.Part.TheVariants as part
-use Rattle.est_syntax.specs.declared.body.Body.{Body, Body', Row_of-Group, end_of-Group}
+use Rattle.est_syntax.specs.declared.body.Body.{Body', Row_of-Group, end_of-Group}
 use Rattle.est_syntax.specs.declared.body.Body.{more_of-Group, Held-Body-first}
 use Rattle.est_syntax.specs.declared.body.Part.TheBlock as first
-use Rattle.est_syntax.specs.declared.transition.Group.{Group, Group', Row_of-Transition}
+use Rattle.est_syntax.specs.declared.transition.Group.{Group', Row_of-Transition}
 use Rattle.est_syntax.specs.declared.transition.Group.{end_of-Transition, more_of-Transition}
 use Rattle.est_syntax.specs.declared.routine.Formal.{Formal}
 use Rattle.est_syntax.specs.declared.specification.Spec.{Spec}
@@ -27,28 +26,25 @@ use Rattle.est_scope.specs.declared.declaration.Section.TheVariants as section
 use Rattle.est_scope.specs.declared.declaration.Sort.TheVariants as sort
 use Rattle.est_scope.specs.declared.declaration.Within.{Within}
 use Rattle.est_scope.specs.Outline.{Outline}
-use Rattle.est_scope.specs.Declaring.{empty, amended, with_kind, with_closed, with_header, lying}
+use Rattle.est_scope.specs.Declaring.{empty, with_kind, with_closed, with_header, lying}
 use Rattle.est_kinds.specs.Constants.{constant_place}
 use Rattle.est_kinds.specs.TypeTexts.{text_type, named_type}
-use Rattle.est_uses.specs.Closed.{is_closed}
-use Rattle.est_outline.specs.declared.context.ClauseKind.{ClauseKind}
-use Rattle.est_outline.specs.declared.context.ClauseKind.TheVariants as kind
-use Rattle.est_outline.specs.declared.context.Given.{Given}
-use Rattle.est_outline.specs.Contexts.{dropped, given, under}
-use Rattle.est_outline.specs.Entries.{plain, outermost, inner, in_region, in_section}
-use Rattle.est_outline.specs.Lasts.{text_last}
-use Rattle.est_outline.specs.Declares.{formals_declare}
-use Rattle.est_outline.specs.Bodies as spec
-use Rattle.est_outline.specs.Bodies.{Clausal, statement_place, expr_place, all_by, over_header}
-use Rattle.est_outline.specs.Bodies.{all_named, arm_lying, within_declares, row_statements}
-use Rattle.est_outline.specs.Bodies.{held_declares, row_arms, statement_declares}
-use Rattle.est_outline.specs.Bodies.{statements_declare, clause_declares, clauses_declare}
-use Rattle.est_outline.specs.Bodies.{body_named, body_header, header_given, inside, routine_sort}
-use Rattle.est_outline.specs.Bodies.{routine_named, result_given, head_declares, to_lying}
-use Rattle.est_outline.specs.Bodies.{closed_by, part_declares, row_parts, first_declares}
-use Rattle.est_outline.specs.Bodies.{row_groups, row_transitions, parts_declare, outline_of}
-use Rattle.est_outline.proofs.Growing as growing
-use Rattle.est_outline.proofs.Growing.{IsOfEach, IsKept}
+use Rattle.est_declares.specs.declared.context.ClauseKind.TheVariants as kind
+use Rattle.est_declares.specs.declared.context.Given.{Given}
+use Rattle.est_declares.specs.Contexts.{dropped, given, under}
+use Rattle.est_declares.specs.Entries.{plain, outermost, inner, in_region, in_section}
+use Rattle.est_declares.specs.Lasts.{text_last}
+use Rattle.est_declares.specs.Declares.{formals_declare}
+use Rattle.est_declares.specs.Bodies.{Clausal, statement_place, expr_place, all_by, over_header}
+use Rattle.est_declares.specs.Bodies.{all_named, arm_lying, within_declares, row_statements}
+use Rattle.est_declares.specs.Bodies.{held_declares, row_arms, statement_declares}
+use Rattle.est_declares.specs.Bodies.{statements_declare, clause_declares, clauses_declare}
+use Rattle.est_declares.specs.Bodies.{body_named, body_header, header_given, inside, routine_sort}
+use Rattle.est_declares.specs.Bodies.{routine_named, result_given, head_declares, to_lying}
+use Rattle.est_declares.specs.Bodies.{closed_by, part_declares, row_parts, first_declares}
+use Rattle.est_declares.specs.Bodies.{row_groups, row_transitions, parts_declare, outline_of}
+use Rattle.est_declares.proofs.Growing as growing
+use Rattle.est_declares.proofs.Growing.{IsOfEach, IsKept}
 
 module _ (Q : Entry → Type 0) (P : Outline → Type 0) (each : IsOfEach Q) (kept : IsKept Q P) where
   -- statements

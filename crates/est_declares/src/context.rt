@@ -1,9 +1,10 @@
 //! The clauses of a transition, as far as names go.
 
 ghost use Rattle.std.specs.Prelude.{◌≡◌, ◌≤◌, take, length, OnOk};
-ghost use Rattle.est_outline.specs.Contexts.{region_of, dropped, given};
+ghost use Rattle.est_declares.specs.Contexts.{kind_of, region_of, dropped, given};
 
 use est_items::Items;
+use est_syntax::transition::Clause;
 use std::alloc::AllocError;
 
 /// A kind of clause (ISO 9074, clause). `provided` and `provided otherwise` are one.
@@ -30,6 +31,22 @@ pub struct Given {
 pub type Context = Items<Given>;
 
 impl ClauseKind {
+    /// The kind of a clause.
+    pub fn of(clause: &Clause) -> ClauseKind
+        ensures { result ≡ kind_of clause.now }
+    {
+        match clause {
+            Clause::From { .. } => ClauseKind::From,
+            Clause::To { .. } => ClauseKind::To,
+            Clause::When { .. } => ClauseKind::When,
+            Clause::Provided { .. } => ClauseKind::Provided,
+            Clause::Otherwise { .. } => ClauseKind::Provided,
+            Clause::Any { .. } => ClauseKind::Any,
+            Clause::Priority { .. } => ClauseKind::Priority,
+            Clause::Delay { .. } => ClauseKind::Delay,
+        }
+    }
+
     /// The region that the clause of this kind opens.
     pub fn region(self, context: &[Given]) -> Option<u32>
         ensures { result ≡ region_of self context.now }

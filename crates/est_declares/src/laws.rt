@@ -1,5 +1,5 @@
 //! What holds of the outline of every tree, whatever rules it breaks.
-ghost use Rattle.est_outline.specs.OutlineLaws.{NamesStandOnce, ElementsAreCounted};
+ghost use Rattle.est_declares.specs.OutlineLaws.{NamesStandOnce, ElementsAreCounted};
 
 /// A name stands once in its region.
 #[tactic(auto, using(crate::proofs::Regions::names_once))]

@@ -47,17 +47,17 @@ use Rattle.est_scope.specs.Uses.{declaration_of}
 use Rattle.est_kinds.specs.Constants.{constant_place}
 use Rattle.est_kinds.specs.TypeTexts.{text_type, named_type}
 use Rattle.est_uses.specs.Closed.{is_closed}
-use Rattle.est_outline.specs.declared.context.ClauseKind.{ClauseKind}
-use Rattle.est_outline.specs.declared.context.ClauseKind.TheVariants as clause
-use Rattle.est_outline.specs.declared.context.Given.{Given}
-use Rattle.est_outline.specs.Contexts.{dropped, given, under}
-use Rattle.est_outline.specs.Entries.{plain, typed, module_variable, outermost}
-use Rattle.est_outline.specs.Entries.{in_body, inner, in_region, in_section}
-use Rattle.est_outline.specs.Lasts.{text_last}
-use Rattle.est_outline.specs.Declares.{consts_declare, types_declare, vars_declare}
-use Rattle.est_outline.specs.Declares.{channel_declares, header_declares}
-use Rattle.est_outline.specs.Declares.{modvars_declare, points_declare, states_declare}
-use Rattle.est_outline.specs.Declares.{statesets_declare, formals_declare}
+use Rattle.est_declares.specs.declared.context.ClauseKind.{ClauseKind}
+use Rattle.est_declares.specs.declared.context.ClauseKind.TheVariants as clause
+use Rattle.est_declares.specs.declared.context.Given.{Given}
+use Rattle.est_declares.specs.Contexts.{dropped, given, under}
+use Rattle.est_declares.specs.Entries.{plain, typed, module_variable, outermost}
+use Rattle.est_declares.specs.Entries.{in_body, inner, in_region, in_section}
+use Rattle.est_declares.specs.Lasts.{text_last}
+use Rattle.est_declares.specs.Declares.{consts_declare, types_declare, vars_declare}
+use Rattle.est_declares.specs.Declares.{channel_declares, header_declares}
+use Rattle.est_declares.specs.Declares.{modvars_declare, points_declare, states_declare}
+use Rattle.est_declares.specs.Declares.{statesets_declare, formals_declare}
 
 -- the place of the first token of a statement
 abbrev pub statement_place : Statement → ℕ

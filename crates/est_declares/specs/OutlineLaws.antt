@@ -7,8 +7,8 @@ use Rattle.est_scope.specs.declared.declaration.Standing.{Standing}
 use Rattle.est_scope.specs.Outline.{Outline, names_of, entry_at}
 use Rattle.est_scope.specs.Uses.{same_sort}
 use Rattle.est_kinds.specs.Dims.{dims_elements}
-use Rattle.est_outline.specs.Bodies.{outline_of}
-use Rattle.est_outline.specs.Differing.{HaveDifferentNames}
+use Rattle.est_declares.specs.Bodies.{outline_of}
+use Rattle.est_declares.specs.Differing.{HaveDifferentNames}
 
 -- a name stands once in its region
 abbrev pub StandOnce : Outline → Type 0

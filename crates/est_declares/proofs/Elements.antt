@@ -16,11 +16,11 @@ use Rattle.est_scope.specs.Outline.{Outline, standing, entry_at}
 use Rattle.est_scope.specs.Declaring.{taken, declared_by, put_by, amended_by}
 use Rattle.est_scope.specs.Uses.{same_sort}
 use Rattle.est_kinds.specs.declared.value.Valued.{Valued}
-use Rattle.est_outline.specs.Entries.{constant}
-use Rattle.est_outline.specs.Bodies.{outline_of}
-use Rattle.est_outline.specs.OutlineLaws.{elements_of, HaveElements}
-use Rattle.est_outline.proofs.Growing.{IsOfEach, IsKept}
-use Rattle.est_outline.proofs.Grown.{grown}
+use Rattle.est_declares.specs.Entries.{constant}
+use Rattle.est_declares.specs.Bodies.{outline_of}
+use Rattle.est_declares.specs.OutlineLaws.{elements_of, HaveElements}
+use Rattle.est_declares.proofs.Growing.{IsOfEach, IsKept}
+use Rattle.est_declares.proofs.Grown.{grown}
 
 abbrev HasElements : Entry → Type 0
 HasElements e = e.elements ≡ elements_of e

@@ -17,12 +17,11 @@ use Rattle.est_scope.specs.Outline.{Outline, Region, names_of}
 use Rattle.est_scope.specs.Outline.{standing_in, standing, entry_at}
 use Rattle.est_scope.specs.Declaring.{named_in, standing_of, taken, declared_by}
 use Rattle.est_scope.specs.Declaring.{put_by, amended_by}
-use Rattle.est_outline.specs.Bodies.{outline_of}
-use Rattle.est_outline.specs.Differing.{HaveDifferentNames}
-use Rattle.est_outline.specs.OutlineLaws.{StandOnce}
-use Rattle.est_outline.proofs.Growing.{IsOfEach, IsKept}
-use Rattle.est_outline.proofs.Grown.{grown}
-use Rattle.est_outline.proofs.Names.{IsNew, AreOnce, once_push, once_differ}
+use Rattle.est_declares.specs.Bodies.{outline_of}
+use Rattle.est_declares.specs.OutlineLaws.{StandOnce}
+use Rattle.est_declares.proofs.Growing.{IsOfEach, IsKept}
+use Rattle.est_declares.proofs.Grown.{grown}
+use Rattle.est_declares.proofs.Names.{IsNew, AreOnce, once_push, once_differ}
 
 abbrev Regions : Type 0
 Regions = List (ℕ × Region)

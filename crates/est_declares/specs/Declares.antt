@@ -38,9 +38,9 @@ use Rattle.est_scope.specs.Uses.{declaration_of}
 use Rattle.est_kinds.specs.Constants.{constant_value, constant_last}
 use Rattle.est_kinds.specs.TypeTexts.{text_type, text_place, named_type, enumeration}
 use Rattle.est_kinds.specs.Dims.{dims_of, dims_elements}
-use Rattle.est_outline.specs.Entries.{plain, constant, numbered, point}
-use Rattle.est_outline.specs.Entries.{module_variable, state_set, header, in_region, in_section}
-use Rattle.est_outline.specs.Lasts.{names_last, text_last, channel_last, header_last}
+use Rattle.est_declares.specs.Entries.{plain, constant, numbered, point}
+use Rattle.est_declares.specs.Entries.{module_variable, state_set, header, in_region, in_section}
+use Rattle.est_declares.specs.Lasts.{names_last, text_last, channel_last, header_last}
 
 -- names that are declared together
 abbrev pub names_declare : Within → List Used → ℕ → Entry → Outline → Outline

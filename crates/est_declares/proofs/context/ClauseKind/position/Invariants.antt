@@ -1,6 +1,6 @@
 use Rattle.std.proofs.Common.{◌≡◌, ◌++◌, take, drop}
-use Rattle.est_outline.specs.Contexts.{dropped}
-use Rattle.est_outline.proofs.context.ClauseKind.position.Given as goal
+use Rattle.est_declares.specs.Contexts.{dropped}
+use Rattle.est_declares.proofs.context.ClauseKind.position.Given as goal
 
 abbrev pub invariant-loop-given : goal.invariant-loop-given
 invariant-loop-given l =

@@ -1,7 +1,6 @@
 -- What holds of every outline, as it grows by its declarations.
-use Rattle.std.proofs.Common.{ℕ, suc, Bool, List, [], ◌∷◌, Option, Some, None}
+use Rattle.std.proofs.Common.{ℕ, suc, Bool, List, [], ◌∷◌, Option, None}
 use Rattle.est_syntax.specs.declared.name.Used.{Used}
-use Rattle.est_syntax.specs.declared.constant.Constant.{Constant}
 use Rattle.est_syntax.specs.declared.constant.ConstDef.{ConstDef}
 use Rattle.est_syntax.specs.declared.kind.Kind.{Kind}
 use Rattle.est_syntax.specs.declared.type_text.TypeText.{TypeText, Row_of-TypeText, end_of-TypeText}
@@ -39,22 +38,22 @@ use Rattle.est_kinds.specs.declared.value.Valued.{Valued}
 use Rattle.est_kinds.specs.Constants.{constant_value, constant_last}
 use Rattle.est_kinds.specs.TypeTexts.{text_type, text_place, named_type, enumeration}
 use Rattle.est_kinds.specs.Dims.{dims_of, dims_elements}
-use Rattle.est_outline.specs.Entries.{plain, typed, constant, numbered, point}
-use Rattle.est_outline.specs.Entries.{module_variable, state_set, header, in_region, in_section}
-use Rattle.est_outline.specs.Lasts.{names_last, text_last, channel_last, header_last}
-use Rattle.est_outline.specs.Declares.{names_declare, constdef_declares, consts_declare}
-use Rattle.est_outline.specs.Declares.{numbers_declare, kinds_given, enumeration_declares}
-use Rattle.est_outline.specs.Declares.{names_put, text_declares, row_declares, row_fields_declare}
-use Rattle.est_outline.specs.Declares.{typedef_named, typedef_declares, types_declare}
-use Rattle.est_outline.specs.Declares.{vardef_named, vardef_declares, vars_declare, roles_put}
-use Rattle.est_outline.specs.Declares.{interaction_declares, interactions_declare, senders}
-use Rattle.est_outline.specs.Declares.{by_part_declares, by_parts_declare, channel_declares}
-use Rattle.est_outline.specs.Declares.{side_of, point_declares, points_declare, modvar_declares}
-use Rattle.est_outline.specs.Declares.{modvars_declare, before, after, sections_declare}
-use Rattle.est_outline.specs.Declares.{has_exports, header_named, header_declares, states_declare}
-use Rattle.est_outline.specs.Declares.{states_named, stateset_declares, statesets_declare}
-use Rattle.est_outline.specs.Declares.{formal_section, formal_named, formal_declares}
-use Rattle.est_outline.specs.Declares.{formals_declare}
+use Rattle.est_declares.specs.Entries.{plain, typed, constant, numbered, point}
+use Rattle.est_declares.specs.Entries.{module_variable, state_set, header, in_region, in_section}
+use Rattle.est_declares.specs.Lasts.{names_last, text_last, channel_last, header_last}
+use Rattle.est_declares.specs.Declares.{names_declare, constdef_declares, consts_declare}
+use Rattle.est_declares.specs.Declares.{numbers_declare, kinds_given, enumeration_declares}
+use Rattle.est_declares.specs.Declares.{names_put, text_declares, row_declares, row_fields_declare}
+use Rattle.est_declares.specs.Declares.{typedef_named, typedef_declares, types_declare}
+use Rattle.est_declares.specs.Declares.{vardef_named, vardef_declares, vars_declare, roles_put}
+use Rattle.est_declares.specs.Declares.{interaction_declares, interactions_declare, senders}
+use Rattle.est_declares.specs.Declares.{by_part_declares, by_parts_declare, channel_declares}
+use Rattle.est_declares.specs.Declares.{side_of, point_declares, points_declare, modvar_declares}
+use Rattle.est_declares.specs.Declares.{modvars_declare, before, after, sections_declare}
+use Rattle.est_declares.specs.Declares.{has_exports, header_named, header_declares, states_declare}
+use Rattle.est_declares.specs.Declares.{states_named, stateset_declares, statesets_declare}
+use Rattle.est_declares.specs.Declares.{formal_section, formal_named, formal_declares}
+use Rattle.est_declares.specs.Declares.{formals_declare}
 
 -- What a property of declarations has to bear: it holds of each as it is declared, and still where
 -- more of it is known.
