@@ -21,8 +21,8 @@ use Rattle.est_search.specs.declared.verdict.Verdict.TheVariants as verdict
 use Rattle.est_search.specs.Verdict.{IsVerdict, IsRefused, IsOverAction, HasEvents}
 use Rattle.est_explanation.specs.declared.explanation.Explanation.{Explanation}
 use Rattle.est_explanation.specs.CanonicalExplanation.{canonical, IsWritable}
-use Rattle.est_replay.specs.declared.verdict.Replayed.TheVariants.{Confirmed}
-use Rattle.est_replay.specs.Replay.{AnswersFrom}
+use Rattle.est_replaying.specs.declared.verdict.Replayed.TheVariants.{Confirmed}
+use Rattle.est_replaying.specs.Replay.{AnswersFrom}
 use Rattle.est_files.specs.declared.file.File.{File}
 use Rattle.est_files.specs.declared.file.File.TheVariants as file
 use Rattle.est_words.specs.declared.status.Status.{Status}

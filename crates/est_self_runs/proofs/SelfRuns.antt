@@ -25,11 +25,11 @@ use Rattle.est_search.specs.declared.verdict.Verdict.TheVariants as verdict
 use Rattle.est_trace.specs.TraceText.{IsTraceRefusal}
 use Rattle.est_trace.specs.declared.error.TraceError.{TraceError}
 use Rattle.est_trace.specs.declared.error.TraceError.TheVariants as trace_error
-use Rattle.est_make.specs.declared.made.Made.{Made}
-use Rattle.est_make.specs.declared.made.Made.TheVariants as made
-use Rattle.est_make.specs.Recipe as recipe
-use Rattle.est_make.proofs.Explaining.{made_explained}
-use Rattle.est_make.proofs.OneMade.{one_made}
+use Rattle.est_making.specs.declared.made.Made.{Made}
+use Rattle.est_making.specs.declared.made.Made.TheVariants as made
+use Rattle.est_making.specs.Recipe as recipe
+use Rattle.est_making.proofs.Explaining.{made_explained}
+use Rattle.est_making.proofs.OneMade.{one_made}
 use Rattle.est_sound_traces.proofs.SoundTraces.{made_traces_are_texts, made_traces_are_read}
 use Rattle.est_files.specs.declared.file.File.TheVariants.{Specification, Trace}
 use Rattle.est_files.specs.FileEnds.{End, reported, unread}

@@ -13,7 +13,7 @@ use Rattle.est_trace.specs.declared.error.TraceError.{TraceError}
 use Rattle.est_trace.specs.TraceText.{IsTraceText, ReadsTrace}
 use Rattle.est_written_traces.specs.WrittenTraces.{trace_text}
 use Rattle.est_read_back.specs.ReadBackLaws.{AreReadBack}
-use Rattle.est_make.specs.Recipe.{Task, IsMadeTrace}
+use Rattle.est_making.specs.Recipe.{Task, IsMadeTrace}
 use Rattle.est_soundness.specs.SoundnessLaws.{IsTyped}
 
 -- each event of a made trace of a typed specification may stand in a trace

@@ -10,9 +10,9 @@ use Rattle.est_choices.specs.declared.event.Event.{Event}
 use Rattle.est_choices.specs.FiringSteps.{start_of}
 use Rattle.est_search.specs.Verdict.{IsVerdict}
 use Rattle.est_search.specs.declared.verdict.Verdict.{Verdict}
-use Rattle.est_replay.specs.Replay.{IsReplay}
+use Rattle.est_replaying.specs.Replay.{IsReplay}
 use Rattle.est_explanation.specs.declared.explanation.Explanation.{Explanation}
-use Rattle.est_replay.specs.declared.verdict.Replayed.{Replayed}
+use Rattle.est_replaying.specs.declared.verdict.Replayed.{Replayed}
 use Rattle.est_files.specs.FileEnds.{End, reported, EndsAt, HoldsSpecification}
 use Rattle.est_files.specs.FileEnds.{HoldsTrace, HoldsExplanation}
 use Rattle.est_files.specs.declared.file.File.TheVariants as file

@@ -12,9 +12,9 @@ use Rattle.est_choices.specs.FiringSteps.{start_of}
 use Rattle.est_runs.specs.declared.run.Move.{Move}
 use Rattle.est_search.specs.Verdict.{IsVerdict}
 use Rattle.est_search.specs.declared.verdict.Verdict.{Verdict}
-use Rattle.est_make.specs.declared.made.Made.{Made}
-use Rattle.est_make.specs.declared.made.Made.TheVariants.{Trace, NoStart, StartLimit, Limit}
-use Rattle.est_make.specs.Recipe as recipe
+use Rattle.est_making.specs.declared.made.Made.{Made}
+use Rattle.est_making.specs.declared.made.Made.TheVariants.{Trace, NoStart, StartLimit, Limit}
+use Rattle.est_making.specs.Recipe as recipe
 use Rattle.est_written_traces.specs.WrittenTraces.{trace_text}
 use Rattle.est_files.specs.FileEnds.{End, reported, EndsAt, EndsAtText, HoldsSpecification}
 use Rattle.est_files.specs.FileTexts.{IsText, OfTrace, RefusesSpecification, RefusesTrace}

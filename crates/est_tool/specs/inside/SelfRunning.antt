@@ -8,8 +8,8 @@ use Rattle.est_choices.specs.declared.event.Event.{Event}
 use Rattle.est_choices.specs.FiringSteps.{start_of}
 use Rattle.est_search.specs.Verdict.{IsVerdict}
 use Rattle.est_search.specs.declared.verdict.Verdict.{Verdict}
-use Rattle.est_make.specs.declared.made.Made.{Made}
-use Rattle.est_make.specs.declared.made.Made.TheVariants.{Trace, NoStart, StartLimit, Limit}
+use Rattle.est_making.specs.declared.made.Made.{Made}
+use Rattle.est_making.specs.declared.made.Made.TheVariants.{Trace, NoStart, StartLimit, Limit}
 use Rattle.est_words.specs.declared.status.Status.{Status}
 use Rattle.est_words.specs.Requests.{usual_silent, usual_budget, usual_statements}
 use Rattle.est_reports.specs.declared.self_run_report.Sizes.{Sizes}
