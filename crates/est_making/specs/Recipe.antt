@@ -23,6 +23,7 @@ use Rattle.est_choices.specs.TransitionSelection.{IsSettled}
 use Rattle.est_worlds.specs.PossibleFirings.{AreOptions}
 use Rattle.est_runs.specs.declared.run.Move.{Move}
 use Rattle.est_runs.specs.declared.run.Move.TheVariants.{Take, Fire}
+use Rattle.est_runs.specs.Task.{setup_from}
 use Rattle.est_runs.specs.Run.{Setup, Explains, silent_after}
 use Rattle.est_making.specs.declared.arrivals.Arrival.{Arrival}
 use Rattle.est_making.specs.declared.made.Made.{Made}
@@ -193,14 +194,7 @@ IsMade t seed count (made.Limit run) = EndsByLimit t seed count run
 
 -- the runs of a task along a trace
 abbrev pub setup_along : Task → List Event → Situation → List Event → Setup
-setup_along t trace start outs = record {
-  spec = t.spec;
-  limit = t.limit;
-  silent = t.silent;
-  trace = trace;
-  start = start;
-  start_outs = outs;
-}
+setup_along t trace start outs = setup_from t.limit t.silent t.spec trace start outs
 
 -- from the start of the specification the run is bounded, and it explains the trace
 pub record IsExplained (t : Task) (trace : List Event) (run : List Move) : Type 0 where

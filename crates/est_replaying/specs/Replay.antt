@@ -14,6 +14,7 @@ use Rattle.est_choices.specs.TransitionSelection.{IsSettled, IsPossible}
 use Rattle.est_choices.specs.FiringSteps.{outcome, start_of}
 use Rattle.est_runs.specs.declared.run.Move.{Move}
 use Rattle.est_runs.specs.declared.run.Move.TheVariants.{Take, Fire}
+use Rattle.est_runs.specs.Task.{setup_from}
 use Rattle.est_runs.specs.Run.{AgreeFirst, Setup, Place, first_place, Takes, Fires}
 use Rattle.est_runs.specs.Run.{IsBoundedRun, Follows, FollowsBefore, Yields}
 use Rattle.est_replaying.specs.declared.verdict.Why.{Why}
@@ -111,14 +112,7 @@ IsAnswer c moves claim (Rejected at w) = IsRejected c moves claim at w
 abbrev pub AnswersFrom : ℕ → ℕ → Spec → List Event → List Move → ℕ → Replayed
     → Outcome Situation (List Event) → Type 0
 AnswersFrom limit silent spec trace moves claim answer (Done outs s) = IsAnswer
-    (record {
-      spec = spec;
-      limit = limit;
-      silent = silent;
-      trace = trace;
-      start = s;
-      start_outs = outs;
-    })
+    (setup_from limit silent spec trace s outs)
     moves claim answer
 AnswersFrom limit silent spec trace moves claim answer (Fault fault) =
     answer ≡ Rejected 0 (why.NoStart fault)

@@ -44,7 +44,7 @@ use Rattle.est_words.specs.declared.status.Status.TheVariants.{Usage, ReadFault,
 use Rattle.est_words.specs.declared.status.Status.TheVariants.{OutOfMemory, NoStart}
 use Rattle.est_words.specs.Requests.{usual_silent, usual_budget, usual_statements}
 use Rattle.est_reports.specs.SearchReports.{verdict_status}
-use Rattle.est_tool.specs.Tasks.{task_of}
+use Rattle.est_runs.specs.Task.{setup_from}
 use Rattle.est_tool.specs.SelfRuns.{IsMadeOf, MadeEnds, written}
 use Rattle.est_tool.specs.SelfRuns.{faults, start_passes, passes, refuses, explains}
 use Rattle.est_calls.specs.Completeness.{IsSelfRunOf, TellsMade}
@@ -111,11 +111,11 @@ module _ (spec : Spec) (seed count : ℕ) (trace : List Event) (run : List Move)
   -- a verdict on it explains it, or is over the budget
   judged : (outs : List Event) (s : Situation) (v : Verdict)
       → start_of usual_statements (text_of spec) ≡ Done outs s
-      → IsVerdict (task_of usual_silent usual_statements spec trace s outs) usual_budget v
+      → IsVerdict (setup_from usual_statements usual_silent spec trace s outs) usual_budget v
       → IsExplainedOrOver v
   judged outs s v begun is =
       let e = made_explained task seed count trace run is_made in
-      explained_is_not_refused (task_of usual_silent usual_statements spec trace e.start e.outs)
+      explained_is_not_refused (setup_from usual_statements usual_silent spec trace e.start e.outs)
       usual_budget _ v e.explains
       (verdict_at (record {
         silent = usual_silent;
@@ -158,7 +158,7 @@ module _ (spec : Spec) (seed count : ℕ) (trace : List Event) (run : List Move)
       let held : IsText Trace (written spec trace) (OfTrace spec events) =
       subst (λ x. IsText Trace (written spec x) (OfTrace spec events)) one reads in
       status_agrees v (judged outs s v begun
-      (subst (λ es. IsVerdict (task_of usual_silent usual_statements spec es s outs) usual_budget v)
+      (subst (λ es. IsVerdict (setup_from usual_statements usual_silent spec es s outs) usual_budget v)
       (sym (same_events events held)) is))
 
   -- what is told of it

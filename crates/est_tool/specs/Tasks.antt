@@ -7,7 +7,7 @@ use Rattle.est_runs.specs.Run.{Setup}
 
 -- the runs of a specification along a trace, from a start that is ready
 abbrev pub task_of : ℕ → ℕ → Spec → List Event → Situation → List Event → Setup
-task_of silent statements spec events s outs = record {
+setup_from statements silent spec events s outs = record {
   spec = spec;
   limit = statements;
   silent = silent;
