@@ -15,7 +15,7 @@ use Rattle.est_semantics.specs.TextByPlace.{text_of}
 use Rattle.est_choices.specs.declared.event.Event.{Event}
 use Rattle.est_choices.specs.AllowedEvents.{most_events}
 use Rattle.est_choices.specs.FiringSteps.{start_of}
-use Rattle.est_fullness.specs.SentenceOf.{IsSentence}
+use Rattle.est_check.specs.SentenceOf.{IsSentence}
 use Rattle.est_runs.specs.declared.run.Limits.{Limits}
 use Rattle.est_runs.specs.declared.run.Move.{Move}
 use Rattle.est_runs.specs.Run.{Setup, Explains}
