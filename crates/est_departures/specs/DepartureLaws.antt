@@ -21,7 +21,7 @@ use Rattle.est_choices.specs.FiringSteps.{outcome, start_of}
 use Rattle.est_runs.specs.declared.run.Move.{Move}
 use Rattle.est_runs.specs.Run.{Setup, Place, IsBegun, IsRun, Explains}
 use Rattle.est_fullness.specs.Full.{AreFull}
-use Rattle.est_fullness.specs.SentenceOf.{IsSentence}
+use Rattle.est_check.specs.SentenceOf.{IsSentence}
 use Rattle.est_departures.specs.SentInteractions.{Takes, IsSentAt, LeavesAsSent}
 use Rattle.est_departures.specs.SentInteractions.{JoinOneSide}
 

@@ -120,7 +120,8 @@ sort_known o p e sort.ModuleVariable place is all h =
     place_known o (module_head e.dims p) (module_place o p e is all.0 all.1)
 sort_known o p e sort.Function place is all h =
     subst (λ (b : Bool). IsKnown o (function_head b e.kind))
-    (sym (unbroken (takes_so_many o p 0) place rule.WrongNumber h)) (value_known o e.kind all)
+    (sym (unbroken (takes_so_many o p 0) place rule.WrongNumber h))
+    (place_known o (variable_head e.kind) (variable_place o e.kind all))
 sort_known o p e _ place is all h = not_broken place rule.WrongSort h
 
 entry_known : (o : Outline) (p : ℕ) (x : Option Entry) (place : ℕ) → AreFull o

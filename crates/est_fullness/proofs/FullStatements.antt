@@ -61,7 +61,7 @@ use Rattle.est_fullness.specs.FullStatements.{AreTakenBy, IsAssigned, HasBounds,
 use Rattle.est_fullness.specs.FullStatements.{IsAccessed, IsPassed, IsSent, IsStarted}
 use Rattle.est_fullness.proofs.FullCalls.{IsReady, subscripts_ready, parameters_ready}
 use Rattle.est_fullness.proofs.FullExpressions.{expr_full, path_full, taken_full}
-use Rattle.est_fullness.proofs.FullNames.{place_known, value_known, variable_place, module_place}
+use Rattle.est_fullness.proofs.FullNames.{place_known, variable_place, module_place}
 use Rattle.est_fullness.proofs.FullOperators.{nowhere, kept_full, given_full}
 use Rattle.est_fullness.proofs.FullUses.{IsAt, IsUsed, use_means, point_dims, point_side_there}
 use Rattle.est_fullness.proofs.FullUses.{module_dims, module_header_there, body_header_there}
@@ -76,7 +76,8 @@ target_known o f loops p e sort.Variable is all h =
     place_known o (variable_head e.kind) (variable_place o e.kind all)
 target_known o f loops p e sort.ModuleVariable is all h =
     place_known o (module_head e.dims p) (module_place o p e is all.0 all.1)
-target_known o f loops p e sort.Function is all h = value_known o e.kind all
+target_known o f loops p e sort.Function is all h =
+    place_known o (variable_head e.kind) (variable_place o e.kind all)
 target_known o f loops p e _ is all h = absurd (true≢false (sym h))
 
 pub no_target : (e : Entry) (path : List Selector) (place : ℕ)

@@ -5,7 +5,7 @@ use Rattle.est_declares.specs.PortList.{ports_of}
 use Rattle.est_semantics.specs.declared.fault.BlockFault.{BlockFault}
 use Rattle.est_choices.specs.declared.event.Event.{Event}
 use Rattle.est_runs.specs.declared.run.Move.{Move}
-use Rattle.est_make.specs.declared.made.Made.TheVariants as made
+use Rattle.est_making.specs.declared.made.Made.TheVariants as made
 use Rattle.est_written_traces.specs.WrittenTraces.{trace_text}
 use Rattle.est_files.specs.FileEnds.{End, reported, EndsAt, HoldsSpecification}
 use Rattle.est_files.specs.FileTexts.{RefusesSpecification}

@@ -47,7 +47,7 @@ use Rattle.est_semantics.specs.NamesInRuns.{head, dims_at, declared_in_header}
 use Rattle.est_semantics.specs.Frames.{held_by, read_at, value_in, slot_of, existing}
 use Rattle.est_semantics.specs.WorkingState.{State, View, Deeper, Counts}
 use Rattle.est_semantics.specs.ValueOperators.{ordinal, joined, signed, negated, spanned, defined}
-use Rattle.est_semantics.specs.ReachedVariables.{Reached, Component, Module, variable_begun}
+use Rattle.est_semantics.specs.ReachedVariables.{Reached, Component, Module, variable_begun, value_begun}
 use Rattle.est_semantics.specs.ReachedVariables.{with_field, with_component, with_subscript, living}
 use Rattle.est_semantics.specs.ReachedVariables.{child_of, loaded, exported}
 use Rattle.est_semantics.specs.FunctionCalls.{called, valued, required_by, routine_frame, result_of}
@@ -124,6 +124,14 @@ module _ (x : Situation) where
   variable_begun_blind v (Function p k) = refl
   variable_begun_blind v (Variable p k) = refl
   variable_begun_blind v (Modules p) = refl
+
+  value_begun_blind : (v : View) (h : Head)
+      → value_begun (seen_from x v) h ≡ value_begun v h
+  value_begun_blind v Nothing = refl
+  value_begun_blind v (Constant z) = refl
+  value_begun_blind v (Function p k) = refl
+  value_begun_blind v (Variable p k) = refl
+  value_begun_blind v (Modules p) = refl
 
   loaded_blind : (v : View) (r : Reached) → loaded (seen_from x v) r ≡ loaded v r
   loaded_blind v (Component p k) = λ i. lift (read_blind p v.situation v.frames i) >>= defined
@@ -204,7 +212,7 @@ module _ (x : Situation) where
         λ i. members_blind members [] v h i >>= λ zs. lift (set_of zs)
     factor_blind (factor.Variable' name n path place) v h =
         valued_blind v h (head v.site.text.outline name) _ _
-        (λ i. variable_begun_blind v (head v.site.text.outline name) i
+        (λ i. value_begun_blind v (head v.site.text.outline name) i
         >>= λ r. path_blind path r v h i)
     factor_blind (factor.Call' name n arguments place) v h =
         applied_blind v h (meaning v.site.text.outline name) _ _ _ _

@@ -9,6 +9,7 @@ pub mod KeptByBlocks
 pub mod MutualPeers
 pub mod NumbersAscend
 pub mod OrderlyStarts
+pub mod RowsAndLists
 pub mod SetMembers
 pub mod StatementLayers
 pub mod UndefinedUnique

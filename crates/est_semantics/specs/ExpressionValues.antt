@@ -40,6 +40,7 @@ use Rattle.est_semantics.specs.WorkingState.{View, Counts}
 use Rattle.est_semantics.specs.ValueOperators.{unsigned_integer, ordinal, joined, signed}
 use Rattle.est_semantics.specs.ValueOperators.{negated, spanned}
 use Rattle.est_semantics.specs.ReachedVariables.{Reached, Component, Module, variable_begun}
+use Rattle.est_semantics.specs.ReachedVariables.{value_begun}
 use Rattle.est_semantics.specs.ReachedVariables.{with_field, with_component, with_subscript, placed}
 use Rattle.est_semantics.specs.FunctionCalls.{called, valued, required_by}
 
@@ -96,7 +97,7 @@ abbrev mutual
   factor_of (factor.Set' n members place) v = row_members members [] v >>= λ zs. lift (set_of zs)
   factor_of (factor.Variable' name n path place) v =
       let h = head v.site.text.outline name in
-      valued v h (variable_begun v h >>= λ r. row_selected path r v)
+      valued v h (value_begun v h >>= λ r. row_selected path r v)
   factor_of (factor.Call' name n arguments place) v =
       let m = meaning v.site.text.outline name in
       applied v m (row_values arguments [] v) (row_required arguments v)
@@ -234,7 +235,7 @@ variable_of u path v = variable_begun v (head v.site.text.outline u) >>= λ r. s
 abbrev pub variable_value : Used → List Selector → View → Counts Value
 variable_value u path v =
     let h = head v.site.text.outline u in
-    valued v h (variable_begun v h >>= λ r. selected_in path r v)
+    valued v h (value_begun v h >>= λ r. selected_in path r v)
 
 -- a predeclared function of the first of these arguments
 abbrev pub required_in : List Expr → View → PredeclaredName → Counts Value

@@ -10,6 +10,7 @@ pub mod InstanceEffects
 pub mod InstancePoints
 pub mod KeepingLaws
 pub mod LinkEffects
+pub mod ListLaws
 pub mod LoopEffects
 pub mod NamesInRuns
 pub mod OperandHosts

@@ -7,7 +7,7 @@ use Rattle.est_check.specs.LeastFault.{IsGood}
 use Rattle.est_choices.specs.AllowedEvents.{IsAllowed}
 use Rattle.est_runs.specs.declared.run.Move.{Move}
 use Rattle.est_runs.specs.Run.{Setup, Place, IsBegun, IsRun, Explains}
-use Rattle.est_fullness.specs.SentenceOf.{IsSentence}
+use Rattle.est_check.specs.SentenceOf.{IsSentence}
 use Rattle.est_soundness.specs.SteadyOutlines.{IsSteady}
 use Rattle.est_soundness.specs.SoundnessLaws.{IsTyped, FitsSoFar, MayCome}
 

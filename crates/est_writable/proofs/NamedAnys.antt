@@ -45,7 +45,7 @@ use Rattle.est_order.proofs.PlacedBodies.{TransitionsPlaced}
 use Rattle.est_order.proofs.PlacedParts.{InOrder, VarDefPlaced}
 use Rattle.est_order.proofs.SaidWholes.{before_empty}
 use Rattle.est_order.proofs.Wholes.{spec_placed}
-use Rattle.est_fullness.specs.SentenceOf.{IsSentence}
+use Rattle.est_check.specs.SentenceOf.{IsSentence}
 use Rattle.est_fullness.proofs.Apart.{IsBegin, common_parts_apart}
 use Rattle.est_fullness.proofs.ParametersKept.{Leading, leading_later}
 use Rattle.est_fullness.proofs.ParametersLead.{PartApart, RowApart, GroupsApart, TransitionsApart}

@@ -12,7 +12,7 @@ use Rattle.est_declares.specs.Bodies.{outline_of}
 use Rattle.est_blocks.specs.Clauses.{most_tuples}
 use Rattle.est_check.specs.LeastFault.{IsGood}
 use Rattle.est_check.specs.Small.{most_parts}
-use Rattle.est_fullness.specs.SentenceOf.{IsSentence}
+use Rattle.est_check.specs.SentenceOf.{IsSentence}
 use Rattle.est_semantics.specs.declared.situation.Row.{Row}
 use Rattle.est_semantics.specs.GlobalSituation.{row_of}
 use Rattle.est_semantics.specs.InstanceEffects.{most_instances}
