@@ -22,7 +22,8 @@ use Rattle.est_scope.specs.Uses.{use_faults}
 use Rattle.est_scope.proofs.LeastLaws.{least_append}
 use Rattle.est_declares.specs.declared.context.Given.{Given}
 use Rattle.est_sizes.proofs.SizeRows.{scalars_hidden, scalars_shown}
-use Rattle.est_blocks.specs.Clauses.{clauses_faults, with_clauses, delay_faults, next_faults}
+use Rattle.est_blocks.specs.Clauses.{clauses_faults, next_faults}
+use Rattle.est_clauses.specs.GivenClauses.{with_clauses, delay_faults}
 use Rattle.est_blocks.specs.BlockFaults.{block_faults, part_faults, row_faults, parts_faults}
 use Rattle.est_blocks.specs.BlockFaults.{first_faults, row_groups_faults, row_transitions_faults}
 use Rattle.est_blocks.specs.inside.BlockParts.{first_part_faults, transitions_faults}

@@ -19,7 +19,8 @@ use Rattle.est_declares.specs.declared.context.Given.{Given}
 use Rattle.est_declares.specs.Bodies.{outline_of}
 use Rattle.est_sizes.specs.Scalars.{row_scalars, scalars_faults}
 use Rattle.est_statements.specs.Statements.{statement_faults, statements_faults}
-use Rattle.est_blocks.specs.Clauses.{clauses_faults, with_clauses, delay_faults, next_faults}
+use Rattle.est_blocks.specs.Clauses.{clauses_faults, next_faults}
+use Rattle.est_clauses.specs.GivenClauses.{with_clauses, delay_faults}
 
 -- the statements of a function are those of one, and those of a procedure of none
 abbrev pub function_of : Used → Option Used → Option ℕ

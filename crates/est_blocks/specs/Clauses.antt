@@ -142,27 +142,3 @@ clause_faults o (clause.Delay least most place) =
 abbrev pub clauses_faults : Outline → List Clause → List Fault
 clauses_faults o [] = []
 clauses_faults o (c ∷ cs) = clause_faults o c ++ clauses_faults o cs
-
--- The clauses of a transition with one more, by the place of its first token: a clause takes the
--- place of that of its kind, and of all that were given after that one.
-abbrev pub with_clause : List Given → Clause → List Given
-with_clause gs c =
-    context.given (kind_of c) (Some (clause_place c)) (context.dropped (kind_of c) gs)
-
--- the clauses of a transition with more of them, in order
-abbrev pub with_clauses : List Given → List Clause → List Given
-with_clauses gs [] = gs
-with_clauses gs (c ∷ cs) = with_clauses (with_clause gs c) cs
-
--- whether a transition has a clause of a kind
-abbrev pub has : ClauseKind → List Given → Bool
-has k gs = is_some (context.region_of k gs)
-
--- a delay stands without a `when` and without an `any`
-abbrev pub delay_by : Option ℕ → List Given → List Fault
-delay_by None gs = []
-delay_by (Some place) gs = broken_if (has given.When gs || has given.Any gs) place DelayNotAlone
-
--- what a delay among the clauses of a transition breaks
-abbrev pub delay_faults : List Given → List Fault
-delay_faults gs = delay_by (context.region_of given.Delay gs) gs

@@ -23,7 +23,7 @@ use Rattle.est_declares.specs.declared.context.Given.{Given}
 use Rattle.est_declares.specs.Contexts.{is_same}
 use Rattle.est_syntax.specs.Clauses.{clause_place}
 use Rattle.est_declares.specs.Contexts.{kind_of}
-use Rattle.est_blocks.specs.Clauses as rules
+use Rattle.est_clauses.specs.GivenClauses as rules
 use Rattle.est_semantics.specs.TextByPlace.{Text, body_at}
 
 -- CONTEXTS

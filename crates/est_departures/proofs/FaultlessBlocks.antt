@@ -30,7 +30,7 @@ use Rattle.est_declares.specs.Bodies.{outline_of}
 use Rattle.est_declares.specs.declared.context.Given.{Given}
 use Rattle.est_types.specs.DeclarationFaults.{declaration_faults}
 use Rattle.est_statements.specs.Statements.{statement_faults, statements_faults}
-use Rattle.est_blocks.specs.Clauses.{with_clauses}
+use Rattle.est_clauses.specs.GivenClauses.{with_clauses}
 use Rattle.est_blocks.specs.BlockFaults.{function_of, part_faults, row_faults, first_faults}
 use Rattle.est_blocks.specs.BlockFaults.{row_groups_faults, row_transitions_faults, parts_faults}
 use Rattle.est_blocks.specs.BlockFaults.{bodies_faults}

@@ -38,7 +38,8 @@ use Rattle.est_statements.specs.Statements.{over_by, over_faults, statement_faul
 use Rattle.est_statements.specs.Statements.{held_statement, row_statements, row_arms}
 use Rattle.est_statements.specs.Statements.{statements_faults}
 use Rattle.est_blocks.specs.Clauses.{domain_faults, domains_faults, clause_faults, clauses_faults}
-use Rattle.est_blocks.specs.Clauses.{next_faults, with_clauses, delay_faults}
+use Rattle.est_blocks.specs.Clauses.{next_faults}
+use Rattle.est_clauses.specs.GivenClauses.{with_clauses, delay_faults}
 use Rattle.est_blocks.specs.BlockFaults as blocks
 use Rattle.est_blocks.specs.BlockFaults.{function_of, block_faults, bodies_faults}
 use Rattle.est_fullness.specs.Full.{IsFullAt}

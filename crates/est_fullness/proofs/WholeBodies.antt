@@ -42,7 +42,8 @@ use Rattle.est_blocks.specs.BlockFaults.{first_faults, row_groups_faults, row_tr
 use Rattle.est_blocks.specs.BlockFaults.{parts_faults, bodies_faults}
 use Rattle.est_blocks.specs.Clauses.{is_state_sort, state_used, state_faults, states_faults}
 use Rattle.est_blocks.specs.Clauses.{next_faults, most_faults, clause_faults, clauses_faults}
-use Rattle.est_blocks.specs.Clauses.{with_clauses, delay_faults, domain_faults, domains_faults}
+use Rattle.est_blocks.specs.Clauses.{domain_faults, domains_faults}
+use Rattle.est_clauses.specs.GivenClauses.{with_clauses, delay_faults}
 use Rattle.est_blocks.specs.Clauses.{tuples, tuples_faults, is_priority, priority_faults}
 use Rattle.est_fullness.specs.Full.{AreFull}
 use Rattle.est_fullness.specs.FullExpressions.{IsWhole}

@@ -18,7 +18,7 @@ use Rattle.est_syntax.specs.declared.transition.Group.{Group, out-Group}
 use Rattle.est_syntax.specs.declared.transition.Transition.{Transition, out-Transition}
 use Rattle.est_scope.specs.Outline.{Outline}
 use Rattle.est_declares.specs.Bodies.{outline_of}
-use Rattle.est_blocks.specs.Clauses.{with_clauses, delay_faults}
+use Rattle.est_clauses.specs.GivenClauses.{with_clauses, delay_faults}
 use Rattle.est_blocks.specs.BlockFaults.{part_faults, row_faults, parts_faults, bodies_faults}
 use Rattle.est_types.specs.DeclarationFaults.{declaration_faults}
 use Rattle.est_check.specs.LeastFault.{IsGood, IsLeastFault}

@@ -1,7 +1,7 @@
 //! Clauses that have no effect.
 
 use crate::warning::{Slip, Warning};
-use est_blocks::context::give_clauses;
+use est_clauses::context::give_clauses;
 use est_declares::context::{Context, Given};
 use est_syntax::transition::{Clause, Group, Transition};
 use std::alloc::{AllocError, Global};

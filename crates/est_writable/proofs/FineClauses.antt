@@ -12,7 +12,8 @@ use Rattle.est_scope.specs.Outline.{Outline}
 use Rattle.est_declares.specs.declared.context.Given.{Given}
 use Rattle.est_blocks.specs.BlockFaults.{part_faults, row_faults, first_faults, parts_faults}
 use Rattle.est_blocks.specs.BlockFaults.{row_groups_faults, row_transitions_faults}
-use Rattle.est_blocks.specs.Clauses.{clause_faults, clauses_faults, with_clauses, delay_faults}
+use Rattle.est_blocks.specs.Clauses.{clause_faults, clauses_faults}
+use Rattle.est_clauses.specs.GivenClauses.{with_clauses, delay_faults}
 use Rattle.est_order.specs.Said.{Each, ClauseSaid, TransitionsSaid, GroupsSaid, PartSaid, PartsSaid}
 use Rattle.est_fullness.specs.WholeBodies.{ClauseLacksNothing, ClausesLackNothing}
 use Rattle.est_fullness.specs.WholeBodies.{TransitionsLackNothing, GroupsLackNothing}

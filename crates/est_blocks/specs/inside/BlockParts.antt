@@ -13,7 +13,8 @@ use Rattle.est_scope.specs.Uses.{use_faults}
 use Rattle.est_declares.specs.declared.context.Given.{Given}
 use Rattle.est_sizes.specs.Scalars.{parts_scalars}
 use Rattle.est_statements.specs.Statements.{statements_faults}
-use Rattle.est_blocks.specs.Clauses.{clauses_faults, with_clauses, delay_faults, next_faults}
+use Rattle.est_blocks.specs.Clauses.{clauses_faults, next_faults}
+use Rattle.est_clauses.specs.GivenClauses.{with_clauses, delay_faults}
 use Rattle.est_blocks.specs.BlockFaults.{function_of, block_faults, parts_faults}
 
 -- what a block breaks

@@ -3,10 +3,10 @@
 
 ghost use Rattle.std.specs.Prelude.{◌≡◌, OnOk};
 ghost use Rattle.est_scope.specs.LeastSoFar.{least_with};
-ghost use Rattle.est_blocks.specs.Clauses.{with_clause, with_clauses};
+ghost use Rattle.est_clauses.specs.GivenClauses.{with_clause, with_clauses};
 ghost use Rattle.est_syntax.specs.Clauses.{clause_place};
 ghost use Rattle.est_declares.specs.Contexts.{kind_of};
-ghost use Rattle.est_blocks.specs.Clauses.{has, delay_faults};
+ghost use Rattle.est_clauses.specs.GivenClauses.{has, delay_faults};
 
 use est_declares::context::{ClauseKind, Context, Given, give};
 use est_scope::least::Least;
