@@ -1,1 +1,15 @@
+pub mod Ancestors
+pub mod BlocksOfExecutions
+pub mod BlocksOfInstances
+pub mod ClimbsEnd
+pub mod Executions
+pub mod FittingFrames
+pub mod GivenThings
 pub mod JoinedSets
+pub mod LivingLinks
+pub mod OneRoot
+pub mod OrderlyBlocks
+pub mod OrderlyStart
+pub mod ParentsOlder
+pub mod RowLaws
+pub mod SameRows

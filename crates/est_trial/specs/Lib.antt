@@ -1,1 +1,7 @@
+pub mod AncestorLaws
+pub mod Ancestry
+pub mod AttachTargets
+pub mod ClimbLaws
+pub mod OrderLaws
 pub mod SetMembers
+pub mod UpkeepLaws

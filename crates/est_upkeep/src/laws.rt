@@ -1,6 +1,7 @@
 //! What holds of all blocks of instances, and so in each situation of a run.
 ghost use Rattle.est_upkeep.specs.AncestorLaws.{ParentsStayOlder, AncestorsAreOlder};
-ghost use Rattle.est_upkeep.specs.AncestorLaws.{NoneIsItsAncestor};
+ghost use Rattle.est_upkeep.specs.AncestorLaws.{NoneIsItsAncestor, ThoseWhoGoDescend};
+ghost use Rattle.est_upkeep.specs.AncestorLaws.{DescendantsGo};
 ghost use Rattle.est_upkeep.specs.ClimbLaws.{ClimbsEnd, DescentsEnd};
 ghost use Rattle.est_upkeep.specs.OrderLaws.{SituationsStayOrderly, StartsAreOrderly};
 ghost use Rattle.est_upkeep.specs.RunOrder.{OneTreeDescends, FiringsStayOrderly};
@@ -19,6 +20,13 @@ pub fn parents_stay_older()
 pub fn ancestors_are_older()
     ensures older { AncestorsAreOlder }
     ensures other { NoneIsItsAncestor }
+{}
+
+/// With an instance that is released go those that descend from it, and no others.
+#[tactic(auto, using(crate::proofs::Ancestors::who_goes_descends, crate::proofs::Ancestors::descendants_go))]
+pub fn descendants_are_released()
+    ensures gone { ThoseWhoGoDescend }
+    ensures below { DescendantsGo }
 {}
 
 /// After a block of a living instance links and queues are those of living instances where they
