@@ -1,13 +1,12 @@
 -- Who is above an instance is its ancestor, and who is below goes with it.
 use Rattle.std.specs.Prelude.{if◌then◌else◌, find, ◌⊎◌}
-use Rattle.std.proofs.Common.{◌≡◌, refl, sym, ap, subst, ◌∙◌, arith, ℕ, ◌+◌, ◌<◌, ◌≤◌, nat_eq}
-use Rattle.std.proofs.Common.{Bool, true, false, ◌||◌, List, [], ◌∷◌, Option, Some, None}
+use Rattle.std.proofs.Common.{◌≡◌, refl, sym, ap, subst, ◌∙◌, arith, ℕ, ◌+◌, nat_eq}
+use Rattle.std.proofs.Common.{Bool, true, false, ◌||◌, List, [], ◌∷◌, Some}
 use Rattle.std.proofs.Common.{inl, inr}
 use Rattle.std.proofs.lemmas.Bool.{eqb-true}
 use Rattle.std.proofs.lemmas.Option.{same_Some}
 use Rattle.est_semantics.specs.declared.situation.Row.{Row}
 use Rattle.est_semantics.specs.GlobalSituation.{Situation, is_numbered}
-use Rattle.est_semantics.specs.InstanceEffects.{is_among, descendants}
 use Rattle.est_semantics.specs.KeepingLaws.{AreNumbered, AscendBelow}
 use Rattle.est_semantics.proofs.MutualPeers.{eq_self}
 use Rattle.est_trial.specs.Ancestry.{IsAncestor, parent, beyond}

@@ -5,6 +5,7 @@ pub mod ClimbsEnd
 pub mod Executions
 pub mod FittingFrames
 pub mod GivenThings
+pub mod HostsByForm
 pub mod JoinedSets
 pub mod LivingLinks
 pub mod OneRoot

@@ -40,7 +40,6 @@ use Rattle.est_trial.proofs.SameRows.{HasSameRows, crossed_rows, parted_rows, en
 use Rattle.est_trial.proofs.SameRows.{each_rows}
 use Rattle.est_trial.proofs.BlocksOfInstances.{Upkeep, instance_keeps}
 use Rattle.est_trial.proofs.Executions.{with_situation, held_child}
-use Rattle.est_trial.proofs.RowLaws.{of_rows}
 
 -- ROWS
 

@@ -1,10 +1,17 @@
 //! Laws on trial.
+ghost use Rattle.est_trial.specs.HostsOfForms.{HostsAreThoseOfRules};
 ghost use Rattle.est_trial.specs.SetMembers.{UnitedMembersAreInEither, SpansAddTheirMembers};
 ghost use Rattle.est_trial.specs.AncestorLaws.{ParentsStayOlder, AncestorsAreOlder};
 ghost use Rattle.est_trial.specs.AncestorLaws.{NoneIsItsAncestor, ThoseWhoGoDescend};
 ghost use Rattle.est_trial.specs.AncestorLaws.{DescendantsGo};
 ghost use Rattle.est_trial.specs.ClimbLaws.{ClimbsEnd, DescentsEnd};
 ghost use Rattle.est_trial.specs.OrderLaws.{SituationsStayOrderly, StartsAreOrderly};
+
+/// Where an expression yields an ordinal, its host by form is the host of that.
+#[tactic(auto, using(crate::proofs::HostsByForm::hosts_by_rules))]
+pub fn hosts_are_those_of_rules()
+    ensures { HostsAreThoseOfRules }
+{}
 
 /// A union has the members of either set, and a span adds those between its ends.
 #[tactic(auto, using(crate::proofs::JoinedSets::united_members, crate::proofs::JoinedSets::span_members))]

@@ -40,7 +40,6 @@ use Rattle.est_upkeep.proofs.SameRows.{HasSameRows, crossed_rows, parted_rows, e
 use Rattle.est_upkeep.proofs.SameRows.{each_rows}
 use Rattle.est_upkeep.proofs.BlocksOfInstances.{Upkeep, instance_keeps}
 use Rattle.est_upkeep.proofs.Executions.{with_situation, held_child}
-use Rattle.est_upkeep.proofs.RowLaws.{of_rows}
 
 -- ROWS
 

@@ -194,15 +194,10 @@ living_number least next rs n h g =
 
 -- WHO IS ABOVE
 
--- a climb along parents, of as many steps as there are, leads from an instance to another
+-- a climb along parents, of no step or of some, leads from an instance up to another
 pub data IsUpTo (rs : List Row) (a : ℕ) : ℕ → Type 0 where
   here : (n : ℕ) → a ≡ n → IsUpTo rs a n
   child : (n : ℕ) (r : Row) → IsRowOf rs r → r.number ≡ n → IsUpTo rs a r.parent → IsUpTo rs a n
-
--- what is above a parent is above its child
-pub up_child : (rs : List Row) (a : ℕ) (r : Row) → IsRowOf rs r → IsUpTo rs a r.parent
-    → IsUpTo rs a r.number
-up_child rs a r c k = child r.number r c refl k
 
 pub up_from : (rs us : List Row) → From rs us → (a n : ℕ) → IsUpTo us a n → IsUpTo rs a n
 up_from rs us h a n (here m e) = here m e
