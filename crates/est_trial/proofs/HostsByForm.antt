@@ -1,16 +1,16 @@
 -- The host by form of what an expression yields is that of the rules.
 use Rattle.std.specs.Prelude.{option_and_then, if◌then◌else◌, nat_le}
 use Rattle.std.specs.Option.{option_map}
-use Rattle.std.proofs.Common.{◌≡◌, refl, sym, ap, subst, ◌∙◌, true≢false, ℕ, zero, suc, ◌+◌}
+use Rattle.std.proofs.Common.{◌≡◌, refl, sym, ap, subst, ◌∙◌, true≢false, ℕ, ◌+◌}
 use Rattle.std.proofs.Common.{Bool, true, false, List, [], ◌∷◌, length, Option, Some, None}
 use Rattle.std.proofs.lemmas.Option.{same_Some, none-some}
 use Rattle.est_syntax.specs.Kinds.{maxint}
 use Rattle.est_syntax.specs.Names.{is_name, spelled}
 use Rattle.est_syntax.specs.declared.constant.Sign.{Sign}
-use Rattle.est_syntax.specs.declared.expression.Expr.{Expr, Expr', Held-Expr-relation}
+use Rattle.est_syntax.specs.declared.expression.Expr.{Expr, Expr'}
 use Rattle.est_syntax.specs.declared.expression.Expr.{Expr-relation-None', Expr-relation-Some'}
 use Rattle.est_syntax.specs.declared.expression.Factor.{Factor, Row_of-Expr, end_of-Expr}
-use Rattle.est_syntax.specs.declared.expression.Factor.{more_of-Expr, Row_of-Factor}
+use Rattle.est_syntax.specs.declared.expression.Factor.{more_of-Expr}
 use Rattle.est_syntax.specs.declared.expression.Factor.{Row_of-Member, end_of-Member}
 use Rattle.est_syntax.specs.declared.expression.Factor.{more_of-Member, Row_of-Selector}
 use Rattle.est_syntax.specs.declared.expression.Factor.{end_of-Selector, more_of-Selector}
@@ -43,11 +43,9 @@ use Rattle.est_scope.specs.declared.declaration.Measured.{Measured}
 use Rattle.est_scope.specs.declared.declaration.Sort.{Sort}
 use Rattle.est_scope.specs.declared.declaration.Sort.TheVariants as sort
 use Rattle.est_scope.specs.declared.declaration.Standing.{Standing}
-use Rattle.est_scope.specs.declared.predeclared.PredeclaredName.{PredeclaredName}
 use Rattle.est_scope.specs.declared.predeclared.PredeclaredName.TheVariants as known
 use Rattle.est_scope.specs.Outline.{Outline, entry_at, standing}
 use Rattle.est_scope.specs.Uses.{is_sort, same_sort, meaning}
-use Rattle.est_kinds.specs.Constants.{predeclared_constant}
 use Rattle.est_alike.specs.declared.types.Host.{Host}
 use Rattle.est_alike.specs.declared.types.Host.TheVariants as host
 use Rattle.est_alike.specs.Types.{Yielded, Ordinal, Set, Group, is_host, are_hosts_one, type_by}
@@ -65,7 +63,7 @@ use Rattle.est_expressions.specs.ExpressionPlaces.{number_type}
 use Rattle.est_expressions.specs.Selections.{Selection, Broken, Value, Component, Modules, Module}
 use Rattle.est_expressions.specs.Selections.{SomeModule, declared_type, value_of, module_head}
 use Rattle.est_expressions.specs.Selections.{variable_head, value_head, function_head, takes_so_many}
-use Rattle.est_expressions.specs.Selections.{host_value, head_by, head_in, head_meant, head}
+use Rattle.est_expressions.specs.Selections.{host_value, head_by, head_in, head_meant}
 use Rattle.est_expressions.specs.Variables.{indexed, component, chosen_by, field_found, field_of}
 use Rattle.est_expressions.specs.Variables.{is_export, export_by, has_exports, export_of, with_field}
 use Rattle.est_expressions.specs.Variables.{selected_type}
@@ -74,14 +72,14 @@ use Rattle.est_expressions.specs.Calls.{subscripts_of, declared_callee, required
 use Rattle.est_expressions.specs.Calls.{callee, call_by}
 use Rattle.est_expressions.specs.Expressions.{expr_type, simple_type, row_sum, term_type, row_product}
 use Rattle.est_expressions.specs.Expressions.{factor_type, row_first, row_factor, row_members}
-use Rattle.est_expressions.specs.Expressions.{with_members, held_high, row_taken, row_selected}
+use Rattle.est_expressions.specs.Expressions.{held_high, row_taken, row_selected}
 use Rattle.est_expressions.specs.Expressions.{selection, components, are_taken, with_index}
 use Rattle.est_expressions.proofs.Rows.{index_selection_at}
 use Rattle.est_semantics.specs.NamesInRuns.{kind_at, array_in, field_from, field_in}
 use Rattle.est_semantics.specs.OperandHosts.{Subject, OfKind, OfModules, of_kind_at, subject_at}
 use Rattle.est_semantics.specs.OperandHosts.{component_of, subscripted, field_subject}
 use Rattle.est_semantics.specs.OperandHosts.{selected_subject, subject_along, subject_host}
-use Rattle.est_semantics.specs.OperandHosts.{predeclared_host, named_host, required_host, call_host}
+use Rattle.est_semantics.specs.OperandHosts.{named_host, required_host, call_host}
 use Rattle.est_semantics.specs.OperandHosts.{host_of, simple_host, term_host, factor_host, row_host}
 use Rattle.est_trial.specs.HostsOfForms.{AddUp, Multiply, IsFormed, IsFormedSum, IsFormedProduct}
 use Rattle.est_trial.specs.HostsOfForms.{IsFormedFactor, IsFormedFirst, HostsAreThoseOfRules}
