@@ -62,17 +62,18 @@ use Rattle.est_expressions.specs.Operators.{is_relation, result_of, operated, si
 use Rattle.est_expressions.specs.ExpressionPlaces.{number_type}
 use Rattle.est_expressions.specs.Selections.{Selection, Broken, Value, Component, Modules, Module}
 use Rattle.est_expressions.specs.Selections.{SomeModule, declared_type, value_of, module_head}
-use Rattle.est_expressions.specs.Selections.{variable_head, value_head, function_head, takes_so_many}
-use Rattle.est_expressions.specs.Selections.{host_value, head_by, head_in, head_meant}
+use Rattle.est_expressions.specs.Selections.{variable_head, value_head, function_head}
+use Rattle.est_expressions.specs.Selections.{takes_so_many, host_value, head_by, head_in}
+use Rattle.est_expressions.specs.Selections.{head_meant}
 use Rattle.est_expressions.specs.Variables.{indexed, component, chosen_by, field_found, field_of}
-use Rattle.est_expressions.specs.Variables.{is_export, export_by, has_exports, export_of, with_field}
-use Rattle.est_expressions.specs.Variables.{selected_type}
+use Rattle.est_expressions.specs.Variables.{is_export, export_by, has_exports, export_of}
+use Rattle.est_expressions.specs.Variables.{with_field, selected_type}
 use Rattle.est_expressions.specs.Variables as variables
-use Rattle.est_expressions.specs.Calls.{subscripts_of, declared_callee, required_callee, callee_meant}
-use Rattle.est_expressions.specs.Calls.{callee, call_by}
-use Rattle.est_expressions.specs.Expressions.{expr_type, simple_type, row_sum, term_type, row_product}
-use Rattle.est_expressions.specs.Expressions.{factor_type, row_first, row_factor, row_members}
-use Rattle.est_expressions.specs.Expressions.{held_high, row_taken, row_selected}
+use Rattle.est_expressions.specs.Calls.{subscripts_of, declared_callee, required_callee}
+use Rattle.est_expressions.specs.Calls.{callee_meant, callee, call_by}
+use Rattle.est_expressions.specs.Expressions.{expr_type, simple_type, row_sum, term_type}
+use Rattle.est_expressions.specs.Expressions.{row_product, factor_type, row_first, row_factor}
+use Rattle.est_expressions.specs.Expressions.{row_members, held_high, row_taken, row_selected}
 use Rattle.est_expressions.specs.Expressions.{selection, components, are_taken, with_index}
 use Rattle.est_expressions.proofs.Rows.{index_selection_at}
 use Rattle.est_semantics.specs.NamesInRuns.{kind_at, array_in, field_from, field_in}
@@ -81,8 +82,9 @@ use Rattle.est_semantics.specs.OperandHosts.{component_of, subscripted, field_su
 use Rattle.est_semantics.specs.OperandHosts.{selected_subject, subject_along, subject_host}
 use Rattle.est_semantics.specs.OperandHosts.{named_host, required_host, call_host}
 use Rattle.est_semantics.specs.OperandHosts.{host_of, simple_host, term_host, factor_host, row_host}
-use Rattle.est_trial.specs.HostsOfForms.{AddUp, Multiply, IsFormed, IsFormedSum, IsFormedProduct}
-use Rattle.est_trial.specs.HostsOfForms.{IsFormedFactor, IsFormedFirst, HostsAreThoseOfRules}
+use Rattle.est_trial.specs.HostsOfForms.{AddUp, Multiply, IsFormed, IsFormedSum}
+use Rattle.est_trial.specs.HostsOfForms.{IsFormedProduct, IsFormedFactor, IsFormedFirst}
+use Rattle.est_trial.specs.HostsOfForms.{HostsAreThoseOfRules}
 
 -- an ordinal of a host
 abbrev Yields : Option Yielded → Host → Type 0

@@ -2,7 +2,16 @@ pub mod AncestorLaws
 pub mod Ancestry
 pub mod AttachTargets
 pub mod ClimbLaws
+pub mod DepartureLaws
+pub mod FittingStates
 pub mod HostsOfForms
+pub mod KindsOfPlaces
 pub mod OrderLaws
+pub mod SameKinds
+pub mod SentInteractions
 pub mod SetMembers
+pub mod SoundnessLaws
+pub mod SteadyOutlines
+pub mod Targets
 pub mod UpkeepLaws
+pub mod ValuesOfTypes

@@ -1,4 +1,5 @@
 //! Laws on trial.
+ghost use Rattle.est_trial.specs.SoundnessLaws.{AlikeKindsHaveOneValue, GivenIsSome};
 ghost use Rattle.est_trial.specs.HostsOfForms.{HostsAreThoseOfRules};
 ghost use Rattle.est_trial.specs.SetMembers.{UnitedMembersAreInEither, SpansAddTheirMembers};
 ghost use Rattle.est_trial.specs.AncestorLaws.{ParentsStayOlder, AncestorsAreOlder};
@@ -56,4 +57,15 @@ pub fn climbs_end()
 /// A start is orderly, and has one root.
 pub fn starts_are_orderly()
     ensures { StartsAreOrderly }
+{}
+
+/// A value that fits a kind fits each one that is alike.
+#[tactic(auto, using(crate::proofs::SameKinds::alike_fit))]
+pub fn alike_kinds_have_one_value()
+    ensures { AlikeKindsHaveOneValue }
+{}
+
+/// Trial.
+pub fn given_is_some()
+    ensures { GivenIsSome }
 {}
