@@ -2,11 +2,11 @@
 use Rattle.std.proofs.Common.{◌≡◌, refl, sym, subst, arith, ℤ, pos, ◌+ℤ◌, ◌≤ℤ◌, Bool, true, false}
 use Rattle.std.proofs.Common.{List, [], ◌∷◌, Ok, Err}
 use Rattle.std.specs.Prelude.{int_le, if◌then◌else◌}
-use Rattle.std.specs.List.{AllByRecursion, AllZip, list_all}
+use Rattle.std.specs.List.{list_all}
 use Rattle.std.proofs.lemmas.Int.{ints}
 use Rattle.est_syntax.specs.declared.kind.Kind.{Kind, out-Kind}
 use Rattle.est_syntax.specs.declared.kind.Kind.TheOpen as seen
-use Rattle.est_values.specs.declared.value.Value.{Value, out-Value}
+use Rattle.est_values.specs.declared.value.Value.{out-Value}
 use Rattle.est_values.specs.declared.value.Value.TheVariants as value
 use Rattle.est_values.specs.FittingValues.{KindLayer, first_ordinal, last_ordinal, AscendFrom}
 use Rattle.est_values.specs.FittingValues.{AreMembersOf, is_scalar, Fits}

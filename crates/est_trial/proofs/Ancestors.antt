@@ -1,19 +1,26 @@
 -- Who is above an instance is its ancestor, and who is below goes with it.
-use Rattle.std.specs.Prelude.{if◌then◌else◌, find, ◌⊎◌}
+use Rattle.std.specs.Prelude.{if◌then◌else◌, find, not, ◌⊎◌}
+use Rattle.std.specs.List.{filter}
 use Rattle.std.proofs.Common.{◌≡◌, refl, sym, ap, subst, ◌∙◌, arith, ℕ, ◌+◌, nat_eq}
-use Rattle.std.proofs.Common.{Bool, true, false, ◌||◌, List, [], ◌∷◌, Some}
+use Rattle.std.proofs.Common.{Bool, true, false, ◌&&◌, ◌||◌, List, [], ◌∷◌, Some, is_some}
 use Rattle.std.proofs.Common.{inl, inr}
 use Rattle.std.proofs.lemmas.Bool.{eqb-true}
 use Rattle.std.proofs.lemmas.Option.{same_Some}
 use Rattle.est_semantics.specs.declared.situation.Row.{Row}
-use Rattle.est_semantics.specs.GlobalSituation.{Situation, is_numbered}
+use Rattle.est_semantics.specs.TextByPlace.{Text}
+use Rattle.est_semantics.specs.GlobalSituation.{Situation, is_numbered, lives}
+use Rattle.est_semantics.specs.InstancePoints.{external_of}
+use Rattle.est_semantics.specs.LinkEffects.{each}
+use Rattle.est_semantics.specs.InstanceEffects.{is_among, descendants, untied, released}
 use Rattle.est_semantics.specs.KeepingLaws.{AreNumbered, AscendBelow}
 use Rattle.est_semantics.proofs.MutualPeers.{eq_self}
 use Rattle.est_trial.specs.Ancestry.{IsAncestor, parent, beyond}
 use Rattle.est_trial.specs.AncestorLaws.{IsRowOf, AreInAge, AncestorsAreOlder, NoneIsItsAncestor}
 use Rattle.est_trial.specs.AncestorLaws.{GoesWith, ThoseWhoGoDescend, DescendantsGo}
+use Rattle.est_trial.specs.AncestorLaws.{ReleaseEndsDescendants}
+use Rattle.est_trial.proofs.SameRows.{each_rows}
 use Rattle.est_trial.proofs.RowLaws.{IsUpTo, here, child, of_rows, within_numbers, grows}
-use Rattle.est_trial.proofs.RowLaws.{among_self, descend, closed_below}
+use Rattle.est_trial.proofs.RowLaws.{true_false, among_self, descend, closed_below}
 
 -- ROWS BY THEIR NUMBERS
 
@@ -98,3 +105,64 @@ goes_below s n m h g (beyond i r e k) =
 
 pub descendants_go : DescendantsGo
 descendants_go = record { itself = goes_itself; below = goes_below }
+
+-- who lives of those that are kept by their numbers
+kept_live : (test : ℕ → Bool) (rs : List Row) (m : ℕ)
+    → is_some (find (is_numbered m) (filter (λ (r : Row). test r.number) rs))
+    ≡ (test m && is_some (find (is_numbered m) rs))
+kept_live test [] m = one (test m)
+  where
+    one : (b : Bool) → false ≡ (b && false)
+    one true = refl
+    one false = refl
+kept_live test (x ∷ xs) m = by (filter (λ (r : Row). test r.number) xs)
+    (nat_eq m x.number) (test x.number) (test m) refl refl refl (kept_live test xs m)
+  where
+    by : (rest : List Row) (b c d : Bool) → nat_eq m x.number ≡ b → test x.number ≡ c
+        → test m ≡ d
+        → is_some (find (is_numbered m) rest) ≡ (d && is_some (find (is_numbered m) xs))
+        → is_some (find (is_numbered m) (if c then x ∷ rest else rest))
+        ≡ (d && is_some (if b then Some x else find (is_numbered m) xs))
+    by rest true true true e f g h =
+        ap (λ (b : Bool). is_some (if b then Some x else find (is_numbered m) rest)) e
+    by rest true false false e f g h = h
+    by rest true true false e f g h =
+        absurd (true_false (test m) (ap test (eqb-true m x.number e) ∙ f) g)
+    by rest true false true e f g h =
+        absurd (true_false (test m) g (ap test (eqb-true m x.number e) ∙ f))
+    by rest false true d e f g h =
+        ap (λ (b : Bool). is_some (if b then Some x else find (is_numbered m) rest)) e ∙ h
+    by rest false false d e f g h = h
+
+-- who lives after a release
+lives_after : (t : Text) (s : Situation) (n m : ℕ)
+    → lives (released t n s) m ≡ (not (is_among (descendants (n ∷ []) s.rows) m) && lives s m)
+lives_after t s n m =
+    let u = each (untied t) (external_of t.outline s n) s in
+    kept_live (λ k. not (is_among (descendants (n ∷ []) u.rows) k)) u.rows m
+    ∙ ap (λ (rs : List Row). not (is_among (descendants (n ∷ []) rs) m)
+    && is_some (find (is_numbered m) rs)) (each_rows t (external_of t.outline s n) s).rows
+
+pub release_ends_descendants : ReleaseEndsDescendants
+release_ends_descendants = record { ended = ended; left = left }
+  where
+    goes : (s : Situation) (n m : ℕ) → AreNumbered s → AreInAge s.rows
+        → (m ≡ n) ⊎ IsAncestor s n m → GoesWith s n m
+    goes s n m h g (inl e) = subst (GoesWith s n) (sym e) (goes_itself s n)
+    goes s n m h g (inr a) = goes_below s n m h g a
+
+    either : (b : Bool) → (b ≡ true → ⊥) → b ≡ false
+    either true f = absurd (f refl)
+    either false f = refl
+
+    ended : (t : Text) (s : Situation) (n m : ℕ) → AreNumbered s → AreInAge s.rows
+        → (m ≡ n) ⊎ IsAncestor s n m → lives (released t n s) m ≡ false
+    ended t s n m h g a = lives_after t s n m
+        ∙ ap (λ (b : Bool). not b && lives s m) (goes s n m h g a)
+
+    left : (t : Text) (s : Situation) (n m : ℕ) → AreNumbered s
+        → ((m ≡ n) ⊎ IsAncestor s n m → ⊥) → lives (released t n s) m ≡ lives s m
+    left t s n m h f = lives_after t s n m
+        ∙ ap (λ (b : Bool). not b && lives s m)
+        (either (is_among (descendants (n ∷ []) s.rows) m)
+        (λ e. f (who_goes_descends s n m h e)))

@@ -13,6 +13,7 @@ pub mod HostsByForm
 pub mod JoinedSets
 pub mod LivingLinks
 pub mod OneRoot
+pub mod OneTree
 pub mod OperatorValues
 pub mod OrderlyBlocks
 pub mod OrderlyStart

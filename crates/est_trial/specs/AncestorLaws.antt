@@ -1,12 +1,12 @@
 -- Parents are older than their children, and those who descend from an instance go with it.
-use Rattle.std.specs.Prelude.{◌≡◌, ℕ, ◌<◌, Bool, true, List, [], ◌∷◌, Some, ◌⊎◌}
+use Rattle.std.specs.Prelude.{◌≡◌, ℕ, ◌<◌, Bool, true, false, List, [], ◌∷◌, Some, ◌⊎◌}
 use Rattle.std.specs.List.{AllByRecursion}
 use Rattle.est_syntax.specs.declared.statement.Statement.{Statement}
 use Rattle.est_semantics.specs.declared.situation.Holding.{Holding}
 use Rattle.est_semantics.specs.declared.situation.Row.{Row}
 use Rattle.est_semantics.specs.TextByPlace.{Text}
-use Rattle.est_semantics.specs.GlobalSituation.{Situation}
-use Rattle.est_semantics.specs.InstanceEffects.{is_among, descendants}
+use Rattle.est_semantics.specs.GlobalSituation.{Situation, lives}
+use Rattle.est_semantics.specs.InstanceEffects.{is_among, descendants, released}
 use Rattle.est_semantics.specs.KeepingLaws.{Keeping, Between, AreNumbered}
 use Rattle.est_semantics.specs.StatementEffects.{statements_in}
 use Rattle.est_semantics.specs.BlockLevels.{site}
@@ -69,3 +69,11 @@ pub record DescendantsGo : Type 0 where
   pub itself : (s : Situation) (n : ℕ) → GoesWith s n n
   pub below : (s : Situation) (n m : ℕ) → AreNumbered s → AreInAge s.rows → IsAncestor s n m
       → GoesWith s n m
+
+-- So a release ends the instance and those that descend from it, and leaves all others as they are,
+-- living or not.
+pub record ReleaseEndsDescendants : Type 0 where
+  pub ended : (t : Text) (s : Situation) (n m : ℕ) → AreNumbered s → AreInAge s.rows
+      → (m ≡ n) ⊎ IsAncestor s n m → lives (released t n s) m ≡ false
+  pub left : (t : Text) (s : Situation) (n m : ℕ) → AreNumbered s
+      → ((m ≡ n) ⊎ IsAncestor s n m → ⊥) → lives (released t n s) m ≡ lives s m

@@ -1,5 +1,5 @@
 -- Laws.
-use Rattle.std.specs.Prelude.{◌≡◌, ℕ, true, Bool, Option, Some}
+use Rattle.std.specs.Prelude.{◌≡◌, ℕ, true, Option, Some}
 use Rattle.est_syntax.specs.declared.kind.Kind.{Kind}
 use Rattle.est_values.specs.declared.value.Value.{Value}
 use Rattle.est_values.specs.FittingValues.{Fits}

@@ -1,22 +1,20 @@
 -- What statements may write (ISO 7185, 6.8.2.2 and 6.8.3.9; ISO 9074, exported variables and
 -- module variables).
-use Rattle.std.specs.Prelude.{ℕ, Bool, true, false, ◌&&◌, not, nat_lt, nat_eq, List, [], ◌∷◌}
+use Rattle.std.specs.Prelude.{ℕ, Bool, true, false, ◌&&◌, not, nat_lt, nat_eq, List, []}
 use Rattle.std.specs.Prelude.{◌++◌, Option, Some, None, is_some, unwrap_or, if◌then◌else◌}
 use Rattle.std.specs.Prelude.{length, slice_get}
 use Rattle.std.specs.List.{list_any}
-use Rattle.std.specs.Option.{option_map}
-use Rattle.est_syntax.specs.declared.constant.Sign.{Sign}
 use Rattle.est_syntax.specs.Faults.{broken}
-use Rattle.est_syntax.specs.declared.expression.Expr.{Expr, out-Expr}
-use Rattle.est_syntax.specs.declared.expression.Factor.{Factor, out-Factor}
+use Rattle.est_syntax.specs.declared.expression.Expr.{Expr}
+use Rattle.est_syntax.specs.declared.expression.Factor.{Factor}
 use Rattle.est_syntax.specs.declared.expression.Factor.TheOpen as opened
 use Rattle.est_syntax.specs.declared.expression.Member.{Member}
 use Rattle.est_syntax.specs.declared.expression.ProductStep.{ProductStep}
 use Rattle.est_syntax.specs.declared.expression.Relation.{Relation}
 use Rattle.est_syntax.specs.declared.expression.Selector.{Selector, out-Selector}
-use Rattle.est_syntax.specs.declared.expression.Simple.{Simple, out-Simple}
+use Rattle.est_syntax.specs.declared.expression.Simple.{Simple}
 use Rattle.est_syntax.specs.declared.expression.SumStep.{SumStep}
-use Rattle.est_syntax.specs.declared.expression.Term.{Term, out-Term}
+use Rattle.est_syntax.specs.declared.expression.Term.{Term}
 use Rattle.est_syntax.specs.declared.kind.Kind.{Kind}
 use Rattle.est_syntax.specs.declared.name.Used.{Used}
 use Rattle.est_syntax.specs.declared.rule.Fault.{Fault}
@@ -46,7 +44,6 @@ use Rattle.est_declares.specs.RequiredFunctions.{required_function}
 use Rattle.est_expressions.specs.ExpressionPlaces.{expr_place}
 use Rattle.est_expressions.specs.Variables.{selected_type}
 use Rattle.est_expressions.specs.Expressions.{expr_type, expr_faults, selected, selected_faults}
-use Rattle.est_declares.specs.declared.variables.VariableAccess.{VariableAccess}
 
 -- the names of an `any`, a `when` and an `all` are not written
 abbrev pub is_written_section : Section → Bool

@@ -4,7 +4,7 @@ ghost use Rattle.est_trial.specs.HostsOfForms.{HostsAreThoseOfRules};
 ghost use Rattle.est_trial.specs.SetMembers.{UnitedMembersAreInEither, SpansAddTheirMembers};
 ghost use Rattle.est_trial.specs.AncestorLaws.{ParentsStayOlder, AncestorsAreOlder};
 ghost use Rattle.est_trial.specs.AncestorLaws.{NoneIsItsAncestor, ThoseWhoGoDescend};
-ghost use Rattle.est_trial.specs.AncestorLaws.{DescendantsGo};
+ghost use Rattle.est_trial.specs.AncestorLaws.{DescendantsGo, ReleaseEndsDescendants};
 ghost use Rattle.est_trial.specs.ClimbLaws.{ClimbsEnd, DescentsEnd};
 ghost use Rattle.est_trial.specs.OrderLaws.{SituationsStayOrderly, StartsAreOrderly};
 
@@ -35,9 +35,15 @@ pub fn ancestors_are_older()
 
 /// With an instance that is released go those that descend from it, and no others.
 #[tactic(auto, using(crate::proofs::Ancestors::who_goes_descends, crate::proofs::Ancestors::descendants_go))]
-pub fn descendants_are_released()
+pub fn descendants_go()
     ensures gone { ThoseWhoGoDescend }
     ensures below { DescendantsGo }
+{}
+
+/// A release ends an instance and those that descend from it, and leaves the others.
+#[tactic(auto, using(crate::proofs::Ancestors::release_ends_descendants))]
+pub fn release_ends_descendants()
+    ensures { ReleaseEndsDescendants }
 {}
 
 /// After a block of a living instance links and queues are those of living instances where they

@@ -13,7 +13,7 @@ use Rattle.est_semantics.proofs.MutualPeers.{eq_self}
 use Rattle.est_upkeep.specs.AncestorLaws.{IsRowOf, AreInAge, IsBetween}
 use Rattle.est_upkeep.specs.OrderLaws.{IsLiving}
 
-true_false : (b : Bool) → b ≡ true → b ≡ false → ⊥
+pub true_false : (b : Bool) → b ≡ true → b ≡ false → ⊥
 true_false b h k = cc
 
 -- ROWS
