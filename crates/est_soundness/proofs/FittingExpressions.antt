@@ -316,9 +316,7 @@ module _ (v : View) (steady : IsSteady v.site.text.outline)
 
   defined_fits : (k : Kind) (w : Value) → Fits k w → OnGood (Fits k) (defined_in w)
   defined_fits k value.Undefined f = tt
-  defined_fits k (value.Ordinal z) f = f
-  defined_fits k (value.Set zs) f = f
-  defined_fits k (value.Group ws) f = f
+  defined_fits k w f = f
 
   both_given : {A : Type 0} (P Q : A → Type 0) (x : Outcome ℕ A) → Gives P x → Gives Q x
       → Gives (λ a. P a × Q a) x
