@@ -104,12 +104,14 @@ one_next n a z = by (int_eq z a) refl
     here e = let s : z ≡ a = (Decides-int_eq z a).0 e in
         both (int_le a z) (int_lt z (a +ℤ pos (suc n))) (grind (arith, ints, s))
         (grind (arith, ints, s))
+
     later : is_among_next n (a +ℤ pos 1) z ≡ true → is_among_next (suc n) a z ≡ true
     later e = let h = parts (int_le (a +ℤ pos 1) z) (int_lt z ((a +ℤ pos 1) +ℤ pos n)) e in
         let f : int_le (a +ℤ pos 1) z ≡ true = h.0 in
         let g : int_lt z ((a +ℤ pos 1) +ℤ pos n) ≡ true = h.1 in
         both (int_le a z) (int_lt z (a +ℤ pos (suc n))) (grind (arith, ints, f))
         (grind (arith, ints, g))
+
     sooner : int_eq z a ≡ false → is_among_next (suc n) a z ≡ true
         → is_among_next n (a +ℤ pos 1) z ≡ true
     sooner d e = let h = parts (int_le a z) (int_lt z (a +ℤ pos (suc n))) e in
@@ -118,6 +120,7 @@ one_next n a z = by (int_eq z a) refl
         let w : (a +ℤ pos 1) ≤ℤ z = above z a d f in
         both (int_le (a +ℤ pos 1) z) (int_lt z ((a +ℤ pos 1) +ℤ pos n)) (grind (arith, ints, w))
         (grind (arith, ints, g))
+
     by : (b : Bool) → int_eq z a ≡ b
         → (b || is_among_next n (a +ℤ pos 1) z) ≡ is_among_next (suc n) a z
     by true e = sym (here e)
@@ -153,6 +156,7 @@ span_next a b z = same_tests (is_among_next (int_gap a (b +ℤ pos 1)) a z)
         let f : int_le a z ≡ true = h.0 in
         let g : int_lt z (a +ℤ pos (int_gap a (b +ℤ pos 1))) ≡ true = h.1 in
         both (int_le a z) (int_le z b) f (grind (arith, ints, f, g, gap_is a (b +ℤ pos 1)))
+
     beyond : (int_le a z && int_le z b) ≡ true
         → is_among_next (int_gap a (b +ℤ pos 1)) a z ≡ true
     beyond e = let h = parts (int_le a z) (int_le z b) e in
