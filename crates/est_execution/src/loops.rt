@@ -13,9 +13,9 @@ ghost use Rattle.est_values.specs.declared.value.Value.TheVariants.{Ordinal};
 ghost use Rattle.est_execution.specs.TurnsOfLoops.{turn_at};
 
 use crate::site::Site;
+use est_attachments::instances;
 use est_frames::system::Working;
 use est_items::Items;
-use est_links::instances;
 use est_names::declared::header_at;
 use est_names::forms::is_chosen as has_ordinal;
 use est_names::heads::{Head, head_in};
