@@ -7,4 +7,4 @@ pub returns : goal.returns
 returns c =
     appended_by c.args.text.now (situation_of c.args.system.now) c.args.item.at
     (c.args.item ∷ []) (queue_of c.in-Ok.key) (waiting_in c.put-done.new.queues)
-    c.in-Ok.ensures ?
+    c.in-Ok.ensures c.in_ok-done.ensures
