@@ -33,7 +33,7 @@ use Rattle.est_statements.specs.Signals.{signal_in, signal_standing}
 use Rattle.est_declares.specs.LookUps.{side_at, point_side}
 use Rattle.est_statements.specs.Signals.{signal_of, sending_faults}
 use Rattle.est_statements.specs.Statements.{is_place}
-use Rattle.est_statements.specs.Modules as modules
+use Rattle.est_declares.specs.LookUps as modules
 use Rattle.est_semantics.specs.NamesInRuns.{header_at, interaction_of, is_place_section}
 use Rattle.est_semantics.specs.NamesInRuns.{takes_place, place_in, declared_at}
 use Rattle.est_fullness.specs.FullExpressions.{IsWhole}
