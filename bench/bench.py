@@ -5,7 +5,8 @@ Each row of the first table is the best of some runs of one command on one input
 and system), so that other work on the machine changes it little, with the most memory that a run held.
 The last column is the time over that of the row above, whose input is half as large: near 2 where the
 work is linear. The second table has a row for each kind of declaration that names others, the third
-one for each construct of the language alone.
+one for each construct of the language alone. With --record the rows at the greatest sizes go to
+bench/results/texts.tsv.
 """
 
 import ctypes
@@ -18,6 +19,7 @@ import tempfile
 
 import constructs
 import declarations
+import recording
 
 TOP = pathlib.Path(__file__).resolve().parent.parent
 # The program of these sources, built where there is none.
@@ -71,6 +73,7 @@ def rows(what, sizes, unit, made, status, folder):
         print(f"| {what} | {count:,} {unit} | {taken * 1000:.1f} | {rate} | {most / MIB:.0f} | {ratio} |", flush=True)
         before = taken
         times.append(taken)
+    recording.record("texts", what, f"{count:,} {unit}", f"{taken * 1000:,.0f}", f"{most / MIB:,.0f}")
     return times
 
 
@@ -166,10 +169,10 @@ def searches_in_vain(folder):
 
 def shares(folder):
     """Rows of whole texts and of Pascal programs of the same content, and the share of their times."""
-    ours = rows("check of whole texts", SIZES, "bytes", checks(folder, "whole"), GOOD, folder)
+    ours = rows("check of whole texts, as a user would write them", SIZES, "bytes", checks(folder, "whole"), GOOD, folder)
     if not shutil.which("fpc"):
         return
-    others = rows("fpc -Cn of the same in Pascal", SIZES, "bytes", compiles(folder, "whole_pascal"), 0, folder)
+    others = rows("`fpc -Cn` of the same in Pascal", SIZES, "bytes", compiles(folder, "whole_pascal"), 0, folder)
     told = ", ".join(f"{one / other:.3f}" for one, other in zip(ours, others))
     print(f"| check over fpc | | | {told} | | |", flush=True)
 
@@ -182,15 +185,17 @@ def table(folder, what, names, kind, *statuses):
     (folder / "empty.est").touch()
     _, own = measured([PROGRAM, "check", folder / "empty.est"], folder, BROKEN)
     for number, name in enumerate(names):
-        times, most = [], 0
+        times, most, held = [], 0, 0
         for size in SIZES:
             path, length = written(folder, "large.est", kind, size, number)
             taken, peak = measured([PROGRAM, "check", path], folder, *statuses)
             times.append(taken)
-            most = max(most, (peak - own) / length)
+            most, held = max(most, (peak - own) / length), max(held, peak)
         told = " | ".join(f"{taken * 1000:.1f}" for taken in times)
         ratios = ", ".join(f"{later / sooner:.2f}" for sooner, later in zip(times, times[1:]))
         print(f"| {name} | {told} | {ratios} | {most:.0f} |", flush=True)
+        figures = f"{taken * 1000:,.0f}", f"{held / MIB:,.0f}"
+        recording.record("texts", f"one {what} alone: {name}", f"{size // MIB} MiB", *figures)
 
 
 def main():
@@ -201,13 +206,13 @@ def main():
         rows("check of transitions", SIZES, "bytes", checks(folder, "skeleton"), 0, folder)
         rows("check of states", SIZES, "bytes", checks(folder, "states"), 0, folder)
         if shutil.which("fpc"):
-            rows("fpc -Cn of Pascal", SIZES, "bytes", compiles(folder, "pascal"), 0, folder)
+            rows("`fpc -Cn` of Pascal", SIZES, "bytes", compiles(folder, "pascal"), 0, folder)
         shares(folder)
         many = [50_000, 100_000, 200_000]
         rows("a trace is read", many, "events", replays(folder, "echo_trace", "no_moves"), 0, folder)
         rows("an explanation is read", [32 * MIB, 64 * MIB, 128 * MIB], "bytes", reads_explanation(folder), 1, folder)
         dense = reads_dense_explanation(folder)
-        rows("an explanation of one token a byte", [32 * MIB, 64 * MIB, 128 * MIB], "bytes", dense, UNREADABLE, folder)
+        rows("an explanation of one token a byte, refused", [32 * MIB, 64 * MIB, 128 * MIB], "bytes", dense, UNREADABLE, folder)
         rows("takes and firings", many, "moves", replays(folder, "echo_trace", "echo_moves"), 0, folder)
         rows("arrivals alone", many, "moves", replays(folder, "arrivals_trace", "arrivals_moves"), 0, folder)
         silent = replays(folder, "silent_trace", "silent_moves", ["20", "2"])
@@ -220,7 +225,7 @@ def main():
         rows("explained, each answer the 20th tried", many, "events", guessed, 0, folder)
         rows("searched in vain", [1_000_000, 2_000_000, 4_000_000], "firings", searches_in_vain(folder), OVER, folder)
         print()
-        table(folder, "declarations", declarations.DECLARATIONS, "declarations", GOOD)
+        table(folder, "declaration", declarations.DECLARATIONS, "declarations", GOOD)
         print()
         table(folder, "construct", constructs.CONSTRUCTS, "construct", GOOD, BROKEN)
 

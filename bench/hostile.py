@@ -3,13 +3,14 @@
 
 It is run by hand, and is no part of the gate:
 
-    bench/hostile.py [PROGRAM [WORD]]
+    bench/hostile.py [--record] [PROGRAM [WORD]]
 
 It makes its inputs itself, and prints a table with a row for each run: its status, the processor
 time, the most memory, and the time over that of half the size; with WORD only the rows whose name
-has it. Each run may take the seconds of the processor and the memory that stand below. A crash, a
-limit that is passed, and another status or report than is written here are told, and their number
-is the status of the script, or 0 where there is none.
+has it. With --record the rows go to bench/results/hostile.tsv. Each run may take the seconds of the
+processor and the memory that stand below. A crash, a limit that is passed, and another status or
+report than is written here are told, and their number is the status of the script, or 0 where there
+is none.
 """
 
 import os
@@ -19,6 +20,8 @@ import subprocess
 import sys
 import tempfile
 from typing import NamedTuple
+
+import recording
 
 TOP = pathlib.Path(__file__).resolve().parent.parent
 SECONDS = 120  # of the processor, for any run
@@ -470,10 +473,10 @@ def measured(program, what, call, folder):
 
 
 def main():
-    asks = [TOP / "hawkopal", "--program"]
-    program = sys.argv[1] if len(sys.argv) > 1 else subprocess.check_output(asks, text=True)
+    asks, words = [TOP / "hawkopal", "--program"], recording.words()
+    program = words[0] if words else subprocess.check_output(asks, text=True)
     program = pathlib.Path(program.rstrip("\n")).resolve()
-    word = sys.argv[2] if len(sys.argv) > 2 else ""
+    word = words[1] if len(words) > 1 else ""
     print("| Run | Size | Status | Seconds | MiB | Over half the size |")
     print("|---|---|---|---|---|---|")
     with tempfile.TemporaryDirectory() as name:
@@ -483,8 +486,10 @@ def main():
             half = measured(program, what, made(size // 2), pathlib.Path(name))
             whole = measured(program, what, made(size), pathlib.Path(name))
             ratio = whole.seconds / max(half.seconds, 0.001)
-            print(f"| {what} | {size:,} | {whole.status} | {whole.seconds:.2f} | "
-                  f"{whole.memory:.0f} | {ratio:.1f} |", flush=True)
+            cells = [f"{size:,}", f"{whole.status}", f"{whole.seconds:.2f}", f"{whole.memory:,.0f}"]
+            print(f"| {what} | {' | '.join(cells)} | {ratio:.1f} |", flush=True)
+            if not failed:
+                recording.record("hostile", what, *cells)
     sys.exit(failed)
 
 

@@ -5,7 +5,7 @@ Each row of the first is the least processor time of some runs of one command, a
 size; the last column is the one time over the other, near 2 where the work is linear. The second table
 is of searches: first along traces that are made as well, and then a row for each of six protocols of
 examples/, along a trace of some 10,000 events, which repeats what the protocol does. The program is the one of
-these sources.
+these sources. With --record the rows go to bench/results/replays.tsv and searches.tsv.
 """
 
 import os
@@ -13,6 +13,8 @@ import pathlib
 import subprocess
 import sys
 import tempfile
+
+import recording
 
 TOP = pathlib.Path(__file__).resolve().parent.parent
 PROGRAM = subprocess.check_output([TOP / "hawkopal", "--program"], text=True).rstrip("\n")
@@ -314,37 +316,46 @@ def searched(folder, made):
     return taken, most
 
 
+def along(folder, protocol, turns):
+    """A search along the events of a protocol, so many times over."""
+    (folder / "a.trace").write_text("trace 1\n" + "\n".join(PROTOCOLS[protocol] * turns) + "\nend\n")
+    command = ["explain", str(TOP / "examples" / f"{protocol}.est"), "a.trace", "30", "4000000", "10000"]
+    taken, most, told = measured(command, folder)
+    if "accepted" not in told[:40]:
+        sys.exit(f"{protocol}: {told[:100]}")
+    return taken, most
+
+
+def tell(table, what, size, half, whole, most):
+    """A row of a table: the times at half the size and at the size, and the memory."""
+    cells = [f"{size:,}", f"{whole:.3f}", f"{whole / size * 1e6:.2f}", f"{most:,.0f}"]
+    print(f"| {what} | {' | '.join(cells)} | {whole / max(half, 0.001):.1f} |", flush=True)
+    recording.record(table, what, *cells)
+
+
+def compare(table, rows, run, folder):
+    """A row for each of these inputs."""
+    for what, made, size in rows:
+        half, _ = run(folder, made(size))
+        tell(table, what, 2 * size, half, *run(folder, made(2 * size)))
+
+
+def head(what, size):
+    print(f"| {what} | {size} | Seconds | Microseconds each | MiB | Over half of that |\n|---|---|---|---|---|---|")
+
+
 def main():
     with tempfile.TemporaryDirectory() as name:
         folder = pathlib.Path(name)
-        print("| Replay | Size | Seconds | Microseconds each | MiB | Over half the size |")
-        print("|---|---|---|---|---|---|")
-        for what, made, size in ROWS:
-            half, _ = replayed(folder, made(size))
-            whole, most = replayed(folder, made(2 * size))
-            print(f"| {what} | {2 * size:,} | {whole:.3f} | {whole / (2 * size) * 1e6:.2f} | {most:.0f} |"
-                  f" {whole / max(half, 0.001):.1f} |", flush=True)
+        head("Replay", "Size")
+        compare("replays", ROWS, replayed, folder)
         print()
-        print("| Search | Events | Seconds | Microseconds each | MiB | Over half the events |")
-        print("|---|---|---|---|---|---|")
-        for what, made, size in SEARCHES:
-            half, _ = searched(folder, made(size))
-            whole, most = searched(folder, made(2 * size))
-            print(f"| {what} | {2 * size:,} | {whole:.3f} | {whole / (2 * size) * 1e6:.2f} | {most:.0f} |"
-                  f" {whole / max(half, 0.001):.1f} |", flush=True)
+        head("Search", "Events")
+        compare("searches", SEARCHES, searched, folder)
         for protocol, lines in PROTOCOLS.items():
-            before = None
-            for turns in (5_000 // len(lines), 10_000 // len(lines)):
-                (folder / "a.trace").write_text("trace 1\n" + "\n".join(lines * turns) + "\nend\n")
-                command = ["explain", str(TOP / "examples" / f"{protocol}.est"), "a.trace", "30", "4000000", "10000"]
-                taken, most, told = measured(command, folder)
-                if "accepted" not in told[:40]:
-                    sys.exit(f"{protocol}: {told[:100]}")
-                ratio = "" if before is None else f"{taken / before:.1f}"
-                before = taken
-            events = len(lines) * turns
-            print(f"| {protocol} | {events:,} | {taken:.3f} | {taken / events * 1e6:.1f} | {most:.0f} | {ratio} |",
-                  flush=True)
+            turns = 10_000 // len(lines)
+            half, _ = along(folder, protocol, turns // 2)
+            tell("searches", f"`{protocol}`", len(lines) * turns, half, *along(folder, protocol, turns))
 
 
 if __name__ == "__main__":

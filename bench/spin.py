@@ -4,7 +4,8 @@
 SPIN (the command spin, and gcc) checks a model of the protocol and the trace, alternating_bit.pml, which was
 written by hand: the run that has all events of the trace is the error that it finds. What it takes to make and to
 compile the verifier is told apart, for it is the same for each length. Each time is the least processor time of
-some runs. The program is the one of these sources.
+some runs. The program is the one of these sources. With --record the rows go to
+bench/results/spin.tsv.
 """
 
 import os
@@ -13,6 +14,8 @@ import shutil
 import subprocess
 import sys
 import tempfile
+
+import recording
 
 TOP = pathlib.Path(__file__).resolve().parent.parent
 MODEL = TOP / "bench" / "alternating_bit.pml"
@@ -70,8 +73,10 @@ def main():
                                            folder, f"confirmed: all {length} events")
             compiled = verifier(length, folder)
             searched, s_most, _ = measured(["./pan", "-E", "-m2000000"], folder, "assertion violated")
-            print(f"| {length:,} | {explained:.3f} | {e_most:.0f} | {replayed:.3f} | {r_most:.0f} | {searched:.3f} |"
-                  f" {s_most:.0f} | {compiled:.2f} |", flush=True)
+            cells = [f"{length:,}", f"{explained:.3f}", f"{e_most:.0f}", f"{replayed:.3f}", f"{r_most:.0f}",
+                     f"{searched:.3f}", f"{s_most:.0f}", f"{compiled:.2f}"]
+            print(f"| {' | '.join(cells)} |", flush=True)
+            recording.record("spin", *cells)
 
 
 if __name__ == "__main__":

@@ -62,13 +62,7 @@ class Blocks(Expressions):
             self.broken(name, 10)
             self.path(path)
             return None
-        if declared.sort == "variable":
-            return self.selected(name, declared.kind, path)
-        if path:
-            self.broken(name, 8)
-            self.path(path)
-            return None
-        return declared.kind
+        return self.selected(name, declared.kind, path)
 
     def may_be_written(self, declared):
         """Whether a constant, variable or function may be written here."""

@@ -233,11 +233,12 @@ class Maker:
             f"{'var' if self.often(0.05 if is_function else 0.4) else ''} {self.names()} : {self.type_name()}"
             for _ in range(self.draw.choice([1, 1, 2]))
         )
-        formals = f"( {formals} )" if self.often(0.6) else ""
+        formals = f"( {formals} )" if self.often(0.4 if is_function else 0.6) else ""
         if not is_function:
             return f"procedure {self.name()} {formals} ; {self.block()}"
         pure = "pure " if self.often(0.1) else ""
-        return f"{pure}function {self.name()} {formals} : {self.type_name()} ; {self.block()}"
+        result = self.one(self.type_name, lambda: self.known_as("type"))
+        return f"{pure}function {self.name()} {formals} : {result} ; {self.block()}"
 
     def tuples(self):
         small = self.one("1 .. 3", "boolean", "1 .. 32", "0 .. 1023", "1 .. 1025", self.short)

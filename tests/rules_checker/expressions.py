@@ -187,9 +187,8 @@ class Expressions(Declarations):
                 self.broken(name, 9)
                 self.path(path)
                 return None
-            kind = declared.kind
-        else:
-            kind = declared.value and declared.value.kind
+            return self.selected(name, declared.kind, path)
+        kind = declared.value and declared.value.kind
         if path and kind:
             self.broken(name, 8)
         self.path(path)
@@ -202,7 +201,7 @@ class Expressions(Declarations):
                 self.exprs(of)
 
     def selected(self, name, kind, path):
-        """The kind of what selectors select of a variable."""
+        """The kind of what selectors select of a variable, or of the result of a function."""
         for form, of in path:
             kind = self.element(name, kind, of) if form == "index" else self.field(name, kind, of)
         return kind

@@ -107,6 +107,9 @@ class Growth:
         dims, subscripts = self.draw.choice(SYSTEMS) if self.often(0.4) else ("", "")
         self.add_some(lambda: f"modvar {module} : {dims} {system} ;{self.more_modvars(system)}")
         self.add_some(self.taker)
+        if self.often(0.7):
+            self.add_some(self.parted)
+            self.add_some(self.giver)
         for _ in range(self.draw.choice([0, 2, 6])):
             self.add_declaration()
         if not self.add_some(lambda: f"body {body} for {system} ;", opened=1):
@@ -157,6 +160,20 @@ class Growth:
             for _ in range(self.draw.choice([1, 2, 3]))
         )
         return f"procedure {maker.name()} ( {formals} ) ; begin end ;"
+
+    def parted(self):
+        """A type whose values have parts."""
+        maker, kinds = self.maker, [self.draw.choice(TYPES) for _ in range(3)]
+        record = f"record {maker.name()} : {kinds[0]} ; {maker.name()} : {kinds[1]} end"
+        array = f"array [ {self.draw.choice(['1 .. 3', 'boolean', 'char , boolean'])} ] of {kinds[2]}"
+        text = maker.one(record, array, f"array [ 1 .. 3 ] of {record}", f"record a : {array} ; b : {record} end")
+        return f"type {maker.name()} = {text} ;"
+
+    def giver(self):
+        """A function without formals, mostly of a type that is declared."""
+        result = self.draw.choice(self.maker.known["type"][-2:] or TYPES)
+        part = f"function {self.maker.name()} : {result} ; begin end ;"
+        return self.filled(part) if self.count_of(self.text_with(part)) <= self.broken else part
 
     def ordinals(self):
         """Variables that are mostly ordinal."""

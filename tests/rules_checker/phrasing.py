@@ -50,9 +50,11 @@ class Phrases:
     # Variables.
 
     def variable(self, test, is_written=False):
-        """A variable whose kind passes a test, or None."""
+        """A variable, or a part of the result of a function, whose kind passes a test, or None."""
         for _ in range(12):
             name, declared = self.of_sort("variable", "variable", "modvar", *["function"] * is_written)
+            if not is_written and self.often(0.3):
+                name, declared = self.function_of_parts() or (name, declared)
             text, kind = self.start_of(name, declared)
             if is_written and not self.often(self.wrong) and not self.is_writable(declared):
                 continue
@@ -63,6 +65,15 @@ class Phrases:
                     break
                 text, kind = self.inner(text, kind)
         return None
+
+    def function_of_parts(self):
+        """A function without formals whose result has parts, with its name; sometimes any function; or None."""
+        is_any = self.often(self.wrong)
+        found = [
+            item for item in self.named.items()
+            if item[1].sort == "function" and (is_any or isinstance(item[1].kind, Group) and not item[1].formals)
+        ]
+        return self.draw.choice(found) if found else None
 
     def is_writable(self, declared):
         if declared.sort == "function":
@@ -235,9 +246,17 @@ class Phrases:
         kind = self.any_kind()
         target = self.variable(lambda own: can_be_assigned(kind, own), is_written=True)
         if self.routine and self.routine.sort == "function" and self.often(0.3):
-            name = next(name for name, declared in self.named.items() if declared.sort == "function")
-            return f"{name} := {self.value(self.named[name].kind)}"
+            return self.own_result()
         return f"{target} := {self.value(kind)}" if target else ""
+
+    def own_result(self):
+        """An assignment to the result of a function, mostly the own one, or to a part of it."""
+        own = [item for item in self.named.items() if item[1] is self.routine]
+        text, declared = own[0] if own and not self.often(self.wrong) else self.of_sort("function")
+        kind = declared.kind
+        while isinstance(kind, Group) and self.often(0.8):
+            text, kind = self.inner(text, kind)
+        return f"{text} := {self.value(kind)}"
 
     def call(self):
         name, procedure = self.of_sort("procedure")

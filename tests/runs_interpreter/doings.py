@@ -2,7 +2,7 @@
 
 from .phrases import NoPhrase, Phrases
 from .regions import Item, Region
-from .values import INTEGER, Ordinal
+from .values import INTEGER, Ordinal, is_group
 
 
 class Doings(Phrases):
@@ -57,7 +57,10 @@ class Doings(Phrases):
     def result(self):
         if not self.region.is_seen(self.own.item.name, "function"):
             raise NoPhrase
-        return f"{self.own.item.name} := {self.value(self.own.item.kind)}"
+        text, kind = self.own.item.name, self.own.item.kind
+        while is_group(kind) and self.often(0.7):
+            text, kind = self.part(text, kind)
+        return f"{text} := {self.value(kind)}"
 
     def branch(self, depth):
         text = f"if {self.boolean(2)} then {self.inner(depth)}"

@@ -264,6 +264,8 @@ class Draft:
         doings = self.doings(own=own)
         outer.put(item)
         statements = first + [doings.statement(2) for _ in self.some(1, 2)]
+        if is_function and is_group(item.kind) and region.items().get(name) is item:
+            statements += self.first_values(Item("variable", name, item.kind))
         if is_function and self.often(0.9):
             statements.append(self.tried(doings.result))
         self.region = outer
@@ -272,8 +274,9 @@ class Draft:
         self.line(f"{word} {name} {head} {result} ; {locals_text} begin {' ; '.join(statements)} end ;")
 
     def result_type(self):
-        types = [item for item in self.region.of_sort("type") if not is_group(item.kind) or self.often(0.2)]
-        item = self.draw.choice(types)
+        types = self.region.of_sort("type")
+        groups = [item for item in types if is_group(item.kind)]
+        item = self.draw.choice(groups if groups and self.often(0.4) else types)
         return item.name, item.kind
 
     @staticmethod

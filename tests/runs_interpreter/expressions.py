@@ -207,9 +207,24 @@ class Expressions(Declarations):
         if isinstance(declared, (Variable, ModuleVariable, AllChild)):
             kind, place = self.place(declared, path)
             return kind, self.reading(kind, place)
-        return declared.kind, self.called(declared, [])
+        return self.part_of_result(declared, path)
 
     # Functions.
+
+    def part_of_result(self, routine, path):
+        """A call of a function without formals, and then what selectors select of its result."""
+        call = self.called(routine, [])
+        kind, find = self.selected(routine.kind, lambda run, frame: Place(None, None, ()), path)
+
+        def evaluate(run, frame):
+            value = call(run, frame)
+            for at in find(run, frame).path:
+                value = value[at]
+            if value is None:
+                raise Fault("undefined")
+            return value
+
+        return kind, evaluate
 
     def called(self, routine, arguments):
         """A call of a function."""

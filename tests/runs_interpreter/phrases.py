@@ -72,8 +72,13 @@ class Phrases:
         return [item for item in found if item.is_known or self.often(0.02)]
 
     def place(self, test, is_written=False):
-        """(text, kind) of a variable, or a part of one, whose kind passes a test."""
+        """(text, kind) of a variable, or a part of one, whose kind passes a test.
+
+        Where it is not written, it may be a part of the result of a function.
+        """
         candidates = self.variables(is_written)
+        if not is_written and self.often(0.3):
+            candidates = self.functions_of_parts() or candidates
         exports = self.exports()
         for _ in range(12):
             if exports and self.often(0.2 if candidates else 1):
@@ -88,6 +93,10 @@ class Phrases:
             if test(kind):
                 return text, kind
         raise NoPhrase
+
+    def functions_of_parts(self):
+        """The functions without formals whose results have parts."""
+        return [item for item in self.region.of_sort("function") if not item.formals and is_group(item.kind)]
 
     def part(self, text, kind):
         if isinstance(kind, Fields):

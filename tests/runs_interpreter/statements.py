@@ -61,7 +61,7 @@ class Statements(Expressions):
         """The kind and the place of a target, which may be the result of the function around it."""
         declared = self.meant(name)
         if isinstance(declared, Routine):
-            return declared.kind, lambda run, frame: Place(frame.names, declared, ())
+            return self.selected(declared.kind, lambda run, frame: Place(frame.names, declared, ()), path)
         return self.place(declared, path)
 
     def do_assign(self, name, path, value):

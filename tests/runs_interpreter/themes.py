@@ -101,7 +101,7 @@ initialize begin init x with mb end;
 end.
 """
 LEVELS = """specification levels;
-type digit = 0..9; row = array [digit] of digit;
+type digit = 0..9; row = array [digit] of digit; pair = record a: digit; b: row end;
 channel c(u, v);
   by u: go(a: integer); ask(b: row);
   by v: num(a: integer); line(b: row);
@@ -111,6 +111,9 @@ function down(n: integer): integer;
 begin if n > 0 then down := down(n - 1) + 1 else down := {end} end;
 function sum(r: row; n: integer): integer;
 begin if n < 0 then sum := 0 else sum := sum(r, n - 1) + r[n] end;
+function made: pair;
+var d: digit;
+begin made.a := {digit}; for d := 0 to {last} do made.b[d] := {element}; made.b[{digit}] := {remade} end;
 body ka for k;
   procedure dive(n: integer);
   begin if n > 0 then dive(n - 1) else {leaf} end;
@@ -407,8 +410,15 @@ class Levels(Theme):
     def gap_element(self):
         return self.one("d | 9 - d | d * d mod 10 | down(d) | 1")
 
+    def gap_last(self):
+        return self.one("9 | 9 | 9 | 3")
+
+    def gap_remade(self):
+        return self.one("{digit} | {digit} | {digit} | {digit} | made.a | made.b[0]")
+
     def gap_work(self):
         return self.one("""dive(n, {depth}) | dive(n, 2) | init v with {body}({depth}) | n := down({depth})
+            | n := made.a | n := made.b[n mod 10] | r := made.b | n := sum(made.b, {count}) | r[made.a] := made.b[n]
             | r[n mod 10] := {digit}
             | n := sum(r, {count}) | case n of 0, 1: n := 5; 2: begin end; 3, 4, 5: n := 0 end
             | repeat n := n + 1 until n > {digit}
@@ -423,7 +433,8 @@ class Levels(Theme):
         return self.one("| {work} | {work}; {work}")
 
     def gap_condition(self):
-        return self.one("n > {digit} | down(n) < 3 | sum(r, n) > {digit} | 10 div n > 2 | odd(down({depth}))")
+        return self.one("""n > {digit} | down(n) < 3 | sum(r, n) > {digit} | 10 div n > 2 | odd(down({depth}))
+            | made.b[n] > {digit} | made.a < 3""")
 
     def gap_count(self):
         return self.one("9 | 9 | 3 | n | 10")

@@ -63,8 +63,8 @@ pub fn host_in(kind: &Kind) -> Option<Host>
     }
 }
 
-// The host of a kind or of what it is a part of.
-fn host_of(kind: &Kind) -> Option<Host>
+/// The host of a kind or of what it is a part of.
+pub fn host_of(kind: &Kind) -> Option<Host>
     ensures { result ≡ host_of kind.now }
 {
     match kind {

@@ -1,4 +1,5 @@
 -- What a part breaks by the lists that it is made of.
+use Rattle.std.specs.Prelude.{flat_map}
 use Rattle.std.proofs.Common.{◌≡◌, refl, sym, ap, ◌∙◌, List, [], ◌++◌, Option, Some, None}
 use Rattle.est_syntax.specs.declared.body.FirstPart.{FirstPart}
 use Rattle.est_syntax.specs.declared.body.Block.{Block}
@@ -20,23 +21,24 @@ use Rattle.est_scope.specs.declared.declaration.Sort.TheVariants as sort
 use Rattle.est_scope.specs.Outline.{Outline}
 use Rattle.est_scope.specs.Uses.{use_faults}
 use Rattle.est_scope.proofs.LeastLaws.{least_append}
-use Rattle.est_outline.specs.declared.context.Given.{Given}
+use Rattle.est_declares.specs.declared.context.Given.{Given}
 use Rattle.est_sizes.proofs.SizeRows.{scalars_hidden, scalars_shown}
-use Rattle.est_blocks.specs.Clauses.{clauses_faults, with_clauses, delay_faults, next_faults}
-use Rattle.est_blocks.specs.BlockFaults.{block_faults, part_faults, row_faults, parts_faults}
+use Rattle.est_blocks.specs.Clauses.{clause_faults, next_faults}
+use Rattle.est_clauses.specs.GivenClauses.{with_clauses, delay_faults}
+use Rattle.est_blocks.specs.BlockFaults.{block_faults, part_faults, row_faults}
 use Rattle.est_blocks.specs.BlockFaults.{first_faults, row_groups_faults, row_transitions_faults}
 use Rattle.est_blocks.specs.inside.BlockParts.{first_part_faults, transitions_faults}
 use Rattle.est_blocks.specs.inside.BlockParts.{groups_faults, body_faults, routine_faults}
 
 parts_row : (o : Outline) (n : _) (row : Row_of-Part n)
-    → row_faults o row ≡ parts_faults o (items-the_row-Part n row)
+    → row_faults o row ≡ flat_map (part_faults o) (items-the_row-Part n row)
 parts_row o n end_of-Part = refl
 parts_row o n (more_of-Part p rest) = ap (λ l. part_faults o p ++ l) (parts_row o _ rest)
 
 parts_hidden : (o : Outline) (ps : List Part) → row_faults o (hidden-the_row-Part-0 ps)
-    ≡ parts_faults o ps
+    ≡ flat_map (part_faults o) ps
 parts_hidden o ps = parts_row o _ (hidden-the_row-Part-0 ps)
-    ∙ ap (parts_faults o) (items_hidden-the_row-Part-0 ps)
+    ∙ ap (flat_map (part_faults o)) (items_hidden-the_row-Part-0 ps)
 
 first_at : (o : Outline) (f : Option FirstPart)
     → first_faults o (back-Body-first f) ≡ first_part_faults o f
@@ -48,7 +50,7 @@ transitions_row : (o : Outline) (gs : List Given) (n : _) (row : Row_of-Transiti
     → row_transitions_faults o gs row ≡ transitions_faults o gs (items-the_row-Transition n row)
 transitions_row o gs n end_of-Transition = refl
 transitions_row o gs n (more_of-Transition cs name a parts statements place rest) =
-    λ i. (clauses_faults o cs ++ delay_faults (with_clauses gs cs) ++ block_faults o place
+    λ i. (flat_map (clause_faults o) cs ++ delay_faults (with_clauses gs cs) ++ block_faults o place
     (scalars_shown o a parts i) statements)
     ++ transitions_row o (with_clauses gs cs) _ rest i
 

@@ -7,8 +7,8 @@ use Rattle.est_syntax.specs.declared.transition.Transition.{Transition}
 use Rattle.est_scope.specs.LeastSoFar.{least_with}
 use Rattle.est_scope.specs.Outline.{Outline}
 use Rattle.est_scope.proofs.LeastLaws.{least_append}
-use Rattle.est_outline.specs.declared.context.Given.{Given}
-use Rattle.est_blocks.specs.Clauses.{with_clauses}
+use Rattle.est_declares.specs.declared.context.Given.{Given}
+use Rattle.est_clauses.specs.GivenClauses.{with_clauses}
 use Rattle.est_blocks.specs.inside.BlockParts.{transition_faults, transitions_faults}
 
 -- a transition, which gets the clauses of those before it

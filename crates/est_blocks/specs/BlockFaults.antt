@@ -1,5 +1,6 @@
 -- The rules that the blocks, transitions and bodies of a specification break, beside those of its
 -- declarations (ISO 9074, constraints; ISO 7185, 6.6 to 6.8).
+use Rattle.std.specs.Prelude.{flat_map}
 use Rattle.std.specs.Prelude.{ℕ, List, [], ◌∷◌, ◌++◌, Option, Some, None}
 use Rattle.est_syntax.specs.declared.name.Used.{Used}
 use Rattle.est_syntax.specs.declared.body.Part.{Part, Row_of-Part, end_of-Part, more_of-Part}
@@ -15,11 +16,12 @@ use Rattle.est_syntax.specs.declared.transition.Group.{end_of-Transition, more_o
 use Rattle.est_scope.specs.declared.declaration.Sort.TheVariants as sort
 use Rattle.est_scope.specs.Outline.{Outline}
 use Rattle.est_scope.specs.Uses.{use_faults}
-use Rattle.est_outline.specs.declared.context.Given.{Given}
-use Rattle.est_outline.specs.Bodies.{outline_of}
+use Rattle.est_declares.specs.declared.context.Given.{Given}
+use Rattle.est_declares.specs.Bodies.{outline_of}
 use Rattle.est_sizes.specs.Scalars.{row_scalars, scalars_faults}
-use Rattle.est_statements.specs.Statements.{statement_faults, statements_faults}
-use Rattle.est_blocks.specs.Clauses.{clauses_faults, with_clauses, delay_faults, next_faults}
+use Rattle.est_statements.specs.Statements.{statement_faults}
+use Rattle.est_blocks.specs.Clauses.{clause_faults, next_faults}
+use Rattle.est_clauses.specs.GivenClauses.{with_clauses, delay_faults}
 
 -- the statements of a function are those of one, and those of a procedure of none
 abbrev pub function_of : Used → Option Used → Option ℕ
@@ -30,7 +32,7 @@ function_of name (Some u) = Some name.place
 -- have so many scalars
 abbrev pub block_faults : Outline → ℕ → ℕ → List Statement → List Fault
 block_faults o place scalars statements =
-    scalars_faults scalars place ++ statements_faults o None [] statements
+    scalars_faults scalars place ++ flat_map (statement_faults o None []) statements
 
 -- What a part breaks: the statements of routines and bodies, and the transitions.
 abbrev mutual
@@ -39,7 +41,7 @@ abbrev mutual
       use_faults o sort.Header header ++ row_faults o parts
       ++ first_faults o f ++ row_groups_faults o groups
   part_faults o (part.Routine' name formals result a parts statements place) =
-      statements_faults o (function_of name result) [] statements
+      flat_map (statement_faults o (function_of name result) []) statements
   part_faults o _ = []
 
   pub row_faults : Outline → {n : _} → Row_of-Part n → List Fault
@@ -59,16 +61,11 @@ abbrev mutual
   pub row_transitions_faults : Outline → List Given → {n : _} → Row_of-Transition n → List Fault
   row_transitions_faults o gs end_of-Transition = []
   row_transitions_faults o gs (more_of-Transition cs name a parts statements place rest) =
-      (clauses_faults o cs ++ delay_faults (with_clauses gs cs)
+      (flat_map (clause_faults o) cs ++ delay_faults (with_clauses gs cs)
       ++ block_faults o place (row_scalars o 0 parts) statements)
       ++ row_transitions_faults o (with_clauses gs cs) rest
-
--- what parts break, in order
-abbrev pub parts_faults : Outline → List Part → List Fault
-parts_faults o [] = []
-parts_faults o (p ∷ ps) = part_faults o p ++ parts_faults o ps
 
 -- what the bodies of a specification break, and its own initialization
 abbrev pub bodies_faults : Spec → List Fault
 bodies_faults s =
-    parts_faults (outline_of s) s.parts ++ statement_faults (outline_of s) None [] s.first
+    flat_map (part_faults (outline_of s)) s.parts ++ statement_faults (outline_of s) None [] s.first

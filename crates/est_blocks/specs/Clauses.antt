@@ -1,4 +1,5 @@
 -- The rules that the clauses of transitions break (ISO 9074, transition-group and clauses).
+use Rattle.std.specs.Prelude.{flat_map}
 use Rattle.std.specs.Prelude.{ℕ, pos, int_lt, Bool, true, false, ◌&&◌, ◌||◌, not, nat_lt}
 use Rattle.std.specs.Prelude.{List, [], ◌∷◌, ◌++◌, Option, Some, None, is_some, if◌then◌else◌}
 use Rattle.est_syntax.specs.Faults.{broken, broken_if}
@@ -25,10 +26,12 @@ use Rattle.est_kinds.specs.declared.value.Valued.{Valued}
 use Rattle.est_kinds.specs.Constants.{is_integer, constant_value, constant_faults, constant_place}
 use Rattle.est_kinds.specs.TypeTexts.{text_type, count, multiplied}
 use Rattle.est_kinds.specs.Dims.{dim_faults}
-use Rattle.est_outline.specs.declared.context.ClauseKind.{ClauseKind}
-use Rattle.est_outline.specs.declared.context.ClauseKind.TheVariants as given
-use Rattle.est_outline.specs.declared.context.Given.{Given}
-use Rattle.est_outline.specs.Contexts as context
+use Rattle.est_declares.specs.declared.context.ClauseKind.{ClauseKind}
+use Rattle.est_declares.specs.declared.context.ClauseKind.TheVariants as given
+use Rattle.est_declares.specs.declared.context.Given.{Given}
+use Rattle.est_declares.specs.Contexts as context
+use Rattle.est_syntax.specs.Clauses.{clause_place}
+use Rattle.est_declares.specs.Contexts.{kind_of}
 use Rattle.est_expressions.specs.declared.operators.Wanted.TheVariants as wanted
 use Rattle.est_statements.specs.Signals.{signal_faults}
 use Rattle.est_statements.specs.Statements.{wanted_faults}
@@ -51,11 +54,6 @@ state_used o place m = meaning_faults m place (λ (n : PredeclaredName). broken 
 -- what a name breaks where a state or a state set is wanted
 abbrev pub state_faults : Outline → Used → List Fault
 state_faults o u = state_used o u.place (meaning o u)
-
--- what names break there
-abbrev pub states_faults : Outline → List Used → List Fault
-states_faults o [] = []
-states_faults o (u ∷ us) = state_faults o u ++ states_faults o us
 
 -- the next state, or the first one
 abbrev pub next_faults : Outline → Option Used → List Fault
@@ -100,14 +98,9 @@ tuples_faults (Some n) place = broken_if (nat_lt most_tuples n) place TooLarge
 abbrev pub domain_faults : Outline → VarDef → List Fault
 domain_faults o v = dim_faults o v.text
 
--- what the variables of an `any` break
-abbrev pub domains_faults : Outline → List VarDef → List Fault
-domains_faults o [] = []
-domains_faults o (v ∷ vs) = domain_faults o v ++ domains_faults o vs
-
 -- what an `any` breaks
 abbrev pub any_faults : Outline → List VarDef → ℕ → List Fault
-any_faults o vs place = domains_faults o vs ++ tuples_faults (tuples o (Some 1) vs) place
+any_faults o vs place = flat_map (domain_faults o) vs ++ tuples_faults (tuples o (Some 1) vs) place
 
 -- a priority is an integer that is not negative
 abbrev pub is_priority : Valued → Bool
@@ -125,7 +118,7 @@ most_faults o _ = []
 
 -- what a clause breaks
 abbrev pub clause_faults : Outline → Clause → List Fault
-clause_faults o (clause.From states place) = states_faults o states
+clause_faults o (clause.From states place) = flat_map (state_faults o) states
 clause_faults o (clause.To state place) = next_faults o state
 clause_faults o (clause.When at signal place) = signal_faults o Receives at signal
 clause_faults o (clause.Provided condition place) = wanted_faults o wanted.Boolean condition
@@ -135,54 +128,3 @@ clause_faults o (clause.Priority value place) =
     constant_faults o value ++ priority_faults (constant_value o value) (constant_place value)
 clause_faults o (clause.Delay least most place) =
     wanted_faults o wanted.Integer least ++ most_faults o most
-
--- what clauses break, each by itself
-abbrev pub clauses_faults : Outline → List Clause → List Fault
-clauses_faults o [] = []
-clauses_faults o (c ∷ cs) = clause_faults o c ++ clauses_faults o cs
-
--- the kind of a clause: an `otherwise` stands where a `provided` may
-abbrev pub kind_of : Clause → ClauseKind
-kind_of (clause.From states place) = given.From
-kind_of (clause.To state place) = given.To
-kind_of (clause.When at signal place) = given.When
-kind_of (clause.Provided condition place) = given.Provided
-kind_of (clause.Otherwise place) = given.Provided
-kind_of (clause.Any names place) = given.Any
-kind_of (clause.Priority value place) = given.Priority
-kind_of (clause.Delay least most place) = given.Delay
-
--- the place of its first token
-abbrev pub clause_place : Clause → ℕ
-clause_place (clause.From states place) = place
-clause_place (clause.To state place) = place
-clause_place (clause.When at signal place) = place
-clause_place (clause.Provided condition place) = place
-clause_place (clause.Otherwise place) = place
-clause_place (clause.Any names place) = place
-clause_place (clause.Priority value place) = place
-clause_place (clause.Delay least most place) = place
-
--- The clauses of a transition with one more, by the place of its first token: a clause takes the
--- place of that of its kind, and of all that were given after that one.
-abbrev pub with_clause : List Given → Clause → List Given
-with_clause gs c =
-    context.given (kind_of c) (Some (clause_place c)) (context.dropped (kind_of c) gs)
-
--- the clauses of a transition with more of them, in order
-abbrev pub with_clauses : List Given → List Clause → List Given
-with_clauses gs [] = gs
-with_clauses gs (c ∷ cs) = with_clauses (with_clause gs c) cs
-
--- whether a transition has a clause of a kind
-abbrev pub has : ClauseKind → List Given → Bool
-has k gs = is_some (context.region_of k gs)
-
--- a delay stands without a `when` and without an `any`
-abbrev pub delay_by : Option ℕ → List Given → List Fault
-delay_by None gs = []
-delay_by (Some place) gs = broken_if (has given.When gs || has given.Any gs) place DelayNotAlone
-
--- what a delay among the clauses of a transition breaks
-abbrev pub delay_faults : List Given → List Fault
-delay_faults gs = delay_by (context.region_of given.Delay gs) gs

@@ -1,18 +1,19 @@
 //! The statements of routines and bodies, and the transitions.
 #![tactic(auto, using(crate::proofs::PartRows::rows))]
 
+ghost use Rattle.std.specs.Prelude.{flat_map};
 ghost use Rattle.std.specs.Prelude.{◌≡◌, OnOk};
 ghost use Rattle.est_scope.specs.LeastSoFar.{least_with};
-ghost use Rattle.est_blocks.specs.BlockFaults.{function_of, part_faults, parts_faults};
-ghost use Rattle.est_blocks.specs.Clauses.{with_clauses};
+ghost use Rattle.est_blocks.specs.BlockFaults.{function_of, part_faults};
+ghost use Rattle.est_clauses.specs.GivenClauses.{with_clauses};
 ghost use Rattle.est_blocks.specs.inside.BlockParts.{held_block_faults, first_part_faults};
 ghost use Rattle.est_blocks.specs.inside.BlockParts.{transition_faults, transitions_faults};
 ghost use Rattle.est_blocks.specs.inside.BlockParts.{group_faults, groups_faults, body_faults};
 ghost use Rattle.est_blocks.specs.inside.BlockParts.{routine_faults};
 
 use crate::clauses::{check_clauses, check_next};
-use crate::context::{check_delay, give_clauses};
-use est_outline::context::Context;
+use est_clauses::context::{check_delay, give_clauses};
+use est_declares::context::Context;
 use est_scope::declaration::Sort;
 use est_scope::least::Least;
 use est_scope::outline::Outline;
@@ -217,7 +218,7 @@ pub fn check_parts(
     least: &mut Least,
 ) -> Result<(), AllocError>
     ensures { OnOk result
-        (least.new.at ≡ least_with least.old.at (parts_faults outline.now parts.now)) }
+        (least.new.at ≡ least_with least.old.at (flat_map (part_faults outline.now) parts.now)) }
 {
     for part in parts {
         check_part(alloc, outline, part, least)?;

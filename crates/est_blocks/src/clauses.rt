@@ -1,17 +1,17 @@
 //! The clauses of transitions.
 #![tactic(auto, using(est_scope::proofs::LeastLaws::least_append))]
 
+ghost use Rattle.std.specs.Prelude.{flat_map};
 ghost use Rattle.std.specs.Prelude.{◌≡◌, ◌++◌, IfOk, OnOk, Some};
 ghost use Rattle.est_scope.specs.LeastSoFar.{least_with};
 ghost use Rattle.est_scope.specs.Outline.{entry_at};
 ghost use Rattle.est_kinds.specs.Constants.{constant_value, constant_faults, constant_place};
 ghost use Rattle.est_kinds.specs.TypeTexts.{text_type};
-ghost use Rattle.est_blocks.specs.Clauses.{is_state_sort, state_faults, states_faults, next_faults};
+ghost use Rattle.est_blocks.specs.Clauses.{is_state_sort, state_faults, next_faults};
 ghost use Rattle.est_blocks.specs.Clauses.{choices_by, name_choices, names_choices, choices_with};
 ghost use Rattle.est_blocks.specs.Clauses.{tuples, tuples_faults, domain_faults};
-ghost use Rattle.est_blocks.specs.Clauses.{domains_faults, any_faults, is_priority};
+ghost use Rattle.est_blocks.specs.Clauses.{any_faults, is_priority};
 ghost use Rattle.est_blocks.specs.Clauses.{priority_faults, most_faults, clause_faults};
-ghost use Rattle.est_blocks.specs.Clauses.{clauses_faults};
 
 use est_expressions::operators::Wanted;
 use est_kinds::constants::{check_constant, constant_place};
@@ -65,7 +65,7 @@ fn check_state(outline: &Outline, used: &Used, least: &mut Least)
 
 // Such names in order.
 fn check_states(outline: &Outline, names: &[Used], least: &mut Least)
-    ensures { least.new.at ≡ least_with least.old.at (states_faults outline.now names.now) }
+    ensures { least.new.at ≡ least_with least.old.at (flat_map (state_faults outline.now) names.now) }
 {
     for used in names {
         check_state(outline, used, least);
@@ -161,7 +161,7 @@ fn check_domains(
 ) -> Result<Option<u64>, AllocError>
     ensures choices { IfOk result (λ n. n ≡ tuples outline.now (Some 1) defs.now) }
     ensures faults { OnOk result
-        (least.new.at ≡ least_with least.old.at (domains_faults outline.now defs.now)) }
+        (least.new.at ≡ least_with least.old.at (flat_map (domain_faults outline.now) defs.now)) }
 {
     let mut number = Some(1);
     for def in defs {
@@ -284,7 +284,7 @@ pub fn check_clauses(
     least: &mut Least,
 ) -> Result<(), AllocError>
     ensures { OnOk result
-        (least.new.at ≡ least_with least.old.at (clauses_faults outline.now clauses.now)) }
+        (least.new.at ≡ least_with least.old.at (flat_map (clause_faults outline.now) clauses.now)) }
 {
     for clause in clauses {
         check_clause(alloc, outline, clause, least)?;

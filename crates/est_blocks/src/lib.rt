@@ -4,4 +4,3 @@
 
 pub mod blocks;
 pub mod clauses;
-pub mod context;

@@ -3,7 +3,7 @@ use Rattle.std.proofs.Common.{◌≡◌, ◌∙◌, ℕ, List, length, sym, ap, 
 use Rattle.est_syntax.specs.declared.specification.Spec.{Spec}
 use Rattle.est_choices.specs.declared.event.Event.{Event}
 use Rattle.est_explanation.specs.declared.explanation.Explanation.{Explanation}
-use Rattle.est_replay.proofs.Checks.{answer_one}
+use Rattle.est_replaying.proofs.Checks.{answer_one}
 use Rattle.est_runs.specs.declared.run.Limits.{Limits}
 use Rattle.est_files.specs.declared.file.File.TheVariants.{Specification, Trace}
 use Rattle.est_files.specs.declared.file.File.TheVariants.{Explanation as Explaining}

@@ -20,7 +20,7 @@ use Rattle.est_tool.specs.inside.Work.{Tells, IsExplained}
 use Rattle.est_tool.specs.inside.Searching.{IsSearched}
 use Rattle.est_files.specs.FileEnds.{End, reported, unread}
 use Rattle.est_tool.specs.Ends.{ExplainEnds}
-use Rattle.est_tool.specs.Tasks.{task_of}
+use Rattle.est_runs.specs.Task.{setup_from}
 use Rattle.est_tool.specs.Ends.{ends_at_specification, ends_at_trace, not_started}
 use Rattle.est_tool.specs.Ends.{start_over, searched}
 use Rattle.est_calls.proofs.Stages.{AreSame, OfReport, stopped, stops, goes_on}
@@ -73,13 +73,13 @@ pub verdict_at : (limits : Limits) (spec : Spec) (events : List Event) (s t : Si
     (outs outs' : List Event) (verdict : Verdict)
     → start_of limits.statements (text_of spec) ≡ Done outs s
     → start_of limits.statements (text_of spec) ≡ Done outs' t
-    → IsVerdict (task_of limits.silent limits.statements spec events s outs) limits.budget verdict
-    → IsVerdict (task_of limits.silent limits.statements spec events t outs') limits.budget verdict
+    → IsVerdict (setup_from limits.statements limits.silent spec events s outs) limits.budget verdict
+    → IsVerdict (setup_from limits.statements limits.silent spec events t outs') limits.budget verdict
 verdict_at limits spec events s t outs outs' verdict x y is =
     let same = one_start (start_of limits.statements (text_of spec)) s t outs outs' x y in
-    subst (λ z. IsVerdict (task_of limits.silent limits.statements spec events t z) limits.budget
+    subst (λ z. IsVerdict (setup_from limits.statements limits.silent spec events t z) limits.budget
     verdict) same.1
-    (subst (λ z. IsVerdict (task_of limits.silent limits.statements spec events z outs)
+    (subst (λ z. IsVerdict (setup_from limits.statements limits.silent spec events z outs)
     limits.budget verdict) same.0 is)
 
 -- one thing comes of a search
@@ -87,7 +87,7 @@ pub one_found : (limits : Limits) (spec : Spec) (events : List Event) (a b : Sea
     → IsSearched limits spec events a → IsSearched limits spec events b → a ≡ b
 one_found limits spec events (came.Found v) (came.Found w) x y =
     ap (λ z. came.Found z)
-    (verdict_unique (task_of limits.silent limits.statements spec events y.0 y.1)
+    (verdict_unique (setup_from limits.statements limits.silent spec events y.0 y.1)
     limits.budget v w (verdict_at limits spec events x.0 y.0 x.1 y.1 v x.2 y.2 x.3) y.3)
 one_found limits spec events (came.Found v) (came.Fault fault) x y =
     let e : Done x.1 x.0 ≡ Fault fault = sym x.2 ∙ y in absurd cc

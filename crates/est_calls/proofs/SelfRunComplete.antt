@@ -5,7 +5,7 @@ use Rattle.std.specs.Global.{Global}
 use Rattle.est_edge.specs.FaultCounts.{Rose}
 use Rattle.est_edge.specs.Pieces.{appended}
 use Rattle.est_syntax.specs.declared.specification.Spec.{Spec}
-use Rattle.est_make.specs.declared.made.Made.{Made}
+use Rattle.est_making.specs.declared.made.Made.{Made}
 use Rattle.est_files.specs.declared.file.File.TheVariants.{Specification, Trace}
 use Rattle.est_files.specs.FileEnds.{End, reported, unread, EndsAtText, text_longer, text_refused}
 use Rattle.est_files.specs.FileTexts.{OfSpecification, Refusals, RefusesSpecification}

@@ -4,9 +4,9 @@ use Rattle.est_syntax.specs.declared.specification.Spec.{Spec}
 use Rattle.est_choices.specs.declared.event.Event.{Event}
 use Rattle.est_runs.specs.declared.run.Limits.{Limits}
 use Rattle.est_search.specs.declared.verdict.Verdict.{Verdict}
-use Rattle.est_make.specs.declared.made.Made.{Made}
-use Rattle.est_make.specs.Recipe as recipe
-use Rattle.est_make.proofs.OneMade.{one_made}
+use Rattle.est_making.specs.declared.made.Made.{Made}
+use Rattle.est_making.specs.Recipe as recipe
+use Rattle.est_making.proofs.OneMade.{one_made}
 use Rattle.est_files.specs.declared.file.File.TheVariants.{Specification, Trace}
 use Rattle.est_files.specs.FileTexts.{IsText, IsReported, OfTrace, RefusesSpecification}
 use Rattle.est_files.specs.FileTexts.{RefusesTrace}

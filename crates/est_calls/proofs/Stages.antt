@@ -22,7 +22,7 @@ use Rattle.est_language.specs.Refusals.{wrong_at, too_deep_at}
 use Rattle.est_language.specs.Grammar.{rule}
 use Rattle.est_language.specs.Sentences.{HasPartial, IsFirstBadPlace}
 use Rattle.est_productions.specs.Productions.{specification as specification_rule}
-use Rattle.est_ports.specs.PortList.{ports_of}
+use Rattle.est_declares.specs.PortList.{ports_of}
 use Rattle.est_choices.specs.declared.event.Event.{Event}
 use Rattle.est_choices.specs.AllowedEvents.{most_events}
 use Rattle.est_specification.specs.SpecificationText.{IsNoSpecification}

@@ -5,7 +5,7 @@ use Rattle.std.specs.Global.{Global}
 use Rattle.est_edge.specs.FaultCounts.{Rose}
 use Rattle.est_edge.specs.Pieces.{appended}
 use Rattle.est_syntax.specs.declared.specification.Spec.{Spec}
-use Rattle.est_make.specs.declared.made.Made.{Made}
+use Rattle.est_making.specs.declared.made.Made.{Made}
 use Rattle.est_runs.specs.declared.run.Move.{Move}
 use Rattle.est_runs.specs.Order.{Mark}
 use Rattle.est_runs.specs.Run.{Setup, IsBegun, Explains}

@@ -24,7 +24,7 @@ use std::process::ExitCode;
 use std::str;
 
 // The files of cases, in the order in which they are run. The first has the texts that all share.
-const FILES: [&str; 25] = [
+const FILES: [&str; 27] = [
     "texts.cases",
     "words.cases",
     "tokens.cases",
@@ -46,6 +46,8 @@ const FILES: [&str; 25] = [
     "runs.cases",
     "blocks.cases",
     "limits.cases",
+    "results.cases",
+    "hosts.cases",
     "stations.cases",
     "servers.cases",
     "faults.cases",

@@ -1,5 +1,6 @@
-pub mod LeastFault
-pub mod Small
-pub mod Found
 pub mod Checked
+pub mod Found
+pub mod LeastFault
+pub mod SentenceOf
+pub mod Small
 pub mod inside

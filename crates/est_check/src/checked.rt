@@ -1,10 +1,11 @@
 //! Checked specifications.
 
 ghost use Rattle.std.specs.Prelude.{◌≡◌, IfOk};
-ghost use Rattle.est_outline.specs.Bodies.{outline_of};
+ghost use Rattle.est_declares.specs.Bodies.{outline_of};
 ghost use Rattle.est_check.specs.LeastFault.{IsGood};
 ghost use Rattle.est_counts.specs.Counts.{counts_of};
-ghost use Rattle.est_ports.specs.PortList.{ports_of};
+ghost use Rattle.est_declares.specs.PortList.{ports_of};
+ghost use Rattle.est_check.specs.SentenceOf.{IsSentence};
 ghost use Rattle.est_check.specs.Small.{IsSmall};
 ghost use Rattle.est_check.specs.Checked.{IsChecked};
 
@@ -81,6 +82,7 @@ impl Checked {
     /// The tree.
     pub fn spec(&self) -> &Spec
         ensures same { result.now ≡ self.now }
+        ensures sentence { IsSentence self.now }
         ensures small { IsSmall self.now }
         ensures good { IsGood self.now }
     {

@@ -3,10 +3,11 @@
 
 ghost use Rattle.std.specs.Prelude.{◌≡◌, IfOk, IfErr, None};
 ghost use Rattle.est_scope.specs.LeastSoFar.{least_with};
-ghost use Rattle.est_outline.specs.Bodies.{outline_of};
+ghost use Rattle.est_declares.specs.Bodies.{outline_of};
 ghost use Rattle.est_check.specs.LeastFault.{IsGood};
 ghost use Rattle.est_counts.specs.Counts.{counts_of};
 ghost use Rattle.est_types.specs.DeclarationFaults.{declaration_faults};
+ghost use Rattle.est_check.specs.SentenceOf.{IsSentence};
 ghost use Rattle.est_check.specs.Small.{IsSmall};
 ghost use Rattle.est_check.specs.Found.{IsFound, IsRefused};
 ghost use Rattle.est_check.specs.inside.Kept.{IsKept};
@@ -85,6 +86,7 @@ fn judged(alloc: Global, spec: &Spec) -> Result<Kept, CheckError>
 
 // A checked specification of which this is kept.
 fn with_tree(alloc: Global, tree: SyntaxTree, kept: Kept) -> Result<Checked, CheckError>
+    requires sentence { IsSentence tree }
     requires small { IsSmall tree }
     requires kept { IsKept tree kept }
     ensures good { IfOk result (IsFound tree) }
@@ -101,9 +103,10 @@ fn with_tree(alloc: Global, tree: SyntaxTree, kept: Kept) -> Result<Checked, Che
     }
 }
 
-/// Checks a specification. Where it breaks a rule the tree is dropped.
+/// Checks the specification of a sentence. Where it breaks a rule the tree is dropped.
 pub fn check(alloc: Global, tree: SyntaxTree) -> Result<Checked, CheckError>
-    requires { IsSmall tree }
+    requires sentence { IsSentence tree }
+    requires small { IsSmall tree }
     ensures good { IfOk result (IsFound tree) }
     ensures fault { IfErr result (IsRefused tree) }
 {

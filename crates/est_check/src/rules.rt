@@ -3,7 +3,7 @@
 
 ghost use Rattle.std.specs.Prelude.{◌≡◌, ◌++◌, IfOk, None, []};
 ghost use Rattle.est_scope.specs.LeastSoFar.{least_with};
-ghost use Rattle.est_outline.specs.Bodies.{outline_of};
+ghost use Rattle.est_declares.specs.Bodies.{outline_of};
 ghost use Rattle.est_types.specs.DeclarationFaults.{declaration_faults};
 ghost use Rattle.est_check.specs.LeastFault.{specification_faults};
 ghost use Rattle.est_check.specs.LeastFault.{IsLeastFault};

@@ -8,11 +8,13 @@ use Rattle.est_syntax.specs.Faults.{broken_if}
 use Rattle.est_syntax.specs.declared.rule.Rule.TheVariants.{DelayNotAlone}
 use Rattle.est_syntax.specs.declared.transition.Clause.{Clause}
 use Rattle.est_syntax.specs.declared.transition.Clause.TheVariants as clause
-use Rattle.est_outline.specs.declared.context.ClauseKind.{ClauseKind}
-use Rattle.est_outline.specs.declared.context.ClauseKind.TheVariants as kind
-use Rattle.est_outline.specs.declared.context.Given.{Given}
-use Rattle.est_outline.specs.Contexts.{is_same, dropped, region_of}
-use Rattle.est_blocks.specs.Clauses as rules
+use Rattle.est_declares.specs.declared.context.ClauseKind.{ClauseKind}
+use Rattle.est_declares.specs.declared.context.ClauseKind.TheVariants as kind
+use Rattle.est_declares.specs.declared.context.Given.{Given}
+use Rattle.est_declares.specs.Contexts.{is_same, dropped, region_of}
+use Rattle.est_clauses.specs.GivenClauses as rules
+use Rattle.est_declares.specs.Contexts.{kind_of}
+use Rattle.est_syntax.specs.Clauses.{clause_place}
 use Rattle.est_choices.specs.ClauseContexts.{is_same_kind, before, context_with}
 use Rattle.est_choices.specs.ClauseContexts.{given_by, awaited_in, variables_in, delay_in, noted}
 use Rattle.est_choices.specs.ClauseContexts.{when_of, any_of}
@@ -32,10 +34,10 @@ kept_arm true g d gs ds e h = refl
 kept_arm false g d gs ds e h = λ i. sym e i ∷ h i
 
 dropped_before : (c : Clause) (cs : List Clause)
-    → dropped (rules.kind_of c) (map noted cs) ≡ map noted (before c cs)
+    → dropped (kind_of c) (map noted cs) ≡ map noted (before c cs)
 dropped_before c [] = refl
 dropped_before c (d ∷ ds) = kept_arm (is_same_kind c d) (noted d) d
-    (dropped (rules.kind_of c) (map noted ds)) (before c ds) refl (dropped_before c ds)
+    (dropped (kind_of c) (map noted ds)) (before c ds) refl (dropped_before c ds)
     ∙ ap (map noted) (sym (take_while-cons (λ x. not (is_same_kind c x)) d ds))
 
 context_noted : (cs : List Clause) (c : Clause)
@@ -96,21 +98,21 @@ contexts_have_one_of_each cs (d ∷ ds) h =
 
 -- what a list of clauses does not have, none of them gives
 nothing_given : {A : Type 0} (k : ClauseKind) (of : Clause → Option A)
-    → ((c : Clause) → is_same k (rules.kind_of c) ≡ false → of c ≡ None) → (cs : List Clause)
+    → ((c : Clause) → is_same k (kind_of c) ≡ false → of c ≡ None) → (cs : List Clause)
     → is_some (region_of k (map noted cs)) ≡ false → given_by of cs ≡ None
 nothing_given k of h [] e = refl
 nothing_given {A} k of h (c ∷ cs) e =
-    one (is_same k (rules.kind_of c)) (h c) (nothing_given k of h cs) e
+    one (is_same k (kind_of c)) (h c) (nothing_given k of h cs) e
   where
     one : (b : Bool) → (b ≡ false → of c ≡ None)
         → (is_some (region_of k (map noted cs)) ≡ false → given_by of cs ≡ None)
-        → is_some (if b then Some (rules.clause_place c) else region_of k (map noted cs)) ≡ false
+        → is_some (if b then Some (clause_place c) else region_of k (map noted cs)) ≡ false
         → given_by of (c ∷ cs) ≡ None
     one true g rest e = absurd (cc)
     one false g rest e =
         ap (λ o. slice_get (cons_option o (filter_map of cs)) 0) (g refl) ∙ rest e
 
-no_when : (c : Clause) → is_same kind.When (rules.kind_of c) ≡ false → awaited_in c ≡ None
+no_when : (c : Clause) → is_same kind.When (kind_of c) ≡ false → awaited_in c ≡ None
 no_when (clause.When at signal place) e = absurd (cc)
 no_when (clause.From states place) e = refl
 no_when (clause.To state place) e = refl
@@ -120,7 +122,7 @@ no_when (clause.Any names place) e = refl
 no_when (clause.Priority value place) e = refl
 no_when (clause.Delay least most place) e = refl
 
-no_any : (c : Clause) → is_same kind.Any (rules.kind_of c) ≡ false → variables_in c ≡ None
+no_any : (c : Clause) → is_same kind.Any (kind_of c) ≡ false → variables_in c ≡ None
 no_any (clause.Any names place) e = absurd (cc)
 no_any (clause.From states place) e = refl
 no_any (clause.To state place) e = refl
@@ -130,7 +132,7 @@ no_any (clause.Otherwise place) e = refl
 no_any (clause.Priority value place) e = refl
 no_any (clause.Delay least most place) e = refl
 
-no_delay : (c : Clause) → is_same kind.Delay (rules.kind_of c) ≡ false → delay_in c ≡ None
+no_delay : (c : Clause) → is_same kind.Delay (kind_of c) ≡ false → delay_in c ≡ None
 no_delay (clause.Delay least most place) e = absurd (cc)
 no_delay (clause.From states place) e = refl
 no_delay (clause.To state place) e = refl

@@ -11,8 +11,8 @@ use Rattle.est_syntax.specs.declared.ports.Port.{Port}
 use Rattle.est_syntax.specs.declared.ports.Signal.{Signal}
 use Rattle.est_scope.specs.declared.declaration.Standing.{Standing}
 use Rattle.est_scope.specs.Outline.{standing}
-use Rattle.est_statements.specs.Modules.{started_header}
-use Rattle.est_ports.specs.PortList.{ports_of}
+use Rattle.est_declares.specs.LookUps.{started_header}
+use Rattle.est_declares.specs.PortList.{ports_of}
 use Rattle.est_semantics.specs.InstancePoints.{point}
 use Rattle.est_semantics.specs.declared.situation.InteractionPoint.{InteractionPoint}
 use Rattle.est_semantics.specs.declared.situation.Item.{Item}

@@ -6,7 +6,7 @@ use Rattle.est_syntax.specs.declared.ports.Port.{Port}
 use Rattle.est_syntax.specs.declared.ports.Signal.{Signal}
 use Rattle.est_syntax.specs.declared.specification.Spec.{Spec}
 use Rattle.est_values.specs.FittingValues.{Fits}
-use Rattle.est_ports.specs.PortList.{ports_of}
+use Rattle.est_declares.specs.PortList.{ports_of}
 use Rattle.est_choices.specs.declared.event.Event.{Event}
 use Rattle.est_choices.specs.declared.event.Event.TheVariants as event
 use Rattle.est_choices.specs.declared.event.Interaction.{Interaction}

@@ -19,10 +19,11 @@ use Rattle.est_syntax.specs.declared.transition.Clause.TheVariants as clause
 use Rattle.est_syntax.specs.declared.transition.Group.{Group, out-Group}
 use Rattle.est_syntax.specs.declared.transition.Most.{Most}
 use Rattle.est_syntax.specs.declared.transition.Transition.{Transition, out-Transition}
-use Rattle.est_outline.specs.declared.context.Given.{Given}
-use Rattle.est_outline.specs.Contexts.{is_same}
-use Rattle.est_blocks.specs.Clauses.{kind_of, clause_place}
-use Rattle.est_blocks.specs.Clauses as rules
+use Rattle.est_declares.specs.declared.context.Given.{Given}
+use Rattle.est_declares.specs.Contexts.{is_same}
+use Rattle.est_syntax.specs.Clauses.{clause_place}
+use Rattle.est_declares.specs.Contexts.{kind_of}
+use Rattle.est_clauses.specs.GivenClauses as rules
 use Rattle.est_semantics.specs.TextByPlace.{Text, body_at}
 
 -- CONTEXTS

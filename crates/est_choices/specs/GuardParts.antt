@@ -110,7 +110,7 @@ subscripts_of limit (k ∷ ks) (e ∷ es) v = subscript_of limit k e v ∷ subsc
 subscripts_of limit _ _ v = []
 
 -- The subscripts of the interaction point of a `when` that is declared at a place. They see the
--- `any` variables alone.
+-- variables of the instance and the `any` variables, and none of the interaction's parameters.
 abbrev pub subscripts_at : ℕ → Text → Situation → Choice → Awaited → ℕ → List Part
 subscripts_at limit t s c w p = subscripts_of limit (unwrap_or (dims_at t.outline p) [])
     w.at.index (seen_by t s c (c.chosen ∷ []))

@@ -21,8 +21,8 @@ use Rattle.est_search.specs.declared.verdict.Verdict.TheVariants as verdict
 use Rattle.est_search.specs.Verdict.{IsVerdict, IsRefused, IsOverAction, HasEvents}
 use Rattle.est_explanation.specs.declared.explanation.Explanation.{Explanation}
 use Rattle.est_explanation.specs.CanonicalExplanation.{canonical, IsWritable}
-use Rattle.est_replay.specs.declared.verdict.Replayed.TheVariants.{Confirmed}
-use Rattle.est_replay.specs.Replay.{AnswersFrom}
+use Rattle.est_replaying.specs.declared.verdict.Replayed.TheVariants.{Confirmed}
+use Rattle.est_replaying.specs.Replay.{AnswersFrom}
 use Rattle.est_files.specs.declared.file.File.{File}
 use Rattle.est_files.specs.declared.file.File.TheVariants as file
 use Rattle.est_words.specs.declared.status.Status.{Status}
@@ -34,7 +34,7 @@ use Rattle.est_reports.specs.SearchReports.{accepted_line, refused_line, faulted
 use Rattle.est_reports.specs.SearchReports.{over_action_line, verdict_report}
 use Rattle.est_reports.specs.SearchReports.{verdict_status}
 use Rattle.est_files.specs.FileEnds.{reported, HoldsSpecification, HoldsTrace, HoldsExplanation}
-use Rattle.est_tool.specs.Tasks.{task_of}
+use Rattle.est_runs.specs.Task.{setup_from}
 use Rattle.est_tool.specs.Ends.{ReplayEnds, replayed}
 use Rattle.est_words.specs.Requests.{replay}
 use Rattle.est_calls.proofs.OneResult.{result_one}
@@ -60,7 +60,7 @@ module _ (status status' : Status) (report report' : List ℕ)
     (f : IsFound b.shelf b.specification b.trace b.silent b.budget b.statements status report) where
   -- the runs that are told of
   abbrev task : Setup
-  task = task_of b.silent b.statements f.spec f.events f.start f.outs
+  task = setup_from b.statements b.silent f.spec f.events f.start f.outs
 
   -- the explanation that is the report of such a search is confirmed
   confirmed : (head : List ℕ) (x : Explanation) → IsHead head → IsWritable x

@@ -23,6 +23,7 @@ use Rattle.est_explanation.proofs.Comments.{comment_lines_are_comments, clear_ap
 use Rattle.est_explanation.proofs.CanonicalWords.{words_of, words_text, words_apart}
 use Rattle.est_explanation.proofs.ReadBack.{read_back}
 use Rattle.est_explanation.proofs.Words.{tokens_at, text_of, are_tokens, apart_whole}
+use Rattle.est_words.specs.ReportLines.{line_feed}
 use Rattle.est_reports.specs.ReadableReports.{IsReadableFault}
 use Rattle.est_reports.specs.Reports.{fault_text}
 use Rattle.est_reports.specs.SearchReports.{accepted_line, refused_line, refused_at_line}
@@ -128,6 +129,21 @@ firing_clear firing w =
     refl) (ordinal_clear firing.transition w.transition)) refl)
     (ordinal_clear firing.choice w.choice)
 
+-- how the line of a fault ends
+abbrev fault_end : Firing → List ℕ
+fault_end firing = codes " in firing " ++ firing_text firing ++ codes " }" ++ line_feed
+
+line_is : (why : List ℕ) (firing : Firing)
+    → fault_line why firing ≡ codes "{ fault " ++ why ++ fault_end firing
+line_is why firing =
+    let begun = codes "{ fault " ++ why in
+    let said = codes " in firing " in
+    let numbers = firing_text firing in
+    let closed = codes " }" in
+    ap (λ (x : List ℕ). x ++ closed ++ line_feed) (append_assoc begun said numbers)
+    ∙ ap (λ (x : List ℕ). x ++ line_feed) (append_assoc begun (said ++ numbers) closed)
+    ∙ append_assoc begun (said ++ numbers ++ closed) line_feed
+
 fault_head : (fault : BlockFault) (firing : Firing) → IsWritableFiring firing
     → IsHead (fault_line (fault_text fault) firing)
 unfolding fault_said
@@ -137,7 +153,9 @@ fault_head fault firing w =
     refl (clear_append (fault_text fault) (codes " in firing " ++ firing_text firing)
     (fault_clear fault) (clear_append (codes " in firing ") (firing_text firing) refl
     (firing_clear firing w))))
-    (simp append_assoc)
+    (let e : codes "{ fault " ++ fault_text fault ++ fault_end firing
+    ≡ comment_line (fault_said fault firing) = simp append_assoc in
+    line_is (fault_text fault) firing ∙ e)
 
 -- no lines at all
 no_head : IsHead []

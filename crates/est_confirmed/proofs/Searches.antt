@@ -25,7 +25,7 @@ use Rattle.est_reports.specs.SearchReports.{over_start_line, verdict_report}
 use Rattle.est_reports.specs.SearchReports.{verdict_status}
 use Rattle.est_files.specs.Seen.{Seen}
 use Rattle.est_files.specs.FileEnds.{End, reported, EndsAt, longer, refused, failed}
-use Rattle.est_tool.specs.Tasks.{task_of}
+use Rattle.est_runs.specs.Task.{setup_from}
 use Rattle.est_files.specs.FileEnds.{HoldsSpecification, HoldsTrace}
 use Rattle.est_tool.specs.Ends.{ExplainEnds, ends_at_specification}
 use Rattle.est_tool.specs.Ends.{ends_at_trace, not_started, start_over, searched}
@@ -95,7 +95,7 @@ pub record IsFound (shelf : Seen) (specification trace : List ℕ) (silent budge
   pub holds : HoldsSpecification shelf specification spec
   pub traced : HoldsTrace shelf trace spec events
   pub begun : start_of statements (text_of spec) ≡ Done outs start
-  pub is : IsVerdict (task_of silent statements spec events start outs) budget verdict
+  pub is : IsVerdict (setup_from statements silent spec events start outs) budget verdict
   pub fits : IsReadable statements (length events) verdict
   pub status_is : status ≡ verdict_status verdict
   pub report_is : report ≡ verdict_report statements (length events) verdict

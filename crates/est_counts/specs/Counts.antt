@@ -10,9 +10,9 @@ use Rattle.est_syntax.specs.declared.transition.Group.{end_of-Transition, more_o
 use Rattle.est_scope.specs.declared.declaration.Entry.{Entry}
 use Rattle.est_scope.specs.Outline.{Outline, Region, names_of, entry_at}
 use Rattle.est_kinds.specs.TypeTexts.{added}
-use Rattle.est_outline.specs.Bodies.{outline_of}
+use Rattle.est_declares.specs.Bodies.{outline_of}
 use Rattle.est_counts.specs.declared.counts.Counts.{Counts}
-use Rattle.est_statements.specs.Modules.{started_header}
+use Rattle.est_declares.specs.LookUps.{started_header}
 
 -- the bodies that parts declare, those within bodies too
 abbrev mutual
@@ -71,10 +71,6 @@ abbrev pub header_elements : Outline → Option ℕ → ℕ
 header_elements o None = 0
 header_elements o (Some header) = names_elements o (names_of o header)
 
--- the ports of a specification
-abbrev pub ports : Outline → Spec → ℕ
-ports o s = header_elements o (started_header o s.first)
-
 -- These numbers, as far as 32 bits go, which no text of a specification comes near.
 abbrev pub counted : ℕ → ℕ
 counted n = min n (2 ^ 32 - 1)
@@ -84,7 +80,7 @@ abbrev pub counts_by : Outline → Spec → Counts
 counts_by o s = record {
   bodies = counted (bodies s.parts);
   transitions = counted (transitions s.parts);
-  ports = counted (ports o s);
+  ports = counted (header_elements o (started_header o s.first));
 }
 
 -- the numbers of a specification

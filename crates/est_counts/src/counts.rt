@@ -9,9 +9,9 @@ ghost use Rattle.est_counts.specs.Counts.{header_elements, counted, counts_by};
 ghost use Rattle.est_counts.specs.inside.Counted.{body_bodies, group_count, group_counts};
 ghost use Rattle.est_counts.specs.inside.Counted.{body_transitions};
 
+use est_declares::lookups::started_header;
 use est_scope::names::Names;
 use est_scope::outline::Outline;
-use est_statements::modules::started_header;
 use est_syntax::body::{Body, Part};
 use est_syntax::specification::Spec;
 use est_syntax::transition::Group;

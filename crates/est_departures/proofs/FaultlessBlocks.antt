@@ -1,7 +1,7 @@
 -- The blocks of a specification that breaks no rule break none.
 use Rattle.std.proofs.Common.{◌≡◌, refl, sym, subst, ℕ, zero, suc, Bool, true, false, nat_eq}
 use Rattle.std.proofs.Common.{List, [], ◌∷◌, ◌++◌, Option, Some, None, inl}
-use Rattle.std.specs.Prelude.{if◌then◌else◌, find, slice_get}
+use Rattle.std.specs.Prelude.{if◌then◌else◌, find, slice_get, flat_map}
 use Rattle.std.specs.List.{AllByRecursion, cons_option, filter_map, flat_map}
 use Rattle.std.specs.Option.{option_map_or}
 use Rattle.std.proofs.lemmas.Option.{same_Some, none-some}
@@ -26,13 +26,13 @@ use Rattle.est_syntax.specs.declared.transition.Group.{items-the_row-Transition}
 use Rattle.est_syntax.specs.declared.transition.Group.{items_shown-the_row-Transition-2}
 use Rattle.est_syntax.specs.declared.transition.Transition.{Transition}
 use Rattle.est_scope.specs.Outline.{Outline}
-use Rattle.est_outline.specs.Bodies.{outline_of}
-use Rattle.est_outline.specs.declared.context.Given.{Given}
+use Rattle.est_declares.specs.Bodies.{outline_of}
+use Rattle.est_declares.specs.declared.context.Given.{Given}
 use Rattle.est_types.specs.DeclarationFaults.{declaration_faults}
-use Rattle.est_statements.specs.Statements.{statement_faults, statements_faults}
-use Rattle.est_blocks.specs.Clauses.{with_clauses}
+use Rattle.est_statements.specs.Statements.{statement_faults}
+use Rattle.est_clauses.specs.GivenClauses.{with_clauses}
 use Rattle.est_blocks.specs.BlockFaults.{function_of, part_faults, row_faults, first_faults}
-use Rattle.est_blocks.specs.BlockFaults.{row_groups_faults, row_transitions_faults, parts_faults}
+use Rattle.est_blocks.specs.BlockFaults.{row_groups_faults, row_transitions_faults}
 use Rattle.est_blocks.specs.BlockFaults.{bodies_faults}
 use Rattle.est_check.specs.LeastFault.{IsGood, IsLeastFault, specification_faults}
 use Rattle.est_semantics.specs.TextByPlace.{Text, text_of, parts_within, row_parts, parts_of}
@@ -46,7 +46,7 @@ use Rattle.est_fullness.proofs.NoFaults.{parted}
 
 -- the statements of a function, or of none, break no rule
 abbrev pub IsFaultless : Outline → List Statement → Type 0
-IsFaultless o xs = (f : Option ℕ) × (statements_faults o f [] xs ≡ [])
+IsFaultless o xs = (f : Option ℕ) × (flat_map (statement_faults o f []) xs ≡ [])
 
 -- so do those of each block that runs
 pub record FaultlessBlocks (t : Text) : Type 0 where
@@ -106,7 +106,7 @@ module _ (o : Outline) where
   transitions_good gs cs hs end_of-Transition h = tt
   transitions_good gs cs hs (more_of-Transition ds name a parts ss place rest) h =
       let own = parted _ (row_transitions_faults o (with_clauses hs ds) rest) h in (
-        (None, (parted _ (statements_faults o None [] ss) (parted _ _ own.0).1).1),
+        (None, (parted _ (flat_map (statement_faults o None []) ss) (parted _ _ own.0).1).1),
         transitions_good gs (context_after cs ds) (with_clauses hs ds) rest own.1,
       )
 
@@ -130,7 +130,7 @@ module _ (o : Outline) where
   first_good first.None' g h e = absurd (none-some g e)
   first_good (first.Some' to a parts ss place) g h e =
       subst (λ (z : FirstPart). IsFaultless o (first_statements z)) (same_Some _ g e)
-      (None, (parted _ (statements_faults o None [] ss) (parted _ _ h).1).1)
+      (None, (parted _ (flat_map (statement_faults o None []) ss) (parted _ _ h).1).1)
 
   -- a body
   pub record IsGoodBody (b : Body) : Type 0 where
@@ -192,10 +192,10 @@ module _ (o : Outline) where
           joined_all P (parts_within x) (row_parts rest) (within_good x own.0)
           (row_good rest own.1)
 
-    parts_good : (xs : List Part) → parts_faults o xs ≡ []
+    parts_good : (xs : List Part) → flat_map (part_faults o) xs ≡ []
         → AllByRecursion P (flat_map parts_within xs)
     parts_good [] h = tt
-    parts_good (x ∷ xs) h = let own = parted (part_faults o x) (parts_faults o xs) h in
+    parts_good (x ∷ xs) h = let own = parted (part_faults o x) (flat_map (part_faults o) xs) h in
         joined_all P (parts_within x) (flat_map parts_within xs) (within_good x own.0)
         (parts_good xs own.1)
 
@@ -211,7 +211,7 @@ unfolding IsLeastFault
 no_faults spec h = nothing_in (specification_faults spec) h
 
 -- each block that runs
-module _ (spec : Spec) (h : parts_faults (outline_of spec) spec.parts ≡ []) where
+module _ (spec : Spec) (h : flat_map (part_faults (outline_of spec)) spec.parts ≡ []) where
   routine_faultless : (p : ℕ) (r : Routine) → routine_at (text_of spec) p ≡ Some r
       → IsFaultless (outline_of spec) (statements_of r)
   routine_faultless p r e = let o = outline_of spec in let t = text_of spec in
@@ -250,7 +250,7 @@ pub blocks_faultless : (spec : Spec) → specification_faults spec ≡ []
 blocks_faultless spec h =
     let o = outline_of spec in
     let b = (parted (declaration_faults spec) (bodies_faults spec) h).1 in
-    let own = parted (parts_faults o spec.parts) (statement_faults o None [] spec.first) b in
+    let own = parted (flat_map (part_faults o) spec.parts) (statement_faults o None [] spec.first) b in
     record {
       routines = λ p r e. routine_faultless spec own.0 p r e;
       initialize_parts = λ p b f e k. (body_found spec own.0 p b e).initialize_part f k;

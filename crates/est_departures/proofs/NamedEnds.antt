@@ -25,16 +25,17 @@ use Rattle.est_scope.specs.declared.declaration.Sort.TheVariants as sort
 use Rattle.est_scope.specs.declared.declaration.Standing.{Standing}
 use Rattle.est_scope.specs.Outline.{Outline, entry_at, member_at, standing}
 use Rattle.est_scope.specs.Uses.{is_sort, meaning, meant_as, declaration_of}
-use Rattle.est_outline.specs.Bodies.{side_in, interaction_in, interaction_by}
-use Rattle.est_outline.specs.Bodies.{interaction_at}
+use Rattle.est_declares.specs.Bodies.{side_in, interaction_in, interaction_by}
+use Rattle.est_declares.specs.Bodies.{interaction_at}
 use Rattle.est_expressions.specs.Accesses.{access_faults, subscripts_at}
 use Rattle.est_expressions.specs.Expressions.{are_taken_faults}
-use Rattle.est_expressions.specs.Variables.{header_in}
+use Rattle.est_declares.specs.LookUps.{header_in}
 use Rattle.est_statements.specs.LinkFaults.{point_in, point_used, outer_point, outer_used}
 use Rattle.est_statements.specs.LinkFaults.{module_header, child_point, child_faults, same_role}
 use Rattle.est_statements.specs.LinkFaults.{do_attach, joined_faults, external_faults, attach_faults}
-use Rattle.est_statements.specs.Modules.{header_at}
-use Rattle.est_statements.specs.Signals.{side_at, point_side, may_pass, direction_faults}
+use Rattle.est_declares.specs.LookUps.{header_at}
+use Rattle.est_statements.specs.Signals.{direction_faults}
+use Rattle.est_declares.specs.LookUps.{side_at, point_side, may_pass}
 use Rattle.est_statements.specs.Signals.{standing_faults, signal_by_faults, signal_faults, signal_of}
 use Rattle.est_statements.specs.Signals.{sending_faults}
 use Rattle.est_semantics.specs.NamesInRuns.{place_in, declared_at, declared_within}

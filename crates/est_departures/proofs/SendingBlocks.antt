@@ -2,7 +2,7 @@
 -- join interaction points of one side.
 use Rattle.std.proofs.Common.{◌≡◌, refl, ℕ, zero, suc, Bool, true, false}
 use Rattle.std.proofs.Common.{List, [], ◌∷◌, Option, Some, None, Result, Ok, Err}
-use Rattle.std.specs.Prelude.{ℤ, if◌then◌else◌, ◌+ℤ◌}
+use Rattle.std.specs.Prelude.{ℤ, if◌then◌else◌, ◌+ℤ◌, flat_map}
 use Rattle.std.specs.List.{AllByRecursion}
 use Rattle.est_syntax.specs.declared.body.Body.{out-Body}
 use Rattle.est_syntax.specs.declared.body.FirstPart.{FirstPart}
@@ -25,8 +25,8 @@ use Rattle.est_scope.specs.Outline.{entry_at}
 use Rattle.est_alike.specs.declared.types.Host.{Host}
 use Rattle.est_statements.specs.Cases.{Chosen}
 use Rattle.est_statements.specs.LinkFaults.{attach_faults}
-use Rattle.est_statements.specs.Signals.{sending_faults, sendings_faults}
-use Rattle.est_statements.specs.Statements.{statement_faults, box_statement, statements_faults}
+use Rattle.est_statements.specs.Signals.{sending_faults}
+use Rattle.est_statements.specs.Statements.{statement_faults, box_statement}
 use Rattle.est_statements.specs.Statements as rules
 use Rattle.est_semantics.specs.declared.fault.BlockFault.{BlockFault}
 use Rattle.est_semantics.specs.declared.frame.Holder.{Holder}
@@ -341,11 +341,11 @@ module _ (t : Text) (full : AreFull t.outline) (good : FaultlessBlocks t) where
       → OnDone P (delivered (at n d) i s)
   sends n d i s h p = crossed_sent t i (record { situation = s.situation; outs = s.outs }) h p.0 p.1
 
-  all_sent_keeps : (n : ℕ) (d : Deeper) (xs : List Sending) → sendings_faults t.outline xs ≡ []
+  all_sent_keeps : (n : ℕ) (d : Deeper) (xs : List Sending) → flat_map (sending_faults t.outline) xs ≡ []
       → Keeping (all_sent xs (at n d))
   all_sent_keeps n d [] h = idles
   all_sent_keeps n d (x ∷ xs) h =
-      let own = parted (sending_faults t.outline x) (sendings_faults t.outline xs) h in
+      let own = parted (sending_faults t.outline x) (flat_map (sending_faults t.outline) xs) h in
       both (evaluated (at n d) (item_of x) >>= delivered (at n d)) (all_sent xs (at n d))
       (λ s p. looked (at n d) (item_of x) (delivered (at n d)) (IsSent t.outline) s
       (item_sent x n d s s.left own.0) (λ i l q. sends n d i (record s { left = l }) q p))
@@ -456,7 +456,7 @@ module _ (t : Text) (full : AreFull t.outline) (good : FaultlessBlocks t) where
         (row_statement turn (at n d)) (at n d)
         (boxed_keeps turn f loops n d deep (parted _ (box_statement t.outline f loops turn) e).1)
     body_keeps (statement.Output sendings place) f loops n d deep e =
-        all_sent_keeps n d sendings (parted _ (sendings_faults t.outline sendings) e).1
+        all_sent_keeps n d sendings (parted _ (flat_map (sending_faults t.outline) sendings) e).1
     body_keeps (statement.Init target body arguments place) f loops n d deep e =
         begins n d deep target body arguments
     body_keeps (statement.Release target place) f loops n d deep e = lets_go n d target
@@ -505,11 +505,11 @@ module _ (t : Text) (full : AreFull t.outline) (good : FaultlessBlocks t) where
 
   -- statements in order
   statements_keep : (xs : List Statement) (f : Option ℕ) (loops : List ℕ) (n : ℕ) (d : Deeper)
-      → Deep d → statements_faults t.outline f loops xs ≡ [] → Keeping (statements_in xs (at n d))
+      → Deep d → flat_map (statement_faults t.outline f loops) xs ≡ [] → Keeping (statements_in xs (at n d))
   statements_keep [] f loops n d deep e = idles
   statements_keep (x ∷ xs) f loops n d deep e =
       let own = parted (statement_faults t.outline f loops x)
-      (statements_faults t.outline f loops xs) e in
+      (flat_map (statement_faults t.outline f loops) xs) e in
       both (enter >> body_of x (at n d)) (statements_in xs (at n d))
       (both enter (body_of x (at n d)) enters (body_keeps x f loops n d deep own.0))
       (statements_keep xs f loops n d deep own.1)

@@ -15,7 +15,7 @@ use Rattle.est_scope.specs.declared.declaration.Sort.TheVariants as sort
 use Rattle.est_scope.specs.declared.declaration.Standing.{Standing}
 use Rattle.est_scope.specs.Outline.{Outline, Region, names_of, entry_at}
 use Rattle.est_scope.specs.Uses.{same_sort, is_sort}
-use Rattle.est_ports.specs.PortList.{kind_by, kinds_in}
+use Rattle.est_declares.specs.PortList.{kind_by, kinds_in}
 use Rattle.est_semantics.specs.declared.fault.BlockFault.{BlockFault}
 use Rattle.est_semantics.specs.declared.fault.BlockFault.TheVariants.{Range}
 use Rattle.est_semantics.specs.declared.frame.Binding.{Binding}

@@ -7,7 +7,7 @@ use Rattle.est_syntax.specs.declared.specification.Spec.{Spec}
 use Rattle.est_values.specs.declared.value.Value.{Value}
 use Rattle.est_values.specs.declared.value.Value.TheVariants.{Undefined, Ordinal, Set}
 use Rattle.est_values.specs.FittingValues.{is_scalar, AscendFrom, Fits}
-use Rattle.est_outline.specs.Bodies.{outline_of}
+use Rattle.est_declares.specs.Bodies.{outline_of}
 use Rattle.est_check.specs.LeastFault.{IsGood}
 use Rattle.est_semantics.specs.Outcome.{Done}
 use Rattle.est_semantics.specs.TextByPlace.{text_of}
@@ -21,7 +21,7 @@ use Rattle.est_choices.specs.FiringSteps.{outcome, start_of}
 use Rattle.est_runs.specs.declared.run.Move.{Move}
 use Rattle.est_runs.specs.Run.{Setup, Place, IsBegun, IsRun, Explains}
 use Rattle.est_fullness.specs.Full.{AreFull}
-use Rattle.est_fullness.specs.SentenceOf.{IsSentence}
+use Rattle.est_check.specs.SentenceOf.{IsSentence}
 use Rattle.est_departures.specs.SentInteractions.{Takes, IsSentAt, LeavesAsSent}
 use Rattle.est_departures.specs.SentInteractions.{JoinOneSide}
 

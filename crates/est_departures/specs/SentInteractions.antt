@@ -11,8 +11,8 @@ use Rattle.est_scope.specs.declared.declaration.Member.TheVariants as member
 use Rattle.est_scope.specs.declared.declaration.Senders.{Senders}
 use Rattle.est_scope.specs.declared.declaration.Side.{Side}
 use Rattle.est_scope.specs.Outline.{Outline, names_of, member_at}
-use Rattle.est_statements.specs.Signals.{side_at, may_pass}
-use Rattle.est_ports.specs.PortList.{ports_of, kinds_in}
+use Rattle.est_declares.specs.LookUps.{side_at, may_pass}
+use Rattle.est_declares.specs.PortList.{ports_of, kinds_in}
 use Rattle.est_semantics.specs.declared.situation.InteractionPoint.{InteractionPoint}
 use Rattle.est_semantics.specs.declared.situation.Item.{Item}
 use Rattle.est_semantics.specs.GlobalSituation.{Situation}

@@ -46,7 +46,7 @@ use Rattle.est_syntax.specs.declared.expression.Term.{more_of-ProductStep}
 use Rattle.est_syntax.specs.declared.expression.Term.{items-the_row-ProductStep}
 use Rattle.est_syntax.specs.declared.expression.Term.{items_shown-the_row-ProductStep-6}
 use Rattle.est_syntax.specs.declared.name.Used.{Used}
-use Rattle.est_statements.specs.Targets.{bare, bare_by, bare_factor, bare_product, bare_sum}
+use Rattle.est_declares.specs.BareVariables.{bare, bare_by, bare_factor, bare_product, bare_sum}
 
 -- WEIGHTS OF EXPRESSIONS
 

@@ -10,11 +10,14 @@ use Rattle.est_values.specs.declared.value.Value.{Value}
 use Rattle.est_semantics.specs.declared.stop.Stop.{Stop}
 use Rattle.est_semantics.specs.AnswersOfCalls.{Answers}
 use Rattle.est_semantics.specs.ExpressionValues.{factor_of, members_in, subscripts_in, values_in}
-use Rattle.est_semantics.specs.ExpressionValues.{variable_of}
-use Rattle.est_semantics.specs.FunctionCalls.{called}
+use Rattle.est_semantics.specs.ExpressionValues.{variable_of, selected_in}
+use Rattle.est_semantics.specs.FunctionCalls.{called, part_of_result}
+use Rattle.est_semantics.specs.Frames.{whole}
+use Rattle.est_semantics.specs.declared.frame.Holder.TheVariants as holder
+use Rattle.est_syntax.specs.declared.kind.Kind.{Kind}
 use Rattle.est_semantics.specs.NamesInRuns.{dims_at}
 use Rattle.est_semantics.specs.Outcome.{Outcome, Done, ◌>>=◌, give, lift}
-use Rattle.est_semantics.specs.ReachedVariables.{Reached, Module, loaded}
+use Rattle.est_semantics.specs.ReachedVariables.{Reached, Component, Module, loaded}
 use Rattle.est_semantics.specs.SetOperators.{set_of}
 use Rattle.est_semantics.specs.ValueOperators.{joined, negated}
 use Rattle.est_semantics.specs.WorkingState.{View, Counts}
@@ -36,6 +39,19 @@ set_made ms v = members_in ms [] v >>= λ zs. lift (set_of zs)
 -- the value of a variable
 abbrev pub stored_value : Used → List Selector → View → Counts Value
 stored_value u path v = variable_of u path v >>= loaded v
+
+-- the result of a function, before its selectors
+abbrev pub result_begun : ℕ → ℕ → Kind → Reached
+result_begun n p k = Component (whole (holder.Instance n) p) k
+
+-- the part of a result that selectors reach
+abbrev pub function_part : ℕ → Kind → List Selector → Value → View → Counts Value
+function_part p k path a v =
+    selected_in path (result_begun v.site.instance p k) v >>= part_of_result a
+
+-- the result of a function without arguments, with its selectors
+abbrev pub function_value : ℕ → Kind → List Selector → View → Counts Value
+function_value p k path v = called v p [] >>= λ a. function_part p k path a v
 
 -- a module variable with more subscripts
 abbrev pub module_at : List Expr → ℕ → List ℤ → View → Counts Reached

@@ -1,3 +1,4 @@
+pub mod ChosenConstants
 pub mod ExecutionSites
 pub mod ExpressionSteps
 pub mod HeldVariables

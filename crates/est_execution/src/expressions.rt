@@ -7,7 +7,7 @@ ghost use Rattle.est_scope.specs.Outline.{entry_at};
 ghost use Rattle.est_semantics.specs.AnswersOfCalls.{Answers};
 ghost use Rattle.est_semantics.specs.ExpressionValues.{value_of, related, simple_of, with_term};
 ghost use Rattle.est_semantics.specs.ExpressionValues.{term_of, factor_of, member_of, selected};
-ghost use Rattle.est_semantics.specs.ExpressionValues.{components_in, subscripts_in, values_in};
+ghost use Rattle.est_semantics.specs.ExpressionValues.{components_in, subscripts_in, values_in, selected_in};
 ghost use Rattle.est_semantics.specs.ExpressionValues.{variable_of, variable_value, required_in};
 ghost use Rattle.est_semantics.specs.ExpressionValues.{call_value, variable_place, argument_of};
 ghost use Rattle.est_semantics.specs.ExpressionValues.{arguments_in};
@@ -23,29 +23,32 @@ ghost use Rattle.est_values.specs.OrdinalTuples.{ordinals_of};
 ghost use Rattle.est_execution.specs.ExecutionSites.{site_of, view_of};
 ghost use Rattle.est_execution.specs.ExpressionSteps.{opposite, set_made, stored_value, module_at};
 ghost use Rattle.est_execution.specs.ExpressionSteps.{called_with, with_factor, Gathers};
-ghost use Rattle.est_execution.specs.ExpressionSteps.{answer_of};
+ghost use Rattle.est_execution.specs.ExpressionSteps.{answer_of, result_begun, function_part};
+ghost use Rattle.est_execution.specs.ExpressionSteps.{function_value};
 ghost use Rattle.est_execution.specs.HeldVariables.{reached_of, reached_in};
 ghost use Rattle.est_execution.specs.RunningCalls.{ran};
 ghost use Rattle.est_operators.specs.GatheredMembers.{IsGathered};
 ghost use Rattle.est_execution.specs.TurnsOfLoops.{for_turn, counted_turn, ended, branched, chosen};
 
 use crate::calls::{frame_with, open_naming, result_of, routine_of, store};
+use crate::chosen::is_chosen;
 use crate::lone::lone_operand;
-use crate::loops::{
-    children_of, distance, head_of_all, header_of, is_chosen, nth_slot, turn_value,
-};
+use crate::loops::{children_of, distance, head_of_all, header_of, nth_slot, turn_value};
 use crate::operands::{add_span, add_value, join, negate, number, put_set, put_sign};
-use crate::reached::{Reached, begun, loaded, placed, with_component, with_field, with_subscript};
-use crate::site::{Site, declared_of, dims_of, head_at, host_at, is_given_place, meaning_at};
+use crate::reached::{
+    Reached, begun, loaded, placed, result_begun, take_part, with_component, with_field,
+    with_subscript,
+};
+use crate::required::required_by;
+use crate::site::{Site, declared_of, dims_of, head_at, is_given_place, meaning_at};
 use crate::statements::statements_in;
+use est_declares::variables::bare;
 use est_frames::routines::Slots;
 use est_frames::rows::lives;
 use est_frames::system::{Frames, Outs, Working};
 use est_frames::writing::{close, open};
 use est_items::Boxed;
-use est_names::forms::bare;
 use est_names::heads::Head;
-use est_operators::hosts::required_by;
 use est_operators::ordinals::is_true;
 use est_operators::sets::Gathered;
 use est_operators::values::{decides, ordinal, unsigned_integer};
@@ -361,8 +364,8 @@ fn variable_value(
             *value = Value::Ordinal(z);
             Ok(())
         }
-        Head::Function(place, _) => {
-            call(alloc, site, place, Slots::new(alloc), value, working, left)
+        Head::Function(place, kind) => {
+            function_value(alloc, site, place, kind, path, value, working, left)
         }
         Head::Variable(_, _) => stored_value(alloc, site, name, path, value, working, left),
         Head::Modules(_) => stored_value(alloc, site, name, path, value, working, left),
@@ -388,6 +391,74 @@ fn stored_value(
     let reached = variable_of(alloc, site, name, path, working, left)?;
     *value = loaded(alloc, site, reached, working)?;
     Ok(())
+}
+
+// The value of a function without arguments, with its selectors.
+#[cycle(run)]
+#[inline(never)]
+fn function_value<'t>(
+    alloc: Global,
+    site: &Site<'_, 't>,
+    place: u32,
+    kind: &'t Kind,
+    path: &[Selector],
+    value: &mut Value,
+    working: &mut Working,
+    left: &mut u32,
+) -> Result<(), Stop>
+    ensures value { Answers (function_value place kind.now path.now (view_of site.now working.old)
+        left.old)
+        (answer_of result value.new) left.new }
+    ensures world { OnOk result (LooksSame working.old working.new) }
+{
+    call(alloc, site, place, Slots::new(alloc), value, working, left)?;
+    function_part(alloc, site, place, kind, path, value, working, left)
+}
+
+// The part of the result of a function that selectors reach.
+#[cycle(run)]
+#[inline(never)]
+fn function_part<'t>(
+    alloc: Global,
+    site: &Site<'_, 't>,
+    place: u32,
+    kind: &'t Kind,
+    path: &[Selector],
+    value: &mut Value,
+    working: &mut Working,
+    left: &mut u32,
+) -> Result<(), Stop>
+    ensures value { Answers (function_part place kind.now path.now value.old
+        (view_of site.now working.old) left.old)
+        (answer_of result value.new) left.new }
+    ensures world { OnOk result (LooksSame working.old working.new) }
+{
+    let reached = part_reached(alloc, site, place, kind, path, working, left)?;
+    take_part(alloc, reached, value)
+}
+
+// What selectors reach from the result of a function.
+#[cycle(run)]
+#[inline(never)]
+fn part_reached<'t>(
+    alloc: Global,
+    site: &Site<'_, 't>,
+    place: u32,
+    kind: &'t Kind,
+    path: &[Selector],
+    working: &mut Working,
+    left: &mut u32,
+) -> Result<Reached<'t>, Stop>
+    ensures value { Answers (selected_in path.now (result_begun site.now.instance place kind.now)
+        (view_of site.now working.old) left.old)
+        (reached_in result) left.new }
+    ensures world { OnOk result (LooksSame working.old working.new) }
+{
+    let mut reached = result_begun(alloc, site, place, kind);
+    for selector in path {
+        reached = selected(alloc, site, selector, reached, working, left)?;
+    }
+    Ok(reached)
 }
 
 /// What a variable with its selectors reaches.
@@ -577,10 +648,7 @@ fn required(
     };
     evaluate(alloc, site, e, value, working, left)?;
     let z = ordinal(value)?;
-    let Some(host) = host_at(site, e) else {
-        return Err(Stop::Fault(BlockFault::Undefined));
-    };
-    *value = Value::Ordinal(required_by(known, host, z)?);
+    *value = Value::Ordinal(required_by(site, known, e, z)?);
     Ok(())
 }
 

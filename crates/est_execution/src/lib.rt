@@ -2,6 +2,7 @@
 #![tactic(auto)]
 
 pub mod calls;
+pub mod chosen;
 pub mod effects;
 pub mod expressions;
 pub mod links;
@@ -9,5 +10,6 @@ pub mod lone;
 pub mod loops;
 pub mod operands;
 pub mod reached;
+pub mod required;
 pub mod site;
 pub mod statements;

@@ -6,18 +6,16 @@ ghost use Rattle.est_scope.specs.Outline.{entry_at};
 ghost use Rattle.est_semantics.specs.InstancePoints.{children_of};
 ghost use Rattle.est_semantics.specs.LoopEffects.{distance};
 ghost use Rattle.est_semantics.specs.NamesInRuns.{head_in, header_at};
-ghost use Rattle.est_semantics.specs.StatementEffects.{is_chosen};
 ghost use Rattle.est_values.specs.FittingValues.{first_ordinal, ordinal_count};
 ghost use Rattle.est_semantics.specs.declared.frame.Slot.TheVariants as slot;
 ghost use Rattle.est_values.specs.declared.value.Value.TheVariants.{Ordinal};
 ghost use Rattle.est_execution.specs.TurnsOfLoops.{turn_at};
 
 use crate::site::Site;
+use est_attachments::instances;
 use est_frames::system::Working;
 use est_items::Items;
-use est_links::instances;
 use est_names::declared::header_at;
-use est_names::forms::is_chosen as has_ordinal;
 use est_names::heads::{Head, head_in};
 use est_semantics::frame::Slot;
 use est_syntax::constant::Constant;
@@ -65,14 +63,6 @@ pub fn nth_slot(kind: &Kind, number: u64) -> Slot
 {
     let last = last_ordinal(kind);
     Slot::Value(Value::Ordinal(turn_ordinal(false, first_ordinal(kind), last, number)))
-}
-
-/// Whether one of these constants is an ordinal.
-pub fn is_chosen(site: &Site, constants: &[Constant], z: i32) -> Result<bool, AllocError>
-    ensures { IfOk result
-        (λ chosen. chosen ≡ is_chosen site.now.text.now.outline constants.now z) }
-{
-    has_ordinal(site.text.outline(), constants, z)
 }
 
 /// What the name of an `all` is.

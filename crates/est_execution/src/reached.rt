@@ -1,7 +1,9 @@
 //! What variables with their selectors reach.
 ghost use Rattle.std.specs.Prelude.{◌≡◌, ℕ, IfOk, option_copied};
-ghost use Rattle.est_semantics.specs.AnswersOfCalls.{Answers};
-ghost use Rattle.est_semantics.specs.Frames.{component_of, place_of};
+ghost use Rattle.est_semantics.specs.AnswersOfCalls.{Answers, Says};
+ghost use Rattle.est_semantics.specs.FunctionCalls.{part_of_result};
+ghost use Rattle.est_semantics.specs.Frames.{component_of, existing, place_of};
+ghost use Rattle.est_values.specs.PartsOfValues.{part_at};
 ghost use Rattle.est_semantics.specs.NamesInRuns.{head};
 ghost use Rattle.est_semantics.specs.Outcome.{Done};
 ghost use Rattle.est_semantics.specs.ReachedVariables.{variable_begun, with_field, with_component};
@@ -9,6 +11,7 @@ ghost use Rattle.est_semantics.specs.ReachedVariables.{with_subscript, loaded, p
 ghost use Rattle.est_semantics.specs.ReachedVariables.{Component, Module};
 ghost use Rattle.est_semantics.specs.WorkingState.{View};
 ghost use Rattle.est_execution.specs.ExecutionSites.{view_of};
+ghost use Rattle.est_execution.specs.ExpressionSteps.{answer_of, result_begun};
 ghost use Rattle.est_execution.specs.HeldVariables.{reached_of, reached_in, kind_by};
 
 use crate::site::{Site, head_at};
@@ -26,6 +29,7 @@ use est_semantics::frame::{Holder, Place, Slot};
 use est_semantics::stop::Stop;
 use est_syntax::kind::{Kind, Ordinals};
 use est_syntax::name::Used;
+use est_values::parts::part_at;
 use est_values::value::Value;
 use std::alloc::{AllocError, Global};
 
@@ -235,6 +239,50 @@ pub fn placed(reached: Reached) -> Result<Slot, Stop>
 {
     match reached {
         Reached::Component(place, _) => Ok(Slot::Place(place)),
+        Reached::Module(_, index) => {
+            drop(index);
+            Err(Stop::Fault(BlockFault::Undefined))
+        }
+    }
+}
+
+/// The result of a function, before its selectors.
+pub fn result_begun<'t>(
+    alloc: Global,
+    site: &Site<'_, 't>,
+    declared: u32,
+    kind: &'t Kind,
+) -> Reached<'t>
+    ensures { reached_of result ≡ result_begun site.now.instance declared kind.now }
+{
+    Reached::Component(
+        whole(alloc, Holder::Instance(site.instance), declared),
+        kind,
+    )
+}
+
+// The part of a value at a path.
+fn part_of(alloc: Global, value: &Value, path: &[u32]) -> Result<Value, Stop>
+    ensures { Says (existing (part_at path.now value.now)) result }
+{
+    match part_at(value, path) {
+        None => Err(Stop::Fault(BlockFault::Undefined)),
+        Some(part) => Ok(part.twin(alloc)?),
+    }
+}
+
+/// Puts the part of a result that is reached in the place of the whole.
+pub fn take_part(alloc: Global, reached: Reached, value: &mut Value) -> Result<(), Stop>
+    ensures { (n : ℕ) → Answers (part_of_result value.old (reached_of reached.entry) n)
+        (answer_of result value.new) n }
+{
+    match reached {
+        Reached::Component(place, _) => {
+            let part = part_of(alloc, value, place.path.as_slice());
+            drop(place);
+            *value = defined(part?)?;
+            Ok(())
+        }
         Reached::Module(_, index) => {
             drop(index);
             Err(Stop::Fault(BlockFault::Undefined))

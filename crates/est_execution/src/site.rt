@@ -1,17 +1,13 @@
 //! Whose statements are executed, and what names stand for there.
 ghost use Rattle.std.specs.Prelude.{◌≡◌, option_copied};
 ghost use Rattle.est_scope.specs.Uses.{meaning};
-ghost use Rattle.est_semantics.specs.HostOrdinals.{host_of};
 ghost use Rattle.est_semantics.specs.NamesInRuns.{head, dims_at, takes_place, declared_at};
 ghost use Rattle.est_names.specs.ShownNames.{head_of};
 
-use est_alike::types::Host;
 use est_names::declared::{dims_at, takes_place};
-use est_names::forms::host_of;
 use est_names::heads::Head;
 use est_names::text::Text;
 use est_scope::declaration::Meant;
-use est_syntax::expression::Expr;
 use est_syntax::kind::Kind;
 use est_syntax::name::Used;
 
@@ -51,13 +47,6 @@ pub fn is_given_place(site: &Site, routine: u32, number: usize) -> bool
     ensures { result ≡ takes_place site.now.text.now.outline routine number }
 {
     takes_place(site.text.outline(), routine, number)
-}
-
-/// The host of the ordinal that an expression yields.
-pub fn host_at(site: &Site, e: &Expr) -> Option<Host>
-    ensures { result ≡ host_of site.now.text.now.outline e.now }
-{
-    host_of(site.text.outline(), e)
 }
 
 /// Where a name is declared.

@@ -29,22 +29,20 @@ ghost use Rattle.est_operators.specs.GatheredMembers.{IsGathered};
 ghost use Rattle.est_execution.specs.TurnsOfLoops.{for_turn, counted_turn, ended, branched, chosen};
 
 use crate::calls::{frame_with, open_naming, result_of, routine_of, store};
+use crate::chosen::is_chosen;
 use crate::expressions::{arguments_in, value_of, variable_of};
 use crate::links::{attach, connect, detach, disconnect, init, output, release};
-use crate::loops::{
-    children_of, distance, head_of_all, header_of, is_chosen, nth_slot, turn_value,
-};
+use crate::loops::{children_of, distance, head_of_all, header_of, nth_slot, turn_value};
 use crate::operands::{enter, number};
 use crate::reached::{Reached, begun, loaded, placed, with_component, with_field, with_subscript};
-use crate::site::{Site, declared_of, dims_of, head_at, host_at, is_given_place, meaning_at};
+use crate::site::{Site, declared_of, dims_of, head_at, is_given_place, meaning_at};
+use est_declares::variables::bare;
 use est_frames::routines::Slots;
 use est_frames::rows::lives;
 use est_frames::system::{Frames, Outs, Working};
 use est_frames::writing::{close, open};
 use est_items::Boxed;
-use est_names::forms::bare;
 use est_names::heads::Head;
-use est_operators::hosts::required_by;
 use est_operators::ordinals::is_true;
 use est_operators::sets::{Gathered, set_of};
 use est_operators::values::{decides, joined, negated, signed, unsigned_integer};

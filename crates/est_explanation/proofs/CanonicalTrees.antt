@@ -226,7 +226,7 @@ module _ (text : List ℕ) (s : List Token) where
       }
 
   claim : (n a : ℕ) → n ≤ most_events + 1 → Are a (claim_words n)
-      → Reads grammar.claim (number_view n) a []
+      → Reads (word (said "yields") (token (number 0 (most_events + 1)))) (number_view n) a []
   claim n a h x =
       take (said "yields") a (named (codes "yields") 32) (numeral n 10 ∷ []) []
       (word_meets text (codes "yields") (codes "yields") 32 yields_is) x

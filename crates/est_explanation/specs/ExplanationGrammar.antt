@@ -41,10 +41,8 @@ move = alt (word (said "take") done) (word (said "fire") firing)
 abbrev pub move_starts : List Test
 move_starts = said "take" ∷ said "fire" ∷ []
 
--- the claim, after the moves: one more than there are events stands for all with nothing after them
-abbrev pub claim : Rule
-claim = word (said "yields") (token (number 0 (most_events + 1)))
-
--- explanation = "explanation" "1" { move } "yields" number .
+-- explanation = "explanation" "1" { move } "yields" number . The claim is one more than there may be
+-- events where it is for all with nothing after them.
 abbrev pub explanation : Rule
-explanation = word (said "explanation") (word (number 1 1) (seq (rep move) claim))
+explanation = word (said "explanation") (word (number 1 1)
+    (seq (rep move) (word (said "yields") (token (number 0 (most_events + 1))))))

@@ -48,7 +48,7 @@ use Rattle.est_alike.specs.Types.{Yielded, Ordinal, Set, Group, type_of}
 use Rattle.est_alike.specs.Types.{is_assignable, are_hosts_one}
 use Rattle.est_expressions.specs.declared.operators.Wanted.{Wanted}
 use Rattle.est_expressions.specs.declared.operators.Wanted.TheVariants as wanted
-use Rattle.est_expressions.specs.declared.names.Required.{Required}
+use Rattle.est_declares.specs.declared.required.Required.{Required}
 use Rattle.est_expressions.specs.declared.receivers.Receiver.{Receiver}
 use Rattle.est_expressions.specs.declared.receivers.Receiver.TheVariants as receiver
 use Rattle.est_expressions.specs.Operators.{is_ordinal, is_taken, wants, kept, gives, is_given}
@@ -60,13 +60,15 @@ use Rattle.est_expressions.specs.Selections.{SomeModule, declared_type, paramete
 use Rattle.est_expressions.specs.Selections.{argument_of, head_by, head_in, head_meant, head}
 use Rattle.est_expressions.specs.Selections.{predeclared_head, predeclared_faults, sort_faults}
 use Rattle.est_expressions.specs.Selections.{entry_faults, meant_faults, head_faults}
-use Rattle.est_expressions.specs.Receivers.{subscript_in, dims_in, is_argument, takes_number}
+use Rattle.est_expressions.specs.Receivers.{subscript_in, is_argument, takes_number}
+use Rattle.est_declares.specs.LookUps.{dims_in}
 use Rattle.est_expressions.specs.ExpressionPlaces.{factor_place, term_place, sign_place}
 use Rattle.est_expressions.specs.ExpressionPlaces.{simple_place, expr_place}
 use Rattle.est_expressions.specs.Variables.{indexed, component, subscript_faults}
 use Rattle.est_expressions.specs.Variables.{component_faults, field_in, field_found}
 use Rattle.est_expressions.specs.Variables.{field_of, found_faults, field_faults, is_export}
-use Rattle.est_expressions.specs.Variables.{header_in, of_header, has_exports, export_by}
+use Rattle.est_expressions.specs.Variables.{of_header, has_exports, export_by}
+use Rattle.est_declares.specs.LookUps.{header_in}
 use Rattle.est_expressions.specs.Variables.{export_of, no_export, export_faults, with_field}
 use Rattle.est_expressions.specs.Variables.{with_field_faults, selected_type, end_faults}
 use Rattle.est_expressions.specs.Calls.{is_received, taken_faults, is_number}

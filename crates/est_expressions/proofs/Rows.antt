@@ -1,4 +1,5 @@
 -- Expressions by the lists, boxes and options that they are made of.
+use Rattle.std.specs.Prelude.{flat_map}
 use Rattle.std.proofs.Common.{◌≡◌, refl, sym, ap, ◌∙◌, ℕ, ◌+◌, ◌&&◌, List, ◌++◌, Option, Some, None}
 use Rattle.est_syntax.specs.declared.expression.Expr.{Expr, Expr', out-Expr, outs-Expr'}
 use Rattle.est_syntax.specs.declared.expression.Expr.{Held-Expr-relation, Expr-relation-None'}
@@ -68,7 +69,7 @@ use Rattle.est_expressions.specs.Expressions.{with_members_faults, held_high_fau
 use Rattle.est_expressions.specs.Expressions.{row_taken_faults, row_selected_faults}
 use Rattle.est_expressions.specs.Expressions.{selection_faults, row_component_faults, related}
 use Rattle.est_expressions.specs.Expressions.{related_faults, summed, summed_faults, multiplied}
-use Rattle.est_expressions.specs.Expressions.{multiplied_faults, exprs_faults, first_type}
+use Rattle.est_expressions.specs.Expressions.{multiplied_faults, first_type}
 use Rattle.est_expressions.specs.Expressions.{are_taken, one_faults, are_taken_faults, components}
 use Rattle.est_expressions.specs.Expressions.{one_component_faults, components_faults, with_index}
 use Rattle.est_expressions.specs.Expressions.{with_index_faults, selected, selected_faults}
@@ -113,7 +114,7 @@ first_row o n end_of-Expr = refl
 first_row o n (more_of-Expr e rest) = refl
 
 exprs_row : (o : Outline) (n : _) (row : Row_of-Expr n)
-    → row_faults o row ≡ exprs_faults o (items-the_row-Expr n row)
+    → row_faults o row ≡ flat_map (expr_faults o) (items-the_row-Expr n row)
 exprs_row o n end_of-Expr = refl
 exprs_row o n (more_of-Expr e rest) = ap (λ l. expr_faults o e ++ l) (exprs_row o _ rest)
 
@@ -147,9 +148,9 @@ first_hidden o es = first_row o _ (hidden-the_row-Expr-4 es)
     ∙ ap (first_type o) (items_hidden-the_row-Expr-4 es)
 
 exprs_hidden : (o : Outline) (es : List Expr) → row_faults o (hidden-the_row-Expr-4 es)
-    ≡ exprs_faults o es
+    ≡ flat_map (expr_faults o) es
 exprs_hidden o es = exprs_row o _ (hidden-the_row-Expr-4 es)
-    ∙ ap (exprs_faults o) (items_hidden-the_row-Expr-4 es)
+    ∙ ap (flat_map (expr_faults o)) (items_hidden-the_row-Expr-4 es)
 
 taken_hidden : (o : Outline) (r : Option Receiver) (es : List Expr)
     → row_taken o r 0 (hidden-the_row-Expr-4 es) ≡ are_taken o r 0 es

@@ -13,11 +13,12 @@ use Rattle.est_scope.specs.declared.declaration.Meant.TheVariants.{Unseen, Seen}
 use Rattle.est_scope.specs.Outline.{Outline, entry_at}
 use Rattle.est_scope.specs.Uses.{is_sort, meaning}
 use Rattle.est_alike.specs.Types.{Yielded}
-use Rattle.est_expressions.specs.declared.names.Required.{Required}
+use Rattle.est_declares.specs.declared.required.Required.{Required}
 use Rattle.est_expressions.specs.declared.receivers.Receiver.{Receiver}
 use Rattle.est_expressions.specs.declared.receivers.Receiver.TheVariants as receiver
 use Rattle.est_expressions.specs.Selections.{Selection, Modules, declared_type}
-use Rattle.est_expressions.specs.Selections.{required_function, value_of}
+use Rattle.est_expressions.specs.Selections.{value_of}
+use Rattle.est_declares.specs.RequiredFunctions.{required_function}
 use Rattle.est_expressions.specs.Receivers.{receives, received_faults, takes_number, number_faults}
 
 -- what takes the subscripts of module variables

@@ -1,4 +1,5 @@
 -- What expressions yield, and the rules that they break (ISO 7185, 6.7).
+use Rattle.std.specs.Prelude.{flat_map}
 use Rattle.std.specs.Prelude.{ℕ, ◌+◌, Bool, ◌&&◌, List, [], ◌∷◌, ◌++◌, Option, Some, None}
 use Rattle.est_syntax.specs.declared.expression.Expr.{Expr, Expr', Held-Expr-relation}
 use Rattle.est_syntax.specs.declared.expression.Expr.{Expr-relation-None', Expr-relation-Some'}
@@ -283,11 +284,6 @@ multiplied_faults o t place (s ∷ ss) =
     with_factor_faults o t place s
     ++ multiplied_faults o (with_factor o t s) place ss
 
--- what expressions break, each by itself
-abbrev pub exprs_faults : Outline → List Expr → List Fault
-exprs_faults o [] = []
-exprs_faults o (e ∷ es) = expr_faults o e ++ exprs_faults o es
-
 -- what the first of some expressions yields
 abbrev pub first_type : Outline → List Expr → Option Yielded
 first_type o [] = None
@@ -332,7 +328,7 @@ with_index o s es = chosen_by s (components o s es) (are_taken o (subscripts_of 
 abbrev pub with_index_faults : Outline → Selection → ℕ → List Expr → List Fault
 with_index_faults o s name es =
     index_faults s (components_faults o s name es)
-    (are_taken_faults o (subscripts_of s) 0 name es) (exprs_faults o es) name
+    (are_taken_faults o (subscripts_of s) 0 name es) (flat_map (expr_faults o) es) name
 
 -- what selectors make of what stands before them
 abbrev pub selected : Outline → Selection → List Selector → Selection

@@ -10,15 +10,12 @@ use Rattle.est_syntax.specs.declared.rule.Rule.TheVariants.{WrongNumber}
 use Rattle.est_scope.specs.declared.declaration.Entry.{Entry}
 use Rattle.est_scope.specs.Outline.{Outline, entry_at}
 use Rattle.est_alike.specs.Types.{Yielded, type_of}
-use Rattle.est_expressions.specs.declared.names.Required.{Required}
+use Rattle.est_declares.specs.declared.required.Required.{Required}
+use Rattle.est_declares.specs.LookUps.{dims_in}
 use Rattle.est_expressions.specs.declared.receivers.Receiver.{Receiver}
 use Rattle.est_expressions.specs.declared.receivers.Receiver.TheVariants as receiver
 use Rattle.est_expressions.specs.Operators.{is_taken, wants, gives, is_given}
 use Rattle.est_expressions.specs.Selections.{declared_type, parameter, takes_so_many, argument_of}
-
--- the kinds of the subscripts of a declaration
-abbrev pub dims_in : Option Entry → Option (List Kind)
-dims_in entry = option_and_then (λ (e : Entry). e.dims) entry
 
 -- the type of the subscript with this number, of those of these kinds
 abbrev pub subscript_in : Option (List Kind) → ℕ → Option Yielded

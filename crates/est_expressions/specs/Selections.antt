@@ -25,10 +25,11 @@ use Rattle.est_kinds.specs.Constants.{predeclared_constant}
 use Rattle.est_alike.specs.declared.types.Host.{Host}
 use Rattle.est_alike.specs.declared.types.Host.TheVariants as host
 use Rattle.est_alike.specs.Types.{Yielded, Ordinal, yields, host_in, type_of}
+use Rattle.est_declares.specs.RequiredFunctions.{required_function}
 use Rattle.est_expressions.specs.declared.operators.Wanted.{Wanted}
 use Rattle.est_expressions.specs.declared.operators.Wanted.TheVariants as wanted
-use Rattle.est_expressions.specs.declared.names.Required.{Required}
-use Rattle.est_expressions.specs.declared.names.Required.TheVariants as required
+use Rattle.est_declares.specs.declared.required.Required.{Required}
+use Rattle.est_declares.specs.declared.required.Required.TheVariants as required
 use Rattle.est_expressions.specs.declared.names.Selected.{Selected}
 use Rattle.est_expressions.specs.declared.names.Selected.TheVariants as code
 
@@ -89,17 +90,6 @@ has_before o place n = nat_eq n 0 || is_some (parameter o place (n - 1))
 abbrev pub takes_so_many : Outline → ℕ → ℕ → Bool
 takes_so_many o place n = has_before o place n && not (is_some (parameter o place n))
 
--- the functions that are predeclared (ISO 7185, 6.6.6)
-abbrev pub required_function : PredeclaredName → Option Required
-required_function known.Ord = Some required.Ord
-required_function known.Chr = Some required.Chr
-required_function known.Succ = Some required.Succ
-required_function known.Pred = Some required.Pred
-required_function known.Abs = Some required.Abs
-required_function known.Odd = Some required.Odd
-required_function known.Sqr = Some required.Sqr
-required_function _ = None
-
 -- what they take
 abbrev pub argument_of : Required → Wanted
 argument_of required.Ord = wanted.Ordinal
@@ -125,7 +115,7 @@ abbrev pub predeclared_head : Option Valued → Selection
 predeclared_head None = Broken
 predeclared_head (Some v) = host_value (host_in v.host)
 
--- a constant or the result of a function, where its kind is known
+-- a constant, where its kind is known
 abbrev pub value_head : Option Measured → Selection
 value_head None = Broken
 value_head (Some m) = Value (type_of m.kind)
@@ -141,9 +131,10 @@ module_head None p = Broken
 module_head (Some []) p = Module p
 module_head (Some (k ∷ ks)) p = Modules p
 
--- a function without arguments
+-- the result of a function without arguments, whose parts selectors reach as those of a variable
+-- (profile: ISO 7185, 6.7.3, has results without parts)
 abbrev pub function_head : Bool → Option Measured → Selection
-function_head takes k = if takes then value_head k else Broken
+function_head takes k = if takes then variable_head k else Broken
 
 -- what a declaration of this sort is in an expression
 abbrev pub head_by : Outline → ℕ → Entry → Sort → Selection

@@ -20,6 +20,7 @@ use Rattle.est_scope.specs.declared.declaration.Sort.TheVariants as sort
 use Rattle.est_scope.specs.declared.declaration.Standing.{Standing}
 use Rattle.est_scope.specs.Outline.{Outline, entry_at, standing}
 use Rattle.est_alike.specs.Types.{Yielded, type_of, is_assignable}
+use Rattle.est_declares.specs.LookUps.{header_in}
 use Rattle.est_expressions.specs.Selections.{Selection, Broken, Value, Component}
 use Rattle.est_expressions.specs.Selections.{Modules, Module, SomeModule, variable_head}
 
@@ -93,10 +94,6 @@ is_export e = exported e.section e.declared.sort
     exported : Section → Sort → Bool
     exported section.Header sort.Variable = true
     exported _ _ = false
-
--- the header of a declaration, if it has one
-abbrev pub header_in : Option Entry → Option ℕ
-header_in entry = option_and_then (λ (e : Entry). e.header) entry
 
 -- what a header declares under a name
 abbrev pub of_header : Outline → ℕ → Used → Option Entry

@@ -8,14 +8,16 @@ ghost use Rattle.est_scope.specs.declared.declaration.Sort.TheVariants as sort;
 ghost use Rattle.est_scope.specs.Outline.{entry_at};
 ghost use Rattle.est_scope.specs.Uses.{is_sort};
 ghost use Rattle.est_alike.specs.Types.{yielded};
-ghost use Rattle.est_expressions.specs.Selections.{declared_type, required_function};
+ghost use Rattle.est_expressions.specs.Selections.{declared_type};
+ghost use Rattle.est_declares.specs.RequiredFunctions.{required_function};
 ghost use Rattle.est_expressions.specs.Calls.{is_received, taken_faults, is_number, count_faults};
 ghost use Rattle.est_expressions.specs.Calls.{declared_callee, required_callee, callee, no_callee};
 ghost use Rattle.est_expressions.specs.Calls.{callee_faults, value_by, call_by};
 
-use crate::names::{Required, required_function, type_in};
+use crate::names::{type_in, value_of};
 use crate::receivers::{Receiver, check_number, check_received};
 use est_alike::types::ValueType;
+use est_declares::required::{Required, required_function};
 use est_scope::declaration::{Meant, Sort};
 use est_scope::least::Least;
 use est_scope::outline::Outline;
@@ -136,7 +138,7 @@ fn value_by(function: Required, kind: Option<ValueType<'_>>) -> Option<ValueType
 {
     match kind {
         None => None,
-        Some(kind) => Some(function.value(kind)),
+        Some(kind) => Some(value_of(function, kind)),
     }
 }
 

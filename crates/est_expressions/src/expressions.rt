@@ -1,6 +1,7 @@
 //! What expressions yield, and the rules that they break, in one walk (ISO 7185, 6.7).
 #![tactic(auto, using(est_scope::proofs::LeastLaws::least_append, crate::proofs::Rows::rows))]
 
+ghost use Rattle.std.specs.Prelude.{flat_map};
 ghost use Rattle.std.specs.Prelude.{◌≡◌, ◌≤◌, ◌&&◌, ◌++◌, Some, None, drop, length};
 ghost use Rattle.est_scope.specs.LeastSoFar.{least_with};
 ghost use Rattle.est_alike.specs.Types.{yielded, Set};
@@ -18,7 +19,7 @@ ghost use Rattle.est_expressions.specs.Expressions.{high_type, with_members, mem
 ghost use Rattle.est_expressions.specs.Expressions.{expr_faults, with_simple_faults};
 ghost use Rattle.est_expressions.specs.Expressions.{simple_faults, with_term_faults, summed_faults};
 ghost use Rattle.est_expressions.specs.Expressions.{term_faults, with_factor_faults};
-ghost use Rattle.est_expressions.specs.Expressions.{multiplied_faults, factor_faults, exprs_faults};
+ghost use Rattle.est_expressions.specs.Expressions.{multiplied_faults, factor_faults};
 ghost use Rattle.est_expressions.specs.Expressions.{one_faults, are_taken_faults};
 ghost use Rattle.est_expressions.specs.Expressions.{one_component_faults, components_faults};
 ghost use Rattle.est_expressions.specs.Expressions.{with_index_faults, selection_faults};
@@ -60,7 +61,7 @@ pub fn check_expr<'o>(outline: &'o Outline, expr: &Expr, least: &mut Least) -> O
 /// Checks expressions by themselves.
 #[cycle(expressions)]
 pub fn check_exprs(outline: &Outline, exprs: &[Expr], least: &mut Least)
-    ensures { least.new.at ≡ least_with least.old.at (exprs_faults outline.now exprs.now) }
+    ensures { least.new.at ≡ least_with least.old.at (flat_map (expr_faults outline.now) exprs.now) }
 {
     for expr in exprs {
         check_alone(outline, expr, least);

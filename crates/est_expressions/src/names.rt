@@ -10,7 +10,8 @@ ghost use Rattle.est_alike.specs.Types.{yields, yielded};
 ghost use Rattle.est_expressions.specs.Selections.{selects, type_in, is_parameter, parameter_at};
 ghost use Rattle.est_expressions.specs.Selections.{parameter, has_before, takes_so_many};
 ghost use Rattle.est_expressions.specs.Selections.{declared_type};
-ghost use Rattle.est_expressions.specs.Selections.{required_function, argument_of};
+ghost use Rattle.est_expressions.specs.Selections.{argument_of};
+ghost use Rattle.est_declares.specs.RequiredFunctions.{required_function};
 ghost use Rattle.est_expressions.specs.Selections.{value_of, predeclared_head, value_head};
 ghost use Rattle.est_expressions.specs.Selections.{variable_head, module_head};
 ghost use Rattle.est_expressions.specs.Selections.{function_head, head_by};
@@ -20,6 +21,7 @@ ghost use Rattle.est_expressions.specs.Selections.{sort_faults, entry_faults, he
 
 use crate::operators::Wanted;
 use est_alike::types::{Host, ValueType, type_of};
+use est_declares::required::{Required, required_function};
 use est_scope::declaration::{Entry, Meant, Measured, Section, SharedKinds, Sort};
 use est_scope::least::Least;
 use est_scope::outline::Outline;
@@ -27,18 +29,6 @@ use est_scope::predeclared::PredeclaredName;
 use est_syntax::kind::Kind;
 use est_syntax::name::Used;
 use est_syntax::rule::Rule;
-
-/// A function that is predeclared (ISO 7185, 6.6.6).
-#[derive(Clone, Copy)]
-pub enum Required {
-    Ord,
-    Chr,
-    Succ,
-    Pred,
-    Abs,
-    Odd,
-    Sqr,
-}
 
 /// What a name with some selectors stands for: nothing, where it breaks a rule; a value; a variable
 /// of a kind; the module variables that are declared at a place, before their subscripts; one of
@@ -125,46 +115,28 @@ pub fn parameter_type(outline: &Outline, place: u32, number: usize) -> Option<Va
     }
 }
 
-/// The function that is predeclared under a name.
-pub fn required_function(known: PredeclaredName) -> Option<Required>
-    ensures { result ≡ required_function known }
+/// What a predeclared function takes.
+pub fn argument_of(function: Required) -> Wanted
+    ensures { result ≡ argument_of function }
 {
-    match known {
-        PredeclaredName::Ord => Some(Required::Ord),
-        PredeclaredName::Chr => Some(Required::Chr),
-        PredeclaredName::Succ => Some(Required::Succ),
-        PredeclaredName::Pred => Some(Required::Pred),
-        PredeclaredName::Abs => Some(Required::Abs),
-        PredeclaredName::Odd => Some(Required::Odd),
-        PredeclaredName::Sqr => Some(Required::Sqr),
-        _ => None,
+    match function {
+        Required::Ord => Wanted::Ordinal,
+        Required::Succ => Wanted::Ordinal,
+        Required::Pred => Wanted::Ordinal,
+        _ => Wanted::Integer,
     }
 }
 
-impl Required {
-    /// What the function takes.
-    pub fn argument(self) -> Wanted
-        ensures { result ≡ argument_of self }
-    {
-        match self {
-            Required::Ord => Wanted::Ordinal,
-            Required::Succ => Wanted::Ordinal,
-            Required::Pred => Wanted::Ordinal,
-            _ => Wanted::Integer,
-        }
-    }
-
-    /// What the function gives for an argument of a type.
-    pub fn value(self, kind: ValueType<'_>) -> ValueType<'_>
-        ensures { yields result ≡ value_of self (yields kind.entry) }
-    {
-        match self {
-            Required::Chr => ValueType::Ordinal(Host::Char),
-            Required::Odd => ValueType::Ordinal(Host::Boolean),
-            Required::Succ => kind,
-            Required::Pred => kind,
-            _ => ValueType::Ordinal(Host::Integer),
-        }
+/// What it gives for an argument of a type.
+pub fn value_of(function: Required, kind: ValueType<'_>) -> ValueType<'_>
+    ensures { yields result ≡ value_of function (yields kind.entry) }
+{
+    match function {
+        Required::Chr => ValueType::Ordinal(Host::Char),
+        Required::Odd => ValueType::Ordinal(Host::Boolean),
+        Required::Succ => kind,
+        Required::Pred => kind,
+        _ => ValueType::Ordinal(Host::Integer),
     }
 }
 
@@ -180,8 +152,8 @@ fn predeclared_head<'o>(known: PredeclaredName) -> Selected<'o>
     }
 }
 
-/// A constant or the result of a function, where its kind is known.
-pub fn value_head(kind: &Option<Measured>) -> Selected<'_>
+// A constant, where its kind is known.
+fn value_head(kind: &Option<Measured>) -> Selected<'_>
     ensures { selects result ≡ value_head kind.now }
 {
     match kind {
@@ -223,7 +195,7 @@ fn head_by<'o>(outline: &'o Outline, place: u32, entry: &'o Entry) -> Selected<'
         Sort::Variable => variable_head(&entry.kind),
         Sort::ModuleVariable => module_head(&entry.dims, place),
         Sort::Function => if takes_so_many(outline, place, 0) {
-            value_head(&entry.kind)
+            variable_head(&entry.kind)
         } else {
             Selected::Broken
         },

@@ -8,13 +8,15 @@ ghost use Rattle.est_scope.specs.Outline.{entry_at};
 ghost use Rattle.est_alike.specs.Types.{yielded};
 ghost use Rattle.est_expressions.specs.Selections.{argument_of};
 ghost use Rattle.est_expressions.specs.Operators.{wants};
-ghost use Rattle.est_expressions.specs.Receivers.{dims_in, subscript_in, is_argument, receives};
+ghost use Rattle.est_expressions.specs.Receivers.{subscript_in, is_argument, receives};
+ghost use Rattle.est_declares.specs.LookUps.{dims_in};
 ghost use Rattle.est_expressions.specs.Receivers.{received_faults, are_so_many, takes_number};
 ghost use Rattle.est_expressions.specs.Receivers.{number_faults};
 
-use crate::names::{Required, parameter_type, takes_so_many};
+use crate::names::{argument_of, parameter_type, takes_so_many};
 use crate::operators::{gives, is_given, is_taken, wants};
 use est_alike::types::{ValueType, type_of};
+use est_declares::required::Required;
 use est_scope::declaration::SharedKinds;
 use est_scope::least::Least;
 use est_scope::outline::Outline;
@@ -58,7 +60,7 @@ fn is_argument(function: Required, kind: Option<ValueType<'_>>) -> bool
 {
     match kind {
         None => false,
-        Some(kind) => is_taken(function.argument(), kind),
+        Some(kind) => is_taken(argument_of(function), kind),
     }
 }
 
@@ -88,7 +90,7 @@ pub fn check_received(
             is_given(target, kind)
         },
         Receiver::Function(function) => {
-            wants(function.argument(), kind, place, least);
+            wants(argument_of(function), kind, place, least);
             is_argument(function, kind)
         },
     }

@@ -12,13 +12,15 @@ ghost use Rattle.est_alike.specs.Types.{yielded};
 ghost use Rattle.est_expressions.specs.Selections.{selects, Component};
 ghost use Rattle.est_expressions.specs.Variables.{component, subscript_faults, component_faults};
 ghost use Rattle.est_expressions.specs.Variables.{field_in, field_found, field_of, found_faults};
-ghost use Rattle.est_expressions.specs.Variables.{field_faults, is_export, header_in, of_header};
+ghost use Rattle.est_expressions.specs.Variables.{field_faults, is_export, of_header};
+ghost use Rattle.est_declares.specs.LookUps.{header_in};
 ghost use Rattle.est_expressions.specs.Variables.{has_exports, export_by, export_of, no_export};
 ghost use Rattle.est_expressions.specs.Variables.{export_faults, with_field, with_field_faults};
 ghost use Rattle.est_expressions.specs.Variables.{selected_type, end_faults};
 
 use crate::names::{Selected, variable_head};
 use est_alike::types::{ValueType, is_assignable, type_of};
+use est_declares::lookups::header_in;
 use est_scope::declaration::{Entry, Section, Sort};
 use est_scope::least::Least;
 use est_scope::outline::Outline;
@@ -124,16 +126,6 @@ fn is_export(entry: &Entry) -> bool
     match (entry.section, entry.declared.sort) {
         (Section::Header, Sort::Variable) => true,
         _ => false,
-    }
-}
-
-/// The header of what is declared at a place, if it has one.
-pub fn header_in(outline: &Outline, place: u32) -> Option<u32>
-    ensures { result ≡ header_in (entry_at outline.now place) }
-{
-    match outline.entry(place) {
-        None => None,
-        Some(entry) => entry.header,
     }
 }
 

@@ -5,7 +5,7 @@ use Rattle.est_lexer.specs.Lines.{line_at, column_at}
 use Rattle.est_lexer.specs.Offsets.{offset_at}
 use Rattle.est_lexer.specs.TokenList.{IsTokenList}
 use Rattle.est_syntax.specs.declared.specification.Spec.{Spec}
-use Rattle.est_ports.specs.PortList.{ports_of}
+use Rattle.est_declares.specs.PortList.{ports_of}
 use Rattle.est_choices.specs.declared.event.Event.{Event}
 use Rattle.est_explanation.specs.declared.explanation.Explanation.{Explanation}
 use Rattle.est_specification.specs.SpecificationText.{IsSpecification, IsNoSpecification}

@@ -26,10 +26,10 @@ use Rattle.est_kinds.specs.Constants.{is_integer, value_with, constant_value, co
 use Rattle.est_kinds.specs.Constants.{constant_last}
 use Rattle.est_kinds.specs.TypeTexts.{text_type, text_faults, type_faults, named_type}
 use Rattle.est_kinds.specs.Dims.{dims_of, dims_faults}
-use Rattle.est_outline.specs.Entries.{ordinal_of}
-use Rattle.est_outline.specs.Bodies.{body_header}
-use Rattle.est_outline.specs.Lasts.{text_last}
-use Rattle.est_outline.specs.Declares.{side_with, side_by, side_of, member_named}
+use Rattle.est_declares.specs.Entries.{ordinal_of}
+use Rattle.est_declares.specs.Bodies.{body_header}
+use Rattle.est_declares.specs.Lasts.{text_last}
+use Rattle.est_declares.specs.Declares.{side_with, side_by, side_of, member_named}
 use Rattle.est_types.specs.DeclarationFaults.{side_faults, role_used, attribute_faults}
 use Rattle.est_types.specs.DeclarationFaults.{word_place, constdef_faults, typedef_faults}
 use Rattle.est_language.specs.Shown.{node, nodes}

@@ -20,12 +20,14 @@ use Rattle.est_expressions.specs.Calls.{is_received, taken_faults, declared_call
 use Rattle.est_expressions.specs.Calls.{callee_meant, no_callee, callee_faults_by, value_by}
 use Rattle.est_expressions.specs.Calls.{call_yields}
 use Rattle.est_expressions.specs.Operators.{is_taken, wants}
-use Rattle.est_expressions.specs.Receivers.{dims_in, subscript_in, is_argument, receives}
+use Rattle.est_expressions.specs.Receivers.{subscript_in, is_argument, receives}
+use Rattle.est_declares.specs.LookUps.{dims_in}
 use Rattle.est_expressions.specs.Receivers.{received_faults, are_so_many, takes_number}
 use Rattle.est_expressions.specs.Selections.{declared_type, type_in, is_parameter, parameter_in}
 use Rattle.est_expressions.specs.Selections.{parameter_at, parameter, has_before, takes_so_many}
-use Rattle.est_expressions.specs.Selections.{argument_of, required_function, value_of}
-use Rattle.est_expressions.specs.declared.names.Required.{Required}
+use Rattle.est_expressions.specs.Selections.{argument_of, value_of}
+use Rattle.est_declares.specs.RequiredFunctions.{required_function}
+use Rattle.est_declares.specs.declared.required.Required.{Required}
 use Rattle.est_expressions.specs.declared.receivers.Receiver.{Receiver}
 use Rattle.est_expressions.specs.declared.receivers.Receiver.TheVariants as receiver
 use Rattle.est_fullness.specs.Full.{IsThere, HasAll, AreFull}

@@ -57,7 +57,7 @@ use Rattle.est_expressions.specs.Receivers.{is_argument, takes_number}
 use Rattle.est_expressions.specs.Selections.{Selection, Broken, Value, Component, Modules, Module}
 use Rattle.est_expressions.specs.Selections.{SomeModule, head, head_faults}
 use Rattle.est_expressions.specs.Variables.{component, component_faults, end_faults}
-use Rattle.est_expressions.specs.declared.names.Required.{Required}
+use Rattle.est_declares.specs.declared.required.Required.{Required}
 use Rattle.est_expressions.specs.declared.operators.Wanted.TheVariants as wanted
 use Rattle.est_expressions.specs.declared.receivers.Receiver.{Receiver}
 use Rattle.est_expressions.specs.declared.receivers.Receiver.TheVariants as receiver

@@ -18,7 +18,7 @@ use Rattle.est_scope.specs.declared.declaration.Sort.TheVariants as sort
 use Rattle.est_scope.specs.declared.declaration.Standing.{Standing}
 use Rattle.est_expressions.specs.Accesses.{subscripts_at, access_faults}
 use Rattle.est_expressions.specs.Expressions.{are_taken_faults}
-use Rattle.est_expressions.specs.Receivers.{dims_in}
+use Rattle.est_declares.specs.LookUps.{dims_in}
 use Rattle.est_expressions.specs.declared.receivers.Receiver.TheVariants as receiver
 use Rattle.est_statements.specs.LinkFaults.{is_end_sort, end_meant, end_of, end_used, single_faults}
 use Rattle.est_statements.specs.LinkFaults.{point_in, outer_point, point_used, outer_used}
@@ -27,7 +27,7 @@ use Rattle.est_statements.specs.LinkFaults.{is_internal_point, internal_faults, 
 use Rattle.est_statements.specs.LinkFaults.{connected_faults, connected_side, opposed_faults}
 use Rattle.est_statements.specs.LinkFaults.{joined_faults, connect_faults, attach_faults}
 use Rattle.est_statements.specs.LinkFaults.{untied_faults}
-use Rattle.est_statements.specs.Signals.{point_side, side_at}
+use Rattle.est_declares.specs.LookUps.{point_side, side_at}
 use Rattle.est_fullness.specs.Full.{IsThere, HasAll, AreFull}
 use Rattle.est_fullness.specs.FullExpressions.{IsWhole}
 use Rattle.est_fullness.specs.FullStatements.{IsEnd, IsConnected, AreAttached}

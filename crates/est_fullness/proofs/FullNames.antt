@@ -27,20 +27,22 @@ use Rattle.est_kinds.specs.Constants.{predeclared_constant}
 use Rattle.est_alike.specs.Types.{Yielded, type_of, is_assignable, host_in}
 use Rattle.est_alike.specs.declared.types.Host.{Host}
 use Rattle.est_alike.specs.declared.types.Host.TheVariants as host
-use Rattle.est_expressions.specs.Receivers.{dims_in}
+use Rattle.est_declares.specs.LookUps.{dims_in}
 use Rattle.est_expressions.specs.Selections.{Selection, Broken, Value, Component, Modules, Module}
 use Rattle.est_expressions.specs.Selections.{SomeModule, takes_so_many, value_head, variable_head}
 use Rattle.est_expressions.specs.Selections.{module_head, function_head, head_by, head_in}
-use Rattle.est_expressions.specs.Selections.{head_meant, head, predeclared_head, required_function}
+use Rattle.est_expressions.specs.Selections.{head_meant, head, predeclared_head}
+use Rattle.est_declares.specs.RequiredFunctions.{required_function}
 use Rattle.est_expressions.specs.Selections.{host_value, function_faults, predeclared_faults}
 use Rattle.est_expressions.specs.Selections.{sort_faults, entry_faults, meant_faults, head_faults}
 use Rattle.est_expressions.specs.Variables.{indexed, component, subscript_faults, component_faults}
 use Rattle.est_expressions.specs.Variables.{field_in, field_found, field_of, found_faults}
-use Rattle.est_expressions.specs.Variables.{field_faults, is_export, header_in, of_header}
+use Rattle.est_expressions.specs.Variables.{field_faults, is_export, of_header}
+use Rattle.est_declares.specs.LookUps.{header_in}
 use Rattle.est_expressions.specs.Variables.{has_exports, export_by, export_of, no_export}
 use Rattle.est_expressions.specs.Variables.{export_faults, with_field, with_field_faults}
 use Rattle.est_expressions.specs.Variables.{selected_type, end_faults}
-use Rattle.est_expressions.specs.declared.names.Required.{Required}
+use Rattle.est_declares.specs.declared.required.Required.{Required}
 use Rattle.est_fullness.specs.Full.{IsThere, HasAll, AreFull}
 use Rattle.est_fullness.specs.FullExpressions.{IsKnown}
 use Rattle.est_fullness.proofs.FullOperators.{nowhere}
@@ -118,7 +120,8 @@ sort_known o p e sort.ModuleVariable place is all h =
     place_known o (module_head e.dims p) (module_place o p e is all.0 all.1)
 sort_known o p e sort.Function place is all h =
     subst (λ (b : Bool). IsKnown o (function_head b e.kind))
-    (sym (unbroken (takes_so_many o p 0) place rule.WrongNumber h)) (value_known o e.kind all)
+    (sym (unbroken (takes_so_many o p 0) place rule.WrongNumber h))
+    (place_known o (variable_head e.kind) (variable_place o e.kind all))
 sort_known o p e _ place is all h = not_broken place rule.WrongSort h
 
 entry_known : (o : Outline) (p : ℕ) (x : Option Entry) (place : ℕ) → AreFull o

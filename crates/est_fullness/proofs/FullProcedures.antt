@@ -25,7 +25,8 @@ use Rattle.est_expressions.specs.Selections.{Selection, Broken, Value, Component
 use Rattle.est_expressions.specs.Selections.{SomeModule, type_in, parameter, takes_so_many}
 use Rattle.est_statements.specs.Statements.{is_place, argument_by, argument_faults}
 use Rattle.est_statements.specs.Statements.{arguments_faults, called_faults, call_faults}
-use Rattle.est_statements.specs.Targets.{Variable, bare, is_writable, target_by, target_in}
+use Rattle.est_statements.specs.Targets.{is_writable, target_by, target_in}
+use Rattle.est_declares.specs.BareVariables.{Variable, bare}
 use Rattle.est_statements.specs.Targets.{target_meant, target, target_in_faults, sort_target_faults}
 use Rattle.est_statements.specs.Targets.{target_meant_faults, target_faults, end_faults}
 use Rattle.est_statements.specs.Targets.{path_target, path_target_faults, unlike_faults}

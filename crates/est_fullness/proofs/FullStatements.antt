@@ -33,18 +33,20 @@ use Rattle.est_expressions.specs.ExpressionPlaces.{expr_place}
 use Rattle.est_expressions.specs.Expressions.{expr_type, expr_faults, selected_faults, are_taken}
 use Rattle.est_expressions.specs.Expressions.{are_taken_faults}
 use Rattle.est_expressions.specs.Operators.{wants, kept, gives, is_given}
-use Rattle.est_expressions.specs.Receivers.{dims_in}
+use Rattle.est_declares.specs.LookUps.{dims_in}
 use Rattle.est_expressions.specs.Selections.{Selection, Broken, Value, Component, Modules, Module}
 use Rattle.est_expressions.specs.Selections.{SomeModule, variable_head, module_head}
-use Rattle.est_expressions.specs.Selections.{required_function}
+use Rattle.est_declares.specs.RequiredFunctions.{required_function}
 use Rattle.est_expressions.specs.Variables.{selected_type}
-use Rattle.est_expressions.specs.declared.names.Required.{Required}
+use Rattle.est_declares.specs.declared.required.Required.{Required}
 use Rattle.est_expressions.specs.declared.operators.Wanted.TheVariants as wanted
 use Rattle.est_expressions.specs.declared.receivers.Receiver.{Receiver}
 use Rattle.est_expressions.specs.declared.receivers.Receiver.TheVariants as receiver
-use Rattle.est_statements.specs.Modules.{header_at, started_faults, body_faults, parameters_of}
+use Rattle.est_statements.specs.Modules.{started_faults, body_faults, parameters_of}
+use Rattle.est_declares.specs.LookUps.{header_at}
 use Rattle.est_statements.specs.Modules.{init_faults}
-use Rattle.est_statements.specs.Signals.{point_side, direction_faults, standing_faults}
+use Rattle.est_statements.specs.Signals.{direction_faults, standing_faults}
+use Rattle.est_declares.specs.LookUps.{point_side}
 use Rattle.est_statements.specs.Signals.{signal_by_faults, signal_faults, signal_in}
 use Rattle.est_statements.specs.Signals.{signal_standing, signal_of, sending_faults}
 use Rattle.est_statements.specs.Statements.{control_type, bound_faults, for_faults}
@@ -59,7 +61,7 @@ use Rattle.est_fullness.specs.FullStatements.{AreTakenBy, IsAssigned, HasBounds,
 use Rattle.est_fullness.specs.FullStatements.{IsAccessed, IsPassed, IsSent, IsStarted}
 use Rattle.est_fullness.proofs.FullCalls.{IsReady, subscripts_ready, parameters_ready}
 use Rattle.est_fullness.proofs.FullExpressions.{expr_full, path_full, taken_full}
-use Rattle.est_fullness.proofs.FullNames.{place_known, value_known, variable_place, module_place}
+use Rattle.est_fullness.proofs.FullNames.{place_known, variable_place, module_place}
 use Rattle.est_fullness.proofs.FullOperators.{nowhere, kept_full, given_full}
 use Rattle.est_fullness.proofs.FullUses.{IsAt, IsUsed, use_means, point_dims, point_side_there}
 use Rattle.est_fullness.proofs.FullUses.{module_dims, module_header_there, body_header_there}
@@ -74,7 +76,8 @@ target_known o f loops p e sort.Variable is all h =
     place_known o (variable_head e.kind) (variable_place o e.kind all)
 target_known o f loops p e sort.ModuleVariable is all h =
     place_known o (module_head e.dims p) (module_place o p e is all.0 all.1)
-target_known o f loops p e sort.Function is all h = value_known o e.kind all
+target_known o f loops p e sort.Function is all h =
+    place_known o (variable_head e.kind) (variable_place o e.kind all)
 target_known o f loops p e _ is all h = absurd (true≢false (sym h))
 
 pub no_target : (e : Entry) (path : List Selector) (place : ℕ)

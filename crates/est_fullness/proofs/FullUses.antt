@@ -13,10 +13,10 @@ use Rattle.est_scope.specs.declared.declaration.Meant.{Meant}
 use Rattle.est_scope.specs.declared.declaration.Meant.TheVariants as meant
 use Rattle.est_scope.specs.declared.declaration.Sort.{Sort}
 use Rattle.est_scope.specs.declared.declaration.Sort.TheVariants as sort
-use Rattle.est_expressions.specs.Receivers.{dims_in}
-use Rattle.est_expressions.specs.Variables.{header_in}
-use Rattle.est_statements.specs.Modules.{header_at}
-use Rattle.est_statements.specs.Signals.{side_at}
+use Rattle.est_declares.specs.LookUps.{dims_in}
+use Rattle.est_declares.specs.LookUps.{header_in}
+use Rattle.est_declares.specs.LookUps.{header_at}
+use Rattle.est_declares.specs.LookUps.{side_at}
 use Rattle.est_fullness.specs.Full.{IsThere, HasAll, AreFull}
 use Rattle.est_fullness.proofs.FullOperators.{nowhere}
 use Rattle.est_fullness.proofs.SeenUses.{use_seen}

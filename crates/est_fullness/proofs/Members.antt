@@ -37,7 +37,7 @@ use Rattle.est_scope.specs.declared.declaration.Standing.{Standing}
 use Rattle.est_scope.specs.declared.declaration.Within.{Within}
 use Rattle.est_scope.specs.Outline.{Outline, standing, entry_at, member_at}
 use Rattle.est_scope.specs.Declaring.{taken, declared_by, put_by, amended_by}
-use Rattle.est_outline.specs.Bodies.{outline_of}
+use Rattle.est_declares.specs.Bodies.{outline_of}
 use Rattle.est_order.specs.Said.{Each, IsNoEntry, TextSaid, RowSaid, FieldsSaid, TypeDefSaid}
 use Rattle.est_order.specs.Said.{VarDefSaid, InteractionSaid, ByPartSaid, StatementSaid}
 use Rattle.est_order.specs.Said.{StatementsSaid, SecondSaid, ArmsSaid, ClauseSaid, PartSaid}
@@ -48,7 +48,7 @@ use Rattle.est_fullness.proofs.Walk.{OfVarDef, OfInteraction, OfByPart, OfStatem
 use Rattle.est_fullness.proofs.Walk.{OfSecond, OfArms, OfClause, OfPart, OfParts, OfFirst}
 use Rattle.est_fullness.proofs.Walk.{OfGroups, OfTransitions, IsKeptBy, walked}
 use Rattle.est_fullness.proofs.Walk.{OfConstDef, OfPoint, OfModvar, OfState, OfStateSet, OfFormal}
-use Rattle.est_outline.specs.Lasts.{names_last, text_last}
+use Rattle.est_declares.specs.Lasts.{names_last, text_last}
 
 -- of declared names nothing is asked for here
 abbrev Any : Used → ℕ → Type 0

@@ -1,6 +1,6 @@
 -- Each name that declarations without statements declare is full, and in time where it is a
 -- constant or a type.
-use Rattle.std.specs.Prelude.{is_some, ◌&&◌}
+use Rattle.std.specs.Prelude.{is_some, ◌&&◌, flat_map}
 use Rattle.std.proofs.Common.{◌≡◌, sym, subst, ◌∙◌, ℕ, suc, ◌+◌, ◌≤◌, ◌<◌, List, [], ◌∷◌}
 use Rattle.std.proofs.Common.{◌++◌, Option, Some, length, arith}
 use Rattle.std.proofs.lemmas.Option.{none-some}
@@ -37,17 +37,17 @@ use Rattle.est_kinds.specs.TypeTexts.{row_arrays, row_fields}
 use Rattle.est_kinds.specs.TypeTexts.{row_index_faults, row_field_faults, text_place, no_fields}
 use Rattle.est_kinds.specs.TypeTexts.{array_faults, set_faults, record_faults}
 use Rattle.est_kinds.specs.Dims.{dims_of, dims_faults}
-use Rattle.est_outline.specs.Lasts.{names_last, text_last, channel_last, header_last}
-use Rattle.est_outline.specs.Declares.{side_of}
+use Rattle.est_declares.specs.Lasts.{names_last, text_last, channel_last, header_last}
+use Rattle.est_declares.specs.Declares.{side_of}
 use Rattle.est_types.specs.declared.modules.Owner.{Owner}
-use Rattle.est_types.specs.DeclarationFaults.{constdef_faults, constdefs_faults, typedef_faults}
-use Rattle.est_types.specs.DeclarationFaults.{typedefs_faults, vardef_faults, vardefs_faults}
-use Rattle.est_types.specs.DeclarationFaults.{roles_faults, interaction_faults}
-use Rattle.est_types.specs.DeclarationFaults.{interactions_faults, by_part_faults, by_parts_faults}
+use Rattle.est_types.specs.DeclarationFaults.{constdef_faults, typedef_faults}
+use Rattle.est_types.specs.DeclarationFaults.{vardef_faults}
+use Rattle.est_types.specs.DeclarationFaults.{role_faults, interaction_faults}
+use Rattle.est_types.specs.DeclarationFaults.{by_part_faults}
 use Rattle.est_types.specs.DeclarationFaults.{channel_faults, side_faults, point_faults}
-use Rattle.est_types.specs.DeclarationFaults.{points_faults, header_faults, attribute_faults}
-use Rattle.est_types.specs.DeclarationFaults.{modvar_faults, modvars_faults, word_place}
-use Rattle.est_types.specs.DeclarationFaults.{formal_faults, formals_faults}
+use Rattle.est_types.specs.DeclarationFaults.{header_faults, attribute_faults}
+use Rattle.est_types.specs.DeclarationFaults.{modvar_faults, word_place}
+use Rattle.est_types.specs.DeclarationFaults.{formal_faults}
 use Rattle.est_fullness.specs.Full.{IsThere, IsFull, IsFullFor, IsFullAt, AreFullBefore}
 use Rattle.est_order.specs.Said.{Each, IsSaid, IsOf, HasKind, IsNoEntry, ConstDefSaid}
 use Rattle.est_order.specs.Said.{NumbersSaid, TextSaid, RowSaid, FieldsSaid, TypeDefSaid}
@@ -119,11 +119,11 @@ module _ (o : Outline) where
   members_full us said = each_then (IsNoEntry o) (IsMember IsSoAt IsAMember) no_entry us said
 
   -- constants
-  pub consts_full : (cs : List ConstDef) → Each (ConstDefSaid o) cs → constdefs_faults o cs ≡ []
+  pub consts_full : (cs : List ConstDef) → Each (ConstDefSaid o) cs → flat_map (constdef_faults o) cs ≡ []
       → Each (OfConstDef IsSoAt IsAMember) cs
   consts_full [] said h = tt
   consts_full (c ∷ cs) said h =
-      let k = parted (constdef_faults o c) (constdefs_faults o cs) h in
+      let k = parted (constdef_faults o c) (flat_map (constdef_faults o) cs) h in
       let last = constant_last c.value in (
         soon _ c.name last said.0 (λ e q full. constant_definition o c e
             (constant_at o c.value (suc last) full (name_to_last c.value)) k.0 q.0 q.1),
@@ -197,10 +197,10 @@ module _ (o : Outline) where
       (λ u le. omega arith) t uses
 
   pub types_full : (ts : List TypeDef) → Each (TypeDefSaid o) ts → Each TypeDefWritten ts
-      → typedefs_faults o ts ≡ [] → Each (OfTypeDef IsSoAt IsAMember) ts
+      → flat_map (typedef_faults o) ts ≡ [] → Each (OfTypeDef IsSoAt IsAMember) ts
   types_full [] said written h = tt
   types_full (t ∷ ts) said written h =
-      let k = parted (typedef_faults o t) (typedefs_faults o ts) h in
+      let k = parted (typedef_faults o t) (flat_map (typedef_faults o) ts) h in
       let l = parted (twice_faults o t.name) (text_faults o t.text) k.0 in
       let last = text_last t.text in (
         (
@@ -230,10 +230,10 @@ module _ (o : Outline) where
   )
 
   pub vars_full : (vs : List VarDef) → Each (VarDefSaid o) vs → Each VarDefWritten vs
-      → vardefs_faults o vs ≡ [] → Each (OfVarDef IsSoAt IsAMember) vs
+      → flat_map (vardef_faults o) vs ≡ [] → Each (OfVarDef IsSoAt IsAMember) vs
   vars_full [] said written h = tt
   vars_full (v ∷ vs) said written h =
-      let k = parted (vardef_faults o v) (vardefs_faults o vs) h in
+      let k = parted (vardef_faults o v) (flat_map (vardef_faults o) vs) h in
       let l = parted (twices_faults o v.names) (text_faults o v.text) k.0 in
       (vardef_full v said.0 written.0 l.1, vars_full vs said.1 written.1 k.1)
 
@@ -246,24 +246,24 @@ module _ (o : Outline) where
 
   -- channels
   interactions_full : (is : List InteractionDef) → Each (InteractionSaid o) is
-      → Each InteractionWritten is → interactions_faults o is ≡ []
+      → Each InteractionWritten is → flat_map (interaction_faults o) is ≡ []
       → Each (OfInteraction IsSoAt IsAMember) is
   interactions_full [] said written h = tt
   interactions_full (i ∷ is) said written h =
-      let k = parted (interaction_faults o i) (interactions_faults o is) h in
-      let l = parted (again_faults o i.name) (vardefs_faults o i.params) k.0 in (
+      let k = parted (interaction_faults o i) (flat_map (interaction_faults o) is) h in
+      let l = parted (again_faults o i.name) (flat_map (vardef_faults o) i.params) k.0 in (
         (no_entry i.name said.0.0, vars_full i.params said.0.1 written.0 l.1),
         interactions_full is said.1 written.1 k.1,
       )
 
   by_parts_full : (channel : ℕ) (bs : List ByPart) → Each (ByPartSaid o) bs
-      → Each ByPartWritten bs → by_parts_faults o channel bs ≡ []
+      → Each ByPartWritten bs → flat_map (by_part_faults o channel) bs ≡ []
       → Each (OfByPart IsSoAt IsAMember) bs
   by_parts_full channel [] said written h = tt
   by_parts_full channel (b ∷ bs) said written h =
-      let k = parted (by_part_faults o channel b) (by_parts_faults o channel bs) h in
-      let l = parted (roles_faults o channel b.roles)
-      (interactions_faults o b.interactions) k.0 in (
+      let k = parted (by_part_faults o channel b) (flat_map (by_part_faults o channel) bs) h in
+      let l = parted (flat_map (role_faults o channel) b.roles)
+      (flat_map (interaction_faults o) b.interactions) k.0 in (
         interactions_full b.interactions said.0 written.0 l.1,
         by_parts_full channel bs said.1 written.1 k.1,
       )
@@ -272,7 +272,7 @@ module _ (o : Outline) where
       → OfChannel IsSoAt IsAMember c
   channel_full c said written h =
       let k = parted (twice_faults o c.name ++ agains_faults o c.roles)
-      (by_parts_faults o c.name.place c.by) h in (
+      (flat_map (by_part_faults o c.name.place) c.by) h in (
         plain_full sort.Channel (λ e. tt) (λ e q. of_sort sort.Channel e q tt) c.name
             (channel_last c) said.0,
         members_full c.roles said.1,
@@ -305,10 +305,10 @@ module _ (o : Outline) where
       ))) p.names said
 
   pub points_full : (ps : List Point) → Each (PointSaid o) ps → Each PointWritten ps
-      → points_faults o ps ≡ [] → Each (OfPoint IsSoAt IsAMember) ps
+      → flat_map (point_faults o) ps ≡ [] → Each (OfPoint IsSoAt IsAMember) ps
   points_full [] said written h = tt
   points_full (p ∷ ps) said written h =
-      let k = parted (point_faults o p) (points_faults o ps) h in
+      let k = parted (point_faults o p) (flat_map (point_faults o) ps) h in
       (point_full p said.0 written.0 k.0, points_full ps said.1 written.1 k.1)
 
   -- module variables
@@ -332,11 +332,11 @@ module _ (o : Outline) where
       ))) m.names said
 
   pub modvars_full : (owner : Owner) (ms : List ModvarDef) → Each (ModvarSaid o) ms
-      → Each ModvarWritten ms → modvars_faults o owner ms ≡ []
+      → Each ModvarWritten ms → flat_map (modvar_faults o owner) ms ≡ []
       → Each (OfModvar IsSoAt IsAMember) ms
   modvars_full owner [] said written h = tt
   modvars_full owner (m ∷ ms) said written h =
-      let k = parted (modvar_faults o owner m) (modvars_faults o owner ms) h in
+      let k = parted (modvar_faults o owner m) (flat_map (modvar_faults o owner) ms) h in
       (modvar_full owner m said.0 written.0 k.0, modvars_full owner ms said.1 written.1 k.1)
 
   -- headers
@@ -344,9 +344,9 @@ module _ (o : Outline) where
       → OfHeader IsSoAt IsAMember x
   header_full x said written h =
       let name = twice_faults o x.name in
-      let params = vardefs_faults o x.params in
-      let points = points_faults o x.points in
-      let k1 = parted (name ++ params ++ points) (vardefs_faults o x.exports) h in
+      let params = flat_map (vardef_faults o) x.params in
+      let points = flat_map (point_faults o) x.points in
+      let k1 = parted (name ++ params ++ points) (flat_map (vardef_faults o) x.exports) h in
       let k2 = parted (name ++ params) points k1.0 in
       let k3 = parted name params k2.0 in (
         plain_full sort.Header (λ e. tt) (λ e q. of_sort sort.Header e q tt) x.name
@@ -383,8 +383,8 @@ module _ (o : Outline) where
       f.names said
 
   pub formals_full : (result : Option Used) (fs : List Formal) → Each (FormalSaid o) fs
-      → formals_faults o result fs ≡ [] → Each (OfFormal IsSoAt IsAMember) fs
+      → flat_map (formal_faults o result) fs ≡ [] → Each (OfFormal IsSoAt IsAMember) fs
   formals_full result [] said h = tt
   formals_full result (f ∷ fs) said h =
-      let k = parted (formal_faults o result f) (formals_faults o result fs) h in
+      let k = parted (formal_faults o result f) (flat_map (formal_faults o result) fs) h in
       (formal_full result f said.0 k.0, formals_full result fs said.1 k.1)

@@ -7,7 +7,7 @@ use Rattle.est_language.specs.Shown.{node}
 use Rattle.est_productions.specs.Nodes.{a_specification}
 use Rattle.est_productions.specs.Productions as grammar
 use Rattle.est_grammar.specs.Answer.{levels}
-use Rattle.est_outline.specs.Bodies.{outline_of}
+use Rattle.est_declares.specs.Bodies.{outline_of}
 use Rattle.est_order.proofs.Ascending.{specification_stands}
 use Rattle.est_order.proofs.Wholes.{spec_placed}
 use Rattle.est_fullness.specs.ParameterOrder.{ParametersOfSentences}

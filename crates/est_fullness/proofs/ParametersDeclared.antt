@@ -30,16 +30,16 @@ use Rattle.est_scope.specs.declared.declaration.Sort.TheVariants as sort
 use Rattle.est_scope.specs.declared.declaration.Standing.{Standing}
 use Rattle.est_scope.specs.declared.declaration.Within.{Within}
 use Rattle.est_kinds.specs.TypeTexts.{text_type, text_place, named_type, enumeration}
-use Rattle.est_outline.specs.Declares.{names_declare, numbers_declare, kinds_given, names_put}
-use Rattle.est_outline.specs.Declares.{text_declares, row_declares, row_fields_declare}
-use Rattle.est_outline.specs.Declares.{vardef_named, vardef_declares, vars_declare, roles_put}
-use Rattle.est_outline.specs.Declares.{interaction_declares, interactions_declare, senders}
-use Rattle.est_outline.specs.Declares.{by_part_declares, by_parts_declare, channel_declares}
-use Rattle.est_outline.specs.Declares.{sections_declare, has_exports, header_named, header_declares}
-use Rattle.est_outline.specs.Declares.{formal_section, formal_named, formal_declares}
-use Rattle.est_outline.specs.Declares.{formals_declare}
-use Rattle.est_outline.specs.Entries.{plain, numbered, header, in_region, in_section}
-use Rattle.est_outline.specs.Lasts.{names_last, text_last, channel_last, header_last}
+use Rattle.est_declares.specs.Declares.{names_declare, numbers_declare, kinds_given, names_put}
+use Rattle.est_declares.specs.Declares.{text_declares, row_declares, row_fields_declare}
+use Rattle.est_declares.specs.Declares.{vardef_named, vardef_declares, vars_declare, roles_put}
+use Rattle.est_declares.specs.Declares.{interaction_declares, interactions_declare, senders}
+use Rattle.est_declares.specs.Declares.{by_part_declares, by_parts_declare, channel_declares}
+use Rattle.est_declares.specs.Declares.{sections_declare, has_exports, header_named, header_declares}
+use Rattle.est_declares.specs.Declares.{formal_section, formal_named, formal_declares}
+use Rattle.est_declares.specs.Declares.{formals_declare}
+use Rattle.est_declares.specs.Entries.{plain, numbered, header, in_region, in_section}
+use Rattle.est_declares.specs.Lasts.{names_last, text_last, channel_last, header_last}
 use Rattle.est_order.proofs.Declaring.{vardef_on, vars_on, point_on, merged_on, interaction_on}
 use Rattle.est_order.proofs.Declaring.{interactions_on}
 use Rattle.est_order.proofs.Placed.{NamesPlaced, TextPlaced, RowPlaced, FieldsPlaced, names_on}

@@ -32,20 +32,20 @@ use Rattle.est_scope.specs.declared.declaration.Sort.TheVariants as sort
 use Rattle.est_scope.specs.declared.declaration.Within.{Within}
 use Rattle.est_kinds.specs.Constants.{constant_place}
 use Rattle.est_kinds.specs.TypeTexts.{named_type}
-use Rattle.est_outline.specs.Bodies.{Clausal, statement_place, expr_place, all_by, over_header}
-use Rattle.est_outline.specs.Bodies.{all_named, arm_lying, within_declares, row_statements}
-use Rattle.est_outline.specs.Bodies.{held_declares, row_arms, statement_declares}
-use Rattle.est_outline.specs.Bodies.{statements_declare, clause_declares, clauses_declare}
-use Rattle.est_outline.specs.Bodies.{body_named, body_header, header_given, inside, routine_sort}
-use Rattle.est_outline.specs.Bodies.{routine_named, result_given, head_declares, to_lying}
-use Rattle.est_outline.specs.Bodies.{closed_by, part_declares, row_parts, first_declares}
-use Rattle.est_outline.specs.Bodies.{row_groups, row_transitions, parts_declare, outline_of}
-use Rattle.est_outline.specs.Contexts.{dropped, given, under}
-use Rattle.est_outline.specs.Declares.{formals_declare, vars_declare}
-use Rattle.est_outline.specs.Entries.{plain, inner, in_region, in_section, outermost}
-use Rattle.est_outline.specs.Lasts.{text_last}
-use Rattle.est_outline.specs.declared.context.ClauseKind.TheVariants as kind
-use Rattle.est_outline.specs.declared.context.Given.{Given}
+use Rattle.est_declares.specs.Bodies.{Clausal, statement_place, expr_place, all_by, over_header}
+use Rattle.est_declares.specs.Bodies.{all_named, arm_lying, within_declares, row_statements}
+use Rattle.est_declares.specs.Bodies.{held_declares, row_arms, statement_declares}
+use Rattle.est_declares.specs.Bodies.{statements_declare, clause_declares, clauses_declare}
+use Rattle.est_declares.specs.Bodies.{body_named, body_header, header_given, inside, routine_sort}
+use Rattle.est_declares.specs.Bodies.{routine_named, result_given, head_declares, to_lying}
+use Rattle.est_declares.specs.Bodies.{closed_by, part_declares, row_parts, first_declares}
+use Rattle.est_declares.specs.Bodies.{row_groups, row_transitions, parts_declare, outline_of}
+use Rattle.est_declares.specs.Contexts.{dropped, given, under}
+use Rattle.est_declares.specs.Declares.{formals_declare, vars_declare}
+use Rattle.est_declares.specs.Entries.{plain, inner, in_region, in_section, outermost}
+use Rattle.est_declares.specs.Lasts.{text_last}
+use Rattle.est_declares.specs.declared.context.ClauseKind.TheVariants as kind
+use Rattle.est_declares.specs.declared.context.Given.{Given}
 use Rattle.est_order.proofs.BodiesGoOn.{name_on, one_constant_on, statement_on, statements_on}
 use Rattle.est_order.proofs.BodiesGoOn.{arms_on, turn_on, clause_on, clauses_on, part_on, parts_on}
 use Rattle.est_order.proofs.BodiesGoOn.{first_on, transitions_on, second_on}

@@ -27,18 +27,18 @@ use Rattle.est_kinds.specs.Constants.{constant_value, constant_last}
 use Rattle.est_kinds.specs.Dims.{dims_of, dims_elements}
 use Rattle.est_kinds.specs.TypeTexts.{text_type, text_place, enumeration}
 use Rattle.est_kinds.specs.declared.value.Valued.{Valued}
-use Rattle.est_outline.specs.Declares.{names_declare, constdef_declares, consts_declare}
-use Rattle.est_outline.specs.Declares.{numbers_declare, kinds_given, enumeration_declares}
-use Rattle.est_outline.specs.Declares.{names_put, text_declares, row_declares, row_fields_declare}
-use Rattle.est_outline.specs.Declares.{typedef_named, typedef_declares, types_declare, vardef_named}
-use Rattle.est_outline.specs.Declares.{vardef_declares, vars_declare, roles_put, side_of}
-use Rattle.est_outline.specs.Declares.{point_declares, points_declare, modvar_declares}
-use Rattle.est_outline.specs.Declares.{modvars_declare, before, after, stands_before}
-use Rattle.est_outline.specs.Declares.{sections_declare, states_declare, states_named}
-use Rattle.est_outline.specs.Declares.{stateset_declares}
-use Rattle.est_outline.specs.Declares.{statesets_declare}
-use Rattle.est_outline.specs.Entries.{plain, constant, numbered, point, module_variable, state_set}
-use Rattle.est_outline.specs.Lasts.{names_last, text_last}
+use Rattle.est_declares.specs.Declares.{names_declare, constdef_declares, consts_declare}
+use Rattle.est_declares.specs.Declares.{numbers_declare, kinds_given, enumeration_declares}
+use Rattle.est_declares.specs.Declares.{names_put, text_declares, row_declares, row_fields_declare}
+use Rattle.est_declares.specs.Declares.{typedef_named, typedef_declares, types_declare, vardef_named}
+use Rattle.est_declares.specs.Declares.{vardef_declares, vars_declare, roles_put, side_of}
+use Rattle.est_declares.specs.Declares.{point_declares, points_declare, modvar_declares}
+use Rattle.est_declares.specs.Declares.{modvars_declare, before, after, stands_before}
+use Rattle.est_declares.specs.Declares.{sections_declare, states_declare, states_named}
+use Rattle.est_declares.specs.Declares.{stateset_declares}
+use Rattle.est_declares.specs.Declares.{statesets_declare}
+use Rattle.est_declares.specs.Entries.{plain, constant, numbered, point, module_variable, state_set}
+use Rattle.est_declares.specs.Lasts.{names_last, text_last}
 use Rattle.est_order.proofs.Declaring.{order_on, constdef_on, typedef_on, vardef_on, vars_on}
 use Rattle.est_order.proofs.Declaring.{dims_on, point_on, modvar_on, stateset_on}
 use Rattle.est_order.proofs.Placed.{NamesPlaced, TextPlaced, RowPlaced, FieldsPlaced, names_on}

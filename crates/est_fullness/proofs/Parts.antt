@@ -1,4 +1,6 @@
 -- Each name that the parts of a specification declare is full, and so is its outline.
+use Rattle.std.specs.Option.{option_map_or}
+use Rattle.std.specs.Prelude.{flat_map}
 use Rattle.std.proofs.Common.{◌≡◌, refl, subst, ℕ, suc, List, [], ◌∷◌, ◌++◌}
 use Rattle.std.proofs.Common.{Option, Some, None, arith}
 use Rattle.est_syntax.specs.declared.name.Used.{Used}
@@ -24,11 +26,11 @@ use Rattle.est_syntax.specs.declared.transition.Group.{end_of-Transition, more_o
 use Rattle.est_scope.specs.declared.declaration.Sort.TheVariants as sort
 use Rattle.est_scope.specs.Outline.{Outline}
 use Rattle.est_scope.specs.Uses.{use_faults, twice_faults}
-use Rattle.est_kinds.specs.TypeTexts.{text_type, text_faults, named_type, text_place}
+use Rattle.est_kinds.specs.TypeTexts.{text_type, text_faults, named_type, text_place, type_faults}
 use Rattle.est_kinds.specs.Dims.{ordinal_faults}
-use Rattle.est_outline.specs.declared.context.Given.{Given}
-use Rattle.est_outline.specs.Lasts.{text_last}
-use Rattle.est_outline.specs.Bodies.{over_header, body_header, outline_of}
+use Rattle.est_declares.specs.declared.context.Given.{Given}
+use Rattle.est_declares.specs.Lasts.{text_last}
+use Rattle.est_declares.specs.Bodies.{over_header, body_header, outline_of}
 use Rattle.est_types.specs.declared.modules.Owner.{Owner}
 use Rattle.est_types.specs.declared.modules.Owner.TheVariants as owners
 use Rattle.est_sizes.specs.Scalars.{row_scalars, scalars_faults}
@@ -36,9 +38,9 @@ use Rattle.est_types.specs.DeclarationFaults as types
 use Rattle.est_types.specs.DeclarationFaults.{declaration_faults}
 use Rattle.est_statements.specs.Statements.{over_by, over_faults, statement_faults}
 use Rattle.est_statements.specs.Statements.{held_statement, row_statements, row_arms}
-use Rattle.est_statements.specs.Statements.{statements_faults}
-use Rattle.est_blocks.specs.Clauses.{domain_faults, domains_faults, clause_faults, clauses_faults}
-use Rattle.est_blocks.specs.Clauses.{next_faults, with_clauses, delay_faults}
+use Rattle.est_blocks.specs.Clauses.{domain_faults, clause_faults}
+use Rattle.est_blocks.specs.Clauses.{next_faults}
+use Rattle.est_clauses.specs.GivenClauses.{with_clauses, delay_faults}
 use Rattle.est_blocks.specs.BlockFaults as blocks
 use Rattle.est_blocks.specs.BlockFaults.{function_of, block_faults, bodies_faults}
 use Rattle.est_fullness.specs.Full.{IsFullAt}
@@ -161,19 +163,19 @@ module _ (o : Outline) where
         (statement_full f loops s said.0 w.0 l.1, arms_full f loops host _ rest said.1 w.1 k.1)
 
   turn_full : (f : Option ℕ) (ss : List Statement) → Each (StatementSaid o) ss
-      → Each StatementWritten ss → statements_faults o f [] ss ≡ []
+      → Each StatementWritten ss → flat_map (statement_faults o f []) ss ≡ []
       → Each (OfStatement (IsSoAt o) (IsAMember o)) ss
   turn_full f [] said w h = tt
   turn_full f (s ∷ ss) said w h =
-      let k = parted (statement_faults o f [] s) (statements_faults o f [] ss) h in
+      let k = parted (statement_faults o f [] s) (flat_map (statement_faults o f []) ss) h in
       (statement_full f [] s said.0 w.0 k.0, turn_full f ss said.1 w.1 k.1)
 
   -- clauses
   domains_full : (vs : List VarDef) → Each (VarDefSaid o) vs → Each VarDefWritten vs
-      → domains_faults o vs ≡ [] → Each (OfVarDef (IsSoAt o) (IsAMember o)) vs
+      → flat_map (domain_faults o) vs ≡ [] → Each (OfVarDef (IsSoAt o) (IsAMember o)) vs
   domains_full [] said w h = tt
   domains_full (v ∷ vs) said w h =
-      let k = parted (domain_faults o v) (domains_faults o vs) h in
+      let k = parted (domain_faults o v) (flat_map (domain_faults o) vs) h in
       let l = parted (text_faults o v.text)
       (ordinal_faults (text_type o v.text) (text_place v.text)) k.0 in
       (vardef_full o v said.0 w.0 l.0, domains_full vs said.1 w.1 k.1)
@@ -181,14 +183,14 @@ module _ (o : Outline) where
   clause_full : (c : Clause) → ClauseSaid o c → ClauseWritten c → clause_faults o c ≡ []
       → OfClause (IsSoAt o) (IsAMember o) c
   clause_full (clauses.Any names place) said w h =
-      domains_full names said w (parted (domains_faults o names) _ h).0
+      domains_full names said w (parted (flat_map (domain_faults o) names) _ h).0
   clause_full _ said w h = tt
 
   clauses_full : (cs : List Clause) → Each (ClauseSaid o) cs → Each ClauseWritten cs
-      → clauses_faults o cs ≡ [] → Each (OfClause (IsSoAt o) (IsAMember o)) cs
+      → flat_map (clause_faults o) cs ≡ [] → Each (OfClause (IsSoAt o) (IsAMember o)) cs
   clauses_full [] said w h = tt
   clauses_full (c ∷ cs) said w h =
-      let k = parted (clause_faults o c) (clauses_faults o cs) h in
+      let k = parted (clause_faults o c) (flat_map (clause_faults o) cs) h in
       (clause_full c said.0 w.0 k.0, clauses_full cs said.1 w.1 k.1)
 
   -- blocks
@@ -214,7 +216,7 @@ module _ (o : Outline) where
       let n = row_scalars o 0 parts in
       let k = parted (next_faults o to) (block_faults o place n statements) g in
       let l = parted (scalars_faults n place)
-      (statements_faults o None [] statements) k.1 in (
+      (flat_map (statement_faults o None []) statements) k.1 in (
         block_full owners.Body parts said.0 w.0 h,
         turn_full None statements said.1 w.1 l.1,
       )
@@ -225,19 +227,19 @@ module _ (o : Outline) where
       → blocks.row_transitions_faults o gs row ≡ [] → OfTransitions (IsSoAt o) (IsAMember o) row
   transitions_full gs end_of-Transition said w h g = tt
   transitions_full gs (more_of-Transition cs name a parts statements place rest) said w h g =
-      let names = types.clauses_faults o cs in
+      let names = flat_map (types.clause_faults o) cs in
       let declared = types.row_faults o owners.Body parts in
       let k = parted (names ++ declared) (types.row_transitions_faults o rest) h in
       let l = parted names declared k.0 in
       let hs = with_clauses gs cs in
       let x = row_scalars o 0 parts in
       let y = block_faults o place x statements in
-      let z = clauses_faults o cs ++ delay_faults hs in
+      let z = flat_map (clause_faults o) cs ++ delay_faults hs in
       let m = parted (z ++ y) (blocks.row_transitions_faults o hs rest) g in
       let n = parted z y m.0 in
-      let q = parted (clauses_faults o cs) (delay_faults hs) n.0 in
+      let q = parted (flat_map (clause_faults o) cs) (delay_faults hs) n.0 in
       let r = parted (scalars_faults x place)
-      (statements_faults o None [] statements) n.1 in (
+      (flat_map (statement_faults o None []) statements) n.1 in (
         clauses_full cs said.0 w.0 q.0,
         block_full owners.Body parts said.1 w.1 l.1,
         turn_full None statements said.2 w.2 r.1,
@@ -267,7 +269,7 @@ module _ (o : Outline) where
       (same_there e.header (body_header o header) q.1 (use_seen o sort.Header header h)))
 
   routine_name : (name : Used) (result : Option Used) → IsSaid o (RoutineSaid o result) name
-      → types.result_faults o result ≡ [] → IsSoAt o name name.place
+      → option_map_or (type_faults o) result [] ≡ [] → IsSoAt o name name.place
   routine_name name None said h =
       late o sort.Procedure (RoutineSaid o None) name name.place said (λ e. tt) (λ e q. q)
       (λ e q all. of_sort sort.Procedure e q tt)
@@ -316,8 +318,8 @@ module _ (o : Outline) where
     part_full owner (part.StateSets ss) said w h g = statesets_full o ss said
     part_full owner (part.Routine' name formals result a parts statements place) said w h g =
         let t1 = twice_faults o name in
-        let t2 = types.formals_faults o result formals in
-        let t3 = types.result_faults o result in
+        let t2 = flat_map (types.formal_faults o result) formals in
+        let t3 = option_map_or (type_faults o) result [] in
         let t4 = types.row_faults o owners.Body parts in
         let t5 = scalars_faults (row_scalars o 0 parts) name.place in
         let k1 = parted (t1 ++ t2 ++ t3 ++ t4) t5 h in
@@ -340,12 +342,12 @@ module _ (o : Outline) where
         (part_full owner x said.0 w.0 k.0 l.0, parts_full owner rest said.1 w.1 k.1 l.1)
 
   all_parts : (owner : Owner) (xs : List Part) → Each (PartSaid o) xs → Each PartWritten xs
-      → types.parts_faults o owner xs ≡ [] → blocks.parts_faults o xs ≡ []
+      → flat_map (types.part_faults o owner) xs ≡ [] → flat_map (blocks.part_faults o) xs ≡ []
       → Each (OfPart (IsSoAt o) (IsAMember o)) xs
   all_parts owner [] said w h g = tt
   all_parts owner (x ∷ xs) said w h g =
-      let k = parted (types.part_faults o owner x) (types.parts_faults o owner xs) h in
-      let l = parted (blocks.part_faults o x) (blocks.parts_faults o xs) g in
+      let k = parted (types.part_faults o owner x) (flat_map (types.part_faults o owner) xs) h in
+      let l = parted (blocks.part_faults o x) (flat_map (blocks.part_faults o) xs) g in
       (part_full owner x said.0 w.0 k.0 l.0, all_parts owner xs said.1 w.1 k.1 l.1)
 
 -- the outline of a specification
@@ -353,7 +355,7 @@ pub outline_full : OutlinesAreFull
 outline_full s said written h place e is =
     let o = outline_of s in
     let k = parted (declaration_faults s) (bodies_faults s) h in
-    let g = parted (blocks.parts_faults o s.parts) (statement_faults o None [] s.first) k.1 in
+    let g = parted (flat_map (blocks.part_faults o) s.parts) (statement_faults o None [] s.first) k.1 in
     let tree = all_parts o owners.Specification s.parts said written k.0 g.0 in
     let all : (u : Used) → IsFullAt o u =
     λ u. place_by_place o

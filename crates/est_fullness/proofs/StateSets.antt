@@ -5,7 +5,7 @@ use Rattle.est_syntax.specs.declared.body.StateSet.{StateSet}
 use Rattle.est_scope.specs.declared.declaration.Sort.TheVariants as sort
 use Rattle.est_scope.specs.Outline.{Outline}
 use Rattle.est_scope.specs.Uses.{use_faults, uses_faults, twice_faults, declaration_of}
-use Rattle.est_outline.specs.Declares.{with_state, states_named}
+use Rattle.est_declares.specs.Declares.{with_state, states_named}
 use Rattle.est_types.specs.DeclarationFaults.{stateset_faults}
 use Rattle.est_fullness.proofs.NoFaults.{parted}
 use Rattle.est_fullness.proofs.SeenUses.{use_seen}

@@ -8,7 +8,7 @@ use Rattle.est_syntax.specs.declared.type_text.TypeText.{end_of-VarDef, more_of-
 use Rattle.est_syntax.specs.declared.type_text.TypeText.TheBlock.{shape-the_row-TypeText-1}
 use Rattle.est_syntax.specs.declared.type_text.TypeText.TheVariants as text
 use Rattle.est_kinds.specs.Constants.{constant_last}
-use Rattle.est_outline.specs.Lasts.{text_last, row_fields_last}
+use Rattle.est_declares.specs.Lasts.{text_last, row_fields_last}
 use Rattle.est_language.specs.Shown.{node}
 use Rattle.est_order.specs.PlaceOrder.{Stands}
 use Rattle.est_order.proofs.FromTexts.{constant_placed, type_placed, short_placed}

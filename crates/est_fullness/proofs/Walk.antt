@@ -52,34 +52,34 @@ use Rattle.est_scope.specs.Uses.{declaration_of}
 use Rattle.est_kinds.specs.Constants.{constant_value, constant_place, constant_last}
 use Rattle.est_kinds.specs.TypeTexts.{text_type, text_place, named_type, enumeration}
 use Rattle.est_kinds.specs.Dims.{dims_of, dims_elements}
-use Rattle.est_outline.specs.declared.context.ClauseKind.TheVariants as kind
-use Rattle.est_outline.specs.declared.context.Given.{Given}
-use Rattle.est_outline.specs.Contexts.{dropped, given, under}
-use Rattle.est_outline.specs.Entries.{plain, constant, numbered, point, module_variable, header}
-use Rattle.est_outline.specs.Entries.{state_set, outermost, inner, in_region, in_section}
-use Rattle.est_outline.specs.Lasts.{names_last, text_last, channel_last, header_last}
-use Rattle.est_outline.specs.Declares.{names_declare, constdef_declares, consts_declare}
-use Rattle.est_outline.specs.Declares.{numbers_declare, kinds_given, enumeration_declares}
-use Rattle.est_outline.specs.Declares.{names_put, text_declares, row_declares, row_fields_declare}
-use Rattle.est_outline.specs.Declares.{typedef_named, typedef_declares, types_declare}
-use Rattle.est_outline.specs.Declares.{vardef_named, vardef_declares, vars_declare, roles_put}
-use Rattle.est_outline.specs.Declares.{interaction_declares, interactions_declare, senders}
-use Rattle.est_outline.specs.Declares.{by_part_declares, by_parts_declare, channel_declares}
-use Rattle.est_outline.specs.Declares.{side_of, point_declares, points_declare, modvar_declares}
-use Rattle.est_outline.specs.Declares.{modvars_declare, stands_before, before, after}
-use Rattle.est_outline.specs.Declares.{sections_declare, has_exports, header_named}
-use Rattle.est_outline.specs.Declares.{header_declares, states_declare, states_named}
-use Rattle.est_outline.specs.Declares.{stateset_declares}
-use Rattle.est_outline.specs.Declares.{statesets_declare, formal_section, formal_named}
-use Rattle.est_outline.specs.Declares.{formal_declares, formals_declare}
-use Rattle.est_outline.specs.Bodies.{Clausal, statement_place, expr_place, all_by, over_header}
-use Rattle.est_outline.specs.Bodies.{all_named, arm_lying, within_declares, row_statements}
-use Rattle.est_outline.specs.Bodies.{held_declares, row_arms, statement_declares}
-use Rattle.est_outline.specs.Bodies.{statements_declare, clause_declares, clauses_declare}
-use Rattle.est_outline.specs.Bodies.{body_named, body_header, header_given, inside, routine_sort}
-use Rattle.est_outline.specs.Bodies.{routine_named, result_given, head_declares, to_lying}
-use Rattle.est_outline.specs.Bodies.{closed_by, part_declares, row_parts, first_declares}
-use Rattle.est_outline.specs.Bodies.{row_groups, row_transitions, parts_declare, outline_of}
+use Rattle.est_declares.specs.declared.context.ClauseKind.TheVariants as kind
+use Rattle.est_declares.specs.declared.context.Given.{Given}
+use Rattle.est_declares.specs.Contexts.{dropped, given, under}
+use Rattle.est_declares.specs.Entries.{plain, constant, numbered, point, module_variable, header}
+use Rattle.est_declares.specs.Entries.{state_set, outermost, inner, in_region, in_section}
+use Rattle.est_declares.specs.Lasts.{names_last, text_last, channel_last, header_last}
+use Rattle.est_declares.specs.Declares.{names_declare, constdef_declares, consts_declare}
+use Rattle.est_declares.specs.Declares.{numbers_declare, kinds_given, enumeration_declares}
+use Rattle.est_declares.specs.Declares.{names_put, text_declares, row_declares, row_fields_declare}
+use Rattle.est_declares.specs.Declares.{typedef_named, typedef_declares, types_declare}
+use Rattle.est_declares.specs.Declares.{vardef_named, vardef_declares, vars_declare, roles_put}
+use Rattle.est_declares.specs.Declares.{interaction_declares, interactions_declare, senders}
+use Rattle.est_declares.specs.Declares.{by_part_declares, by_parts_declare, channel_declares}
+use Rattle.est_declares.specs.Declares.{side_of, point_declares, points_declare, modvar_declares}
+use Rattle.est_declares.specs.Declares.{modvars_declare, stands_before, before, after}
+use Rattle.est_declares.specs.Declares.{sections_declare, has_exports, header_named}
+use Rattle.est_declares.specs.Declares.{header_declares, states_declare, states_named}
+use Rattle.est_declares.specs.Declares.{stateset_declares}
+use Rattle.est_declares.specs.Declares.{statesets_declare, formal_section, formal_named}
+use Rattle.est_declares.specs.Declares.{formal_declares, formals_declare}
+use Rattle.est_declares.specs.Bodies.{Clausal, statement_place, expr_place, all_by, over_header}
+use Rattle.est_declares.specs.Bodies.{all_named, arm_lying, within_declares, row_statements}
+use Rattle.est_declares.specs.Bodies.{held_declares, row_arms, statement_declares}
+use Rattle.est_declares.specs.Bodies.{statements_declare, clause_declares, clauses_declare}
+use Rattle.est_declares.specs.Bodies.{body_named, body_header, header_given, inside, routine_sort}
+use Rattle.est_declares.specs.Bodies.{routine_named, result_given, head_declares, to_lying}
+use Rattle.est_declares.specs.Bodies.{closed_by, part_declares, row_parts, first_declares}
+use Rattle.est_declares.specs.Bodies.{row_groups, row_transitions, parts_declare, outline_of}
 use Rattle.est_order.specs.Said.{Each}
 
 -- What holds of each name that a tree declares, with the last place where it is not yet in force,

@@ -1,4 +1,5 @@
 -- The bodies of a specification that breaks no rule lack nothing.
+use Rattle.std.specs.Prelude.{flat_map}
 use Rattle.std.proofs.Common.{◌≡◌, ℕ, List, [], ◌∷◌, ◌++◌, Option, Some, None, subst, length}
 use Rattle.est_syntax.specs.declared.body.Body.{Body', Row_of-Group, end_of-Group, more_of-Group}
 use Rattle.est_syntax.specs.declared.body.Body.{Held-Body-first}
@@ -28,21 +29,22 @@ use Rattle.est_scope.specs.declared.declaration.Meant.TheVariants as meant
 use Rattle.est_scope.specs.declared.declaration.Sort.TheVariants as sort
 use Rattle.est_kinds.specs.Constants.{constant_value, constant_faults, constant_place}
 use Rattle.est_kinds.specs.declared.value.Valued.{Valued}
-use Rattle.est_outline.specs.Bodies.{outline_of}
-use Rattle.est_outline.specs.declared.context.Given.{Given}
+use Rattle.est_declares.specs.Bodies.{outline_of}
+use Rattle.est_declares.specs.declared.context.Given.{Given}
 use Rattle.est_order.specs.PlaceOrder.{Stands, o_node, o_pair}
 use Rattle.est_order.specs.Said.{Each}
 use Rattle.est_order.proofs.Ascending.{specification_stands}
 use Rattle.est_sizes.specs.Scalars.{row_scalars, scalars_faults}
 use Rattle.est_types.specs.DeclarationFaults.{declaration_faults}
 use Rattle.est_expressions.specs.declared.operators.Wanted.TheVariants as wanted
-use Rattle.est_statements.specs.Statements.{wanted_faults, statement_faults, statements_faults}
+use Rattle.est_statements.specs.Statements.{wanted_faults, statement_faults}
 use Rattle.est_blocks.specs.BlockFaults.{function_of, block_faults, part_faults, row_faults}
 use Rattle.est_blocks.specs.BlockFaults.{first_faults, row_groups_faults, row_transitions_faults}
-use Rattle.est_blocks.specs.BlockFaults.{parts_faults, bodies_faults}
-use Rattle.est_blocks.specs.Clauses.{is_state_sort, state_used, state_faults, states_faults}
-use Rattle.est_blocks.specs.Clauses.{next_faults, most_faults, clause_faults, clauses_faults}
-use Rattle.est_blocks.specs.Clauses.{with_clauses, delay_faults, domain_faults, domains_faults}
+use Rattle.est_blocks.specs.BlockFaults.{bodies_faults}
+use Rattle.est_blocks.specs.Clauses.{is_state_sort, state_used, state_faults}
+use Rattle.est_blocks.specs.Clauses.{next_faults, most_faults, clause_faults}
+use Rattle.est_blocks.specs.Clauses.{domain_faults}
+use Rattle.est_clauses.specs.GivenClauses.{with_clauses, delay_faults}
 use Rattle.est_blocks.specs.Clauses.{tuples, tuples_faults, is_priority, priority_faults}
 use Rattle.est_fullness.specs.Full.{AreFull}
 use Rattle.est_fullness.specs.FullExpressions.{IsWhole}
@@ -72,10 +74,10 @@ state_seen o (meant.Predeclared n) place h = not_broken place rule.WrongSort h
 state_seen o (meant.Unseen p) place h = not_broken place rule.NotSeenHere h
 state_seen o (meant.Seen p) place h = unbroken (is_state_sort (entry_at o p)) place rule.WrongSort h
 
-states_seen : (o : Outline) (us : List Used) → states_faults o us ≡ [] → AreStates o us
+states_seen : (o : Outline) (us : List Used) → flat_map (state_faults o) us ≡ [] → AreStates o us
 states_seen o [] h = tt
 states_seen o (u ∷ us) h =
-    let s = parted (state_faults o u) (states_faults o us) h in
+    let s = parted (state_faults o u) (flat_map (state_faults o) us) h in
     (state_seen o (meaning o u) u.place s.0, states_seen o us s.1)
 
 next_there : (o : Outline) (u : Option Used) → next_faults o u ≡ [] → IsNext o u
@@ -87,10 +89,10 @@ most_whole o (most.Value e) w h = wanted_full o wanted.Integer e w h
 most_whole o _ w h = tt
 
 domains_whole : (o : Outline) (vs : List VarDef) → AreFull o → Each VarDefWritten vs
-    → domains_faults o vs ≡ [] → AreDomains o vs
+    → flat_map (domain_faults o) vs ≡ [] → AreDomains o vs
 domains_whole o [] full c h = tt
 domains_whole o (v ∷ vs) full c h =
-    let s = parted (domain_faults o v) (domains_faults o vs) h in
+    let s = parted (domain_faults o v) (flat_map (domain_faults o) vs) h in
     (ordinal_kind o v.text full c.0 s.0, domains_whole o vs full c.1 s.1)
 
 priority_whole : (o : Outline) (c : Constant) → AreFull o
@@ -117,31 +119,31 @@ clause_whole o (clause.Delay least most place) w c h =
     (wanted_full o wanted.Integer least w s.0, most_whole o most w s.1)
 clause_whole o (clause.Any names place) w c h =
     domains_whole o names w.full c
-    (parted (domains_faults o names) (tuples_faults (tuples o (Some 1) names) place) h).0
+    (parted (flat_map (domain_faults o) names) (tuples_faults (tuples o (Some 1) names) place) h).0
 clause_whole o (clause.Priority value place) w c h = priority_whole o value w.full h
 clause_whole o (clause.Otherwise place) w c h = tt
 
 clauses_whole : (o : Outline) (cs : List Clause) → IsWhole o → Each ClauseWritten cs
-    → clauses_faults o cs ≡ []
+    → flat_map (clause_faults o) cs ≡ []
     → ClausesLackNothing o cs
 clauses_whole o [] w d h = tt
 clauses_whole o (c ∷ cs) w d h =
-    let s = parted (clause_faults o c) (clauses_faults o cs) h in
+    let s = parted (clause_faults o c) (flat_map (clause_faults o) cs) h in
     (clause_whole o c w d.0 s.0, clauses_whole o cs w d.1 s.1)
 
 -- statements
 text_whole : (o : Outline) (f : Option ℕ) (ss : List Statement) → IsWhole o
-    → Each StatementWritten ss → statements_faults o f [] ss ≡ [] → TextLacksNothing o f ss
+    → Each StatementWritten ss → flat_map (statement_faults o f []) ss ≡ [] → TextLacksNothing o f ss
 text_whole o f [] w c h = tt
 text_whole o f (s ∷ ss) w c h =
-    let q = parted (statement_faults o f [] s) (statements_faults o f [] ss) h in
+    let q = parted (statement_faults o f [] s) (flat_map (statement_faults o f []) ss) h in
     (statement_whole o f [] s w c.0 q.0, text_whole o f ss w c.1 q.1)
 
 block_whole : (o : Outline) (place scalars : ℕ) (ss : List Statement) → IsWhole o
     → Each StatementWritten ss → block_faults o place scalars ss ≡ [] → TextLacksNothing o None ss
 block_whole o place scalars ss w c h =
     text_whole o None ss w c
-    (parted (scalars_faults scalars place) (statements_faults o None [] ss) h).1
+    (parted (scalars_faults scalars place) (flat_map (statement_faults o None []) ss) h).1
 
 -- parts
 mutual
@@ -190,9 +192,9 @@ mutual
   transitions_whole o gs end_of-Transition w c h = tt
   transitions_whole o gs (more_of-Transition cs name a parts statements place rest) w c h =
       let block = block_faults o place (row_scalars o 0 parts) statements in
-      let s = parted (clauses_faults o cs ++ delay_faults (with_clauses gs cs) ++ block)
+      let s = parted (flat_map (clause_faults o) cs ++ delay_faults (with_clauses gs cs) ++ block)
       (row_transitions_faults o (with_clauses gs cs) rest) h in
-      let q = three (clauses_faults o cs) (delay_faults (with_clauses gs cs)) block s.0 in (
+      let q = three (flat_map (clause_faults o) cs) (delay_faults (with_clauses gs cs)) block s.0 in (
         (
           clauses_whole o cs w c.0 q.0,
           block_whole o place (row_scalars o 0 parts) statements w c.2 q.2,
@@ -201,16 +203,16 @@ mutual
       )
 
 pub parts_whole : (o : Outline) (ps : List Part) → IsWhole o → Each PartWritten ps
-    → parts_faults o ps ≡ [] → PartsLackNothing o ps
+    → flat_map (part_faults o) ps ≡ [] → PartsLackNothing o ps
 parts_whole o [] w c h = tt
 parts_whole o (p ∷ ps) w c h =
-    let s = parted (part_faults o p) (parts_faults o ps) h in
+    let s = parted (part_faults o p) (flat_map (part_faults o) ps) h in
     (part_whole o p w c.0 s.0, parts_whole o ps w c.1 s.1)
 
 pub specification_whole : SpecificationsLackNothing
 specification_whole s w c d h =
     let o = outline_of s in
-    let b = parted (parts_faults o s.parts) (statement_faults o None [] s.first)
+    let b = parted (flat_map (part_faults o) s.parts) (statement_faults o None [] s.first)
     (parted (declaration_faults s) (bodies_faults s) h).1 in
     (parts_whole o s.parts w c b.0, statement_whole o None [] s.first w d b.1)
 

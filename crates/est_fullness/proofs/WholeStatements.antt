@@ -1,4 +1,5 @@
 -- A statement that breaks no rule lacks nothing.
+use Rattle.std.specs.Prelude.{flat_map}
 use mathlib.Core.Former.{none_left, one_more}
 use Rattle.std.proofs.Common.{sym, subst, ◌≡◌, ℕ, List, [], ◌∷◌, ◌++◌, Option, Some, None}
 use Rattle.est_syntax.specs.declared.expression.Expr.{Expr}
@@ -21,7 +22,7 @@ use Rattle.est_expressions.specs.declared.operators.Wanted.TheVariants as wanted
 use Rattle.est_statements.specs.Cases.{Chosen, chosen_host, with_constants, choices_faults}
 use Rattle.est_statements.specs.LinkFaults.{connect_faults, attach_faults, untied_faults}
 use Rattle.est_statements.specs.Modules.{init_faults}
-use Rattle.est_statements.specs.Signals.{sending_faults, sendings_faults}
+use Rattle.est_statements.specs.Signals.{sending_faults}
 use Rattle.est_statements.specs.Statements.{wanted_faults, function_faults, call_faults, for_faults}
 use Rattle.est_statements.specs.Statements.{within_loop, over_faults, link_faults, plain_faults}
 use Rattle.est_statements.specs.Statements.{statement_faults, box_statement, held_statement}
@@ -49,11 +50,11 @@ wanted_full o v e w h =
     let s = parted (expr_faults o e) (wants v (expr_type o e) (expr_place e)) h in
     kept_full v (expr_type o e) (expr_place e) (expr_full o e w s.0) s.1
 
-all_sent : (o : Outline) (ss : List Sending) → IsWhole o → sendings_faults o ss ≡ []
+all_sent : (o : Outline) (ss : List Sending) → IsWhole o → flat_map (sending_faults o) ss ≡ []
     → AreSent o ss
 all_sent o [] w h = tt
 all_sent o (s ∷ ss) w h =
-    let q = parted (sending_faults o s) (sendings_faults o ss) h in
+    let q = parted (sending_faults o s) (flat_map (sending_faults o) ss) h in
     (sendings_full o s w q.0, all_sent o ss w q.1)
 
 -- a statement without statements in it
@@ -82,7 +83,7 @@ plain_whole o (Some f) loops (statement.Call name arguments place) w h =
     not_broken place rule.NotInFunction
     (parted (function_faults (Some f) place) (call_faults o (Some f) loops name arguments) h).0
 plain_whole o f loops (statement.Output sendings place) w h =
-    all_sent o sendings w (parted (function_faults f place) (sendings_faults o sendings) h).1
+    all_sent o sendings w (parted (function_faults f place) (flat_map (sending_faults o) sendings) h).1
 plain_whole o f loops (statement.Init target body arguments place) w h =
     inits_full o target body arguments w
     (parted (function_faults f place) (init_faults o target body arguments) h).1

@@ -20,7 +20,7 @@ use Rattle.est_syntax.specs.declared.type_text.TypeText.TheBlock.{shown-the_row-
 use Rattle.est_syntax.specs.declared.type_text.TypeText.TheVariants as texts
 use Rattle.est_syntax.specs.declared.type_text.TypeDef.{TypeDef}
 use Rattle.est_syntax.specs.declared.type_text.VarDef.{VarDef}
-use Rattle.est_outline.specs.Lasts.{text_last}
+use Rattle.est_declares.specs.Lasts.{text_last}
 use Rattle.est_language.specs.Grammar.{word, here, seq, rep, ended, rule, t_word, t_here, t_seq}
 use Rattle.est_language.specs.Shown.{Shows, at, pair, node, nodes, s_at, s_pair, s_node, s_more}
 use Rattle.est_reader.specs.Tests.{Test, kind}

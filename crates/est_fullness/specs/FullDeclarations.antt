@@ -24,16 +24,16 @@ use Rattle.est_scope.specs.Uses.{meaning_faults, use_faults, declaration_of, twi
 use Rattle.est_kinds.specs.declared.value.Valued.{Valued}
 use Rattle.est_kinds.specs.Constants.{constant_value, constant_faults, constant_last}
 use Rattle.est_kinds.specs.Constants.{value_with}
-use Rattle.est_kinds.specs.TypeTexts.{text_type, text_faults, named_type, enumeration}
+use Rattle.est_kinds.specs.TypeTexts.{text_type, text_faults, named_type, enumeration, type_faults}
 use Rattle.est_kinds.specs.Dims.{dims_of, dims_faults}
-use Rattle.est_outline.specs.Entries.{ordinal_of}
-use Rattle.est_outline.specs.Declares.{side_of, states_named}
-use Rattle.est_outline.specs.Bodies.{body_header}
-use Rattle.est_outline.specs.Lasts.{text_last}
+use Rattle.est_declares.specs.Entries.{ordinal_of}
+use Rattle.est_declares.specs.Declares.{side_of, states_named}
+use Rattle.est_declares.specs.Bodies.{body_header}
+use Rattle.est_declares.specs.Lasts.{text_last}
 use Rattle.est_types.specs.declared.modules.Owner.{Owner}
 use Rattle.est_types.specs.DeclarationFaults.{constdef_faults, typedef_faults, vardef_faults}
 use Rattle.est_types.specs.DeclarationFaults.{point_faults, modvar_faults, formal_faults}
-use Rattle.est_types.specs.DeclarationFaults.{result_faults, stateset_faults}
+use Rattle.est_types.specs.DeclarationFaults.{stateset_faults}
 use Rattle.est_language.specs.Shown.{node, nodes}
 use Rattle.est_order.specs.PlaceOrder.{Stands}
 use Rattle.est_productions.specs.Nodes.{layer, a_use, a_constant, a_constant_definition}
@@ -178,7 +178,7 @@ FormalsAreFull = (o : Outline) (result : Option Used) (f : Formal) (e : Entry) (
 -- a function with the kind that the outline gives its result is full
 abbrev pub FunctionsAreFull : Type 0
 FunctionsAreFull = (o : Outline) (u : Used) (e : Entry) (a b : ℕ) → AreFullBefore o b
-    → Stands layer (node (a_use u)) a b → result_faults o (Some u) ≡ []
+    → Stands layer (node (a_use u)) a b → type_faults o u ≡ []
     → e.declared.sort ≡ sort.Function → e.kind ≡ named_type o u → IsFull e
 
 -- of a state set the place of each state that it names is known, in the order of the text

@@ -9,10 +9,10 @@ use Rattle.est_scope.specs.declared.declaration.Entry.{Entry}
 use Rattle.est_scope.specs.declared.declaration.Sort.{Sort}
 use Rattle.est_scope.specs.declared.declaration.Sort.TheVariants as sort
 use Rattle.est_expressions.specs.Expressions.{expr_type, expr_faults, selected, selected_faults}
-use Rattle.est_expressions.specs.Receivers.{dims_in}
+use Rattle.est_declares.specs.LookUps.{dims_in}
 use Rattle.est_expressions.specs.Selections.{Selection, Broken, Value, Component, Modules, Module}
 use Rattle.est_expressions.specs.Selections.{SomeModule, is_parameter, parameter, head, head_faults}
-use Rattle.est_expressions.specs.Variables.{header_in}
+use Rattle.est_declares.specs.LookUps.{header_in}
 use Rattle.est_fullness.specs.Full.{IsThere, AreFull}
 
 -- before a parameter stand only parameters in its region

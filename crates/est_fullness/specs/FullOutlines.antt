@@ -1,7 +1,7 @@
 -- In the outline of a specification that breaks no rule nothing is missing.
 use Rattle.std.specs.Prelude.{◌≡◌, []}
 use Rattle.est_syntax.specs.declared.specification.Spec.{Spec}
-use Rattle.est_outline.specs.Bodies.{outline_of}
+use Rattle.est_declares.specs.Bodies.{outline_of}
 use Rattle.est_check.specs.LeastFault.{specification_faults}
 use Rattle.est_fullness.specs.Full.{AreFull}
 use Rattle.est_order.specs.Said.{Each, PartSaid}

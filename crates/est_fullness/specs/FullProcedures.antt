@@ -13,7 +13,8 @@ use Rattle.est_expressions.specs.Expressions.{expr_type}
 use Rattle.est_expressions.specs.Operators.{is_given}
 use Rattle.est_expressions.specs.Selections.{Component, type_in, parameter}
 use Rattle.est_statements.specs.Statements.{is_place, call_faults}
-use Rattle.est_statements.specs.Targets.{Variable, bare, path_target}
+use Rattle.est_statements.specs.Targets.{path_target}
+use Rattle.est_declares.specs.BareVariables.{Variable, bare}
 use Rattle.est_fullness.specs.FullExpressions.{IsWhole}
 
 -- a variable of a kind that is alike to that of a parameter

@@ -3,7 +3,7 @@ use Rattle.std.specs.Prelude.{◌≡◌, ℕ, suc, ◌≤◌, List, [], length}
 use Rattle.est_lexer.specs.declared.kind.Token.{Token}
 use Rattle.est_syntax.specs.Kinds.{maxint}
 use Rattle.est_syntax.specs.declared.specification.Spec.{Spec}
-use Rattle.est_outline.specs.Bodies.{outline_of}
+use Rattle.est_declares.specs.Bodies.{outline_of}
 use Rattle.est_check.specs.LeastFault.{specification_faults}
 use Rattle.est_grammar.specs.Answer.{HasOneTree}
 use Rattle.est_fullness.specs.Full.{AreFull}

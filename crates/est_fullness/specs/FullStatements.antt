@@ -20,8 +20,10 @@ use Rattle.est_expressions.specs.declared.operators.Wanted.TheVariants as wanted
 use Rattle.est_expressions.specs.declared.receivers.Receiver.{Receiver}
 use Rattle.est_statements.specs.LinkFaults.{end_of, child_point, connected_side, connect_faults}
 use Rattle.est_statements.specs.LinkFaults.{attach_faults, untied_faults}
-use Rattle.est_statements.specs.Modules.{header_at, parameters_of, init_faults}
-use Rattle.est_statements.specs.Signals.{point_side, side_at, signal_of, signal_faults}
+use Rattle.est_statements.specs.Modules.{parameters_of, init_faults}
+use Rattle.est_declares.specs.LookUps.{header_at}
+use Rattle.est_statements.specs.Signals.{signal_of, signal_faults}
+use Rattle.est_declares.specs.LookUps.{point_side, side_at}
 use Rattle.est_statements.specs.Signals.{sending_faults}
 use Rattle.est_statements.specs.Statements.{control_type, for_faults}
 use Rattle.est_statements.specs.Targets.{path_target, assign_faults}

@@ -8,7 +8,6 @@ pub mod WrittenExpressions
 pub mod FullDeclarations
 pub mod WrittenParts
 pub mod FullOutlines
-pub mod SentenceOf
 pub mod FullSentences
 pub mod ParameterOrder
 pub mod WholeSentences

@@ -3,7 +3,7 @@ use Rattle.std.specs.Prelude.{ℕ, List}
 use Rattle.est_lexer.specs.declared.kind.Token.{Token}
 use Rattle.est_syntax.specs.declared.specification.Spec.{Spec}
 use Rattle.est_grammar.specs.Answer.{HasOneTree}
-use Rattle.est_outline.specs.Bodies.{outline_of}
+use Rattle.est_declares.specs.Bodies.{outline_of}
 use Rattle.est_fullness.specs.FullExpressions.{ParametersStandFirst, ParametersHaveKinds}
 
 -- the parameters of the declarations of a sentence stand first in their regions, and are of sorts

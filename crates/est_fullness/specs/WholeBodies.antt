@@ -1,4 +1,5 @@
 -- Specifications whose bodies lack nothing of what they look up (ISO 9074, bodies and transitions).
+use Rattle.std.specs.Prelude.{flat_map}
 use Rattle.std.specs.Prelude.{◌≡◌, ℕ, suc, ◌≤◌, true, List, [], ◌∷◌, length, Option, Some, None}
 use Rattle.est_lexer.specs.declared.kind.Token.{Token}
 use Rattle.est_syntax.specs.Kinds.{maxint}
@@ -26,10 +27,10 @@ use Rattle.est_scope.specs.declared.declaration.Meant.TheVariants.{Seen}
 use Rattle.est_scope.specs.declared.declaration.Sort.TheVariants as sort
 use Rattle.est_kinds.specs.Constants.{constant_value}
 use Rattle.est_kinds.specs.declared.value.Valued.{Valued}
-use Rattle.est_outline.specs.Bodies.{outline_of}
+use Rattle.est_declares.specs.Bodies.{outline_of}
 use Rattle.est_order.specs.Said.{Each}
 use Rattle.est_expressions.specs.declared.operators.Wanted.TheVariants as wanted
-use Rattle.est_blocks.specs.BlockFaults.{function_of, parts_faults}
+use Rattle.est_blocks.specs.BlockFaults.{function_of, part_faults}
 use Rattle.est_check.specs.LeastFault.{specification_faults}
 use Rattle.est_blocks.specs.Clauses.{is_state_sort, is_priority}
 use Rattle.est_fullness.specs.Full.{IsThere, AreFull}
@@ -130,7 +131,7 @@ PartsLackNothing o (p ∷ ps) = PartLacksNothing o p × PartsLackNothing o ps
 -- parts that break no rule, written as sentences have them, lack nothing
 abbrev pub BodiesLackNothing : Type 0
 BodiesLackNothing =
-    (o : Outline) (ps : List Part) → IsWhole o → Each PartWritten ps → parts_faults o ps ≡ []
+    (o : Outline) (ps : List Part) → IsWhole o → Each PartWritten ps → flat_map (part_faults o) ps ≡ []
     → PartsLackNothing o ps
 
 -- a specification lacks nothing

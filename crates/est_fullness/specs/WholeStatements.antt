@@ -15,7 +15,7 @@ use Rattle.est_scope.specs.declared.declaration.Measured.{Measured}
 use Rattle.est_scope.specs.declared.declaration.Sort.TheVariants as sort
 use Rattle.est_kinds.specs.Constants.{constant_value}
 use Rattle.est_kinds.specs.TypeTexts.{text_type}
-use Rattle.est_outline.specs.Bodies.{over_header}
+use Rattle.est_declares.specs.Bodies.{over_header}
 use Rattle.est_alike.specs.declared.types.Host.{Host}
 use Rattle.est_expressions.specs.Expressions.{expr_type}
 use Rattle.est_expressions.specs.Operators.{kept}

@@ -23,7 +23,7 @@ use Rattle.est_syntax.specs.declared.body.Body.{Body', Row_of-Group, end_of-Grou
 use Rattle.est_syntax.specs.declared.body.Body.{more_of-Group, Held-Body-first}
 use Rattle.est_syntax.specs.declared.transition.Group.{Group', Row_of-Transition}
 use Rattle.est_syntax.specs.declared.transition.Group.{end_of-Transition, more_of-Transition}
-use Rattle.est_outline.specs.Lasts.{text_last}
+use Rattle.est_declares.specs.Lasts.{text_last}
 use Rattle.est_order.specs.Said.{Each}
 use Rattle.est_fullness.specs.WrittenExpressions.{EachUse, HasConstants}
 

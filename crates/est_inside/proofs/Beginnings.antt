@@ -9,7 +9,7 @@ use Rattle.est_syntax.specs.declared.body.Body.{Body', Row_of-Group, end_of-Grou
 use Rattle.est_syntax.specs.declared.body.Body.{more_of-Group, Held-Body-first}
 use Rattle.est_syntax.specs.declared.transition.Group.{Group', Row_of-Transition}
 use Rattle.est_syntax.specs.declared.transition.Group.{end_of-Transition, more_of-Transition}
-use Rattle.est_outline.specs.Bodies.{statement_place}
+use Rattle.est_declares.specs.Bodies.{statement_place}
 use Rattle.est_order.proofs.PlacedParts.{InOrder}
 use Rattle.est_order.proofs.PlacedBodies.{StatementPlaced}
 

@@ -22,14 +22,14 @@ use Rattle.est_scope.specs.declared.declaration.Within.{Within}
 use Rattle.est_scope.specs.Outline.{Outline, entry_at, extent_at}
 use Rattle.est_scope.specs.Declaring.{lying, last_from, taken, with_closed, with_header}
 use Rattle.est_scope.specs.Uses.{is_sort, meant_as, meaning}
-use Rattle.est_outline.specs.Entries.{plain, inner, body_regions}
-use Rattle.est_outline.specs.Contexts.{under}
-use Rattle.est_outline.specs.declared.context.Given.{Given}
-use Rattle.est_outline.specs.Declares.{formals_declare}
-use Rattle.est_outline.specs.Bodies.{statements_declare, clauses_declare, body_named}
-use Rattle.est_outline.specs.Bodies.{body_header, header_given, inside, routine_named}
-use Rattle.est_outline.specs.Bodies.{head_declares, to_lying, closed_by, part_declares, row_parts}
-use Rattle.est_outline.specs.Bodies.{first_declares, row_groups, row_transitions, parts_declare}
+use Rattle.est_declares.specs.Entries.{plain, inner, body_regions}
+use Rattle.est_declares.specs.Contexts.{under}
+use Rattle.est_declares.specs.declared.context.Given.{Given}
+use Rattle.est_declares.specs.Declares.{formals_declare}
+use Rattle.est_declares.specs.Bodies.{statements_declare, clauses_declare, body_named}
+use Rattle.est_declares.specs.Bodies.{body_header, header_given, inside, routine_named}
+use Rattle.est_declares.specs.Bodies.{head_declares, to_lying, closed_by, part_declares, row_parts}
+use Rattle.est_declares.specs.Bodies.{first_declares, row_groups, row_transitions, parts_declare}
 use Rattle.est_order.specs.Growth.{Anywhere, g_then}
 use Rattle.est_order.proofs.PlacedParts.{InOrder, FormalPlaced}
 use Rattle.est_order.proofs.PlacedBodies.{PartPlaced, PartsPlaced, FirstPlaced, GroupsPlaced}

@@ -11,8 +11,8 @@ use Rattle.est_syntax.specs.declared.name.Used.{Used}
 use Rattle.est_syntax.specs.declared.specification.Spec.{Spec}
 use Rattle.est_language.specs.Shown.{node}
 use Rattle.est_scope.specs.Declaring.{empty}
-use Rattle.est_outline.specs.Entries.{outermost}
-use Rattle.est_outline.specs.Bodies.{statement_place, parts_declare, outline_of}
+use Rattle.est_declares.specs.Entries.{outermost}
+use Rattle.est_declares.specs.Bodies.{statement_place, parts_declare, outline_of}
 use Rattle.est_productions.specs.Nodes as shown
 use Rattle.est_productions.specs.Nodes.{a_specification, layer}
 use Rattle.est_order.specs.Growth.{Anywhere, g_lying}

@@ -16,13 +16,13 @@ use Rattle.est_scope.specs.declared.declaration.Within.{Within}
 use Rattle.est_scope.specs.Outline.{Outline, standing, member_at}
 use Rattle.est_scope.specs.Declaring.{lying}
 use Rattle.est_scope.specs.Uses.{declaration_of}
-use Rattle.est_outline.specs.declared.context.ClauseKind.{ClauseKind}
-use Rattle.est_outline.specs.declared.context.ClauseKind.TheVariants as kind
-use Rattle.est_outline.specs.declared.context.Given.{Given}
-use Rattle.est_outline.specs.Contexts.{is_same, dropped, given, region_of, under}
-use Rattle.est_outline.specs.Entries.{with_region}
-use Rattle.est_outline.specs.Bodies.{Clausal, interaction_in, interaction_by, interaction_at}
-use Rattle.est_outline.specs.Bodies.{side_meant, awaited, clause_declares, clauses_declare}
+use Rattle.est_declares.specs.declared.context.ClauseKind.{ClauseKind}
+use Rattle.est_declares.specs.declared.context.ClauseKind.TheVariants as kind
+use Rattle.est_declares.specs.declared.context.Given.{Given}
+use Rattle.est_declares.specs.Contexts.{is_same, dropped, given, region_of, under}
+use Rattle.est_declares.specs.Entries.{with_region}
+use Rattle.est_declares.specs.Bodies.{Clausal, interaction_in, interaction_by, interaction_at}
+use Rattle.est_declares.specs.Bodies.{side_meant, awaited, clause_declares, clauses_declare}
 use Rattle.est_order.specs.Growth.{Anywhere}
 use Rattle.est_order.proofs.PlacedParts.{InOrder}
 use Rattle.est_order.proofs.PlacedBodies.{ClausePlaced}

@@ -21,11 +21,11 @@ use Rattle.est_scope.specs.declared.declaration.Standing.{Standing}
 use Rattle.est_scope.specs.declared.declaration.Within.{Within}
 use Rattle.est_scope.specs.Outline.{Outline, standing, member_at}
 use Rattle.est_scope.specs.Declaring.{declared_by, declared, taken, lying, last_from}
-use Rattle.est_outline.specs.Entries.{inner, in_section}
-use Rattle.est_outline.specs.Lasts.{text_last}
-use Rattle.est_outline.specs.Bodies.{statement_place, expr_place, all_by, over_header, all_named}
-use Rattle.est_outline.specs.Bodies.{arm_lying, within_declares, row_statements, held_declares}
-use Rattle.est_outline.specs.Bodies.{row_arms, statements_declare}
+use Rattle.est_declares.specs.Entries.{inner, in_section}
+use Rattle.est_declares.specs.Lasts.{text_last}
+use Rattle.est_declares.specs.Bodies.{statement_place, expr_place, all_by, over_header, all_named}
+use Rattle.est_declares.specs.Bodies.{arm_lying, within_declares, row_statements, held_declares}
+use Rattle.est_declares.specs.Bodies.{row_arms, statements_declare}
 use Rattle.est_order.specs.Growth.{Anywhere, g_declared, g_lying}
 use Rattle.est_order.proofs.Placed.{ConstantPlaced, short_text, text_from}
 use Rattle.est_order.proofs.PlacedParts.{InOrder}

@@ -1,7 +1,7 @@
 -- What holds of the specification of each sentence, and so of its runs.
 use Rattle.std.specs.Prelude.{◌≡◌, List, None}
 use Rattle.est_syntax.specs.declared.specification.Spec.{Spec}
-use Rattle.est_fullness.specs.SentenceOf.{IsSentence}
+use Rattle.est_check.specs.SentenceOf.{IsSentence}
 use Rattle.est_semantics.specs.declared.situation.InteractionPoint.{InteractionPoint}
 use Rattle.est_semantics.specs.Attachments.{bottom}
 use Rattle.est_semantics.specs.TextByPlace.{text_of}

@@ -1,11 +1,1 @@
-pub mod AnswersOfChanges
-pub mod AttachmentLaws
-pub mod BirthLaws
-pub mod FirstPlaces
-pub mod LinkLaws
-pub mod LostLaws
-pub mod OutsideLaws
-pub mod QueueLaws
-pub mod SamePoints
 pub mod SystemLaws
-pub mod TupleLaws

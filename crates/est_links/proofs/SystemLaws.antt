@@ -1,37 +1,31 @@
--- Systems of which one list is changed.
-use Rattle.std.proofs.Common.{◌≡◌, ap, ◌∙◌, List, [], ◌∷◌, ◌++◌, Some, None, drop}
+-- What is left where instances are released.
+use Rattle.std.proofs.Common.{◌≡◌, ℕ, List, ap, ◌∙◌, Some, None}
 use Rattle.est_semantics.specs.declared.situation.InteractionPoint.{InteractionPoint}
 use Rattle.est_semantics.specs.declared.situation.Item.{Item}
+use Rattle.est_semantics.specs.declared.situation.Row.{Row}
+use Rattle.est_semantics.specs.GlobalSituation.{Map, QueueName, Clocked, Situation}
+use Rattle.est_semantics.specs.InstanceEffects.{links_without, without}
+use Rattle.est_births.specs.LostRows.{rows_without, stamps_without}
+use Rattle.est_queues.specs.LostQueues.{queues_without}
 use Rattle.est_semantics.specs.TextByPlace.{Text}
-use Rattle.est_semantics.specs.GlobalSituation.{Map, QueueName, Situation}
 use Rattle.est_semantics.specs.Attachments.{bottom}
-use Rattle.est_semantics.specs.QueueEffects.{queue_of, appended, passed_to, moved}
-use Rattle.est_semantics.specs.QueueEffects.{without_head}
-use Rattle.est_semantics.specs.OutputEffects.{delivered_at}
+use Rattle.est_semantics.specs.QueueEffects.{queue_of, moved}
 use Rattle.est_semantics.specs.LinkEffects.{with_point}
 use Rattle.est_links.specs.ChangedSystems.{fastened, unfastened}
-use Rattle.est_links.specs.ChangedLists.{with_items, transferred}
+use Rattle.est_queues.specs.ChangedQueues.{transferred}
+
+-- all that goes
+pub without_by : (ns : List ℕ) (s : Situation) (r : List Row)
+    (p d : Map InteractionPoint InteractionPoint) (q : QueueName → List Item) (k : Map Clocked ℕ)
+    → r ≡ rows_without ns s.rows → p ≡ links_without ns s.peer → d ≡ links_without ns s.down
+    → q ≡ queues_without ns s.queues → k ≡ stamps_without ns s.stamps
+    → ◌≡◌ {A = Situation} (record s { rows = r; peer = p; down = d; queues = q; stamps = k })
+    (without ns s)
+without_by ns s r p d q k a b e f g =
+    λ i. record s { rows = a i; peer = b i; down = e i; queues = f i; stamps = g i }
 
 abbrev with_queues : (QueueName → List Item) → Situation → Situation
 with_queues m s = record s { queues = m }
-
--- an item goes down into a queue
-pub delivered_by : (t : Text) (s : Situation) (p b : InteractionPoint) (i : Item) (q : QueueName)
-    (after : QueueName → List Item) → b ≡ bottom s p → q ≡ queue_of t b
-    → after ≡ with_items q (s.queues q ++ passed_to b i ∷ []) s.queues
-    → with_queues after s ≡ delivered_at t p i s
-delivered_by t s p b i q after e f h =
-    ap (λ m. with_queues m s)
-    (h ∙ ap (λ k. with_items k (s.queues k ++ passed_to b i ∷ []) s.queues) f)
-    ∙ ap (λ c. appended t c (passed_to c i ∷ []) s) e
-
--- an item is taken from the head of a queue
-pub headless_by : (t : Text) (s : Situation) (p : InteractionPoint) (q : QueueName)
-    (after : QueueName → List Item) → q ≡ queue_of t p
-    → after ≡ with_items q (drop 1 (s.queues q)) s.queues
-    → with_queues after s ≡ without_head t p s
-headless_by t s p q after e h =
-    ap (λ m. with_queues m s) (h ∙ ap (λ k. with_items k (drop 1 (s.queues k)) s.queues) e)
 
 -- items go from one queue to another
 pub moved_by : (t : Text) (s : Situation) (p q : InteractionPoint) (a b : QueueName)

@@ -1,18 +1,13 @@
--- Changes of a system that are parts of outputs and of statements on links.
-use Rattle.std.specs.Prelude.{Some, None}
+-- Changes of a system that are parts of statements on links and of releases.
+use Rattle.std.specs.Prelude.{Some, None, ℕ}
 use Rattle.est_semantics.specs.declared.situation.InteractionPoint.{InteractionPoint}
 use Rattle.est_semantics.specs.TextByPlace.{Text}
 use Rattle.est_semantics.specs.GlobalSituation.{Situation}
 use Rattle.est_semantics.specs.Attachments.{bottom}
 use Rattle.est_semantics.specs.QueueEffects.{moved}
-use Rattle.est_semantics.specs.OutputEffects.{Sent}
-use Rattle.est_semantics.specs.LinkEffects.{with_point}
-use Rattle.est_frames.specs.declared.system.Working.{Working}
-use Rattle.est_frames.specs.HeldSystems.{situation_of}
-
--- what a block works on, with what was sent out of the system
-abbrev pub sent_of : Working → Sent
-sent_of w = record { situation = situation_of w.system; outs = w.outs }
+use Rattle.est_semantics.specs.LinkEffects.{with_point, each}
+use Rattle.est_semantics.specs.InstancePoints.{external_of}
+use Rattle.est_semantics.specs.InstanceEffects.{untied}
 
 -- two interaction points are connected, whatever ties they have
 abbrev pub tied : InteractionPoint → InteractionPoint → Situation → Situation
@@ -25,3 +20,7 @@ fastened t e c s = record (moved t e (bottom s c) s) { down = with_point e (Some
 -- the items of the innermost point below one come back, and it is attached to none
 abbrev pub unfastened : Text → InteractionPoint → Situation → Situation
 unfastened t e s = record (moved t (bottom s e) e s) { down = with_point e None s.down }
+
+-- the external interaction points of a child are untied
+abbrev pub all_untied : Text → ℕ → Situation → Situation
+all_untied t n s = each (untied t) (external_of t.outline s n) s

@@ -1,5 +1,1 @@
-pub mod ChangedLists
 pub mod ChangedSystems
-pub mod PointsOfInstances
-pub mod LostThings
-pub mod NewInstances

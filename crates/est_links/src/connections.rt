@@ -7,13 +7,14 @@ ghost use Rattle.est_frames.specs.HeldSystems.{situation_of};
 ghost use Rattle.est_frames.specs.HeldFrames.{Leaves};
 ghost use Rattle.est_links.specs.ChangedSystems.{tied, fastened, unfastened};
 
-use crate::attachments::{above, bottom};
-use crate::links::{link, linked, unlink};
-use crate::points::{is_point, queue_of};
-use crate::queues::transfer;
+use est_attachments::attachments::{above, bottom};
+use est_attachments::links::{link, linked, unlink};
 use est_frames::system::System;
 use est_items::Twin;
 use est_names::text::Text;
+use est_points::points::is_point;
+use est_queues::keys::queue_of;
+use est_queues::queues::transfer;
 use est_semantics::fault::BlockFault;
 use est_semantics::situation::InteractionPoint;
 use est_semantics::stop::Stop;
@@ -87,7 +88,10 @@ fn move_items(
 {
     let out_of = queue_of(alloc, text, from)?;
     let into = queue_of(alloc, text, to)?;
-    transfer(alloc, from, &out_of, to, &into, &mut system.queues)?;
+    let done = transfer(alloc, from, &out_of, to, &into, &mut system.queues);
+    drop(out_of);
+    drop(into);
+    done?;
     Ok(())
 }
 
@@ -103,7 +107,9 @@ fn fasten(
         ≡ fastened text.now outer.now inner.now (situation_of system.old)) }
 {
     let innermost = bottom(alloc, system, inner)?;
-    move_items(alloc, text, outer, &innermost, system)?;
+    let done = move_items(alloc, text, outer, &innermost, system);
+    drop(innermost);
+    done?;
     link(alloc, outer, inner, &mut system.downs)?;
     Ok(())
 }
@@ -143,7 +149,9 @@ pub fn disconnect(
         None => Ok(()),
         Some(other) => {
             let other = other.twin(alloc)?;
-            unlink(alloc, &other, &mut system.peers)?;
+            let first = unlink(alloc, &other, &mut system.peers);
+            drop(other);
+            first?;
             unlink(alloc, point, &mut system.peers)?;
             Ok(())
         }
@@ -161,7 +169,9 @@ fn loosen(
         ≡ unfastened text.now outer.now (situation_of system.old)) }
 {
     let innermost = bottom(alloc, system, outer)?;
-    move_items(alloc, text, &innermost, outer, system)?;
+    let done = move_items(alloc, text, &innermost, outer, system);
+    drop(innermost);
+    done?;
     unlink(alloc, outer, &mut system.downs)?;
     Ok(())
 }
@@ -199,7 +209,9 @@ pub fn detach_above(
     match above(alloc, text, system, inner)? {
         None => Ok(()),
         Some(outer) => {
-            detach(alloc, text, &outer, system)?;
+            let done = detach(alloc, text, &outer, system);
+            drop(outer);
+            done?;
             Ok(())
         }
     }

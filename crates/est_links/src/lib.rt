@@ -1,14 +1,5 @@
-//! Links and queues of a system, its instances, and what outputs and statements on links do.
+//! Connections and attachments that statements make and undo, and releases of instances.
 #![tactic(auto)]
 
-pub mod attachments;
-pub mod births;
 pub mod connections;
-pub mod heads;
-pub mod inits;
-pub mod instances;
-pub mod links;
-pub mod outputs;
-pub mod points;
-pub mod queues;
 pub mod releases;

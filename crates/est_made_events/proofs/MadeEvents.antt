@@ -5,7 +5,7 @@ use Rattle.std.specs.List.{All, AllByRecursion}
 use Rattle.rand_core.specs.Stream.{Stream}
 use Rattle.est_syntax.specs.Kinds.{maxint}
 use Rattle.est_syntax.specs.declared.specification.Spec.{Spec}
-use Rattle.est_ports.specs.PortList.{ports_of}
+use Rattle.est_declares.specs.PortList.{ports_of}
 use Rattle.est_semantics.specs.TextByPlace.{text_of}
 use Rattle.est_choices.specs.declared.event.Event.{Event}
 use Rattle.est_choices.specs.declared.event.Event.TheVariants as event
@@ -16,11 +16,11 @@ use Rattle.est_upkeep.proofs.ParentsOlder.{joined_all}
 use Rattle.est_departures.specs.SentInteractions.{LeavesAsSent}
 use Rattle.est_departures.proofs.AllowedDepartures.{given_departures_are_allowed}
 use Rattle.est_departures.proofs.AllowedDepartures.{explained_traces_send}
-use Rattle.est_make.specs.Recipe.{Task, Standing, DrawsOutside, Draws, Leads, first_standing}
-use Rattle.est_make.specs.Recipe.{setup_along}
-use Rattle.est_make.specs.Recipe as recipe
-use Rattle.est_make.proofs.Explaining.{made_explained}
-use Rattle.est_make.proofs.Happening.{drawn_arrives}
+use Rattle.est_making.specs.Recipe.{Task, Standing, DrawsOutside, Draws, Leads, first_standing}
+use Rattle.est_making.specs.Recipe.{setup_along}
+use Rattle.est_making.specs.Recipe as recipe
+use Rattle.est_making.proofs.Explaining.{made_explained}
+use Rattle.est_making.proofs.Happening.{drawn_arrives}
 use Rattle.est_made_events.specs.MadeEventLaws.{IsFair, GivesWhatMayBe, MadeTracesAreFair}
 use Rattle.est_made_events.specs.MadeEventLaws.{MadeEventsAreAllowed, MadeTracesAreAllowed}
 

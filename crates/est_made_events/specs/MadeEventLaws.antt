@@ -9,7 +9,7 @@ use Rattle.est_choices.specs.AllowedEvents.{IsReceivable, IsAllowed, IsAllowedTr
 use Rattle.est_runs.specs.declared.run.Move.{Move}
 use Rattle.est_departures.specs.SentInteractions.{IsSentAt}
 use Rattle.est_departures.specs.DepartureLaws.{IsSound, MayBeGiven}
-use Rattle.est_make.specs.Recipe.{Task, IsMadeTrace}
+use Rattle.est_making.specs.Recipe.{Task, IsMadeTrace}
 
 -- what arrives may arrive, what leaves was sent there, and no more than maxint units pass at once
 abbrev pub IsFair : Spec → Event → Type 0

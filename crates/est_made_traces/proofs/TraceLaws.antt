@@ -5,9 +5,9 @@ use Rattle.std.specs.Result.{IsErr, IsErrAnd}
 use Rattle.std.specs.Global.{Global}
 use Rattle.est_edge.specs.FaultCounts.{AllStay}
 use Rattle.est_syntax.specs.declared.specification.Spec.{Spec}
-use Rattle.est_ports.specs.PortList.{ports_of}
-use Rattle.est_make.specs.declared.made.Made.{Made}
-use Rattle.est_make.specs.declared.made.Made.TheVariants as made
+use Rattle.est_declares.specs.PortList.{ports_of}
+use Rattle.est_making.specs.declared.made.Made.{Made}
+use Rattle.est_making.specs.declared.made.Made.TheVariants as made
 use Rattle.est_files.specs.FileEnds.{End, reported, HoldsSpecification}
 use Rattle.est_files.specs.FileTexts.{OfSpecification, RefusesSpecification}
 use Rattle.est_files.specs.Reads.{IsStop, IsQuiet, ReadsFile}

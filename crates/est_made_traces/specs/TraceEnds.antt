@@ -1,11 +1,11 @@
 -- How a call for a trace ends.
 use Rattle.std.specs.Prelude.{ℕ, List, length}
 use Rattle.est_syntax.specs.declared.specification.Spec.{Spec}
-use Rattle.est_ports.specs.PortList.{ports_of}
+use Rattle.est_declares.specs.PortList.{ports_of}
 use Rattle.est_semantics.specs.declared.fault.BlockFault.{BlockFault}
 use Rattle.est_choices.specs.declared.event.Event.{Event}
 use Rattle.est_runs.specs.declared.run.Move.{Move}
-use Rattle.est_make.specs.declared.made.Made.TheVariants as made
+use Rattle.est_making.specs.declared.made.Made.TheVariants as made
 use Rattle.est_written_traces.specs.WrittenTraces.{trace_text}
 use Rattle.est_files.specs.FileEnds.{End, reported, EndsAt, HoldsSpecification}
 use Rattle.est_files.specs.FileTexts.{RefusesSpecification}

@@ -9,7 +9,7 @@ use est_edge::Shelf;
 use est_files::specification::specification_in;
 use est_files::{Report, Stop};
 use est_make::checked::make;
-use est_make::made::Made;
+use est_making::made::Made;
 use est_ports::ports::Ports;
 use est_reports::search_report::{no_start_report, over_start_report};
 use est_reports::self_run_report::limit_report;

@@ -1,10 +1,10 @@
 //! Traces that checked specifications make of themselves.
 ghost use Rattle.std.specs.Prelude.{IfOk};
-ghost use Rattle.est_make.specs.Recipe.{task_of, IsMade, IsMadeExplained};
+ghost use Rattle.est_making.specs.Recipe.{task_of, IsMade, IsMadeExplained};
 
-use crate::made::Made;
-use crate::making::{Asked, make_in};
 use est_check::Checked;
+use est_making::made::Made;
+use est_making::making::{Asked, make_in};
 use est_running::world::PlainWorld;
 use est_runs::run::Limits;
 use est_worlds::answers::Started;

@@ -1,10 +1,4 @@
-//! Traces that a specification makes of itself, by words drawn from a seed.
+//! Traces that checked specifications make of themselves.
 #![tactic(auto)]
 
-mod arrivals;
 pub mod checked;
-pub mod laws;
-pub mod made;
-pub mod making;
-mod values;
-mod words;

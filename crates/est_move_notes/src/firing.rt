@@ -9,7 +9,7 @@ use est_guard_notes::limit::append_limit;
 use est_guard_notes::scene::Scene;
 use est_guard_notes::states::append_states;
 use est_guards::candidate::Candidate;
-use est_replay::verdict::Why;
+use est_replaying::verdict::Why;
 use est_wanted::note::append_note;
 use est_wanted::place::spot_of;
 use std::alloc::{AllocError, Global};

@@ -1,7 +1,7 @@
 //! Where a move stands, and why it is rejected.
 
 use crate::rejected::Rejected;
-use est_replay::verdict::Why;
+use est_replaying::verdict::Why;
 use est_runs::run::Move;
 use est_wanted::note::append_note;
 use est_wanted::place::spot_of;

@@ -8,7 +8,7 @@ use est_explanation::error::ExplanationError;
 use est_explanation::explanation::{Explanation, read_explanation};
 use est_lexer::tokens::{MOST_BYTES, Tokens};
 use est_replay::checked::replay;
-use est_replay::verdict::{Replayed, Why};
+use est_replaying::verdict::{Replayed, Why};
 use est_runs::run::{Limits, Move};
 use est_trace::error::TraceError;
 use est_trace::trace::read_trace;

@@ -7,8 +7,8 @@ ghost use Rattle.est_moves.specs.SentItems.{queue_with};
 use est_chunks::Queue;
 use est_frames::system::{Queues, System, Waiting};
 use est_items::{Items, Shared, Twin};
-use est_links::points::queue_of;
 use est_names::text::Text;
+use est_queues::keys::queue_of;
 use est_semantics::situation::Item;
 use std::alloc::{AllocError, Global};
 

@@ -14,6 +14,9 @@ use Rattle.est_kinds.specs.declared.value.Valued.{Valued}
 use Rattle.est_kinds.specs.Constants.{constant_value}
 use Rattle.est_semantics.specs.NamesInRuns.{Head, Nothing, Constant as Ordinal, Function}
 use Rattle.est_semantics.specs.NamesInRuns.{Variable, Modules}
+use Rattle.est_semantics.specs.OperandHosts.{Subject, OfKind, OfModules}
+use Rattle.est_names.specs.declared.hosts.Subject as host
+use Rattle.est_names.specs.declared.hosts.Subject.TheVariants as subjects
 use Rattle.est_names.specs.declared.heads.Head as code
 use Rattle.est_names.specs.declared.heads.Head.TheVariants as kept
 
@@ -28,11 +31,6 @@ head_of (kept.Modules p) = Modules p
 -- the ordinal of a constant, where there is one
 abbrev pub ordinal_of : Option Valued → Option ℤ
 ordinal_of v = option_map (λ (x : Valued). x.ordinal) v
-
--- whether a constant has an ordinal
-abbrev pub has_ordinal : Outline → ℤ → Constant → Bool
-has_ordinal o z c =
-    option_map_or (λ (v : Valued). int_eq z v.ordinal) (constant_value o c) false
 
 -- the kinds of an array's index and of its components
 abbrev pub both_of : Option (Bor Kind × Bor Kind) → Option (Kind × Kind)
@@ -49,3 +47,11 @@ of_sort o s ps = filter (λ (p : ℕ). is_sort s (entry_at o p)) ps
 -- the places of what names of a region declare with a sort
 abbrev pub places_in : Outline → Sort → Region → List ℕ
 places_in o s names = of_sort o s (map (λ (n : List ℕ × Standing). n.1.place) names)
+
+-- what a name with some selectors is of
+abbrev pub shown : host.Subject → Subject
+shown (subjects.Kind k) = OfKind k.now
+shown (subjects.Modules p) = OfModules p
+
+abbrev pub subject_in : Option host.Subject → Option Subject
+subject_in s = option_map shown s

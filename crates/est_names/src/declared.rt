@@ -2,7 +2,7 @@
 
 ghost use Rattle.std.specs.Prelude.{◌≡◌, Some, IfOk, OnOk, [], ◌∷◌, ◌++◌};
 ghost use Rattle.std.specs.Option.{option_copied};
-ghost use Rattle.est_outline.specs.Bodies.{side_meant};
+ghost use Rattle.est_declares.specs.Bodies.{side_meant};
 ghost use Rattle.est_semantics.specs.NamesInRuns.{kind_at, dims_at, header_at, declared_within};
 ghost use Rattle.est_semantics.specs.NamesInRuns.{declared_in_header, interaction_of, places_of};
 ghost use Rattle.est_semantics.specs.NamesInRuns.{is_place_section, takes_place, declared_at};
@@ -10,7 +10,7 @@ ghost use Rattle.est_semantics.specs.InstancePoints.{is_module};
 ghost use Rattle.est_semantics.specs.StatementEffects.{first_state};
 ghost use Rattle.est_names.specs.ShownNames.{of_sort, places_in};
 
-use est_expressions::variables::header_in;
+use est_declares::lookups::header_in;
 use est_items::Items;
 use est_scope::declaration::{Meant, Member, Section, Side, Sort};
 use est_scope::names::Names;

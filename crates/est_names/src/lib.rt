@@ -3,8 +3,8 @@
 
 pub mod declared;
 mod expression_names;
-pub mod forms;
 pub mod heads;
+pub mod hosts;
 mod indices;
 pub mod kinds;
 mod known;

@@ -2,7 +2,6 @@
 #![tactic(auto)]
 
 pub mod alike_names;
-pub mod clauses;
 pub mod declared;
 pub mod kinds;
 pub mod lines;

@@ -1,15 +1,11 @@
-//! The ordinals of hosts, and the predeclared functions of ordinals (ISO 7185, 6.6.6 and 6.7.1).
+//! The ordinals of hosts (ISO 7185, 6.4.2 and 6.6.6.4).
 ghost use Rattle.std.specs.Prelude.{◌≡◌};
 ghost use Rattle.est_semantics.specs.HostOrdinals.{first_of_host, last_of_host, within_host};
-ghost use Rattle.est_semantics.specs.FunctionCalls.{required_value, required_by};
+ghost use Rattle.est_semantics.specs.FunctionCalls.{beside};
 
-use crate::ordinals::exact;
 use est_alike::types::Host;
-use est_expressions::names::{Required, required_function};
-use est_scope::predeclared::PredeclaredName;
 use est_semantics::fault::BlockFault;
 use est_syntax::kind::MAXINT;
-use est_values::arithmetic::{negative, times};
 use est_values::ordinals::last_constant;
 
 // The first ordinal of a host.
@@ -45,27 +41,12 @@ pub fn within_host(host: Host, z: i64) -> Result<i32, BlockFault>
     }
 }
 
-// A predeclared function of an ordinal of a host.
-fn required_value(required: Required, host: Host, z: i32) -> Result<i32, BlockFault>
-    ensures { result ≡ required_value required host z }
+/// The ordinal beside that of an argument of `succ` or `pred`, where its host has it.
+pub fn beside(host: Option<Host>, z: i64) -> Result<i32, BlockFault>
+    ensures { result ≡ beside host z }
 {
-    match required {
-        Required::Ord => Ok(z),
-        Required::Chr => within_host(Host::Char, z as i64),
-        Required::Succ => within_host(host, z as i64 + 1),
-        Required::Pred => within_host(host, z as i64 - 1),
-        Required::Abs => if z < 0 { exact(negative(z)) } else { Ok(z) },
-        Required::Odd => Ok(z.rem_euclid(2)),
-        Required::Sqr => exact(times(z, z)),
-    }
-}
-
-/// The predeclared function of a name, of an ordinal of a host.
-pub fn required_by(name: PredeclaredName, host: Host, z: i32) -> Result<i32, BlockFault>
-    ensures { result ≡ required_by name host z }
-{
-    match required_function(name) {
+    match host {
         None => Err(BlockFault::Undefined),
-        Some(required) => required_value(required, host, z),
+        Some(host) => within_host(host, z),
     }
 }

@@ -19,12 +19,12 @@ use Rattle.est_uses.specs.NamesInStatements.{statements_names}
 use Rattle.est_uses.specs.Routines.{part_names, parts_names, formals_names, result_names}
 use Rattle.est_uses.specs.Routines.{routine_names}
 use Rattle.est_uses.specs.Closed.{is_closed}
-use Rattle.est_outline.specs.Entries.{inner, outermost}
-use Rattle.est_outline.specs.Declares.{formals_declare}
-use Rattle.est_outline.specs.Bodies.{statement_place, statements_declare, body_named, header_given}
-use Rattle.est_outline.specs.Bodies.{inside, routine_named, result_given, closed_by, part_declares}
-use Rattle.est_outline.specs.Bodies.{row_parts, first_declares, row_groups, parts_declare}
-use Rattle.est_outline.specs.Bodies.{outline_of}
+use Rattle.est_declares.specs.Entries.{inner, outermost}
+use Rattle.est_declares.specs.Declares.{formals_declare}
+use Rattle.est_declares.specs.Bodies.{statement_place, statements_declare, body_named, header_given}
+use Rattle.est_declares.specs.Bodies.{inside, routine_named, result_given, closed_by, part_declares}
+use Rattle.est_declares.specs.Bodies.{row_parts, first_declares, row_groups, parts_declare}
+use Rattle.est_declares.specs.Bodies.{outline_of}
 use Rattle.est_order.specs.Growth.{Anywhere, is_completed, IsOfCompleted, Grows, g_then, g_lying}
 use Rattle.est_order.specs.Growth.{IsBefore}
 use Rattle.est_order.specs.Said.{Each, IsSaid}

@@ -16,9 +16,9 @@ use Rattle.est_scope.specs.declared.declaration.Within.{Within}
 use Rattle.est_scope.specs.Outline.{Outline, standing, entry_at, extent_at}
 use Rattle.est_scope.specs.Declaring.{declared, declared_by, taken, amended, amended_by, with_kind}
 use Rattle.est_scope.specs.Declaring.{put, put_by}
-use Rattle.est_outline.specs.Entries.{numbered}
-use Rattle.est_outline.specs.Declares.{names_declare, kinds_given, numbers_declare}
-use Rattle.est_outline.specs.Declares.{names_put, roles_put}
+use Rattle.est_declares.specs.Entries.{numbered}
+use Rattle.est_declares.specs.Declares.{names_declare, kinds_given, numbers_declare}
+use Rattle.est_declares.specs.Declares.{names_put, roles_put}
 use Rattle.est_order.specs.Growth.{IsLike, AreLike, Grows, IsBefore}
 use Rattle.est_order.specs.Later.{Later}
 use Rattle.est_order.proofs.Tables.{one_number, two_numbers, tested, inserted_here, set_here}

@@ -35,24 +35,24 @@ use Rattle.est_scope.specs.Uses.{declaration_of}
 use Rattle.est_kinds.specs.Constants.{constant_value, constant_last}
 use Rattle.est_kinds.specs.TypeTexts.{text_type, text_place, named_type, enumeration}
 use Rattle.est_kinds.specs.Dims.{dims_of, dims_elements}
-use Rattle.est_outline.specs.Entries.{plain, constant, numbered, point}
-use Rattle.est_outline.specs.Entries.{module_variable, state_set, header, in_region, in_section}
-use Rattle.est_outline.specs.Lasts.{names_last, text_last, vars_last, interactions_last, by_last}
-use Rattle.est_outline.specs.Lasts.{channel_last, header_last}
-use Rattle.est_outline.specs.Declares.{names_declare, constdef_declares, consts_declare}
-use Rattle.est_outline.specs.Declares.{numbers_declare, kinds_given, enumeration_declares}
-use Rattle.est_outline.specs.Declares.{names_put, text_declares, row_declares, row_fields_declare}
-use Rattle.est_outline.specs.Declares.{typedef_named, typedef_declares, types_declare}
-use Rattle.est_outline.specs.Declares.{vardef_named, vardef_declares, vars_declare, roles_put}
-use Rattle.est_outline.specs.Declares.{interaction_declares, interactions_declare, senders}
-use Rattle.est_outline.specs.Declares.{by_part_declares, by_parts_declare, channel_declares}
-use Rattle.est_outline.specs.Declares.{side_of, point_declares, points_declare, modvar_declares}
-use Rattle.est_outline.specs.Declares.{modvars_declare, before, after, stands_before}
-use Rattle.est_outline.specs.Declares.{sections_declare, has_exports, header_named}
-use Rattle.est_outline.specs.Declares.{header_declares, states_declare, states_named}
-use Rattle.est_outline.specs.Declares.{stateset_declares, statesets_declare, formal_section}
-use Rattle.est_outline.specs.Declares.{formal_named}
-use Rattle.est_outline.specs.Declares.{formal_declares, formals_declare}
+use Rattle.est_declares.specs.Entries.{plain, constant, numbered, point}
+use Rattle.est_declares.specs.Entries.{module_variable, state_set, header, in_region, in_section}
+use Rattle.est_declares.specs.Lasts.{names_last, text_last, vars_last, interactions_last, by_last}
+use Rattle.est_declares.specs.Lasts.{channel_last, header_last}
+use Rattle.est_declares.specs.Declares.{names_declare, constdef_declares, consts_declare}
+use Rattle.est_declares.specs.Declares.{numbers_declare, kinds_given, enumeration_declares}
+use Rattle.est_declares.specs.Declares.{names_put, text_declares, row_declares, row_fields_declare}
+use Rattle.est_declares.specs.Declares.{typedef_named, typedef_declares, types_declare}
+use Rattle.est_declares.specs.Declares.{vardef_named, vardef_declares, vars_declare, roles_put}
+use Rattle.est_declares.specs.Declares.{interaction_declares, interactions_declare, senders}
+use Rattle.est_declares.specs.Declares.{by_part_declares, by_parts_declare, channel_declares}
+use Rattle.est_declares.specs.Declares.{side_of, point_declares, points_declare, modvar_declares}
+use Rattle.est_declares.specs.Declares.{modvars_declare, before, after, stands_before}
+use Rattle.est_declares.specs.Declares.{sections_declare, has_exports, header_named}
+use Rattle.est_declares.specs.Declares.{header_declares, states_declare, states_named}
+use Rattle.est_declares.specs.Declares.{stateset_declares, statesets_declare, formal_section}
+use Rattle.est_declares.specs.Declares.{formal_named}
+use Rattle.est_declares.specs.Declares.{formal_declares, formals_declare}
 use Rattle.est_order.specs.Growth.{IsOpen, Grows, g_not, g_then, g_declared, g_put, g_amended}
 use Rattle.est_order.specs.Growth.{g_lying}
 use Rattle.est_order.proofs.Placed.{NamesPlaced, TextPlaced, RowPlaced}

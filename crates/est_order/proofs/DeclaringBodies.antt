@@ -27,20 +27,20 @@ use Rattle.est_scope.specs.Outline.{Outline}
 use Rattle.est_scope.specs.Declaring.{with_kind, with_closed, with_header, lying}
 use Rattle.est_kinds.specs.Constants.{constant_place}
 use Rattle.est_kinds.specs.TypeTexts.{named_type}
-use Rattle.est_outline.specs.declared.context.ClauseKind.TheVariants as kind
-use Rattle.est_outline.specs.declared.context.Given.{Given}
-use Rattle.est_outline.specs.Contexts.{dropped, given, under}
-use Rattle.est_outline.specs.Entries.{plain, inner, in_region, in_section}
-use Rattle.est_outline.specs.Lasts.{text_last}
-use Rattle.est_outline.specs.Declares.{formals_declare}
-use Rattle.est_outline.specs.Bodies.{Clausal, statement_place, expr_place, all_by, over_header}
-use Rattle.est_outline.specs.Bodies.{all_named, arm_lying, within_declares, row_statements}
-use Rattle.est_outline.specs.Bodies.{held_declares, row_arms, statement_declares}
-use Rattle.est_outline.specs.Bodies.{statements_declare, clause_declares, clauses_declare}
-use Rattle.est_outline.specs.Bodies.{body_named, body_header, header_given, inside, routine_sort}
-use Rattle.est_outline.specs.Bodies.{routine_named, result_given, head_declares, to_lying}
-use Rattle.est_outline.specs.Bodies.{closed_by, part_declares, row_parts, first_declares}
-use Rattle.est_outline.specs.Bodies.{row_groups, row_transitions, parts_declare}
+use Rattle.est_declares.specs.declared.context.ClauseKind.TheVariants as kind
+use Rattle.est_declares.specs.declared.context.Given.{Given}
+use Rattle.est_declares.specs.Contexts.{dropped, given, under}
+use Rattle.est_declares.specs.Entries.{plain, inner, in_region, in_section}
+use Rattle.est_declares.specs.Lasts.{text_last}
+use Rattle.est_declares.specs.Declares.{formals_declare}
+use Rattle.est_declares.specs.Bodies.{Clausal, statement_place, expr_place, all_by, over_header}
+use Rattle.est_declares.specs.Bodies.{all_named, arm_lying, within_declares, row_statements}
+use Rattle.est_declares.specs.Bodies.{held_declares, row_arms, statement_declares}
+use Rattle.est_declares.specs.Bodies.{statements_declare, clause_declares, clauses_declare}
+use Rattle.est_declares.specs.Bodies.{body_named, body_header, header_given, inside, routine_sort}
+use Rattle.est_declares.specs.Bodies.{routine_named, result_given, head_declares, to_lying}
+use Rattle.est_declares.specs.Bodies.{closed_by, part_declares, row_parts, first_declares}
+use Rattle.est_declares.specs.Bodies.{row_groups, row_transitions, parts_declare}
 use Rattle.est_order.specs.Growth.{IsOpen, Grows, g_not, g_then, g_declared, g_amended, g_lying}
 use Rattle.est_order.proofs.Placed.{ConstantPlaced, constant_within, text_from, short_text}
 use Rattle.est_order.proofs.PlacedParts.{InOrder, FormalPlaced}

@@ -18,7 +18,7 @@ use Rattle.est_syntax.specs.declared.statement.Statement.TheBlock.{shown-the_row
 use Rattle.est_syntax.specs.declared.statement.Statement.TheVariants as statement
 use Rattle.est_syntax.specs.declared.statement.Statement.TheBlock as held
 use Rattle.est_language.specs.Shown.{node, nodes}
-use Rattle.est_outline.specs.Bodies.{expr_place}
+use Rattle.est_declares.specs.Bodies.{expr_place}
 use Rattle.est_productions.specs.Nodes as shown
 use Rattle.est_productions.specs.Nodes.{Node, a_constant, a_statement, an_arm, an_expr, layer}
 use Rattle.est_order.specs.PlaceOrder.{o_empty, o_kept, o_at, o_pair, o_first, o_second}

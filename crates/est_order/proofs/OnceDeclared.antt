@@ -13,9 +13,9 @@ use Rattle.est_scope.specs.declared.declaration.Within.{Within}
 use Rattle.est_scope.specs.Outline.{Outline, standing, entry_at}
 use Rattle.est_scope.specs.Declaring.{declared, declared_by, taken, standing_of}
 use Rattle.est_kinds.specs.TypeTexts.{are_declared}
-use Rattle.est_outline.specs.Entries.{numbered}
-use Rattle.est_outline.specs.Declares.{numbers_declare}
-use Rattle.est_outline.proofs.Names.{IsNew, AreOnce}
+use Rattle.est_declares.specs.Entries.{numbered}
+use Rattle.est_declares.specs.Declares.{numbers_declare}
+use Rattle.est_declares.proofs.Names.{IsNew, AreOnce}
 use Rattle.est_order.specs.Said.{Each}
 use Rattle.est_order.proofs.Declared.{declared_stands, declared_other, numbers_other}
 use Rattle.est_order.proofs.Placed.{NamesPlaced}

@@ -12,7 +12,7 @@ use Rattle.est_syntax.specs.declared.type_text.TypeText.{end_of-VarDef, more_of-
 use Rattle.est_syntax.specs.declared.type_text.TypeText.TheVariants as text
 use Rattle.est_kinds.specs.Constants.{constant_place, constant_last, number_place}
 use Rattle.est_kinds.specs.TypeTexts.{text_place}
-use Rattle.est_outline.specs.Lasts.{names_last, text_last, row_last, row_fields_last}
+use Rattle.est_declares.specs.Lasts.{names_last, text_last, row_last, row_fields_last}
 
 -- names stand between two places, one after the other
 abbrev pub NamesPlaced : ℕ → ℕ → List Used → Type 0

@@ -17,7 +17,7 @@ use Rattle.est_syntax.specs.declared.body.Part.TheBlock as first
 use Rattle.est_syntax.specs.declared.transition.Group.{Group', Row_of-Transition}
 use Rattle.est_syntax.specs.declared.transition.Group.{end_of-Transition, more_of-Transition}
 use Rattle.est_uses.specs.NamesInStatements.{statements_names}
-use Rattle.est_outline.specs.Bodies.{statement_place, expr_place}
+use Rattle.est_declares.specs.Bodies.{statement_place, expr_place}
 use Rattle.est_order.proofs.Placed.{NamesPlaced, ConstantPlaced, ShortPlaced}
 use Rattle.est_order.proofs.PlacedParts.{InOrder, ConstDefPlaced, TypeDefPlaced, VarDefPlaced}
 use Rattle.est_order.proofs.PlacedParts.{ChannelPlaced, PointPlaced, ModvarPlaced, HeaderPlaced}

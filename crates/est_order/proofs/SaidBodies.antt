@@ -18,15 +18,15 @@ use Rattle.est_scope.specs.declared.declaration.Within.{Within}
 use Rattle.est_scope.specs.Outline.{Outline}
 use Rattle.est_scope.specs.Declaring.{lying}
 use Rattle.est_kinds.specs.TypeTexts.{text_type}
-use Rattle.est_outline.specs.declared.context.ClauseKind.TheVariants as kind
-use Rattle.est_outline.specs.declared.context.Given.{Given}
-use Rattle.est_outline.specs.Contexts.{dropped, given, under}
-use Rattle.est_outline.specs.Entries.{inner, in_region, in_section}
-use Rattle.est_outline.specs.Lasts.{text_last}
-use Rattle.est_outline.specs.Bodies.{Clausal, statement_place, expr_place, all_by, over_header}
-use Rattle.est_outline.specs.Bodies.{all_named, arm_lying, within_declares, row_statements}
-use Rattle.est_outline.specs.Bodies.{held_declares, row_arms}
-use Rattle.est_outline.specs.Bodies.{statements_declare, clause_declares, clauses_declare}
+use Rattle.est_declares.specs.declared.context.ClauseKind.TheVariants as kind
+use Rattle.est_declares.specs.declared.context.Given.{Given}
+use Rattle.est_declares.specs.Contexts.{dropped, given, under}
+use Rattle.est_declares.specs.Entries.{inner, in_region, in_section}
+use Rattle.est_declares.specs.Lasts.{text_last}
+use Rattle.est_declares.specs.Bodies.{Clausal, statement_place, expr_place, all_by, over_header}
+use Rattle.est_declares.specs.Bodies.{all_named, arm_lying, within_declares, row_statements}
+use Rattle.est_declares.specs.Bodies.{held_declares, row_arms}
+use Rattle.est_declares.specs.Bodies.{statements_declare, clause_declares, clauses_declare}
 use Rattle.est_order.specs.Growth.{is_completed, Grows, g_declared, g_lying, IsBefore}
 use Rattle.est_order.specs.Later.{Later}
 use Rattle.est_order.specs.Said.{Each, IsSaid, AllSaid, StatementSaid, StatementsSaid}

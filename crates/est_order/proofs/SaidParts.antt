@@ -26,19 +26,19 @@ use Rattle.est_scope.specs.Declaring.{declared, put, amended, lying, with_kind}
 use Rattle.est_scope.specs.Uses.{declaration_of}
 use Rattle.est_kinds.specs.TypeTexts.{text_type, text_place, named_type}
 use Rattle.est_kinds.specs.Dims.{dims_of}
-use Rattle.est_outline.specs.Entries.{plain, module_variable, state_set, in_region, in_section}
-use Rattle.est_outline.specs.Lasts.{names_last, text_last, channel_last}
-use Rattle.est_outline.specs.Declares.{kinds_given, text_declares, typedef_named}
-use Rattle.est_outline.specs.Declares.{typedef_declares, types_declare, vardef_named}
-use Rattle.est_outline.specs.Declares.{vardef_declares, vars_declare, roles_put}
-use Rattle.est_outline.specs.Declares.{interaction_declares, interactions_declare, senders}
-use Rattle.est_outline.specs.Declares.{by_part_declares, by_parts_declare, channel_declares}
-use Rattle.est_outline.specs.Declares.{modvar_declares}
-use Rattle.est_outline.specs.Declares.{modvars_declare}
-use Rattle.est_outline.specs.Declares.{states_declare, states_named}
-use Rattle.est_outline.specs.Declares.{stateset_declares, statesets_declare}
-use Rattle.est_outline.specs.Declares.{formal_section, formal_named}
-use Rattle.est_outline.specs.Declares.{formal_declares, formals_declare}
+use Rattle.est_declares.specs.Entries.{plain, module_variable, state_set, in_region, in_section}
+use Rattle.est_declares.specs.Lasts.{names_last, text_last, channel_last}
+use Rattle.est_declares.specs.Declares.{kinds_given, text_declares, typedef_named}
+use Rattle.est_declares.specs.Declares.{typedef_declares, types_declare, vardef_named}
+use Rattle.est_declares.specs.Declares.{vardef_declares, vars_declare, roles_put}
+use Rattle.est_declares.specs.Declares.{interaction_declares, interactions_declare, senders}
+use Rattle.est_declares.specs.Declares.{by_part_declares, by_parts_declare, channel_declares}
+use Rattle.est_declares.specs.Declares.{modvar_declares}
+use Rattle.est_declares.specs.Declares.{modvars_declare}
+use Rattle.est_declares.specs.Declares.{states_declare, states_named}
+use Rattle.est_declares.specs.Declares.{stateset_declares, statesets_declare}
+use Rattle.est_declares.specs.Declares.{formal_section, formal_named}
+use Rattle.est_declares.specs.Declares.{formal_declares, formals_declare}
 use Rattle.est_order.specs.Growth.{is_completed, IsLike, Grows, g_then, g_lying, IsBefore}
 use Rattle.est_order.specs.Growth.{g_declared, g_put}
 use Rattle.est_order.specs.Later.{Later}

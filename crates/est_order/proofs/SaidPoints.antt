@@ -13,12 +13,12 @@ use Rattle.est_scope.specs.Outline.{Outline, entry_at}
 use Rattle.est_scope.specs.Declaring.{lying}
 use Rattle.est_scope.specs.Uses.{same_sort}
 use Rattle.est_kinds.specs.Dims.{dims_of, dims_elements}
-use Rattle.est_outline.specs.Entries.{point, header, in_region}
-use Rattle.est_outline.specs.Lasts.{header_last}
-use Rattle.est_outline.specs.Declares.{vardef_declares, vars_declare}
-use Rattle.est_outline.specs.Declares.{side_of, point_declares, points_declare}
-use Rattle.est_outline.specs.Declares.{sections_declare, header_named, has_exports}
-use Rattle.est_outline.specs.Declares.{header_declares}
+use Rattle.est_declares.specs.Entries.{point, header, in_region}
+use Rattle.est_declares.specs.Lasts.{header_last}
+use Rattle.est_declares.specs.Declares.{vardef_declares, vars_declare}
+use Rattle.est_declares.specs.Declares.{side_of, point_declares, points_declare}
+use Rattle.est_declares.specs.Declares.{sections_declare, header_named, has_exports}
+use Rattle.est_declares.specs.Declares.{header_declares}
 use Rattle.est_order.specs.Growth.{Grows, IsBefore}
 use Rattle.est_order.specs.Later.{Later}
 use Rattle.est_order.specs.Said.{Each, IsOf, VarDefSaid}

@@ -21,11 +21,11 @@ use Rattle.est_scope.specs.Declaring.{lying}
 use Rattle.est_kinds.specs.declared.value.Valued.{Valued}
 use Rattle.est_kinds.specs.Constants.{constant_value, constant_last, value_with}
 use Rattle.est_kinds.specs.TypeTexts.{are_declared, enumeration, scalar}
-use Rattle.est_outline.specs.Entries.{constant, numbered, ordinal_of}
-use Rattle.est_outline.specs.Lasts.{names_last}
-use Rattle.est_outline.specs.Declares.{constdef_declares, consts_declare, numbers_declare}
-use Rattle.est_outline.specs.Declares.{kinds_given, enumeration_declares, names_put}
-use Rattle.est_outline.specs.Declares.{text_declares, row_declares, row_fields_declare}
+use Rattle.est_declares.specs.Entries.{constant, numbered, ordinal_of}
+use Rattle.est_declares.specs.Lasts.{names_last}
+use Rattle.est_declares.specs.Declares.{constdef_declares, consts_declare, numbers_declare}
+use Rattle.est_declares.specs.Declares.{kinds_given, enumeration_declares, names_put}
+use Rattle.est_declares.specs.Declares.{text_declares, row_declares, row_fields_declare}
 use Rattle.est_order.specs.Growth.{is_completed, IsLike, AreLike, Grows, IsBefore}
 use Rattle.est_order.specs.Later.{Later}
 use Rattle.est_order.specs.Said.{Each, ConstDefSaid, NumbersSaid, DifferDeclared, TextSaid}
@@ -37,7 +37,7 @@ use Rattle.est_order.proofs.Lasting.{before_later, before_lying, grows_on}
 use Rattle.est_order.proofs.Declared.{entry_before, declared_entry, later_names, kinds_before}
 use Rattle.est_order.proofs.Declared.{none_like, no_entries, names_put_entries}
 use Rattle.est_order.proofs.Declared.{kinds_have, kinds_present, AreNumbered, numbers_entries}
-use Rattle.est_outline.proofs.Names.{once_differ}
+use Rattle.est_declares.proofs.Names.{once_differ}
 use Rattle.est_order.proofs.OnceDeclared.{numbers_once}
 use Rattle.est_order.proofs.Placed.{NamesPlaced, TextPlaced, RowPlaced, FieldsPlaced, names_on}
 use Rattle.est_order.proofs.Placed.{text_on, row_on, fields_on, constant_on}

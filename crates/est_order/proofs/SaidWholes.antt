@@ -21,15 +21,15 @@ use Rattle.est_scope.specs.Outline.{Outline, entry_at}
 use Rattle.est_scope.specs.Declaring.{empty, amended, with_kind, with_closed, with_header, lying}
 use Rattle.est_scope.specs.Uses.{same_sort, is_sort}
 use Rattle.est_kinds.specs.TypeTexts.{named_type}
-use Rattle.est_outline.specs.Contexts.{under}
-use Rattle.est_outline.specs.Entries.{plain, inner, outermost}
-use Rattle.est_outline.specs.Declares.{formals_declare}
-use Rattle.est_outline.specs.Bodies.{Clausal, statement_place, statements_declare}
-use Rattle.est_outline.specs.Bodies.{clauses_declare, body_named, body_header, header_given, inside}
-use Rattle.est_outline.specs.Bodies.{routine_sort, routine_named, result_given, head_declares}
-use Rattle.est_outline.specs.Bodies.{to_lying, closed_by, part_declares, row_parts}
-use Rattle.est_outline.specs.Bodies.{first_declares, row_groups, row_transitions, parts_declare}
-use Rattle.est_outline.specs.Bodies.{outline_of}
+use Rattle.est_declares.specs.Contexts.{under}
+use Rattle.est_declares.specs.Entries.{plain, inner, outermost}
+use Rattle.est_declares.specs.Declares.{formals_declare}
+use Rattle.est_declares.specs.Bodies.{Clausal, statement_place, statements_declare}
+use Rattle.est_declares.specs.Bodies.{clauses_declare, body_named, body_header, header_given, inside}
+use Rattle.est_declares.specs.Bodies.{routine_sort, routine_named, result_given, head_declares}
+use Rattle.est_declares.specs.Bodies.{to_lying, closed_by, part_declares, row_parts}
+use Rattle.est_declares.specs.Bodies.{first_declares, row_groups, row_transitions, parts_declare}
+use Rattle.est_declares.specs.Bodies.{outline_of}
 use Rattle.est_order.specs.Growth.{is_completed, KeepsSort, IsOfCompleted, IsLike, Grows, g_then}
 use Rattle.est_order.specs.Growth.{g_not, g_completed, g_lying, IsBefore}
 use Rattle.est_order.specs.Grown.{IsOutermost}

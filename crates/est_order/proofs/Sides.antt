@@ -15,7 +15,7 @@ use Rattle.est_scope.specs.declared.declaration.Sort.TheVariants as sort
 use Rattle.est_scope.specs.declared.declaration.Standing.{Standing}
 use Rattle.est_scope.specs.Outline.{Outline, standing, entry_at}
 use Rattle.est_scope.specs.Uses.{same_sort, is_sort, meant_as, meaning, declaration_of}
-use Rattle.est_outline.specs.Declares.{member_by, member_named, side_with, side_by, side_of}
+use Rattle.est_declares.specs.Declares.{member_by, member_named, side_with, side_by, side_of}
 use Rattle.est_order.specs.Growth.{AreLike, Grows, Follows, IsBefore}
 use Rattle.est_order.specs.Later.{Later}
 use Rattle.est_order.proofs.Following.{followed}

@@ -20,8 +20,8 @@ use Rattle.est_kinds.specs.TypeTexts.{text_type, row_type, row_arrays, row_field
 use Rattle.est_kinds.specs.TypeTexts.{enumeration, scalar, are_members, known_fields, with_fields}
 use Rattle.est_kinds.specs.TypeTexts.{array_of, record_of, set_of, range, no_fields}
 use Rattle.est_kinds.specs.Dims.{dims_after, dims_of, with_dim}
-use Rattle.est_outline.specs.Lasts.{names_last, text_last, row_last, row_fields_last}
-use Rattle.est_outline.specs.Declares.{with_state, states_named}
+use Rattle.est_declares.specs.Lasts.{names_last, text_last, row_last, row_fields_last}
+use Rattle.est_declares.specs.Declares.{with_state, states_named}
 use Rattle.est_order.specs.Later.{Later}
 use Rattle.est_order.proofs.Meanings.{declaration_stays, value_stays, type_stays}
 use Rattle.est_order.proofs.Placed.{NamesPlaced, ConstantPlaced, TextPlaced, RowPlaced}

@@ -5,8 +5,8 @@ use Rattle.est_syntax.specs.declared.statement.Statement.TheVariants as statemen
 use Rattle.est_syntax.specs.declared.specification.Spec.{Spec}
 use Rattle.est_language.specs.Shown.{node}
 use Rattle.est_scope.specs.Declaring.{empty}
-use Rattle.est_outline.specs.Entries.{outermost}
-use Rattle.est_outline.specs.Bodies.{statement_place}
+use Rattle.est_declares.specs.Entries.{outermost}
+use Rattle.est_declares.specs.Bodies.{statement_place}
 use Rattle.est_productions.specs.Nodes as shown
 use Rattle.est_productions.specs.Nodes.{a_specification, layer}
 use Rattle.est_order.specs.PlaceOrder.{o_kept, o_at, o_pair, o_node}

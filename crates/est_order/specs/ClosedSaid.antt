@@ -14,7 +14,7 @@ use Rattle.est_syntax.specs.declared.specification.Spec.{Spec}
 use Rattle.est_language.specs.Shown.{node}
 use Rattle.est_scope.specs.Outline.{Outline}
 use Rattle.est_uses.specs.Closed.{is_closed}
-use Rattle.est_outline.specs.Bodies.{outline_of}
+use Rattle.est_declares.specs.Bodies.{outline_of}
 use Rattle.est_productions.specs.Nodes.{a_specification, layer}
 use Rattle.est_order.specs.PlaceOrder.{Stands}
 use Rattle.est_order.specs.Grown.{most_places}

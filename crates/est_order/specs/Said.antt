@@ -43,10 +43,10 @@ use Rattle.est_scope.specs.Uses.{declaration_of}
 use Rattle.est_kinds.specs.Constants.{constant_value, value_with}
 use Rattle.est_kinds.specs.TypeTexts.{text_type, named_type, are_declared, enumeration}
 use Rattle.est_kinds.specs.Dims.{dims_of}
-use Rattle.est_outline.specs.Differing.{HaveDifferentNames}
-use Rattle.est_outline.specs.Entries.{ordinal_of}
-use Rattle.est_outline.specs.Declares.{side_of, states_named}
-use Rattle.est_outline.specs.Bodies.{over_header, body_header, outline_of}
+use Rattle.est_declares.specs.Differing.{HaveDifferentNames}
+use Rattle.est_declares.specs.Entries.{ordinal_of}
+use Rattle.est_declares.specs.Declares.{side_of, states_named}
+use Rattle.est_declares.specs.Bodies.{over_header, body_header, outline_of}
 use Rattle.est_productions.specs.Nodes.{a_specification, layer}
 use Rattle.est_order.specs.PlaceOrder.{Stands}
 use Rattle.est_order.specs.Grown.{most_places}

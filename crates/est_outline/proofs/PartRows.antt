@@ -21,11 +21,11 @@ use Rattle.est_syntax.specs.declared.routine.Routine.{Routine}
 use Rattle.est_scope.specs.declared.declaration.Within.{Within}
 use Rattle.est_scope.specs.Outline.{Outline}
 use Rattle.est_syntax.specs.declared.statement.Statement.{Statement}
-use Rattle.est_outline.specs.Contexts.{under}
-use Rattle.est_outline.specs.Entries.{inner}
-use Rattle.est_outline.specs.Bodies as spec
-use Rattle.est_outline.specs.Bodies.{Clausal, part_declares, row_parts, parts_declare}
-use Rattle.est_outline.specs.Bodies.{row_groups, row_transitions, closed_by}
+use Rattle.est_declares.specs.Contexts.{under}
+use Rattle.est_declares.specs.Entries.{inner}
+use Rattle.est_declares.specs.Bodies as spec
+use Rattle.est_declares.specs.Bodies.{Clausal, part_declares, row_parts, parts_declare}
+use Rattle.est_declares.specs.Bodies.{row_groups, row_transitions, closed_by}
 use Rattle.est_outline.specs.inside.DeclaredParts.{first_declares, transitions_declare}
 use Rattle.est_outline.specs.inside.DeclaredParts.{groups_declare, body_declares, routine_declares}
 

@@ -14,8 +14,8 @@ use Rattle.est_syntax.specs.declared.type_text.TypeText.TheVariants as text
 use Rattle.est_syntax.specs.declared.type_text.VarDef.{VarDef}
 use Rattle.est_scope.specs.declared.declaration.Within.{Within}
 use Rattle.est_scope.specs.Outline.{Outline}
-use Rattle.est_outline.specs.Lasts.{text_last, row_last, row_fields_last, vars_last}
-use Rattle.est_outline.specs.Declares.{text_declares, row_declares, row_fields_declare}
+use Rattle.est_declares.specs.Lasts.{text_last, row_last, row_fields_last, vars_last}
+use Rattle.est_declares.specs.Declares.{text_declares, row_declares, row_fields_declare}
 use Rattle.est_outline.specs.inside.DeclaredTexts.{texts_declare, field_declares, fields_declare}
 
 -- the last places of texts

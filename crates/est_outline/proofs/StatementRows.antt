@@ -20,9 +20,9 @@ use Rattle.est_syntax.specs.declared.statement.Statement.TheVariants as statemen
 use Rattle.est_scope.specs.declared.declaration.Within.{Within}
 use Rattle.est_scope.specs.Outline.{Outline}
 use Rattle.est_scope.specs.Declaring.{lying}
-use Rattle.est_outline.specs.Entries.{inner}
-use Rattle.est_outline.specs.Bodies.{within_declares, row_statements, held_declares, row_arms}
-use Rattle.est_outline.specs.Bodies.{statement_declares, statements_declare, expr_place, all_named}
+use Rattle.est_declares.specs.Entries.{inner}
+use Rattle.est_declares.specs.Bodies.{within_declares, row_statements, held_declares, row_arms}
+use Rattle.est_declares.specs.Bodies.{statement_declares, statements_declare, expr_place, all_named}
 use Rattle.est_outline.specs.inside.DeclaredParts.{second_declares, arm_declares, arms_declare}
 
 box : (w : Within) (s : Statement) (o : Outline) → row_statements w (hidden-the_row-Statement-1 s) o

@@ -3,23 +3,23 @@
 
 ghost use Rattle.std.specs.Prelude.{◌≡◌, OnOk, IfOk};
 ghost use Rattle.est_scope.specs.declared.declaration.Sort.TheVariants as sort;
-ghost use Rattle.est_outline.specs.Bodies.{body_named, body_header, header_given, inside};
-ghost use Rattle.est_outline.specs.Bodies.{routine_sort, routine_named};
-ghost use Rattle.est_outline.specs.Bodies.{result_given, head_declares, to_lying, closed_by};
-ghost use Rattle.est_outline.specs.Bodies.{part_declares, parts_declare, outline_of};
+ghost use Rattle.est_declares.specs.Bodies.{body_named, body_header, header_given, inside};
+ghost use Rattle.est_declares.specs.Bodies.{routine_sort, routine_named};
+ghost use Rattle.est_declares.specs.Bodies.{result_given, head_declares, to_lying, closed_by};
+ghost use Rattle.est_declares.specs.Bodies.{part_declares, parts_declare, outline_of};
 ghost use Rattle.est_outline.specs.inside.DeclaredParts.{block_declares, first_declares};
 ghost use Rattle.est_outline.specs.inside.DeclaredParts.{transition_declares, transitions_declare};
 ghost use Rattle.est_outline.specs.inside.DeclaredParts.{group_declares};
 ghost use Rattle.est_outline.specs.inside.DeclaredParts.{groups_declare, held_declares};
 ghost use Rattle.est_outline.specs.inside.DeclaredParts.{body_declares, head_of, routine_declares};
 
-use crate::context::Context;
 use crate::declares::{consts, formals, states, statesets, types, vars};
 use crate::entries::plain;
 use crate::modules::{channel, header, modvars, points};
 use crate::statements::{statement_place, statements};
 use crate::transitions::clauses;
 use crate::within::{in_body, inner, outermost, under};
+use est_declares::context::Context;
 use est_kinds::names::named_type;
 use est_scope::declaration::{Sort, Within};
 use est_scope::outline::Outline;

@@ -2,13 +2,13 @@
 
 ghost use Rattle.std.specs.Prelude.{◌≡◌, OnOk, IfOk};
 ghost use Rattle.est_scope.specs.declared.declaration.Sort.TheVariants as sort;
-ghost use Rattle.est_outline.specs.Entries.{plain};
-ghost use Rattle.est_outline.specs.Declares.{names_declare, constdef_declares, consts_declare};
-ghost use Rattle.est_outline.specs.Declares.{typedef_declares, types_declare};
-ghost use Rattle.est_outline.specs.Declares.{vardef_given, vardef_declares, vars_declare};
-ghost use Rattle.est_outline.specs.Declares.{states_declare, states_named};
-ghost use Rattle.est_outline.specs.Declares.{stateset_declares, statesets_declare};
-ghost use Rattle.est_outline.specs.Declares.{formal_section, formal_declares, formals_declare};
+ghost use Rattle.est_declares.specs.Entries.{plain};
+ghost use Rattle.est_declares.specs.Declares.{names_declare, constdef_declares, consts_declare};
+ghost use Rattle.est_declares.specs.Declares.{typedef_declares, types_declare};
+ghost use Rattle.est_declares.specs.Declares.{vardef_given, vardef_declares, vars_declare};
+ghost use Rattle.est_declares.specs.Declares.{states_declare, states_named};
+ghost use Rattle.est_declares.specs.Declares.{stateset_declares, statesets_declare};
+ghost use Rattle.est_declares.specs.Declares.{formal_section, formal_declares, formals_declare};
 
 use crate::entries::{constant, plain, state_set};
 use crate::lasts::{names_last, text_last};

@@ -1,9 +1,9 @@
 //! What is known of each sort of declaration.
 
 ghost use Rattle.std.specs.Prelude.{◌≡◌};
-ghost use Rattle.est_outline.specs.Entries.{plain, typed, constant, ordinal_of, numbered, point};
-ghost use Rattle.est_outline.specs.Entries.{module_variable, state_set, header};
-ghost use Rattle.est_outline.specs.Declares.{has_exports};
+ghost use Rattle.est_declares.specs.Entries.{plain, typed, constant, ordinal_of, numbered, point};
+ghost use Rattle.est_declares.specs.Entries.{module_variable, state_set, header};
+ghost use Rattle.est_declares.specs.Declares.{has_exports};
 
 use est_kinds::value::Valued;
 use est_scope::declaration::{

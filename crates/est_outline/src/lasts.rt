@@ -2,8 +2,8 @@
 #![tactic(auto, using(crate::proofs::Rows::last_rows))]
 
 ghost use Rattle.std.specs.Prelude.{◌≡◌};
-ghost use Rattle.est_outline.specs.Lasts.{names_last, text_last, vars_last, interactions_last};
-ghost use Rattle.est_outline.specs.Lasts.{by_last, channel_last, points_last, header_last};
+ghost use Rattle.est_declares.specs.Lasts.{names_last, text_last, vars_last, interactions_last};
+ghost use Rattle.est_declares.specs.Lasts.{by_last, channel_last, points_last, header_last};
 
 use est_kinds::constants::constant_last;
 use est_syntax::channel::{ByPart, Channel, InteractionDef};

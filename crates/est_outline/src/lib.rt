@@ -3,12 +3,10 @@
 #![tactic(auto)]
 
 pub mod bodies;
-pub mod context;
 pub mod declares;
 pub mod dims;
 pub mod entries;
 pub mod lasts;
-pub mod laws;
 pub mod modules;
 pub mod statements;
 pub mod texts;

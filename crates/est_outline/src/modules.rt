@@ -2,13 +2,13 @@
 
 ghost use Rattle.std.specs.Prelude.{◌≡◌, ◌≤◌, take, drop, length, OnOk};
 ghost use Rattle.est_scope.specs.Declaring.{declared};
-ghost use Rattle.est_outline.specs.Entries.{point, module_variable};
-ghost use Rattle.est_outline.specs.Declares.{names_declare, roles_put, interaction_declares};
-ghost use Rattle.est_outline.specs.Declares.{interactions_declare, sender, senders};
-ghost use Rattle.est_outline.specs.Declares.{by_part_declares, by_parts_declare, channel_declares};
-ghost use Rattle.est_outline.specs.Declares.{side_with, member_named, side_of, point_declares};
-ghost use Rattle.est_outline.specs.Declares.{points_declare, modvar_declares, modvars_declare};
-ghost use Rattle.est_outline.specs.Declares.{before, after, sections_declare, header_declares};
+ghost use Rattle.est_declares.specs.Entries.{point, module_variable};
+ghost use Rattle.est_declares.specs.Declares.{names_declare, roles_put, interaction_declares};
+ghost use Rattle.est_declares.specs.Declares.{interactions_declare, sender, senders};
+ghost use Rattle.est_declares.specs.Declares.{by_part_declares, by_parts_declare, channel_declares};
+ghost use Rattle.est_declares.specs.Declares.{side_with, member_named, side_of, point_declares};
+ghost use Rattle.est_declares.specs.Declares.{points_declare, modvar_declares, modvars_declare};
+ghost use Rattle.est_declares.specs.Declares.{before, after, sections_declare, header_declares};
 
 use crate::declares::vars;
 use crate::dims::{share_dims, shared_dims};

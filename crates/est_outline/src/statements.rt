@@ -2,9 +2,9 @@
 #![tactic(auto, using(crate::proofs::StatementRows::rows))]
 
 ghost use Rattle.std.specs.Prelude.{◌≡◌, OnOk, IfOk};
-ghost use Rattle.est_outline.specs.Bodies.{statement_place, over_header, all_by, all_named};
-ghost use Rattle.est_outline.specs.Bodies.{arm_lying, within_declares};
-ghost use Rattle.est_outline.specs.Bodies.{statement_declares, statements_declare};
+ghost use Rattle.est_declares.specs.Bodies.{statement_place, over_header, all_by, all_named};
+ghost use Rattle.est_declares.specs.Bodies.{arm_lying, within_declares};
+ghost use Rattle.est_declares.specs.Bodies.{statement_declares, statements_declare};
 ghost use Rattle.est_outline.specs.inside.DeclaredParts.{second_declares};
 ghost use Rattle.est_outline.specs.inside.DeclaredParts.{arm_declares, arms_declare};
 

@@ -2,8 +2,8 @@
 #![tactic(auto, using(crate::proofs::Rows::declared_rows))]
 
 ghost use Rattle.std.specs.Prelude.{◌≡◌, OnOk};
-ghost use Rattle.est_outline.specs.Declares.{numbers_declare, kinds_given, enumeration_declares};
-ghost use Rattle.est_outline.specs.Declares.{names_put, text_declares};
+ghost use Rattle.est_declares.specs.Declares.{numbers_declare, kinds_given, enumeration_declares};
+ghost use Rattle.est_declares.specs.Declares.{names_put, text_declares};
 ghost use Rattle.est_outline.specs.inside.DeclaredTexts.{texts_declare, field_declares};
 ghost use Rattle.est_outline.specs.inside.DeclaredTexts.{fields_declare};
 ghost use Rattle.est_scope.specs.Declaring.{amended, with_kind};

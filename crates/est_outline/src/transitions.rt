@@ -3,13 +3,13 @@
 ghost use Rattle.std.specs.Prelude.{◌≡◌, OnOk};
 ghost use Rattle.est_scope.specs.declared.declaration.Sort.TheVariants as sort;
 ghost use Rattle.est_scope.specs.Uses.{declaration_of};
-ghost use Rattle.est_outline.specs.Bodies.{interaction_at, side_meant, awaited};
-ghost use Rattle.est_outline.specs.Bodies.{clause_given, when_given, any_given, clause_declares};
-ghost use Rattle.est_outline.specs.Bodies.{clauses_declare};
+ghost use Rattle.est_declares.specs.Bodies.{interaction_at, side_meant, awaited};
+ghost use Rattle.est_declares.specs.Bodies.{clause_given, when_given, any_given, clause_declares};
+ghost use Rattle.est_declares.specs.Bodies.{clauses_declare};
 
-use crate::context::{ClauseKind, Context, give};
 use crate::declares::vars;
 use crate::within::{in_region, under};
+use est_declares::context::{ClauseKind, Context, give};
 use est_scope::declaration::{Member, Section, Side, Sort, Within};
 use est_scope::outline::Outline;
 use est_syntax::name::Used;

@@ -1,11 +1,11 @@
 //! Where the parts of a text stand.
 
 ghost use Rattle.std.specs.Prelude.{◌≡◌, ◌++◌, [], IfOk};
-ghost use Rattle.est_outline.specs.Entries.{outermost, body_regions, in_body, inner, in_region};
-ghost use Rattle.est_outline.specs.Entries.{in_section, with_region};
-ghost use Rattle.est_outline.specs.Contexts.{under};
+ghost use Rattle.est_declares.specs.Entries.{outermost, body_regions, in_body, inner, in_region};
+ghost use Rattle.est_declares.specs.Entries.{in_section, with_region};
+ghost use Rattle.est_declares.specs.Contexts.{under};
 
-use crate::context::{ClauseKind, Given};
+use est_declares::context::{ClauseKind, Given};
 use est_items::Shared;
 use est_scope::declaration::{Regions, Section, SharedRegions, Within};
 use std::alloc::{AllocError, Global};

@@ -7,7 +7,7 @@ use Rattle.std.proofs.lemmas.List.{length-map, length-take-le, reverse-append}
 use Rattle.std.proofs.lemmas.Option.{same_Some, slice_get-get_or, slice_get_past}
 use Rattle.est_syntax.specs.declared.kind.Kind.{Kind}
 use Rattle.est_kinds.specs.TypeTexts.{count}
-use Rattle.est_ports.specs.OrdinalValues.{first_value, values_of, tuples_of}
+use Rattle.est_declares.specs.OrdinalValues.{first_value, values_of, tuples_of}
 use Rattle.est_ports.proofs.Listing.{within, mapped, flat_get, ahead}
 use Rattle.est_ports.proofs.Ranks.{offset_is}
 use Rattle.est_ports.proofs.Tuples.{flat_number, values_number}

@@ -17,12 +17,12 @@ use Rattle.est_syntax.specs.declared.ports.Port.{Port}
 use Rattle.est_syntax.specs.declared.specification.Spec.{Spec}
 use Rattle.est_scope.specs.declared.declaration.Standing.{Standing}
 use Rattle.est_scope.specs.Outline.{Outline, Region, names_of, entry_at}
-use Rattle.est_outline.specs.Bodies.{outline_of}
-use Rattle.est_outline.proofs.Names.{once_differ}
-use Rattle.est_outline.proofs.Regions.{region_name, region_once}
-use Rattle.est_statements.specs.Modules.{started_header}
-use Rattle.est_ports.specs.OrdinalValues.{tuples_of}
-use Rattle.est_ports.specs.PortList.{element, header_ports, ports_of}
+use Rattle.est_declares.specs.Bodies.{outline_of}
+use Rattle.est_declares.proofs.Names.{once_differ}
+use Rattle.est_declares.proofs.Regions.{region_name, region_once}
+use Rattle.est_declares.specs.LookUps.{started_header}
+use Rattle.est_declares.specs.OrdinalValues.{tuples_of}
+use Rattle.est_declares.specs.PortList.{element, header_ports, ports_of}
 use Rattle.est_ports.specs.PortTable.{IsPortNumber}
 use Rattle.est_ports.proofs.Different.{ports_differ}
 use Rattle.est_ports.proofs.Listing.{there, within, ahead, ahead_suc, ahead_more}

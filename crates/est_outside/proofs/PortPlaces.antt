@@ -18,10 +18,10 @@ use Rattle.est_scope.specs.declared.declaration.Sort.TheVariants as sort
 use Rattle.est_scope.specs.declared.declaration.Standing.{Standing}
 use Rattle.est_scope.specs.Outline.{Outline, Region, names_of, entry_at, standing, standing_in}
 use Rattle.est_scope.specs.Uses.{same_sort}
-use Rattle.est_outline.proofs.Names.{IsNew, AreOnce}
-use Rattle.est_outline.proofs.Regions.{region_name}
-use Rattle.est_ports.specs.OrdinalValues.{tuples_of}
-use Rattle.est_ports.specs.PortList.{signals_of, element, elements_with, elements_by, ports_in}
+use Rattle.est_declares.proofs.Names.{IsNew, AreOnce}
+use Rattle.est_declares.proofs.Regions.{region_name}
+use Rattle.est_declares.specs.OrdinalValues.{tuples_of}
+use Rattle.est_declares.specs.PortList.{signals_of, element, elements_with, elements_by, ports_in}
 use Rattle.est_ports.proofs.Listing.{within, mapped, flat_get, flat_place, ahead}
 use Rattle.est_ports.proofs.Ranks.{unmapped}
 use Rattle.est_outside.specs.inside.NamedPlaces.{stands_at}

@@ -1,6 +1,6 @@
 //! The tuples of ordinals by their numbers.
 ghost use Rattle.std.specs.Prelude.{◌≡◌, ◌^◌, ◌+ℤ◌, ◌≤ℤ◌, pos, slice_get, IfOk, OnErr};
-ghost use Rattle.est_ports.specs.OrdinalValues.{first_value, tuples_of};
+ghost use Rattle.est_declares.specs.OrdinalValues.{first_value, tuples_of};
 
 use est_items::Items;
 use est_kinds::hosts::count;

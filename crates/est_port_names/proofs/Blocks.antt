@@ -10,9 +10,9 @@ use Rattle.est_syntax.specs.declared.kind.Kind.{Kind}
 use Rattle.est_syntax.specs.declared.ports.Port.{Port}
 use Rattle.est_syntax.specs.declared.ports.Signal.{Signal}
 use Rattle.est_values.specs.FittingValues.{IsOrdinalOf}
-use Rattle.est_outline.specs.Differing.{HaveDifferentNames}
-use Rattle.est_ports.specs.OrdinalValues.{tuples_of}
-use Rattle.est_ports.specs.PortList.{element}
+use Rattle.est_declares.specs.Differing.{HaveDifferentNames}
+use Rattle.est_declares.specs.OrdinalValues.{tuples_of}
+use Rattle.est_declares.specs.PortList.{element}
 use Rattle.est_ports.proofs.Listing.{within, mapped, ahead, ahead_suc, ahead_more, flat_get}
 use Rattle.est_ports.proofs.Listing.{flat_place}
 use Rattle.est_ports.proofs.Ranks.{unmapped}

@@ -10,14 +10,14 @@ use Rattle.est_scope.specs.declared.declaration.Sort.TheVariants as sort
 use Rattle.est_scope.specs.declared.declaration.Standing.{Standing}
 use Rattle.est_scope.specs.Outline.{Outline, Region, names_of, entry_at}
 use Rattle.est_scope.specs.Uses.{same_sort}
-use Rattle.est_outline.specs.Bodies.{outline_of}
-use Rattle.est_outline.specs.Differing.{HaveDifferentNames}
-use Rattle.est_outline.proofs.Names.{once_differ}
-use Rattle.est_outline.proofs.Regions.{region_name, region_once}
-use Rattle.est_statements.specs.Modules.{started_header}
-use Rattle.est_ports.specs.OrdinalValues.{tuples_of}
-use Rattle.est_ports.specs.PortList.{signals_of, element, elements_with, elements_by, ports_in}
-use Rattle.est_ports.specs.PortList.{header_ports, ports_of}
+use Rattle.est_declares.specs.Bodies.{outline_of}
+use Rattle.est_declares.specs.Differing.{HaveDifferentNames}
+use Rattle.est_declares.proofs.Names.{once_differ}
+use Rattle.est_declares.proofs.Regions.{region_name, region_once}
+use Rattle.est_declares.specs.LookUps.{started_header}
+use Rattle.est_declares.specs.OrdinalValues.{tuples_of}
+use Rattle.est_declares.specs.PortList.{signals_of, element, elements_with, elements_by, ports_in}
+use Rattle.est_declares.specs.PortList.{header_ports, ports_of}
 use Rattle.est_ports.proofs.Different.{ports_differ, signals_differ}
 use Rattle.est_port_names.specs.PortNames.{GoodPorts, signal_name}
 use Rattle.est_port_names.proofs.Blocks.{Block, elements, good}

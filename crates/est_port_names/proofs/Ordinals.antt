@@ -6,7 +6,7 @@ use Rattle.est_syntax.specs.declared.kind.Kind.{Kind, out-Kind}
 use Rattle.est_syntax.specs.declared.kind.Kind.TheOpen as seen
 use Rattle.est_values.specs.FittingValues.{KindLayer, first_of, last_of, IsOrdinalOf}
 use Rattle.est_kinds.specs.TypeTexts.{counted}
-use Rattle.est_ports.specs.OrdinalValues.{values_of}
+use Rattle.est_declares.specs.OrdinalValues.{values_of}
 use Rattle.est_ports.proofs.Ranks.{offset_is}
 use Rattle.std.proofs.Common.{Some, slice_get}
 

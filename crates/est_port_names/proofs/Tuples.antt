@@ -9,8 +9,8 @@ use Rattle.std.proofs.lemmas.Int.{ints}
 use Rattle.std.proofs.lemmas.Option.{same_Some}
 use Rattle.est_syntax.specs.declared.kind.Kind.{Kind}
 use Rattle.est_values.specs.FittingValues.{first_ordinal, IsOrdinalOf}
-use Rattle.est_outline.proofs.Names.{once_differ}
-use Rattle.est_ports.specs.OrdinalValues.{values_of, tuples_of}
+use Rattle.est_declares.proofs.Names.{once_differ}
+use Rattle.est_declares.specs.OrdinalValues.{values_of, tuples_of}
 use Rattle.est_ports.proofs.Listing.{within, mapped, ahead, flat_get, flat_place}
 use Rattle.est_ports.proofs.Ranks.{offset_is, unmapped}
 use Rattle.est_ports.proofs.Tuples.{itself, values_number, tuples_once}

@@ -1,6 +1,6 @@
 -- What holds of the ports of every tree.
 use Rattle.est_syntax.specs.declared.specification.Spec.{Spec}
-use Rattle.est_ports.specs.PortList.{ports_of}
+use Rattle.est_declares.specs.PortList.{ports_of}
 use Rattle.est_port_names.specs.PortNames.{GoodPorts}
 
 -- they are found by their names and subscripts

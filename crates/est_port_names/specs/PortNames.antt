@@ -9,8 +9,8 @@ use Rattle.est_syntax.specs.declared.ports.Direction.TheVariants.{Receives, Send
 use Rattle.est_syntax.specs.declared.ports.Port.{Port}
 use Rattle.est_syntax.specs.declared.ports.Signal.{Signal}
 use Rattle.est_values.specs.FittingValues.{first_ordinal, IsOrdinalOf}
-use Rattle.est_outline.specs.Differing.{HaveDifferentNames}
-use Rattle.est_ports.specs.OrdinalValues.{tuples_of}
+use Rattle.est_declares.specs.Differing.{HaveDifferentNames}
+use Rattle.est_declares.specs.OrdinalValues.{tuples_of}
 
 -- whether a signal passes its port in this direction: the port receives it, or sends it
 abbrev pub passes : Direction → Signal → Bool

@@ -11,15 +11,15 @@ use Rattle.est_scope.specs.Outline.{Outline, Region, names_of, entry_at}
 use Rattle.est_scope.specs.Uses.{same_sort}
 use Rattle.est_kinds.specs.TypeTexts.{count}
 use Rattle.est_kinds.specs.Dims.{elements, dims_elements}
-use Rattle.est_outline.specs.Bodies.{outline_of}
-use Rattle.est_outline.specs.OutlineLaws.{HaveElements}
-use Rattle.est_outline.proofs.Elements.{have_elements}
-use Rattle.est_statements.specs.Modules.{started_header}
+use Rattle.est_declares.specs.Bodies.{outline_of}
+use Rattle.est_declares.specs.OutlineLaws.{HaveElements}
+use Rattle.est_declares.proofs.Elements.{have_elements}
+use Rattle.est_declares.specs.LookUps.{started_header}
 use Rattle.est_counts.specs.Counts.{counted, counts_of, header_elements}
 use Rattle.est_counts.specs.Counts.{names_elements, declared_elements}
-use Rattle.est_ports.specs.OrdinalValues.{tuples_of}
-use Rattle.est_ports.specs.PortList.{signals_of, element, elements_with, elements_by, ports_in}
-use Rattle.est_ports.specs.PortList.{header_ports, ports_of}
+use Rattle.est_declares.specs.OrdinalValues.{tuples_of}
+use Rattle.est_declares.specs.PortList.{signals_of, element, elements_with, elements_by, ports_in}
+use Rattle.est_declares.specs.PortList.{header_ports, ports_of}
 use Rattle.est_ports.proofs.Capped.{most, capped_product, capped_sum}
 use Rattle.est_ports.proofs.Tuples.{number_of, tuples_number}
 

@@ -17,14 +17,14 @@ use Rattle.est_scope.specs.declared.declaration.Sort.TheVariants as sort
 use Rattle.est_scope.specs.declared.declaration.Standing.{Standing}
 use Rattle.est_scope.specs.Outline.{Outline, names_of, entry_at, member_at}
 use Rattle.est_scope.specs.Uses.{same_sort}
-use Rattle.est_outline.specs.Bodies.{outline_of}
-use Rattle.est_outline.specs.Differing.{HaveDifferentNames}
-use Rattle.est_outline.proofs.Names.{AreOnce, once_differ}
-use Rattle.est_outline.proofs.Regions.{region_name, region_once}
-use Rattle.est_statements.specs.Modules.{started_header}
-use Rattle.est_ports.specs.OrdinalValues.{tuples_of}
-use Rattle.est_ports.specs.PortList.{signal_by, signals_of, element, elements_with}
-use Rattle.est_ports.specs.PortList.{elements_by, header_ports, ports_of}
+use Rattle.est_declares.specs.Bodies.{outline_of}
+use Rattle.est_declares.specs.Differing.{HaveDifferentNames}
+use Rattle.est_declares.proofs.Names.{AreOnce, once_differ}
+use Rattle.est_declares.proofs.Regions.{region_name, region_once}
+use Rattle.est_declares.specs.LookUps.{started_header}
+use Rattle.est_declares.specs.OrdinalValues.{tuples_of}
+use Rattle.est_declares.specs.PortList.{signal_by, signals_of, element, elements_with}
+use Rattle.est_declares.specs.PortList.{elements_by, header_ports, ports_of}
 use Rattle.est_ports.proofs.Once.{AreOf, of_map, once_map, once_flat}
 use Rattle.est_ports.proofs.Tuples.{tuples_once}
 

@@ -7,8 +7,8 @@ use Rattle.std.proofs.lemmas.Bool.{cases_lt}
 use Rattle.std.proofs.lemmas.List.{length-map}
 use Rattle.std.proofs.lemmas.Option.{same_Some}
 use Rattle.est_ports.specs.declared.table.Elements.{Elements}
-use Rattle.est_ports.specs.OrdinalValues.{tuples_of}
-use Rattle.est_ports.specs.PortList.{element}
+use Rattle.est_declares.specs.OrdinalValues.{tuples_of}
+use Rattle.est_declares.specs.PortList.{element}
 use Rattle.est_ports.specs.PortTable.{Points, ports_at, listed, AreTotals, IsTable}
 use Rattle.est_ports.specs.PortTable.{IsSplit}
 

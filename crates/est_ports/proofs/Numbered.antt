@@ -6,8 +6,8 @@ use Rattle.std.proofs.lemmas.List.{length-map}
 use Rattle.std.proofs.lemmas.Option.{same_Some}
 use Rattle.est_syntax.specs.declared.ports.Port.{Port}
 use Rattle.est_ports.specs.declared.table.Elements.{Elements}
-use Rattle.est_ports.specs.OrdinalValues.{tuples_of}
-use Rattle.est_ports.specs.PortList.{element}
+use Rattle.est_declares.specs.OrdinalValues.{tuples_of}
+use Rattle.est_declares.specs.PortList.{element}
 use Rattle.est_ports.specs.PortTable.{Points, ports_at, listed, capped, IsTable, IsSplit}
 use Rattle.est_ports.specs.PortTable.{IsNumberOf, IsPortNumber}
 use Rattle.est_ports.specs.inside.Making.{IsRank}
@@ -15,7 +15,7 @@ use Rattle.est_ports.proofs.Capped.{most}
 use Rattle.est_ports.proofs.Listing.{IsPlaced, placed, within, mapped, flat_get, flat_place, ahead}
 use Rattle.est_ports.proofs.Ranks.{unmapped}
 use Rattle.est_syntax.specs.declared.kind.Kind.{Kind}
-use Rattle.est_outline.proofs.Names.{once_differ}
+use Rattle.est_declares.proofs.Names.{once_differ}
 use Rattle.est_ports.proofs.Tuples.{itself, tuples_once}
 
 abbrev Point : Type 0

@@ -1,7 +1,7 @@
 -- Lists that are made of the items of another have different names where those do.
 use Rattle.std.proofs.Common.{◌≡◌, List, [], ◌∷◌, ◌++◌, map, sym, ap, ◌∙◌, subst}
 use Rattle.std.specs.Prelude.{flat_map}
-use Rattle.est_outline.proofs.Names.{IsNew, AreOnce, new_both}
+use Rattle.est_declares.proofs.Names.{IsNew, AreOnce, new_both}
 
 -- items that are mapped one by one
 module _ {B L A N : Type 0} (other : B → L) (name : A → N) (g : B → A)

@@ -10,7 +10,7 @@ use Rattle.std.proofs.lemmas.Option.{same_Some, slice_get-get_or}
 use Rattle.est_syntax.specs.declared.kind.Kind.{Kind}
 use Rattle.est_kinds.specs.TypeTexts.{count}
 use Rattle.est_counts.proofs.NameSteps.{from_here}
-use Rattle.est_ports.specs.OrdinalValues.{first_value, values_of, tuples_of}
+use Rattle.est_declares.specs.OrdinalValues.{first_value, values_of, tuples_of}
 use Rattle.est_ports.specs.PortTable.{capped}
 use Rattle.est_ports.specs.inside.Making.{IsOffset, IsRank}
 use Rattle.est_ports.proofs.Capped.{most, capped_product, capped_sum}

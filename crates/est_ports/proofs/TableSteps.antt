@@ -19,20 +19,20 @@ use Rattle.est_scope.specs.declared.declaration.Sort.TheVariants as sort
 use Rattle.est_scope.specs.Uses.{same_sort}
 use Rattle.est_kinds.specs.Dims.{dims_elements}
 use Rattle.est_syntax.specs.declared.specification.Spec.{Spec}
-use Rattle.est_outline.specs.Bodies.{outline_of}
-use Rattle.est_outline.specs.OutlineLaws.{elements_of, HaveElements, StandOnce}
-use Rattle.est_outline.proofs.Elements.{have_elements}
-use Rattle.est_outline.proofs.Regions.{names_once}
-use Rattle.est_statements.specs.Modules.{started_header}
+use Rattle.est_declares.specs.Bodies.{outline_of}
+use Rattle.est_declares.specs.OutlineLaws.{elements_of, HaveElements, StandOnce}
+use Rattle.est_declares.proofs.Elements.{have_elements}
+use Rattle.est_declares.proofs.Regions.{names_once}
+use Rattle.est_declares.specs.LookUps.{started_header}
 use Rattle.est_scope.specs.declared.declaration.Standing.{Standing}
 use Rattle.est_scope.specs.Outline.{Outline, Region, names_of, entry_at}
-use Rattle.est_outline.specs.Differing.{HaveDifferentNames}
-use Rattle.est_outline.proofs.Names.{IsNew, once_push, once_differ, differ_once}
+use Rattle.est_declares.specs.Differing.{HaveDifferentNames}
+use Rattle.est_declares.proofs.Names.{IsNew, once_push, once_differ, differ_once}
 use Rattle.est_counts.proofs.NameSteps.{from_here}
 use Rattle.est_ports.specs.declared.known.Sides.{Sides}
 use Rattle.est_ports.specs.declared.table.Elements.{Elements}
-use Rattle.est_ports.specs.OrdinalValues.{tuples_of}
-use Rattle.est_ports.specs.PortList.{element, elements_by, ports_in, header_ports, ports_of}
+use Rattle.est_declares.specs.OrdinalValues.{tuples_of}
+use Rattle.est_declares.specs.PortList.{element, elements_by, ports_in, header_ports, ports_of}
 use Rattle.est_ports.specs.PortTable.{Points, ports_at, listed, capped, IsTable}
 use Rattle.est_ports.specs.inside.KnownSides.{AreKnown}
 use Rattle.est_ports.specs.inside.Making.{AreNew, IsWith, AreMade, AreMadeTo}

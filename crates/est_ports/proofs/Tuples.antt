@@ -8,8 +8,8 @@ use Rattle.std.proofs.lemmas.Int.{ints}
 use Rattle.std.proofs.lemmas.List.FromFn.{length-map-range_with_len}
 use Rattle.est_syntax.specs.declared.kind.Kind.{Kind}
 use Rattle.est_kinds.specs.TypeTexts.{count}
-use Rattle.est_outline.proofs.Names.{IsNew, AreOnce}
-use Rattle.est_ports.specs.OrdinalValues.{first_value, values_of, tuples_of}
+use Rattle.est_declares.proofs.Names.{IsNew, AreOnce}
+use Rattle.est_declares.specs.OrdinalValues.{first_value, values_of, tuples_of}
 use Rattle.est_ports.proofs.Once.{once_map, of_map, once_flat}
 
 -- the product of the numbers of values

@@ -1,5 +1,3 @@
-pub mod OrdinalValues
-pub mod PortList
 pub mod PortListLaws
 pub mod PortTable
 pub mod inside

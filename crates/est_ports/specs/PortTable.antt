@@ -2,10 +2,10 @@
 use Rattle.std.specs.Prelude.{◌≡◌, ℕ, suc, ◌-◌, ◌<◌, ◌≤◌, ◌^◌, min, ℤ, List, take, map, flat_map}
 use Rattle.std.specs.Prelude.{length, Option, Some, None, slice_get}
 use Rattle.est_syntax.specs.declared.ports.Port.{Port}
-use Rattle.est_outline.specs.Differing.{HaveDifferentNames}
+use Rattle.est_declares.specs.Differing.{HaveDifferentNames}
 use Rattle.est_ports.specs.declared.table.Elements.{Elements}
-use Rattle.est_ports.specs.OrdinalValues.{tuples_of}
-use Rattle.est_ports.specs.PortList.{element}
+use Rattle.est_declares.specs.OrdinalValues.{tuples_of}
+use Rattle.est_declares.specs.PortList.{element}
 
 -- interaction points by their names
 abbrev pub Points : Type 0

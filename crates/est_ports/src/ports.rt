@@ -4,7 +4,7 @@
 ghost use Rattle.std.specs.Prelude.{◌≡◌, ◌≤◌, ◌<◌, length, option_copied};
 ghost use Rattle.std.specs.Prelude.{slice_get, take, Some};
 ghost use Rattle.std.specs.Option.{option_map};
-ghost use Rattle.est_ports.specs.OrdinalValues.{first_value};
+ghost use Rattle.est_declares.specs.OrdinalValues.{first_value};
 ghost use Rattle.est_ports.specs.PortTable.{IsTable, IsSplit, IsPortNumber, listed, capped};
 ghost use Rattle.est_ports.specs.inside.Making.{IsDistance, IsOffset, IsRank};
 

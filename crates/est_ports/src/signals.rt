@@ -3,15 +3,15 @@
 
 ghost use Rattle.std.specs.Prelude.{◌≡◌, ◌∷◌, ◌++◌, [], Some, IfOk, OnOk, option_copied};
 ghost use Rattle.est_scope.specs.Outline.{entry_at, member_at, names_of};
-ghost use Rattle.est_ports.specs.PortList.{kind_by, kinds_in, signal_by, signals_in, signals_of};
+ghost use Rattle.est_declares.specs.PortList.{kind_by, kinds_in, signal_by, signals_in, signals_of};
 ghost use Rattle.est_ports.specs.inside.KnownSides.{IsKnown, AreKnown};
 
 use crate::known::{Known, Sides};
+use est_declares::lookups::may_pass;
 use est_items::{Items, Shared};
 use est_scope::declaration::{Entry, Member, Side, Sort, Standing};
 use est_scope::names::Names;
 use est_scope::outline::Outline;
-use est_statements::signals::may_pass;
 use est_syntax::channel::Role;
 use est_syntax::kind::Kinds;
 use est_syntax::name::{Bytes, Name};

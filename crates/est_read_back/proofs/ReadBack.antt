@@ -11,7 +11,7 @@ use Rattle.est_language.specs.Grammar.{Tree}
 use Rattle.est_language.proofs.Trees.{tree_inside}
 use Rattle.est_syntax.specs.declared.ports.Port.{Port}
 use Rattle.est_syntax.specs.declared.specification.Spec.{Spec}
-use Rattle.est_ports.specs.PortList.{ports_of}
+use Rattle.est_declares.specs.PortList.{ports_of}
 use Rattle.est_port_names.proofs.GoodPorts.{good_ports}
 use Rattle.est_choices.specs.declared.event.Event.{Event}
 use Rattle.est_choices.specs.declared.event.Event.TheVariants.{Arrives, Leaves, Passes}

@@ -5,7 +5,7 @@ use Rattle.est_syntax.specs.declared.name.Name.{Name}
 use Rattle.est_syntax.specs.declared.kind.Kind.{Kind, out-Kind}
 use Rattle.est_syntax.specs.declared.kind.Kind.TheOpen as kinds
 use Rattle.est_syntax.specs.declared.kind.FieldKind.{FieldKind}
-use Rattle.est_outline.specs.Differing.{HaveDifferentNames}
+use Rattle.est_declares.specs.Differing.{HaveDifferentNames}
 use Rattle.est_values.specs.FittingValues.{KindLayer}
 use Rattle.est_value_texts.specs.TraceGrammar.{host_by}
 use Rattle.est_read_back.specs.PlainNames.{IsPlainName}

@@ -13,7 +13,7 @@ use Rattle.est_scope.specs.declared.declaration.Standing.{Standing}
 use Rattle.est_scope.specs.declared.declaration.Within.{Within}
 use Rattle.est_scope.specs.Outline.{Outline, Region, names_of, standing, entry_at}
 use Rattle.est_scope.specs.Declaring.{named_in, taken, declared_by, put_by, amended_by}
-use Rattle.est_outline.specs.Bodies.{outline_of}
+use Rattle.est_declares.specs.Bodies.{outline_of}
 use Rattle.est_order.specs.Said.{Each}
 use Rattle.est_fullness.proofs.Walk.{IsKeptBy, walked}
 use Rattle.est_read_back.specs.PlainNames.{IsPlainName}

@@ -1,9 +1,9 @@
 -- The ports of a sentence are readable, and so its traces are read back.
 use Rattle.std.proofs.Common.{length, arith}
 use Rattle.est_lexer.proofs.TokenLaws.{token_kinds}
-use Rattle.est_outline.specs.Bodies.{outline_of}
-use Rattle.est_statements.specs.Modules.{started_header}
-use Rattle.est_ports.specs.PortList.{ports_of}
+use Rattle.est_declares.specs.Bodies.{outline_of}
+use Rattle.est_declares.specs.LookUps.{started_header}
+use Rattle.est_declares.specs.PortList.{ports_of}
 use Rattle.est_order.proofs.Ascending.{specification_stands}
 use Rattle.est_order.proofs.SaidWholes.{declarations_said}
 use Rattle.est_fullness.proofs.Sentences.{sentence_written}

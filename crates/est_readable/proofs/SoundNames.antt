@@ -35,8 +35,8 @@ use Rattle.est_kinds.specs.declared.value.Valued.{Valued}
 use Rattle.est_kinds.specs.Constants.{valued, value_with, constant_last}
 use Rattle.est_kinds.specs.TypeTexts.{scalar, are_declared, enumeration, text_type}
 use Rattle.est_kinds.specs.Dims.{with_dim, dims_after}
-use Rattle.est_outline.specs.Entries.{ordinal_of}
-use Rattle.est_outline.specs.Lasts.{names_last, text_last, channel_last, header_last}
+use Rattle.est_declares.specs.Entries.{ordinal_of}
+use Rattle.est_declares.specs.Lasts.{names_last, text_last, channel_last, header_last}
 use Rattle.est_order.specs.Said.{Each, IsSaid, IsOf, HasKind, IsNoEntry, ConstDefSaid, NumbersSaid}
 use Rattle.est_order.specs.Said.{TextSaid, RowSaid, FieldsSaid, TypeDefSaid, VarDefSaid}
 use Rattle.est_order.specs.Said.{DifferDeclared, InteractionSaid, ByPartSaid, ChannelSaid}

@@ -6,7 +6,7 @@ use Rattle.est_syntax.specs.declared.specification.Spec.{Spec}
 use Rattle.est_scope.specs.declared.declaration.Entry.{Entry}
 use Rattle.est_scope.specs.declared.declaration.Standing.{Standing}
 use Rattle.est_scope.specs.Outline.{Outline, standing, entry_at}
-use Rattle.est_outline.specs.Bodies.{outline_of}
+use Rattle.est_declares.specs.Bodies.{outline_of}
 use Rattle.est_order.specs.Said.{Each, PartSaid}
 use Rattle.est_fullness.specs.WrittenParts.{PartWritten}
 use Rattle.est_fullness.proofs.InForce.{meaning_stands}

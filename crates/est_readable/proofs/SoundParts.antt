@@ -19,8 +19,8 @@ use Rattle.est_syntax.specs.declared.transition.Group.{Group', Row_of-Transition
 use Rattle.est_syntax.specs.declared.transition.Group.{end_of-Transition, more_of-Transition}
 use Rattle.est_scope.specs.declared.declaration.Sort.TheVariants as sort
 use Rattle.est_scope.specs.Outline.{Outline}
-use Rattle.est_outline.specs.Lasts.{text_last}
-use Rattle.est_outline.specs.Bodies.{over_header}
+use Rattle.est_declares.specs.Lasts.{text_last}
+use Rattle.est_declares.specs.Bodies.{over_header}
 use Rattle.est_order.specs.Said.{Each, IsSaid, RoutineSaid, AllSaid, StatementSaid, StatementsSaid}
 use Rattle.est_order.specs.Said.{SecondSaid, ArmsSaid, ClauseSaid, PartSaid, PartsSaid, FirstSaid}
 use Rattle.est_order.specs.Said.{GroupsSaid, TransitionsSaid}

@@ -26,9 +26,9 @@ use Rattle.est_scope.specs.Outline.{Outline, Region, names_of, entry_at, member_
 use Rattle.est_scope.specs.Uses.{same_sort}
 use Rattle.est_kinds.specs.TypeTexts.{count, counted}
 use Rattle.est_order.specs.Said.{Each}
-use Rattle.est_ports.specs.OrdinalValues.{first_value, values_of, tuples_of}
-use Rattle.est_ports.specs.PortList.{kind_by, kinds_in, signal_by, signals_of, element}
-use Rattle.est_ports.specs.PortList.{elements_with, elements_by, ports_in, header_ports}
+use Rattle.est_declares.specs.OrdinalValues.{first_value, values_of, tuples_of}
+use Rattle.est_declares.specs.PortList.{kind_by, kinds_in, signal_by, signals_of, element}
+use Rattle.est_declares.specs.PortList.{elements_with, elements_by, ports_in, header_ports}
 use Rattle.est_ports.proofs.Listing.{within}
 use Rattle.est_ports.proofs.Ranks.{offset_is}
 use Rattle.est_ports.proofs.Tuples.{values_number}

@@ -36,7 +36,7 @@ use Rattle.est_kinds.specs.TypeTexts.{are_declared, enumeration, array, array_of
 use Rattle.est_kinds.specs.TypeTexts.{set_of, field_kinds, with_fields, are_members}
 use Rattle.est_kinds.specs.TypeTexts.{known_fields, no_fields, fields, record_of, text_type}
 use Rattle.est_kinds.specs.TypeTexts.{row_type, row_arrays, row_fields}
-use Rattle.est_outline.specs.Differing.{HaveDifferentNames}
+use Rattle.est_declares.specs.Differing.{HaveDifferentNames}
 use Rattle.est_order.specs.Said.{Each, DifferDeclared, TextSaid, RowSaid, FieldsSaid}
 use Rattle.est_fullness.specs.WrittenExpressions.{EachUse, RowUse, FieldsUse, HasConstants, RowHas}
 use Rattle.est_fullness.specs.WrittenExpressions.{FieldsHave}

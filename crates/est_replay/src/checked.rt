@@ -1,13 +1,13 @@
 //! Replays of explanations of checked specifications.
 ghost use Rattle.std.specs.Prelude.{◌≤◌, length, IfOk};
 ghost use Rattle.est_choices.specs.AllowedEvents.{IsAllowedTrace};
-ghost use Rattle.est_replay.specs.Replay.{IsReplay, most_moves};
+ghost use Rattle.est_replaying.specs.Replay.{IsReplay, most_moves};
 
-use crate::replay::{Replaying, replay_in};
-use crate::verdict::{Replayed, Why};
 use est_check::Checked;
 use est_choices::event::Trace;
 use est_explanation::explanation::Explanation;
+use est_replaying::replay::{Replaying, replay_in};
+use est_replaying::verdict::{Replayed, Why};
 use est_running::world::PlainWorld;
 use est_runs::run::Limits;
 use est_worlds::answers::Started;

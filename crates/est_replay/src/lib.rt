@@ -1,7 +1,4 @@
-//! Replays: whether the moves of an explanation bring a trace about.
+//! Replays of explanations of checked specifications.
 #![tactic(auto)]
 
 pub mod checked;
-pub mod laws;
-pub mod replay;
-pub mod verdict;

@@ -42,13 +42,10 @@ abbrev pub refused_line : ℕ → ℕ → List ℕ
 refused_line at events =
     if nat_le at events then refused_at_line at events else refused_end_line events
 
--- which firing a line speaks of
-abbrev pub fault_end : Firing → List ℕ
-fault_end firing = codes " in firing " ++ firing_text firing ++ codes " }" ++ line_feed
-
 -- a block that goes wrong in this way
 abbrev pub fault_line : List ℕ → Firing → List ℕ
-fault_line why firing = codes "{ fault " ++ why ++ fault_end firing
+fault_line why firing =
+    codes "{ fault " ++ why ++ codes " in firing " ++ firing_text firing ++ codes " }" ++ line_feed
 
 -- the first block that faults, where one does
 abbrev pub faulted_line : Option Faulted → List ℕ

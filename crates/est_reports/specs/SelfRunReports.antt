@@ -34,7 +34,8 @@ passed_line limit (Some firing) =
     codes "over budget: firing " ++ firing_text firing ++ codes " passed the limit "
     ++ decimal limit ++ line_feed
 
--- what came of a search for an explanation of the trace of so many events, within this limit
+-- What came of a search for an explanation of the trace of so many events, within this limit. A
+-- trace that a specification made of itself is not refused, and no limit is passed before its run.
 abbrev pub search_line : ℕ → ℕ → Verdict → List ℕ
 search_line limit events (Accepted run) = found_line (length run)
 search_line limit events (Refused at run faulted) = refused_line at events

@@ -3,7 +3,8 @@ ghost use Rattle.std.specs.Prelude.{◌≡◌, ◌≤◌, ◌++◌, IfOk, IfSome
 ghost use Rattle.est_choices.specs.AllowedEvents.{most_events};
 ghost use Rattle.est_explanation.specs.CanonicalExplanation.{IsWritable, IsWritableFiring};
 ghost use Rattle.est_reports.specs.ReadableReports.{IsReadable, IsReadableFault};
-ghost use Rattle.est_reports.specs.SearchReports.{accepted_line, explanation_text, fault_end};
+ghost use Rattle.est_words.specs.ReportLines.{line_feed};
+ghost use Rattle.est_reports.specs.SearchReports.{accepted_line, explanation_text, firing_text};
 ghost use Rattle.est_reports.specs.SearchReports.{fault_line, faulted_line, no_start_line};
 ghost use Rattle.est_reports.specs.SearchReports.{over_action_line, over_firings_line};
 ghost use Rattle.est_reports.specs.SearchReports.{over_start_line};
@@ -158,7 +159,8 @@ fn fault_head(alloc: Global, why: &str) -> Result<String, AllocError>
 
 // How that line ends.
 fn fault_tail(alloc: Global, firing: Firing) -> Result<String, AllocError>
-    ensures { IfOk result (λ tail. string_bytes tail ≡ fault_end firing) }
+    ensures { IfOk result (λ tail. string_bytes tail
+        ≡ codes " in firing " ++ firing_text firing ++ codes " }" ++ line_feed) }
 {
     let Firing {
         instance,

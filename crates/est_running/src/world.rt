@@ -1,8 +1,8 @@
 //! A specification that is run, with the systems that it can go back to.
 
 ghost use Rattle.std.specs.Prelude.{◌≡◌, IfOk};
-ghost use Rattle.est_outline.specs.Bodies.{outline_of};
-ghost use Rattle.est_ports.specs.PortList.{ports_of};
+ghost use Rattle.est_declares.specs.Bodies.{outline_of};
+ghost use Rattle.est_declares.specs.PortList.{ports_of};
 ghost use Rattle.est_semantics.specs.TextByPlace.{text_of};
 ghost use Rattle.est_worlds.specs.SituationStacks.{StartedAs};
 

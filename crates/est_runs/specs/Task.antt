@@ -1,21 +1,26 @@
 -- What a call on a world is about.
 use Rattle.std.specs.Prelude.{◌≡◌, ℕ, List}
 use Rattle.est_syntax.specs.declared.specification.Spec.{Spec}
+use Rattle.est_semantics.specs.GlobalSituation.{Situation}
 use Rattle.est_choices.specs.declared.event.Event.{Event}
 use Rattle.est_choices.specs.AllowedEvents.{IsAllowedTrace}
 use Rattle.est_worlds.specs.SituationStacks.{Stack}
 use Rattle.est_runs.specs.Run.{Setup, IsBegun}
 
--- the runs from the situation in which a world stands, after these events of its start
-abbrev pub setup_of : ℕ → ℕ → List Event → Stack → List Event → Spec → Setup
-setup_of limit silent trace stack outs spec = record {
+-- the runs of a specification along a trace, from this situation and these events of its start
+abbrev pub setup_from : ℕ → ℕ → Spec → List Event → Situation → List Event → Setup
+setup_from limit silent spec trace start outs = record {
   spec = spec;
   limit = limit;
   silent = silent;
   trace = trace;
-  start = stack.now;
+  start = start;
   start_outs = outs;
 }
+
+-- the runs from the situation in which a world stands, after these events of its start
+abbrev pub setup_of : ℕ → ℕ → List Event → Stack → List Event → Spec → Setup
+setup_of limit silent trace stack outs spec = setup_from limit silent spec trace stack.now outs
 
 -- the setup is of these, its start is ready and its trace within its limits
 pub record Suits (c : Setup) (spec : Spec) (limit silent : ℕ) (trace : List Event) : Type 0 where

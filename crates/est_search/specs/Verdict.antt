@@ -16,7 +16,8 @@ pub record IsAccepted (c : Setup) (budget : ℕ) (run : List Move) : Type 0 wher
   pub first : IsFirst (Explains c) run
   pub tried : HasAtMost (IsTrialUpTo c run) budget
 
--- the trials are more than the budget, and so are those up to each run that explains the trace
+-- The trials are more than the budget, and so are those up to each run that explains the trace: as
+-- they grow along the order of runs, this says no more than that of the first such run.
 pub record IsOverFirings (c : Setup) (budget : ℕ) : Type 0 where
   pub size : HasMany (IsTrial c) (budget + 1)
   pub late : (run : List Move) → Explains c run → HasMany (IsTrialUpTo c run) (budget + 1)

@@ -7,7 +7,7 @@ use Rattle.est_lexer.specs.declared.kind.Token.{Token}
 use Rattle.est_lexer.specs.TokenList.{IsTokenList}
 use Rattle.est_lexer.proofs.TokenLaws.{tokens_few}
 use Rattle.est_syntax.specs.declared.specification.Spec.{Spec}
-use Rattle.est_ports.specs.PortList.{ports_of}
+use Rattle.est_declares.specs.PortList.{ports_of}
 use Rattle.est_check.specs.LeastFault.{IsGood}
 use Rattle.est_semantics.specs.GlobalSituation.{Situation}
 use Rattle.est_semantics.specs.Outcome.{Done}
@@ -15,7 +15,7 @@ use Rattle.est_semantics.specs.TextByPlace.{text_of}
 use Rattle.est_choices.specs.declared.event.Event.{Event}
 use Rattle.est_choices.specs.AllowedEvents.{most_events}
 use Rattle.est_choices.specs.FiringSteps.{start_of}
-use Rattle.est_fullness.specs.SentenceOf.{IsSentence}
+use Rattle.est_check.specs.SentenceOf.{IsSentence}
 use Rattle.est_runs.specs.declared.run.Limits.{Limits}
 use Rattle.est_runs.specs.declared.run.Move.{Move}
 use Rattle.est_runs.specs.Run.{Setup, Explains}
@@ -25,11 +25,11 @@ use Rattle.est_search.specs.declared.verdict.Verdict.TheVariants as verdict
 use Rattle.est_trace.specs.TraceText.{IsTraceRefusal}
 use Rattle.est_trace.specs.declared.error.TraceError.{TraceError}
 use Rattle.est_trace.specs.declared.error.TraceError.TheVariants as trace_error
-use Rattle.est_make.specs.declared.made.Made.{Made}
-use Rattle.est_make.specs.declared.made.Made.TheVariants as made
-use Rattle.est_make.specs.Recipe as recipe
-use Rattle.est_make.proofs.Explaining.{made_explained}
-use Rattle.est_make.proofs.OneMade.{one_made}
+use Rattle.est_making.specs.declared.made.Made.{Made}
+use Rattle.est_making.specs.declared.made.Made.TheVariants as made
+use Rattle.est_making.specs.Recipe as recipe
+use Rattle.est_making.proofs.Explaining.{made_explained}
+use Rattle.est_making.proofs.OneMade.{one_made}
 use Rattle.est_sound_traces.proofs.SoundTraces.{made_traces_are_texts, made_traces_are_read}
 use Rattle.est_files.specs.declared.file.File.TheVariants.{Specification, Trace}
 use Rattle.est_files.specs.FileEnds.{End, reported, unread}
@@ -44,7 +44,7 @@ use Rattle.est_words.specs.declared.status.Status.TheVariants.{Usage, ReadFault,
 use Rattle.est_words.specs.declared.status.Status.TheVariants.{OutOfMemory, NoStart}
 use Rattle.est_words.specs.Requests.{usual_silent, usual_budget, usual_statements}
 use Rattle.est_reports.specs.SearchReports.{verdict_status}
-use Rattle.est_tool.specs.Tasks.{task_of}
+use Rattle.est_runs.specs.Task.{setup_from}
 use Rattle.est_tool.specs.SelfRuns.{IsMadeOf, MadeEnds, written}
 use Rattle.est_tool.specs.SelfRuns.{faults, start_passes, passes, refuses, explains}
 use Rattle.est_calls.specs.Completeness.{IsSelfRunOf, TellsMade}
@@ -111,11 +111,11 @@ module _ (spec : Spec) (seed count : ℕ) (trace : List Event) (run : List Move)
   -- a verdict on it explains it, or is over the budget
   judged : (outs : List Event) (s : Situation) (v : Verdict)
       → start_of usual_statements (text_of spec) ≡ Done outs s
-      → IsVerdict (task_of usual_silent usual_statements spec trace s outs) usual_budget v
+      → IsVerdict (setup_from usual_statements usual_silent spec trace s outs) usual_budget v
       → IsExplainedOrOver v
   judged outs s v begun is =
       let e = made_explained task seed count trace run is_made in
-      explained_is_not_refused (task_of usual_silent usual_statements spec trace e.start e.outs)
+      explained_is_not_refused (setup_from usual_statements usual_silent spec trace e.start e.outs)
       usual_budget _ v e.explains
       (verdict_at (record {
         silent = usual_silent;
@@ -158,7 +158,7 @@ module _ (spec : Spec) (seed count : ℕ) (trace : List Event) (run : List Move)
       let held : IsText Trace (written spec trace) (OfTrace spec events) =
       subst (λ x. IsText Trace (written spec x) (OfTrace spec events)) one reads in
       status_agrees v (judged outs s v begun
-      (subst (λ es. IsVerdict (task_of usual_silent usual_statements spec es s outs) usual_budget v)
+      (subst (λ es. IsVerdict (setup_from usual_statements usual_silent spec es s outs) usual_budget v)
       (sym (same_events events held)) is))
 
   -- what is told of it

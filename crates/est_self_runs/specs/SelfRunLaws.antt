@@ -9,7 +9,7 @@ use Rattle.est_runs.specs.Run.{Setup, Explains}
 use Rattle.est_search.specs.Verdict.{IsVerdict}
 use Rattle.est_search.specs.declared.verdict.Verdict.{Verdict}
 use Rattle.est_search.specs.declared.verdict.Verdict.TheVariants.{Accepted, OverFirings}
-use Rattle.est_make.specs.declared.made.Made.TheVariants as made
+use Rattle.est_making.specs.declared.made.Made.TheVariants as made
 use Rattle.est_files.specs.Files.{limit_of}
 use Rattle.est_files.specs.Seen.{Seen, Sent}
 use Rattle.est_files.specs.declared.file.File.TheVariants as file

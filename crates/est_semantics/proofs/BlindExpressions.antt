@@ -41,16 +41,17 @@ use Rattle.est_semantics.specs.Outcome.{lift, known}
 use Rattle.est_semantics.specs.GlobalSituation.{Frame, Situation}
 use Rattle.est_semantics.specs.TextByPlace.{routine_at, statements_of}
 use Rattle.est_semantics.specs.SetOperators.{set_of}
-use Rattle.est_semantics.specs.HostOrdinals.{host_of}
+use Rattle.est_semantics.specs.OperandHosts.{host_of}
 use Rattle.est_semantics.specs.NamesInRuns.{Head, Nothing, Constant, Function, Variable, Modules}
 use Rattle.est_semantics.specs.NamesInRuns.{head, dims_at, declared_in_header}
 use Rattle.est_semantics.specs.Frames.{held_by, read_at, value_in, slot_of, existing}
 use Rattle.est_semantics.specs.WorkingState.{State, View, Deeper, Counts}
 use Rattle.est_semantics.specs.ValueOperators.{ordinal, joined, signed, negated, spanned, defined}
-use Rattle.est_semantics.specs.ReachedVariables.{Reached, Component, Module, variable_begun}
+use Rattle.est_semantics.specs.ReachedVariables.{Reached, Component, Module, variable_begun, value_begun}
 use Rattle.est_semantics.specs.ReachedVariables.{with_field, with_component, with_subscript, living}
 use Rattle.est_semantics.specs.ReachedVariables.{child_of, loaded, exported}
 use Rattle.est_semantics.specs.FunctionCalls.{called, valued, required_by, routine_frame, result_of}
+use Rattle.est_semantics.specs.FunctionCalls.{part_of_result}
 use Rattle.est_semantics.specs.ExpressionValues.{value_of, held_relation, related, simple_of}
 use Rattle.est_semantics.specs.ExpressionValues.{row_sum, with_term, term_of, row_product}
 use Rattle.est_semantics.specs.ExpressionValues.{factor_of}
@@ -124,6 +125,14 @@ module _ (x : Situation) where
   variable_begun_blind v (Variable p k) = refl
   variable_begun_blind v (Modules p) = refl
 
+  value_begun_blind : (v : View) (h : Head)
+      → value_begun (seen_from x v) h ≡ value_begun v h
+  value_begun_blind v Nothing = refl
+  value_begun_blind v (Constant z) = refl
+  value_begun_blind v (Function p k) = refl
+  value_begun_blind v (Variable p k) = refl
+  value_begun_blind v (Modules p) = refl
+
   loaded_blind : (v : View) (r : Reached) → loaded (seen_from x v) r ≡ loaded v r
   loaded_blind v (Component p k) = λ i. lift (read_blind p v.situation v.frames i) >>= defined
   loaded_blind v (Module p zs) = refl
@@ -132,7 +141,8 @@ module _ (x : Situation) where
       → valued (seen_from x v) h m ≡ valued v h n
   valued_blind v b Nothing m n e = λ i. e i >>= λ r. loaded_blind v r i
   valued_blind v b (Constant z) m n e = refl
-  valued_blind v b (Function p k) m n e = called_blind v b p []
+  valued_blind v b (Function p k) m n e =
+      λ i. called_blind v b p [] i >>= λ a. e i >>= part_of_result a
   valued_blind v b (Variable p k) m n e = λ i. e i >>= λ r. loaded_blind v r i
   valued_blind v b (Modules p) m n e = λ i. e i >>= λ r. loaded_blind v r i
 
@@ -202,7 +212,7 @@ module _ (x : Situation) where
         λ i. members_blind members [] v h i >>= λ zs. lift (set_of zs)
     factor_blind (factor.Variable' name n path place) v h =
         valued_blind v h (head v.site.text.outline name) _ _
-        (λ i. variable_begun_blind v (head v.site.text.outline name) i
+        (λ i. value_begun_blind v (head v.site.text.outline name) i
         >>= λ r. path_blind path r v h i)
     factor_blind (factor.Call' name n arguments place) v h =
         applied_blind v h (meaning v.site.text.outline name) _ _ _ _
@@ -222,8 +232,8 @@ module _ (x : Situation) where
         → row_required r (seen_from x v) ≡ row_required r v
     required_blind end_of-Expr v h = refl
     required_blind (more_of-Expr e rest) v h = λ i name. value_blind e v h i >>= λ a.
-        ordinal a >>= λ z. known (host_of v.site.text.outline e) >>= λ k.
-        lift (required_by name k z) >>= λ y. give (value.Ordinal y)
+        ordinal a >>= λ z. lift (required_by name (host_of v.site.text.outline e) z)
+        >>= λ y. give (value.Ordinal y)
 
     members_blind : {n : _} (r : Row_of-Member n) (zs : List ℤ) (v : View)
         → Blind x v.site.deeper → row_members r zs (seen_from x v) ≡ row_members r zs v

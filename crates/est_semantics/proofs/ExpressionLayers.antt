@@ -52,7 +52,7 @@ use Rattle.est_semantics.specs.SetOperators.{set_of}
 use Rattle.est_semantics.specs.NamesInRuns.{head, dims_at}
 use Rattle.est_semantics.specs.WorkingState.{View}
 use Rattle.est_semantics.specs.ValueOperators.{joined, signed, negated, ordinal}
-use Rattle.est_semantics.specs.ReachedVariables.{Reached, Component, Module, variable_begun}
+use Rattle.est_semantics.specs.ReachedVariables.{Reached, Component, Module, value_begun}
 use Rattle.est_semantics.specs.ReachedVariables.{with_component, with_subscript}
 use Rattle.est_semantics.specs.FunctionCalls.{valued}
 use Rattle.est_semantics.specs.ExpressionValues.{value_of, held_relation, related, simple_of}
@@ -68,58 +68,58 @@ use Rattle.est_semantics.specs.ExpressionValues.{required_in, call_value}
 
 -- ROWS
 
-sums_row : (n : _) (row : Row_of-SumStep n) (a : Value) (v : View)
+pub sums_row : (n : _) (row : Row_of-SumStep n) (a : Value) (v : View)
     → row_sum row a v ≡ sums_in (items-the_row-SumStep n row) a v
 sums_row n end_of-SumStep a v = refl
 sums_row n (more_of-SumStep s rest) a v = λ i. with_term s a v >>= λ b. sums_row _ rest b v i
 
-products_row : (n : _) (row : Row_of-ProductStep n) (a : Value) (v : View)
+pub products_row : (n : _) (row : Row_of-ProductStep n) (a : Value) (v : View)
     → row_product row a v ≡ products_in (items-the_row-ProductStep n row) a v
 products_row n end_of-ProductStep a v = refl
 products_row n (more_of-ProductStep op right rest) a v =
     λ i. joined op a (factor_of right v) >>= λ b. products_row _ rest b v i
 
-selected_row : (n : _) (row : Row_of-Selector n) (r : Reached) (v : View)
+pub selected_row : (n : _) (row : Row_of-Selector n) (r : Reached) (v : View)
     → row_selected row r v ≡ selected_in (items-the_row-Selector n row) r v
 selected_row n end_of-Selector r v = refl
 selected_row n (more_of-Selector x rest) r v =
     λ i. selected x r v >>= λ q. selected_row _ rest q v i
 
-values_row : (n : _) (row : Row_of-Expr n) (xs : List Slot) (v : View)
+pub values_row : (n : _) (row : Row_of-Expr n) (xs : List Slot) (v : View)
     → row_values row xs v ≡ values_in (items-the_row-Expr n row) xs v
 values_row n end_of-Expr xs v = refl
 values_row n (more_of-Expr e rest) xs v =
     λ i. value_of e v >>= λ a. values_row _ rest (xs ++ slot.Value a ∷ []) v i
 
-required_row : (n : _) (row : Row_of-Expr n) (v : View)
+pub required_row : (n : _) (row : Row_of-Expr n) (v : View)
     → row_required row v ≡ required_in (items-the_row-Expr n row) v
 required_row n end_of-Expr v = refl
 required_row n (more_of-Expr e rest) v = refl
 
-members_row : (n : _) (row : Row_of-Member n) (zs : List ℤ) (v : View)
+pub members_row : (n : _) (row : Row_of-Member n) (zs : List ℤ) (v : View)
     → row_members row zs v ≡ members_in (items-the_row-Member n row) zs v
 members_row n end_of-Member zs v = refl
 members_row n (more_of-Member m rest) zs v =
     λ i. member_of m zs v >>= λ ys. members_row _ rest ys v i
 
-components_row : (n : _) (row : Row_of-Expr n) (r : Reached) (v : View)
+pub components_row : (n : _) (row : Row_of-Expr n) (r : Reached) (v : View)
     → row_components row r v ≡ components_in (items-the_row-Expr n row) r v
 components_row n end_of-Expr r v = refl
 components_row n (more_of-Expr e rest) r v = λ i. value_of e v >>= λ a. ordinal a >>= λ z.
     with_component r z >>= λ q. components_row _ rest q v i
 
-subscripts_row : (n : _) (row : Row_of-Expr n) (ks : Option (List Kind)) (zs : List ℤ) (v : View)
+pub subscripts_row : (n : _) (row : Row_of-Expr n) (ks : Option (List Kind)) (zs : List ℤ) (v : View)
     → row_subscripts row ks zs v ≡ subscripts_in (items-the_row-Expr n row) ks zs v
 subscripts_row n end_of-Expr ks zs v = refl
 subscripts_row n (more_of-Expr e rest) ks zs v = λ i. value_of e v >>= λ a. ordinal a >>= λ z.
     with_subscript ks zs z >>= λ ys. subscripts_row _ rest ks ys v i
 
-relation_view : (r : Held-Expr-relation) (a : Value) (v : View)
+pub relation_view : (r : Held-Expr-relation) (a : Value) (v : View)
     → held_relation r a v ≡ related_in (view-Expr-relation r) a v
 relation_view Expr-relation-None' a v = refl
 relation_view (Expr-relation-Some' r) a v = refl
 
-high_view : (h : Held-Member-high) (a : Value) (zs : List ℤ) (v : View)
+pub high_view : (h : Held-Member-high) (a : Value) (zs : List ℤ) (v : View)
     → held_high h a zs v ≡ high_in (view-Member-high h) a zs v
 high_view Member-high-None' a zs v = refl
 high_view (Member-high-Some' high) a zs v = refl
@@ -178,7 +178,7 @@ pub variable_at : (f : Factor) (u : Used) (path : List Selector) (place : ℕ) (
     → f ≡ factor.Variable u path place → factor_of f v n ≡ variable_value u path v n
 variable_at f u path place v n h =
     ap (λ g. factor_of g v n) h
-    ∙ (λ i. valued v (head v.site.text.outline u) (variable_begun v (head v.site.text.outline u)
+    ∙ (λ i. valued v (head v.site.text.outline u) (value_begun v (head v.site.text.outline u)
     >>= λ r. (selected_row _ (hidden-the_row-Selector-3 path) r v
     ∙ ap (λ l. selected_in l r v) (items_hidden-the_row-Selector-3 path)) i) n)
 

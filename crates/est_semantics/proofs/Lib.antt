@@ -4,10 +4,12 @@ pub mod BlindFunctions
 pub mod ExpressionLayers
 pub mod FirstChanged
 pub mod FittingTaken
+pub mod HostLayers
 pub mod KeptByBlocks
 pub mod MutualPeers
 pub mod NumbersAscend
 pub mod OrderlyStarts
+pub mod RowsAndLists
 pub mod SetMembers
 pub mod StatementLayers
 pub mod UndefinedUnique

@@ -28,7 +28,7 @@ use Rattle.est_semantics.specs.StatementEffects.{is_chosen, body_of, row_stateme
 use Rattle.est_semantics.specs.StatementEffects.{row_statements, row_arms, statement_of}
 use Rattle.est_semantics.specs.StatementEffects.{statements_in, else_in, arms_in}
 
-statements_row : (n : _) (row : Row_of-Statement n) (site : Site)
+pub statements_row : (n : _) (row : Row_of-Statement n) (site : Site)
     → row_statements row site ≡ statements_in (items-the_row-Statement n row) site
 statements_row n end_of-Statement site = refl
 statements_row n (more_of-Statement x rest) site =
@@ -68,7 +68,7 @@ for_at x name first down last turn place site s h =
     ap (λ y. body_of y site s) h
     ∙ (λ i. controlled name first down last (boxed_hidden turn site i) site s)
 
-arms_row : (n : _) (row : Row_of-Arm n) (z : ℤ) (site : Site)
+pub arms_row : (n : _) (row : Row_of-Arm n) (z : ℤ) (site : Site)
     → row_arms row z site ≡ arms_in (items-the_row-Arm n row) z site
 arms_row n end_of-Arm z site = refl
 arms_row n (more_of-Arm constants x rest) z site =

@@ -29,17 +29,18 @@ use Rattle.est_scope.specs.declared.declaration.Meant.{Meant}
 use Rattle.est_scope.specs.declared.declaration.Meant.TheVariants.{Seen, Predeclared}
 use Rattle.est_scope.specs.declared.predeclared.PredeclaredName.{PredeclaredName}
 use Rattle.est_scope.specs.Uses.{meaning}
-use Rattle.est_statements.specs.Targets.{bare}
+use Rattle.est_declares.specs.BareVariables.{bare}
 use Rattle.est_semantics.specs.declared.frame.Slot.{Slot}
 use Rattle.est_semantics.specs.declared.frame.Slot.TheVariants as slot
 use Rattle.est_semantics.specs.Outcome.{◌>>=◌, give, junk, lift, known}
 use Rattle.est_semantics.specs.SetOperators.{set_of}
-use Rattle.est_semantics.specs.HostOrdinals.{host_of}
+use Rattle.est_semantics.specs.OperandHosts.{host_of}
 use Rattle.est_semantics.specs.NamesInRuns.{head, dims_at, takes_place}
 use Rattle.est_semantics.specs.WorkingState.{View, Counts}
 use Rattle.est_semantics.specs.ValueOperators.{unsigned_integer, ordinal, joined, signed}
 use Rattle.est_semantics.specs.ValueOperators.{negated, spanned}
 use Rattle.est_semantics.specs.ReachedVariables.{Reached, Component, Module, variable_begun}
+use Rattle.est_semantics.specs.ReachedVariables.{value_begun}
 use Rattle.est_semantics.specs.ReachedVariables.{with_field, with_component, with_subscript, placed}
 use Rattle.est_semantics.specs.FunctionCalls.{called, valued, required_by}
 
@@ -96,7 +97,7 @@ abbrev mutual
   factor_of (factor.Set' n members place) v = row_members members [] v >>= λ zs. lift (set_of zs)
   factor_of (factor.Variable' name n path place) v =
       let h = head v.site.text.outline name in
-      valued v h (variable_begun v h >>= λ r. row_selected path r v)
+      valued v h (value_begun v h >>= λ r. row_selected path r v)
   factor_of (factor.Call' name n arguments place) v =
       let m = meaning v.site.text.outline name in
       applied v m (row_values arguments [] v) (row_required arguments v)
@@ -116,8 +117,7 @@ abbrev mutual
   row_required (more_of-Expr e rest) v name = do
     a ← value_of e v
     z ← ordinal a
-    h ← known (host_of v.site.text.outline e)
-    y ← lift (required_by name h z)
+    y ← lift (required_by name (host_of v.site.text.outline e) z)
     give (value.Ordinal y)
 
   -- the members of a set, with those before them
@@ -235,7 +235,7 @@ variable_of u path v = variable_begun v (head v.site.text.outline u) >>= λ r. s
 abbrev pub variable_value : Used → List Selector → View → Counts Value
 variable_value u path v =
     let h = head v.site.text.outline u in
-    valued v h (variable_begun v h >>= λ r. selected_in path r v)
+    valued v h (value_begun v h >>= λ r. selected_in path r v)
 
 -- a predeclared function of the first of these arguments
 abbrev pub required_in : List Expr → View → PredeclaredName → Counts Value
@@ -243,8 +243,7 @@ required_in [] v name = junk
 required_in (e ∷ es) v name = do
   a ← value_of e v
   z ← ordinal a
-  h ← known (host_of v.site.text.outline e)
-  y ← lift (required_by name h z)
+  y ← lift (required_by name (host_of v.site.text.outline e) z)
   give (value.Ordinal y)
 
 -- the value of a call

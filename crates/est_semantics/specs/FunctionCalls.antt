@@ -9,9 +9,9 @@ use Rattle.est_values.specs.declared.value.Value.TheVariants as value
 use Rattle.est_values.specs.Integers.{times, negative}
 use Rattle.est_alike.specs.declared.types.Host.{Host}
 use Rattle.est_alike.specs.declared.types.Host.TheVariants as hosts
-use Rattle.est_expressions.specs.declared.names.Required.{Required}
-use Rattle.est_expressions.specs.declared.names.Required.TheVariants as required
-use Rattle.est_expressions.specs.Selections.{required_function}
+use Rattle.est_declares.specs.declared.required.Required.{Required}
+use Rattle.est_declares.specs.declared.required.Required.TheVariants as required
+use Rattle.est_declares.specs.RequiredFunctions.{required_function}
 use Rattle.est_scope.specs.declared.declaration.Sort.TheVariants as sort
 use Rattle.est_scope.specs.declared.predeclared.PredeclaredName.{PredeclaredName}
 use Rattle.est_scope.specs.Outline.{Outline, entry_at}
@@ -22,17 +22,19 @@ use Rattle.est_semantics.specs.declared.frame.Binding.{Binding}
 use Rattle.est_semantics.specs.declared.frame.Slot.{Slot}
 use Rattle.est_semantics.specs.declared.frame.Slot.TheVariants as slot
 use Rattle.est_semantics.specs.Outcome.{Outcome, Done, Fault, Limit, ◌>>=◌, give, lift, known}
+use Rattle.est_semantics.specs.Outcome.{junk}
 use Rattle.est_semantics.specs.Outcome.{on_ok}
 use Rattle.est_semantics.specs.OrdinalOperators.{exact}
 use Rattle.est_semantics.specs.HostOrdinals.{within_host}
 use Rattle.est_semantics.specs.TakenValues.{taken, undefined_of}
 use Rattle.est_semantics.specs.TextByPlace.{routine_at, statements_of}
 use Rattle.est_semantics.specs.GlobalSituation.{Frame}
-use Rattle.est_semantics.specs.Frames.{slot_of, frame_at, value_in}
+use Rattle.est_semantics.specs.Frames.{slot_of, frame_at, value_in, existing}
+use Rattle.est_values.specs.PartsOfValues.{part_at}
 use Rattle.est_semantics.specs.NamesInRuns.{Head, Constant, Function, kind_at, places_of}
 use Rattle.est_semantics.specs.WorkingState.{State, View, Counts}
 use Rattle.est_semantics.specs.ValueOperators.{defined}
-use Rattle.est_semantics.specs.ReachedVariables.{Reached, loaded}
+use Rattle.est_semantics.specs.ReachedVariables.{Reached, Component, loaded}
 
 -- FRAMES OF ROUTINES
 
@@ -85,24 +87,34 @@ called v p xs = known (routine_at v.site.text p) >>= λ r.
     λ n. result_of p (v.site.deeper v.site.instance true (statements_of r)
     (record { situation = v.situation; outs = []; frames = f ∷ []; left = n }))
 
--- a constant, a function without arguments, or a variable with its selectors
+-- the part of a result that selectors reach (profile: ISO 7185, 6.7.3, has results without parts)
+abbrev pub part_of_result : Value → Reached → Counts Value
+part_of_result a (Component p k) = lift (existing (part_at p.path a)) >>= defined
+part_of_result a _ = junk
+
+-- a constant, a function without arguments, or a variable, each with its selectors
 abbrev pub valued : View → Head → Counts Reached → Counts Value
 valued v (Constant z) reached = give (value.Ordinal z)
-valued v (Function p k) reached = called v p []
+valued v (Function p k) reached = called v p [] >>= λ a. reached >>= part_of_result a
 valued v h reached = reached >>= loaded v
 
--- a predeclared function of an ordinal of a host (ISO 7185, 6.6.6)
-abbrev pub required_value : Required → Host → ℤ → Result ℤ BlockFault
+-- an ordinal of the host of an argument, or a fault (ISO 7185, 6.6.6.4)
+abbrev pub beside : Option Host → ℤ → Result ℤ BlockFault
+beside None z = Err Undefined
+beside (Some host) z = within_host host z
+
+-- a predeclared function of an ordinal, which is of this host (ISO 7185, 6.6.6)
+abbrev pub required_value : Required → Option Host → ℤ → Result ℤ BlockFault
 required_value required.Ord host z = Ok z
 required_value required.Chr host z = within_host hosts.Char z
-required_value required.Succ host z = within_host host (z +ℤ pos 1)
-required_value required.Pred host z = within_host host (z -ℤ pos 1)
+required_value required.Succ host z = beside host (z +ℤ pos 1)
+required_value required.Pred host z = beside host (z -ℤ pos 1)
 required_value required.Abs host z = if int_lt z (pos 0) then exact (negative z) else Ok z
 required_value required.Odd host z = Ok (int_rem_euclid z (pos 2))
 required_value required.Sqr host z = exact (times z z)
 
 -- the same by its name
-abbrev pub required_by : PredeclaredName → Host → ℤ → Result ℤ BlockFault
+abbrev pub required_by : PredeclaredName → Option Host → ℤ → Result ℤ BlockFault
 required_by name host z =
     option_map_or (λ (f : Required). required_value f host z) (required_function name)
     (Err Undefined)

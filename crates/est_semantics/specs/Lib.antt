@@ -10,8 +10,10 @@ pub mod InstanceEffects
 pub mod InstancePoints
 pub mod KeepingLaws
 pub mod LinkEffects
+pub mod ListLaws
 pub mod LoopEffects
 pub mod NamesInRuns
+pub mod OperandHosts
 pub mod OrdinalOperators
 pub mod Outcome
 pub mod OutputEffects

@@ -21,9 +21,9 @@ use Rattle.est_scope.specs.Outline.{Outline, entry_at, standing, names_of, nth}
 use Rattle.est_scope.specs.Uses.{is_sort, meaning}
 use Rattle.est_kinds.specs.declared.value.Valued.{Valued}
 use Rattle.est_kinds.specs.Constants.{named_value}
-use Rattle.est_outline.specs.Bodies.{interaction_at, side_meant}
-use Rattle.est_expressions.specs.Receivers.{dims_in}
-use Rattle.est_expressions.specs.Variables.{header_in}
+use Rattle.est_declares.specs.Bodies.{interaction_at, side_meant}
+use Rattle.est_declares.specs.LookUps.{dims_in}
+use Rattle.est_declares.specs.LookUps.{header_in}
 use Rattle.est_values.specs.FittingValues.{KindLayer}
 
 -- WHAT IS KNOWN OF A DECLARATION

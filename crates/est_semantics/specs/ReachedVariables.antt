@@ -38,6 +38,12 @@ variable_begun v (Function p k) = give (Component (place_of v.site.instance v.fr
 variable_begun v (Modules p) = give (Module p [])
 variable_begun v _ = junk
 
+-- where what a name stands for begins in an expression: of a function, its result as a whole
+abbrev pub value_begun : View → Head → Counts Reached
+value_begun v (Function p k) =
+    give (Component (whole (holder.Instance v.site.instance) p) k)
+value_begun v h = variable_begun v h
+
 -- the instance that the name of an `all` stands for, and else that of an element
 abbrev pub instance_by : Option (ℕ × Slot) → Option ℕ → Option ℕ
 instance_by (Some (n, slot.Instance i)) other = Some i

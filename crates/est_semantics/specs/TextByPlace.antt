@@ -19,7 +19,7 @@ use Rattle.est_syntax.specs.declared.transition.Group.{Group}
 use Rattle.est_syntax.specs.declared.transition.Transition.{Transition}
 use Rattle.est_scope.specs.declared.declaration.Entry.{Entry}
 use Rattle.est_scope.specs.Outline.{Outline, entry_at}
-use Rattle.est_outline.specs.Bodies.{outline_of}
+use Rattle.est_declares.specs.Bodies.{outline_of}
 
 -- a specification, with all that it declares
 pub record Text : Type 0 where

@@ -2,6 +2,7 @@
 ghost use Rattle.est_semantics.specs.KeepingLaws.{StatementsOfFunctionsAreSilent};
 ghost use Rattle.est_semantics.specs.KeepingLaws.{FunctionsAreSilent, SituationsGoOver};
 ghost use Rattle.est_semantics.specs.KeepingLaws.{PeersStayMutual};
+ghost use Rattle.est_semantics.specs.ListLaws.{ExpressionsOfRows, StatementsOfRows};
 ghost use Rattle.est_semantics.specs.PlaceWrites.{FramesHaveWhatIsWritten, FramesKeepOtherNames};
 ghost use Rattle.est_semantics.specs.PlaceWrites.{ChangedRowsAreFound, OtherRowsStay};
 ghost use Rattle.est_semantics.specs.SetOperators.{CommonMembersAreInBoth, OthersAreInTheFirst};
@@ -79,4 +80,11 @@ pub fn frames_keep_other_names()
 pub fn other_rows_stay()
     ensures changed { ChangedRowsAreFound }
     ensures others { OtherRowsStay }
+{}
+
+/// What is evaluated of the rows of a tree is what is evaluated of their lists.
+#[tactic(auto, using(crate::proofs::RowsAndLists::expressions_of_rows, crate::proofs::RowsAndLists::statements_of_rows))]
+pub fn lists_are_rows()
+    ensures expressions { ExpressionsOfRows }
+    ensures statements { StatementsOfRows }
 {}

@@ -1,6 +1,6 @@
 //! The line with which a replay answers.
 
-use est_replay::verdict::{Replayed, Why};
+use est_replaying::verdict::{Replayed, Why};
 use est_reports::report::fault_text;
 use est_words::status::Status;
 use std::alloc::{AllocError, Global};

@@ -1,7 +1,7 @@
 //! The top call.
 ghost use Rattle.std.specs.Prelude.{◌≤◌, length};
 ghost use Rattle.est_choices.specs.AllowedEvents.{IsAllowedTrace};
-ghost use Rattle.est_replay.specs.Replay.{most_moves};
+ghost use Rattle.est_replaying.specs.Replay.{most_moves};
 
 use crate::answer::{answer_line, shown_count, status_of};
 use crate::moves::push_run;

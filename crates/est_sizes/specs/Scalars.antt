@@ -1,5 +1,6 @@
 -- How many scalars the variables of a body, a routine or a block have (ISO 7185, 6.4.1).
 use Rattle.std.specs.Prelude.{ℕ, nat_lt, List, [], ◌∷◌, Option, Some, None}
+use Rattle.std.specs.Option.{option_map_or}
 use Rattle.est_syntax.specs.Faults.{broken_if}
 use Rattle.est_syntax.specs.declared.body.Part.{Part, Row_of-Part, end_of-Part, more_of-Part}
 use Rattle.est_syntax.specs.declared.body.Part.TheVariants as part
@@ -12,15 +13,10 @@ use Rattle.est_scope.specs.declared.declaration.Measured.{Measured}
 use Rattle.est_scope.specs.Outline.{Outline, entry_at}
 use Rattle.est_kinds.specs.TypeTexts.{added, most_scalars}
 
--- the scalars of a variable, where it has a kind
-abbrev pub scalars_in : Option Measured → ℕ
-scalars_in None = 0
-scalars_in (Some m) = m.scalars
-
--- those of the variable that this is
+-- the scalars of the variable that this is, where it has a kind
 abbrev pub scalars_by : Option Entry → ℕ
 scalars_by None = 0
-scalars_by (Some e) = scalars_in e.kind
+scalars_by (Some e) = option_map_or (λ (m : Measured). m.scalars) e.kind 0
 
 -- those of variables, and of those before them
 abbrev pub names_scalars : Outline → ℕ → List Used → ℕ

@@ -6,8 +6,8 @@ use Rattle.est_choices.specs.declared.event.Event.{Event}
 use Rattle.est_choices.specs.declared.event.Event.TheVariants as event
 use Rattle.est_choices.specs.AllowedEvents.{IsAllowed}
 use Rattle.est_departures.specs.DepartureLaws.{IsSound}
-use Rattle.est_make.specs.Recipe.{setup_along}
-use Rattle.est_make.proofs.Explaining.{made_explained}
+use Rattle.est_making.specs.Recipe.{setup_along}
+use Rattle.est_making.proofs.Explaining.{made_explained}
 use Rattle.est_made_events.specs.MadeEventLaws.{IsFair}
 use Rattle.est_made_events.proofs.MadeEvents.{made_traces_are_fair}
 use Rattle.est_soundness.specs.SoundnessLaws.{IsTyped, MayCome}

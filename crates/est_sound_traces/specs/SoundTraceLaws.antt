@@ -3,17 +3,17 @@ use Rattle.std.specs.Prelude.{ℕ, ◌≤◌, List, Result, length}
 use Rattle.std.specs.List.{AllByRecursion}
 use Rattle.est_lexer.specs.declared.kind.Token.{Token}
 use Rattle.est_lexer.specs.TokenList.{IsTokenList}
-use Rattle.est_ports.specs.PortList.{ports_of}
+use Rattle.est_declares.specs.PortList.{ports_of}
 use Rattle.est_check.specs.LeastFault.{IsGood}
 use Rattle.est_choices.specs.declared.event.Event.{Event}
 use Rattle.est_choices.specs.AllowedEvents.{IsAllowed, IsAllowedTrace, most_events}
 use Rattle.est_runs.specs.declared.run.Move.{Move}
-use Rattle.est_fullness.specs.SentenceOf.{IsSentence}
+use Rattle.est_check.specs.SentenceOf.{IsSentence}
 use Rattle.est_trace.specs.declared.error.TraceError.{TraceError}
 use Rattle.est_trace.specs.TraceText.{IsTraceText, ReadsTrace}
 use Rattle.est_written_traces.specs.WrittenTraces.{trace_text}
 use Rattle.est_read_back.specs.ReadBackLaws.{AreReadBack}
-use Rattle.est_make.specs.Recipe.{Task, IsMadeTrace}
+use Rattle.est_making.specs.Recipe.{Task, IsMadeTrace}
 use Rattle.est_soundness.specs.SoundnessLaws.{IsTyped}
 
 -- each event of a made trace of a typed specification may stand in a trace

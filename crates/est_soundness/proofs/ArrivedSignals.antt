@@ -17,14 +17,14 @@ use Rattle.est_scope.specs.Outline.{Outline, names_of, entry_at, member_at, stan
 use Rattle.est_scope.specs.Uses.{same_sort}
 use Rattle.est_scope.specs.declared.declaration.Member.TheVariants as member
 use Rattle.est_scope.specs.declared.declaration.Sort.TheVariants as sort
-use Rattle.est_outline.specs.Bodies.{outline_of}
-use Rattle.est_outline.proofs.Regions.{region_once}
-use Rattle.est_ports.specs.PortList.{kinds_in, signal_by, signals_of, element, elements_with}
-use Rattle.est_ports.specs.PortList.{elements_by, header_ports, ports_of}
+use Rattle.est_declares.specs.Bodies.{outline_of}
+use Rattle.est_declares.proofs.Regions.{region_once}
+use Rattle.est_declares.specs.PortList.{kinds_in, signal_by, signals_of, element, elements_with}
+use Rattle.est_declares.specs.PortList.{elements_by, header_ports, ports_of}
 use Rattle.est_ports.proofs.Listing.{flat_place}
 use Rattle.est_ports.proofs.Ranks.{unmapped}
-use Rattle.est_statements.specs.Modules.{started_header}
-use Rattle.est_statements.specs.Signals.{side_at}
+use Rattle.est_declares.specs.LookUps.{started_header}
+use Rattle.est_declares.specs.LookUps.{side_at}
 use Rattle.est_semantics.specs.declared.situation.InteractionPoint.{InteractionPoint}
 use Rattle.est_semantics.specs.declared.situation.Item.{Item}
 use Rattle.est_semantics.specs.InstancePoints.{point}

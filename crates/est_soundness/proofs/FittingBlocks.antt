@@ -1,5 +1,5 @@
 -- The blocks of a specification that breaks no rule leave values that fit what holds them.
-use Rattle.std.specs.Prelude.{ℤ, if◌then◌else◌, ◌+ℤ◌, ◌-◌, unwrap_or}
+use Rattle.std.specs.Prelude.{ℤ, if◌then◌else◌, ◌+ℤ◌, ◌-◌, unwrap_or, flat_map}
 use Rattle.std.specs.List.{AllByRecursion, AllZip}
 use Rattle.std.specs.Option.{option_map}
 use Rattle.std.proofs.Common.{◌≡◌, refl, ℕ, zero, suc, Bool, true, false, List, [], ◌∷◌, Option}
@@ -29,7 +29,7 @@ use Rattle.est_values.specs.FittingValues.{IsOrdinalOf, is_scalar, Fits}
 use Rattle.est_values.specs.declared.value.Value.TheVariants as value
 use Rattle.est_scope.specs.Outline.{entry_at, names_of, Outline}
 use Rattle.est_scope.specs.declared.declaration.Sort.TheVariants as sort
-use Rattle.est_ports.specs.PortList.{kinds_in}
+use Rattle.est_declares.specs.PortList.{kinds_in}
 use Rattle.est_alike.specs.declared.types.Host.{Host}
 use Rattle.est_alike.specs.Types.{Yielded, type_of, is_assignable}
 use Rattle.est_expressions.specs.Accesses.{access_faults}
@@ -42,8 +42,8 @@ use Rattle.est_expressions.specs.Expressions as types
 use Rattle.est_expressions.specs.declared.operators.Wanted.TheVariants as wanted
 use Rattle.est_expressions.specs.declared.receivers.Receiver.TheVariants as receiver
 use Rattle.est_statements.specs.Cases.{Chosen}
-use Rattle.est_statements.specs.Signals.{sending_faults, sendings_faults, signal_faults}
-use Rattle.est_statements.specs.Statements.{statement_faults, box_statement, statements_faults}
+use Rattle.est_statements.specs.Signals.{sending_faults, signal_faults}
+use Rattle.est_statements.specs.Statements.{statement_faults, box_statement}
 use Rattle.est_statements.specs.Statements.{function_faults, call_faults, for_faults, is_place}
 use Rattle.est_statements.specs.Statements.{control_type}
 use Rattle.est_statements.specs.Modules.{init_faults}
@@ -564,10 +564,10 @@ module _ (t : Text) (whole : IsWhole t.outline) (steady : IsSteady t.outline)
       record { situation = w.0; frames = p.frames; sent = w.1 }
 
   all_sent_keeps : (fn : Bool) (n : ℕ) (d : Deeper) → Deep d → (xs : List Sending)
-      → sendings_faults o xs ≡ [] → Keeping (all_sent xs (at fn n d))
+      → flat_map (sending_faults o) xs ≡ [] → Keeping (all_sent xs (at fn n d))
   all_sent_keeps fn n d deep [] h = idles
   all_sent_keeps fn n d deep (x ∷ xs) h =
-      let own = parted (sending_faults o x) (sendings_faults o xs) h in
+      let own = parted (sending_faults o x) (flat_map (sending_faults o) xs) h in
       both (evaluated (at fn n d) (item_of x) >>= delivered (at fn n d)) (all_sent xs (at fn n d))
       (λ s p. looked (at fn n d) (item_of x) (delivered (at fn n d)) (ItemFits o) s p
       (item_fits x fn n d deep s p s.left own.0)
@@ -694,7 +694,7 @@ module _ (t : Text) (whole : IsWhole t.outline) (steady : IsSteady t.outline)
         (boxed_keeps turn f loops fn n d deep (parted _ (box_statement t.outline f loops turn) e).1)
     body_keeps (statement.Output sendings place) f loops fn n d deep e =
         acts_keep fn (all_sent sendings (at fn n d)) (all_sent_keeps fn n d deep sendings
-        (parted (function_faults f place) (sendings_faults t.outline sendings) e).1)
+        (parted (function_faults f place) (flat_map (sending_faults t.outline) sendings) e).1)
     body_keeps (statement.Init target body arguments place) f loops fn n d deep e =
         acts_keep fn (init_done target body arguments (at fn n d))
         (begins fn n d deep target body arguments
@@ -753,12 +753,12 @@ module _ (t : Text) (whole : IsWhole t.outline) (steady : IsSteady t.outline)
 
   -- statements in order
   statements_keep : (xs : List Statement) (f : Option ℕ) (loops : List ℕ) (fn : Bool) (n : ℕ)
-      (d : Deeper) → Deep d → statements_faults t.outline f loops xs ≡ []
+      (d : Deeper) → Deep d → flat_map (statement_faults t.outline f loops) xs ≡ []
       → Keeping (statements_in xs (at fn n d))
   statements_keep [] f loops fn n d deep e = idles
   statements_keep (x ∷ xs) f loops fn n d deep e =
       let own = parted (statement_faults t.outline f loops x)
-      (statements_faults t.outline f loops xs) e in
+      (flat_map (statement_faults t.outline f loops) xs) e in
       both (enter >> body_of x (at fn n d)) (statements_in xs (at fn n d))
       (both enter (body_of x (at fn n d)) enters (body_keeps x f loops fn n d deep own.0))
       (statements_keep xs f loops fn n d deep own.1)

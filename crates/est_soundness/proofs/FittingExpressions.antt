@@ -29,6 +29,8 @@ use Rattle.est_syntax.specs.declared.expression.Factor.TheVariants as factor
 use Rattle.est_syntax.specs.declared.expression.Selector.TheVariants as selector
 use Rattle.est_values.specs.declared.value.Value.{Value}
 use Rattle.est_values.specs.FittingValues.{Fits}
+use Rattle.est_values.specs.PartsOfValues.{part_at}
+use Rattle.est_values.specs.declared.value.Value.TheVariants as value
 use Rattle.est_scope.specs.Outline.{Outline, entry_at}
 use Rattle.est_scope.specs.Uses.{is_sort, meaning}
 use Rattle.est_scope.specs.declared.declaration.Entry.{Entry}
@@ -52,25 +54,30 @@ use Rattle.est_semantics.specs.declared.frame.Place.{Place}
 use Rattle.est_semantics.specs.declared.frame.Slot.{Slot}
 use Rattle.est_semantics.specs.Outcome.{Outcome, Done, Fault, Limit, ◌>>=◌, lift, known}
 use Rattle.est_semantics.specs.TextByPlace.{Text, routine_at, statements_of}
-use Rattle.est_semantics.specs.Frames.{slot_of, frame_at, value_in, read_at}
+use Rattle.est_semantics.specs.Frames.{slot_of, frame_at, value_in, read_at, existing, whole}
+use Rattle.est_semantics.specs.Frames.{component_of}
+use Rattle.est_semantics.specs.TakenValues.{component_at}
+use Rattle.est_semantics.specs.declared.frame.Holder.TheVariants as holder
 use Rattle.est_semantics.specs.NamesInRuns.{Head, Nothing, Constant, Function, Variable, Modules}
-use Rattle.est_semantics.specs.NamesInRuns.{head, kind_at}
+use Rattle.est_semantics.specs.NamesInRuns.{head, kind_at, array_in, field_in}
 use Rattle.est_semantics.specs.WorkingState.{State, View, Deeper}
 use Rattle.est_semantics.specs.SetOperators.{set_of}
-use Rattle.est_semantics.specs.HostOrdinals.{host_of}
+use Rattle.est_semantics.specs.OperandHosts.{host_of}
 use Rattle.est_semantics.specs.ValueOperators.{ordinal, signed, negated, joined, defined_in}
 use Rattle.est_semantics.specs.ValueOperators.{defined}
 use Rattle.est_semantics.specs.ReachedVariables.{Reached, Component, Module, variable_begun}
-use Rattle.est_semantics.specs.ReachedVariables.{loaded}
+use Rattle.est_semantics.specs.ReachedVariables.{value_begun, loaded, with_field, with_component}
 use Rattle.est_semantics.specs.FunctionCalls.{called, valued, result_of, routine_frame}
-use Rattle.est_semantics.specs.FunctionCalls.{required_by}
+use Rattle.est_semantics.specs.FunctionCalls.{required_by, part_of_result}
 use Rattle.est_semantics.specs.ExpressionValues.{applied, value_of, simple_of, row_sum, term_of}
 use Rattle.est_semantics.specs.ExpressionValues.{row_product, factor_of, row_required}
 use Rattle.est_semantics.specs.ExpressionValues.{row_members, row_selected, row_values, values_in}
 use Rattle.est_semantics.specs.ExpressionValues.{member_of, held_high, selected_in, variable_of}
+use Rattle.est_semantics.specs.ExpressionValues.{selected, row_components}
 use Rattle.est_semantics.specs.declared.frame.Slot.TheVariants as slot
 use Rattle.est_semantics.specs.ExpressionValues as runs
 use Rattle.est_upkeep.specs.UpkeepLaws.{OnDone}
+use Rattle.est_upkeep.proofs.GivenThings.{OnGood}
 use Rattle.est_upkeep.proofs.GivenThings.{Gives, then_gives, lift_gives, good_gives, given_on}
 use Rattle.est_soundness.specs.SteadyOutlines.{IsSteady}
 use Rattle.est_soundness.specs.FittingStates.{FrameFits, FramesFit, SituationFits, StateFits}
@@ -82,6 +89,9 @@ use Rattle.est_soundness.proofs.OperatorValues.{integer_yields, spanned_ascend, 
 use Rattle.est_soundness.proofs.OperatorValues.{operand_types}
 use Rattle.est_soundness.proofs.TypedValues.{fits_yielded}
 use Rattle.est_soundness.proofs.FittingFrames.{slot_fits, frame_fits, value_fits, read_fits}
+use Rattle.est_soundness.proofs.FittingFrames.{whole_has}
+use Rattle.est_soundness.proofs.PartsFit.{part_fits}
+use Rattle.est_soundness.proofs.SameKinds.{same_fits}
 use Rattle.est_soundness.proofs.ReachedKinds.{IsOr, OnHead, IsVariable, head_on, Goes}
 use Rattle.est_soundness.proofs.ReachedKinds.{begun_agrees, selected_agrees, path_agrees, kind_is}
 use Rattle.est_soundness.proofs.FittingArguments.{AreGivenFor, value_given, routine_given}
@@ -122,14 +132,6 @@ broken_end o end_of-Selector t h = none-some t h
 broken_end o (more_of-Selector (selector.Index' n row place) rest) t h = broken_end o rest t h
 broken_end o (more_of-Selector (selector.Field u) rest) t h = broken_end o rest t h
 
--- a value has no selectors
-value_end : (o : Outline) {n : _} (path : Row_of-Selector n) (u t : Yielded)
-    → selected_type (rules.row_selected o (select.Value u) path) ≡ Some t → u ≡ t
-value_end o end_of-Selector u t h = same_Some u t h
-value_end o (more_of-Selector (selector.Index' n row place) rest) u t h =
-    absurd (broken_end o rest t h)
-value_end o (more_of-Selector (selector.Field x) rest) u t h = absurd (broken_end o rest t h)
-
 -- what a function yields by its kind
 declared_kind : (o : Outline) (p : ℕ) (t : Yielded) → declared_type (entry_at o p) ≡ Some t
     → (k : Kind) × (kind_at o p ≡ Some k) × (type_of k ≡ t)
@@ -168,33 +170,40 @@ module _ (v : View) (steady : IsSteady v.site.text.outline)
 
   -- CALLS
 
-  result_yields : (p : ℕ) (k : Kind) (x : Outcome State (Unit {0})) → kind_at o p ≡ Some k
-      → OnDone (StateFits o) x → Gives (Y (type_of k)) (result_of p x)
-  result_yields p k (Done a s) e h =
-      lift_gives (Y (type_of k)) (Fits k) (value_in (slot_of p (frame_at s.frames 0))) s.left
+  -- what holds of each defined value of the result's kind, holds of the result
+  result_gives : (Q : Value → Type 0) (p : ℕ) (k : Kind) (x : Outcome State (Unit {0}))
+      → kind_at o p ≡ Some k → ((w : Value) → Fits k w → OnGood Q (defined_in w))
+      → OnDone (StateFits o) x → Gives Q (result_of p x)
+  result_gives Q p k (Done a s) e each h =
+      lift_gives Q (Fits k) (value_in (slot_of p (frame_at s.frames 0))) s.left
       defined
       (value_fits o steady k (slot_of p (frame_at s.frames 0))
       (slot_fits o steady p k (frame_at s.frames 0) e (frame_fits o steady s.frames 0 h.frames)))
-      (λ w m f. good_gives (Y (type_of k)) (defined_in w) m
-      (fits_yielded steady.sizes k w (steady.sized p k e) f))
-  result_yields p k (Fault f) e h = tt
-  result_yields p k Limit e h = tt
+      (λ w m f. good_gives Q (defined_in w) m (each w f))
+  result_gives Q p k (Fault f) e each h = tt
+  result_gives Q p k Limit e each h = tt
 
-  called_yields : (p : ℕ) (k : Kind) (xs : List Slot) (l : ℕ) → kind_at o p ≡ Some k
-      → AreGivenFor o steady p xs → Gives (Y (type_of k)) (called v p xs l)
-  called_yields p k xs l e h = by (routine_at v.site.text p) refl
+  called_gives : (Q : Value → Type 0) (p : ℕ) (k : Kind) (xs : List Slot) (l : ℕ)
+      → kind_at o p ≡ Some k → ((w : Value) → Fits k w → OnGood Q (defined_in w))
+      → AreGivenFor o steady p xs → Gives Q (called v p xs l)
+  called_gives Q p k xs l e each h = by (routine_at v.site.text p) refl
     where
       by : (r : Option Routine) → routine_at v.site.text p ≡ r
-          → Gives (Y (type_of k)) ((known r >>= λ r. lift (routine_frame o p xs) >>= λ f.
+          → Gives Q ((known r >>= λ r. lift (routine_frame o p xs) >>= λ f.
           λ n. result_of p (v.site.deeper v.site.instance true (statements_of r)
           (record { situation = v.situation; outs = []; frames = f ∷ []; left = n }))) l)
       by None i = tt
       by (Some r) i =
-          lift_gives (Y (type_of k)) (FrameFits o) (routine_frame o p xs) l _
+          lift_gives Q (FrameFits o) (routine_frame o p xs) l _
           (routine_given o steady p xs h)
-          (λ f m q. result_yields p k _ e (calls p r v.site.instance i
+          (λ f m q. result_gives Q p k _ e each (calls p r v.site.instance i
           (record { situation = v.situation; outs = []; frames = f ∷ []; left = m })
           (record { situation = situation; frames = (q, tt); sent = tt })))
+
+  called_yields : (p : ℕ) (k : Kind) (xs : List Slot) (l : ℕ) → kind_at o p ≡ Some k
+      → AreGivenFor o steady p xs → Gives (Y (type_of k)) (called v p xs l)
+  called_yields p k xs l e h = called_gives (Y (type_of k)) p k xs l e
+      (λ w f. fits_yielded steady.sizes k w (steady.sized p k e) f) h
 
   -- VARIABLES
 
@@ -228,17 +237,131 @@ module _ (v : View) (steady : IsSteady v.site.text.outline)
       (λ r m g. path_agrees v steady frames path s r m g))
       (λ r m g. loaded_yields (rules.row_selected o s path) r t m g e)
 
+  -- PARTS OF RESULTS
+
+  -- a part of what is declared at a place
+  abbrev IsPartOf : ℕ → Reached → Type 0
+  IsPartOf p (Component q j) = q.declared ≡ p
+  IsPartOf p (Module q zs) = ⊥
+
+  component_within : (p : ℕ) (r : Reached) (z : ℤ) (l : ℕ) → IsPartOf p r
+      → Gives (IsPartOf p) (with_component r z l)
+  component_within p (Component q j) z l h = then_gives (IsPartOf p) (known (array_in j) l) _
+      (λ ks m. then_gives (IsPartOf p) (lift (component_at ks.0 z) m) _ (λ n i. h))
+  component_within p (Module q zs) z l h = absurd h
+
+  components_within : {n : _} (row : Row_of-Expr n) (p : ℕ) (r : Reached) (l : ℕ) → IsPartOf p r
+      → Gives (IsPartOf p) (row_components row r v l)
+  components_within end_of-Expr p r l h = h
+  components_within (more_of-Expr e rest) p r l h =
+      then_gives (IsPartOf p) (value_of e v l) _
+      (λ a m. then_gives (IsPartOf p) (ordinal a m) _
+      (λ z i. given_on (IsPartOf p) (IsPartOf p) (with_component r z i) _
+      (component_within p r z i h) (λ q w g. components_within rest p q w g)))
+
+  field_within : (u : Used) (p : ℕ) (q : Place) (j : Kind) (l : ℕ) → q.declared ≡ p
+      → Gives (IsPartOf p) (with_field v u (Component q j) l)
+  field_within u p q j l h = by (field_in j u)
+    where
+      by : (x : Option (ℕ × Kind)) → Gives (IsPartOf p)
+          (known (option_map (λ (f : ℕ × Kind). Component (component_of f.0 q) f.1) x) l)
+      by None = tt
+      by (Some f) = h
+
+  selected_within : (x : Selector) (p : ℕ) (r : Reached) (l : ℕ) → IsPartOf p r
+      → Gives (IsPartOf p) (selected x r v l)
+  selected_within x p (Module q zs) l h = absurd h
+  selected_within (selector.Index' n row place) p (Component q j) l h =
+      components_within row p (Component q j) l h
+  selected_within (selector.Field u) p (Component q j) l h = field_within u p q j l h
+
+  path_within : {n : _} (path : Row_of-Selector n) (p : ℕ) (r : Reached) (l : ℕ) → IsPartOf p r
+      → Gives (IsPartOf p) (row_selected path r v l)
+  path_within end_of-Selector p r l h = h
+  path_within (more_of-Selector x rest) p r l h =
+      given_on (IsPartOf p) (IsPartOf p) (selected x r v l) (λ q. row_selected rest q v)
+      (selected_within x p r l h) (λ q m g. path_within rest p q m g)
+
+  part_yields : (p : ℕ) (k : Kind) (a : Value) (q : Place) (j : Kind) (l : ℕ) → Fits k a
+      → kind_at o p ≡ Some k → q.declared ≡ p → IsVariable o steady.sizes q j
+      → Gives (Y (type_of j)) (part_of_result a (Component q j) l)
+  part_yields p k a q j l f e d h =
+      lift_gives (Y (type_of j)) (Fits j) (existing (part_at q.path a)) l defined
+      (by (part_at q.path a) refl)
+      (λ w m g. good_gives (Y (type_of j)) (defined_in w) m
+      (fits_yielded steady.sizes j w h.sized g))
+    where
+      whole : h.has.whole ≡ k
+      whole = same_Some h.has.whole k (sym h.has.declared ∙ ap (kind_at o) d ∙ e)
+
+      fitted : Fits h.has.whole a
+      fitted = subst (λ x. Fits x a) (sym whole) f
+
+      by : (x : Option Value) → part_at q.path a ≡ x → OnGood (Fits j) (existing x)
+      by None i = tt
+      by (Some w) i = same_fits h.has.part j w h.has.same
+          (part_fits q.path h.has.whole h.has.part a w fitted h.has.reached i)
+
+  returned_yields : (s : Selection) (r : Reached) (t : Yielded) (a : Value) (l p : ℕ) (k : Kind)
+      → Fits k a → kind_at o p ≡ Some k → IsPartOf p r → Goes v steady frames s r
+      → selected_type s ≡ Some t → Gives (Y t) (part_of_result a r l)
+  returned_yields s (Module q zs) t a l p k f e d g i = absurd d
+  returned_yields (select.Component c) (Component q j) t a l p k f e d g i =
+      subst (λ u. Gives (Y u) (part_of_result a (Component q j) l))
+      (ap type_of (sym g.0) ∙ same_Some (type_of c) t i) (part_yields p k a q j l f e d g.1)
+  returned_yields (select.Value u) (Component q j) t a l p k f e d g i =
+      subst (λ u. Gives (Y u) (part_of_result a (Component q j) l))
+      (sym g.0 ∙ same_Some u t i) (part_yields p k a q j l f e d g.1)
+  returned_yields _ (Component q j) t a l p k f e d g i = absurd (none-some t i)
+
+  defined_fits : (k : Kind) (w : Value) → Fits k w → OnGood (Fits k) (defined_in w)
+  defined_fits k value.Undefined f = tt
+  defined_fits k w f = f
+
+  both_given : {A : Type 0} (P Q : A → Type 0) (x : Outcome ℕ A) → Gives P x → Gives Q x
+      → Gives (λ a. P a × Q a) x
+  both_given P Q (Done a l) h g = (h, g)
+  both_given P Q (Fault f) h g = tt
+  both_given P Q Limit h g = tt
+
+  -- the result of a function without arguments, with its selectors
+  function_selected : {n : _} (p : ℕ) (k : Kind) (s : Selection) (path : Row_of-Selector n)
+      (t : Yielded) (l : ℕ) → kind_at o p ≡ Some k → s ≡ select.Component k
+      → selected_type (rules.row_selected o s path) ≡ Some t
+      → Gives (Y t) (valued v (Function p k) (value_begun v (Function p k)
+      >>= λ r. row_selected path r v) l)
+  function_selected p k s path t l e d i =
+      given_on (Fits k) (Y t) (called v p [] l) _
+      (called_gives (Fits k) p k [] l e (defined_fits k) (none_given o steady p))
+      (λ a m f. given_on
+      (λ r. Goes v steady frames (rules.row_selected o s path) r × IsPartOf p r) (Y t)
+      (row_selected path begin v m) (part_of_result a)
+      (both_given (Goes v steady frames (rules.row_selected o s path)) (IsPartOf p)
+      (row_selected path begin v m) (path_agrees v steady frames path s begin m goes)
+      (path_within path p begin m refl))
+      (λ r j g. returned_yields (rules.row_selected o s path) r t a j p k f e g.1 g.0 i))
+    where
+      begin : Reached
+      begin = Component (whole (holder.Instance v.site.instance) p) k
+
+      goes : Goes v steady frames s begin
+      goes = subst (λ x. Goes v steady frames x begin) (sym d) (
+        refl,
+        record {
+          has = whole_has o steady (holder.Instance v.site.instance) p k e;
+          sized = steady.sized p k e;
+        },
+      )
+
   variable_yields : {n : _} (h : Head) (s : Selection) (path : Row_of-Selector n) (t : Yielded)
       (l : ℕ) → OnHead o s h → selected_type (rules.row_selected o s path) ≡ Some t
-      → Gives (Y t) (valued v h (variable_begun v h >>= λ r. row_selected path r v) l)
+      → Gives (Y t) (valued v h (value_begun v h >>= λ r. row_selected path r v) l)
   variable_yields (Constant z) s path t l on e = ordinal_simple steady.sizes z t
   variable_yields (Function p k) s path t l on e = by on.1
     where
-      by : IsOr s (select.Value (type_of k)) → Gives (Y t) (called v p [] l)
-      by (inl d) = subst (λ u. Gives (Y u) (called v p [] l))
-          (value_end o path (type_of k) t
-          (subst (λ x. selected_type (rules.row_selected o x path) ≡ Some t) d e))
-          (called_yields p k [] l on.0 (none_given o steady p))
+      by : IsOr s (select.Component k) → Gives (Y t) (valued v (Function p k)
+          (value_begun v (Function p k) >>= λ r. row_selected path r v) l)
+      by (inl d) = function_selected p k s path t l on.0 d e
       by (inr d) = absurd (broken_end o path t
           (subst (λ x. selected_type (rules.row_selected o x path) ≡ Some t) d e))
   variable_yields Nothing s path t l on e = reached_yields Nothing s path t l on e
@@ -271,9 +394,8 @@ module _ (v : View) (steady : IsSteady v.site.text.outline)
   required_yields (more_of-Expr e rest) name t l =
       then_gives (Y t) (value_of e v l) _
       (λ a m. then_gives (Y t) (ordinal a m) _
-      (λ z i. then_gives (Y t) (known (host_of o e) i) _
-      (λ h j. then_gives (Y t) (lift (required_by name h z) j) _
-      (λ y q. ordinal_simple steady.sizes y t))))
+      (λ z i. then_gives (Y t) (lift (required_by name (host_of o e) z) i) _
+      (λ y q. ordinal_simple steady.sizes y t)))
 
   -- FUNCTIONS
 

@@ -11,8 +11,8 @@ use Rattle.est_syntax.specs.declared.statement.Statement.{Statement}
 use Rattle.est_values.specs.FittingValues.{IsOrdinalOf, Fits}
 use Rattle.est_scope.specs.Outline.{Outline, names_of}
 use Rattle.est_scope.specs.declared.declaration.Sort.TheVariants as sort
-use Rattle.est_outline.specs.Bodies.{outline_of}
-use Rattle.est_ports.specs.PortList.{kinds_in}
+use Rattle.est_declares.specs.Bodies.{outline_of}
+use Rattle.est_declares.specs.PortList.{kinds_in}
 use Rattle.est_semantics.specs.declared.fault.BlockFault.TheVariants.{Undefined}
 use Rattle.est_semantics.specs.declared.situation.InteractionPoint.{InteractionPoint}
 use Rattle.est_semantics.specs.declared.situation.Item.{Item}

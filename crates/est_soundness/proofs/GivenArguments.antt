@@ -15,7 +15,8 @@ use Rattle.est_expressions.specs.Operators.{is_given}
 use Rattle.est_expressions.specs.Selections.{Selection, Broken, parameter, type_in, declared_type}
 use Rattle.est_expressions.specs.Selections as select
 use Rattle.est_statements.specs.Statements.{is_place}
-use Rattle.est_statements.specs.Targets.{Variable as VariableAccess, target, path_target, bare}
+use Rattle.est_statements.specs.Targets.{target, path_target}
+use Rattle.est_declares.specs.BareVariables.{Variable as VariableAccess, bare}
 use Rattle.est_semantics.specs.declared.frame.Slot.{Slot}
 use Rattle.est_semantics.specs.Outcome.{Outcome, Done, Fault, Limit, ◌>>=◌, known}
 use Rattle.est_semantics.specs.WorkingState.{View}

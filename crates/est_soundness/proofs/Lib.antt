@@ -9,6 +9,8 @@ pub mod FittingFrames
 pub mod FittingOrdinals
 pub mod FittingRuns
 pub mod GivenArguments
+pub mod HostsByForm
+pub mod JoinedSets
 pub mod NamedArguments
 pub mod OperatorValues
 pub mod PartsFit

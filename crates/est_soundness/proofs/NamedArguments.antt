@@ -22,17 +22,18 @@ use Rattle.est_scope.specs.declared.declaration.Meant.TheVariants as meant
 use Rattle.est_scope.specs.declared.declaration.Member.TheVariants as member
 use Rattle.est_scope.specs.declared.declaration.Section.TheVariants as section
 use Rattle.est_scope.specs.declared.declaration.Sort.TheVariants as sort
-use Rattle.est_outline.specs.Bodies.{interaction_in, interaction_by, interaction_at, side_in}
+use Rattle.est_declares.specs.Bodies.{interaction_in, interaction_by, interaction_at, side_in}
 use Rattle.est_expressions.specs.Expressions.{are_taken}
 use Rattle.est_expressions.specs.Selections.{parameter}
-use Rattle.est_expressions.specs.Variables.{header_in}
+use Rattle.est_declares.specs.LookUps.{header_in}
 use Rattle.est_expressions.specs.declared.receivers.Receiver.{Receiver}
 use Rattle.est_expressions.specs.declared.receivers.Receiver.TheVariants as receiver
 use Rattle.est_statements.specs.Modules.{parameters_of, init_faults}
-use Rattle.est_statements.specs.Signals.{side_at, point_side, signal_in, signal_standing}
+use Rattle.est_statements.specs.Signals.{signal_in, signal_standing}
+use Rattle.est_declares.specs.LookUps.{side_at, point_side}
 use Rattle.est_statements.specs.Signals.{signal_of, sending_faults}
 use Rattle.est_statements.specs.Statements.{is_place}
-use Rattle.est_statements.specs.Modules as modules
+use Rattle.est_declares.specs.LookUps as modules
 use Rattle.est_semantics.specs.NamesInRuns.{header_at, interaction_of, is_place_section}
 use Rattle.est_semantics.specs.NamesInRuns.{takes_place, place_in, declared_at}
 use Rattle.est_fullness.specs.FullExpressions.{IsWhole}

@@ -30,10 +30,11 @@ use Rattle.est_alike.specs.Types.{Yielded, type_of, is_assignable}
 use Rattle.est_expressions.specs.Calls.{subscripts_of}
 use Rattle.est_expressions.specs.Expressions.{expr_type, row_taken}
 use Rattle.est_expressions.specs.Selections.{Selection, Broken, Value, SomeModule, takes_so_many}
-use Rattle.est_expressions.specs.Selections.{value_head, variable_head, module_head}
+use Rattle.est_expressions.specs.Selections.{variable_head, module_head}
 use Rattle.est_expressions.specs.Selections.{function_head}
 use Rattle.est_expressions.specs.Variables.{indexed, component, chosen_by, field_found, field_of}
-use Rattle.est_expressions.specs.Variables.{is_export, header_in, of_header, export_by}
+use Rattle.est_expressions.specs.Variables.{is_export, of_header, export_by}
+use Rattle.est_declares.specs.LookUps.{header_in}
 use Rattle.est_expressions.specs.Variables.{has_exports, export_of, selected_type}
 use Rattle.est_expressions.specs.Expressions as rules
 use Rattle.est_expressions.specs.Selections as select
@@ -162,7 +163,7 @@ AreModules _ p = ⊥
 abbrev pub OnHead : Outline → Selection → Head → Type 0
 OnHead o s Nothing = Unit {0}
 OnHead o s (Constant z) = Unit {0}
-OnHead o s (Function p k) = (kind_at o p ≡ Some k) × IsOr s (Value (type_of k))
+OnHead o s (Function p k) = (kind_at o p ≡ Some k) × IsOr s (select.Component k)
 OnHead o s (Variable p k) = (kind_at o p ≡ Some k) × IsOr s (select.Component k)
 OnHead o s (Modules p) = AreModules s p
 
@@ -183,10 +184,10 @@ module _ (o : Outline) where
       by (Some m) k g = (kind_is p e m i k, g)
 
   function_on : (p : ℕ) (e : Entry) (s : Selection) → entry_at o p ≡ Some e
-      → IsOr s (value_head e.kind) → OnHead o s (with_kind (Function p) e.kind)
+      → IsOr s (variable_head e.kind) → OnHead o s (with_kind (Function p) e.kind)
   function_on p e s i h = by e.kind refl h
     where
-      by : (m : Option Measured) → e.kind ≡ m → IsOr s (value_head m)
+      by : (m : Option Measured) → e.kind ≡ m → IsOr s (variable_head m)
           → OnHead o s (with_kind (Function p) m)
       by None k g = tt
       by (Some m) k g = (kind_is p e m i k, g)
@@ -196,7 +197,7 @@ module _ (o : Outline) where
   modules_on p (Some []) = refl
   modules_on p (Some (k ∷ ks)) = refl
 
-  function_or : (b : Bool) (m : Option Measured) → IsOr (function_head b m) (value_head m)
+  function_or : (b : Bool) (m : Option Measured) → IsOr (function_head b m) (variable_head m)
   function_or true m = inl refl
   function_or false m = inr refl
 
@@ -226,7 +227,7 @@ module _ (o : Outline) where
   target_sort_on : (p : ℕ) (e : Entry) (x : Sort) → entry_at o p ≡ Some e
       → OnHead o (target_by p e x) (head_by p e.kind x)
   target_sort_on p e sort.Variable i = variable_on p e (variable_head e.kind) i (inl refl)
-  target_sort_on p e sort.Function i = function_on p e (value_head e.kind) i (inl refl)
+  target_sort_on p e sort.Function i = function_on p e (variable_head e.kind) i (inl refl)
   target_sort_on p e sort.ModuleVariable i = modules_on p e.dims
   target_sort_on p e _ i = tt
 

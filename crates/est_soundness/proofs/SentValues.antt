@@ -14,7 +14,7 @@ use Rattle.est_scope.specs.declared.declaration.Entry.{Entry}
 use Rattle.est_scope.specs.declared.declaration.Measured.{Measured}
 use Rattle.est_scope.specs.declared.declaration.Standing.{Standing}
 use Rattle.est_scope.specs.declared.declaration.Sort.TheVariants as sort
-use Rattle.est_ports.specs.PortList.{kind_by, kinds_in}
+use Rattle.est_declares.specs.PortList.{kind_by, kinds_in}
 use Rattle.est_semantics.specs.declared.fault.BlockFault.{BlockFault}
 use Rattle.est_semantics.specs.declared.frame.Binding.{Binding}
 use Rattle.est_semantics.specs.declared.frame.Slot.{Slot}

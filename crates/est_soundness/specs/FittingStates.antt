@@ -4,7 +4,7 @@ use Rattle.std.specs.List.{AllByRecursion, AllZip}
 use Rattle.est_syntax.specs.declared.kind.Kind.{Kind}
 use Rattle.est_values.specs.FittingValues.{Fits}
 use Rattle.est_scope.specs.Outline.{Outline, names_of}
-use Rattle.est_ports.specs.PortList.{kinds_in}
+use Rattle.est_declares.specs.PortList.{kinds_in}
 use Rattle.est_semantics.specs.declared.frame.Binding.{Binding}
 use Rattle.est_semantics.specs.declared.frame.Slot.{Slot}
 use Rattle.est_semantics.specs.declared.situation.Item.{Item}

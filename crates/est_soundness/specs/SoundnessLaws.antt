@@ -7,7 +7,7 @@ use Rattle.est_syntax.specs.declared.kind.Kind.{Kind}
 use Rattle.est_syntax.specs.declared.specification.Spec.{Spec}
 use Rattle.est_values.specs.declared.value.Value.{Value}
 use Rattle.est_values.specs.FittingValues.{Fits}
-use Rattle.est_outline.specs.Bodies.{outline_of}
+use Rattle.est_declares.specs.Bodies.{outline_of}
 use Rattle.est_alike.specs.Alike.{is_alike}
 use Rattle.est_alike.specs.Types.{Yielded}
 use Rattle.est_expressions.specs.Expressions.{expr_type}

@@ -1,4 +1,6 @@
 //! Values fit the kinds of what holds them.
+ghost use Rattle.est_soundness.specs.HostsOfForms.{HostsAreThoseOfRules};
+ghost use Rattle.est_soundness.specs.SetMembers.{UnitedMembersAreInEither, SpansAddTheirMembers};
 ghost use Rattle.est_soundness.specs.SoundnessLaws.{AlikeKindsHaveOneValue, ExpressionsFit};
 ghost use Rattle.est_soundness.specs.SoundnessLaws.{StartsFit, FiringsFit, EventsFit, RunsFit};
 ghost use Rattle.est_soundness.specs.SoundnessLaws.{ExplainedTracesAreAllowed};
@@ -13,6 +15,19 @@ pub fn alike_kinds_have_one_value()
 #[tactic(auto, using(crate::proofs::FittingRuns::expressions_fit))]
 pub fn expressions_fit()
     ensures { ExpressionsFit }
+{}
+
+/// Where an expression yields an ordinal by the rules, its host by form is the host of that.
+#[tactic(auto, using(crate::proofs::HostsByForm::hosts_by_rules))]
+pub fn hosts_are_those_of_rules()
+    ensures { HostsAreThoseOfRules }
+{}
+
+/// A union has the members of either set, and a span adds those between its ends.
+#[tactic(auto, using(crate::proofs::JoinedSets::united_members, crate::proofs::JoinedSets::span_members))]
+pub fn joined_sets_have_their_members()
+    ensures either { UnitedMembersAreInEither }
+    ensures spans { SpansAddTheirMembers }
 {}
 
 /// After the start, after each firing, and after what the outside does, values fit the kinds of

@@ -1,4 +1,5 @@
 -- What a statement breaks by the lists, boxes and options that it is made of.
+use Rattle.std.specs.Prelude.{flat_map}
 use Rattle.std.proofs.Common.{◌≡◌, refl, sym, ap, ◌∙◌, ℕ, Bool, List, [], ◌++◌, Option, Some, None}
 use Rattle.est_syntax.specs.declared.expression.Expr.{Expr}
 use Rattle.est_syntax.specs.declared.name.Used.{Used}
@@ -27,7 +28,7 @@ use Rattle.est_statements.specs.Cases.{Chosen, chosen_host, with_constants}
 use Rattle.est_statements.specs.Statements.{wanted_faults, for_faults, within_loop, over_faults}
 use Rattle.est_statements.specs.Statements.{statement_faults, box_statement, held_statement}
 use Rattle.est_statements.specs.Statements.{row_statements, row_arms, option_faults}
-use Rattle.est_statements.specs.Statements.{statements_faults, arm_faults, arms_faults}
+use Rattle.est_statements.specs.Statements.{arm_faults, arms_faults}
 
 pub statement_hidden : (o : Outline) (f : Option ℕ) (loops : List ℕ) (s : Statement)
     → box_statement o f loops (hidden-the_row-Statement-1 s) ≡ statement_faults o f loops s
@@ -41,16 +42,16 @@ second_back o f loops (Some s) = statement_hidden o f loops s
 
 pub statements_listed : (o : Outline) (f : Option ℕ) (loops : List ℕ) (n : _)
     (row : Row_of-Statement n)
-    → row_statements o f loops row ≡ statements_faults o f loops (items-the_row-Statement n row)
+    → row_statements o f loops row ≡ flat_map (statement_faults o f loops) (items-the_row-Statement n row)
 statements_listed o f loops n end_of-Statement = refl
 statements_listed o f loops n (more_of-Statement s rest) =
     ap (λ l. statement_faults o f loops s ++ l) (statements_listed o f loops _ rest)
 
 pub statements_hidden : (o : Outline) (f : Option ℕ) (loops : List ℕ) (ss : List Statement)
-    → row_statements o f loops (hidden-the_row-Statement-0 ss) ≡ statements_faults o f loops ss
+    → row_statements o f loops (hidden-the_row-Statement-0 ss) ≡ flat_map (statement_faults o f loops) ss
 statements_hidden o f loops ss =
     statements_listed o f loops _ (hidden-the_row-Statement-0 ss)
-    ∙ ap (statements_faults o f loops) (items_hidden-the_row-Statement-0 ss)
+    ∙ ap (flat_map (statement_faults o f loops)) (items_hidden-the_row-Statement-0 ss)
 
 pub arms_listed : (o : Outline) (f : Option ℕ) (loops : List ℕ) (h : Option Host) (seen : Chosen)
     (n : _) (row : Row_of-Arm n)
@@ -70,7 +71,7 @@ arms_hidden o f loops h seen ns =
 pub compound_at : (o : Outline) (f : Option ℕ) (loops : List ℕ) (s : Statement)
     (ss : List Statement) (place : ℕ)
     → s ≡ statement.Compound ss place
-    → statement_faults o f loops s ≡ statements_faults o f loops ss
+    → statement_faults o f loops s ≡ flat_map (statement_faults o f loops) ss
 compound_at o f loops s ss place h =
     ap (statement_faults o f loops) h ∙ statements_hidden o f loops ss
 
@@ -109,7 +110,7 @@ pub repeat_at : (o : Outline) (f : Option ℕ) (loops : List ℕ) (s : Statement
     (turn : List Statement) (condition : Expr) (place : ℕ)
     → s ≡ statement.Repeat turn condition place
     → statement_faults o f loops s
-    ≡ statements_faults o f loops turn ++ wanted_faults o wanted.Boolean condition
+    ≡ flat_map (statement_faults o f loops) turn ++ wanted_faults o wanted.Boolean condition
 repeat_at o f loops s turn condition place h =
     ap (statement_faults o f loops) h
     ∙ (λ i. statements_hidden o f loops turn i ++ wanted_faults o wanted.Boolean condition)

@@ -1,11 +1,11 @@
 -- The constants of a `case` (ISO 7185, 6.8.3.5).
 use Rattle.std.specs.Prelude.{ℕ, ℤ, Bool, false, List, [], ◌∷◌, ◌++◌}
-use Rattle.std.specs.Prelude.{Option, Some, None, if◌then◌else◌}
+use Rattle.std.specs.Prelude.{Option, Some, None, is_some, if◌then◌else◌}
 use Rattle.std.specs.Map.{lookup}
 use Rattle.std.specs.Option.{option_map_or}
 use Rattle.std.specs.Ordering.{int_eq}
 use Rattle.indexmap.specs.IndexMap.{insert_entry}
-use Rattle.est_syntax.specs.Faults.{broken}
+use Rattle.est_syntax.specs.Faults.{broken, broken_if}
 use Rattle.est_syntax.specs.declared.constant.Constant.{Constant}
 use Rattle.est_syntax.specs.declared.rule.Fault.{Fault}
 use Rattle.est_syntax.specs.declared.rule.Rule.TheVariants.{WrongKind, CaseTwice}
@@ -39,25 +39,16 @@ host_faults (Some h) (Some v) place =
     if is_kind_of h (host_in v.host) then [] else broken place WrongKind
 host_faults _ _ place = []
 
--- the ordinals with one more, unless it stands there already at a place
-abbrev pub added_by : Option ℕ → ℤ → ℕ → Chosen → Chosen
-added_by None z place seen = insert_entry int_eq seen z place
-added_by (Some p) z place seen = seen
-
--- the ordinals with that of a constant, if it has one
+-- the ordinals with that of a constant, if it has one, unless it stands there already
 abbrev pub with_ordinal : Option ℤ → ℕ → Chosen → Chosen
 with_ordinal None place seen = seen
-with_ordinal (Some z) place seen = added_by (lookup (int_eq z) seen) z place seen
+with_ordinal (Some z) place seen =
+    if is_some (lookup (int_eq z) seen) then seen else insert_entry int_eq seen z place
 
--- what an ordinal breaks that stands there already at a place
-abbrev pub again_by : Option ℕ → ℕ → List Fault
-again_by None place = []
-again_by (Some p) place = broken place CaseTwice
-
--- what the ordinal of a constant breaks, if it has one
+-- what the ordinal of a constant breaks, if it has one that stands there already
 abbrev pub again_faults : Option ℤ → Chosen → ℕ → List Fault
 again_faults None seen place = []
-again_faults (Some z) seen place = again_by (lookup (int_eq z) seen) place
+again_faults (Some z) seen place = broken_if (is_some (lookup (int_eq z) seen)) place CaseTwice
 
 -- the ordinals with that of one constant more
 abbrev pub with_constant : Outline → Option Host → Chosen → Constant → Chosen

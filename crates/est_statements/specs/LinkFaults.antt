@@ -25,8 +25,8 @@ use Rattle.est_scope.specs.Outline.{Outline, entry_at, standing}
 use Rattle.est_scope.specs.Uses.{is_sort, meaning, meaning_faults, declaration_of}
 use Rattle.est_expressions.specs.Expressions.{are_taken_faults}
 use Rattle.est_expressions.specs.Accesses.{subscripts_at, access_faults}
-use Rattle.est_statements.specs.Signals.{side_at, point_side}
-use Rattle.est_statements.specs.Modules.{header_at}
+use Rattle.est_declares.specs.LookUps.{side_at, point_side}
+use Rattle.est_declares.specs.LookUps.{header_at}
 
 -- whether an interaction point or a module variable is declared
 abbrev pub is_end_sort : Option Entry → Bool

@@ -16,21 +16,12 @@ use Rattle.est_scope.specs.declared.declaration.Section.TheVariants as section
 use Rattle.est_scope.specs.declared.declaration.Sort.TheVariants as sort
 use Rattle.est_scope.specs.Outline.{Outline, entry_at, lies_in}
 use Rattle.est_scope.specs.Uses.{declaration_of, use_faults}
+use Rattle.est_declares.specs.LookUps.{header_in, header_at}
 use Rattle.est_expressions.specs.declared.receivers.Receiver.{Receiver}
 use Rattle.est_expressions.specs.declared.receivers.Receiver.TheVariants as receiver
-use Rattle.est_expressions.specs.Variables.{header_in}
+use Rattle.est_declares.specs.LookUps.{header_in}
 use Rattle.est_expressions.specs.Expressions.{are_taken_faults}
 use Rattle.est_expressions.specs.Accesses.{access_faults}
-
--- the header of the module variable or body that is declared at a place
-abbrev pub header_at : Outline → Option ℕ → Option ℕ
-header_at o place = header_in (option_and_then (entry_at o) place)
-
--- the header of the module that a specification starts, by its initialization
-abbrev pub started_header : Outline → Statement → Option ℕ
-started_header o (statement.Init target body arguments place) =
-    header_at o (declaration_of o sort.ModuleVariable target.name)
-started_header o _ = None
 
 -- the name of an `all` gets no module
 abbrev pub section_faults : Section → ℕ → List Fault

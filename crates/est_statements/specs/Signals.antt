@@ -21,25 +21,11 @@ use Rattle.est_scope.specs.declared.declaration.Sort.TheVariants as sort
 use Rattle.est_scope.specs.declared.declaration.Standing.{Standing}
 use Rattle.est_scope.specs.Outline.{Outline, entry_at, member_at, standing}
 use Rattle.est_scope.specs.Uses.{declaration_of}
+use Rattle.est_declares.specs.LookUps.{point_side, may_pass}
 use Rattle.est_expressions.specs.declared.receivers.Receiver.{Receiver}
 use Rattle.est_expressions.specs.declared.receivers.Receiver.TheVariants as receiver
 use Rattle.est_expressions.specs.Expressions.{are_taken_faults}
 use Rattle.est_expressions.specs.Accesses.{access_faults}
-
--- the channel and the role of the interaction point that is declared at a place
-abbrev pub side_at : Outline → Option ℕ → Option Side
-side_at o place = option_and_then (λ (e : Entry). e.side) (option_and_then (entry_at o) place)
-
--- the channel and the role of the interaction point that a name means
-abbrev pub point_side : Outline → Used → Option Side
-point_side o at = side_at o (declaration_of o sort.Point at)
-
--- whether a role of a channel sends or receives an interaction that these roles may send
-abbrev pub may_pass : Direction → Role → Senders → Bool
-may_pass Sends First s = s.first
-may_pass Sends Second s = s.second
-may_pass Receives First s = s.second
-may_pass Receives Second s = s.first
 
 -- what a name of a channel breaks that is no interaction, or that does not pass this way
 abbrev pub direction_faults : Direction → Role → Option Member → ℕ → List Fault
@@ -84,8 +70,3 @@ sending_faults o s =
     signal_faults o Sends s.at s.signal
     ++ are_taken_faults o (signal_of o (point_side o s.at.name) s.signal) 0 s.signal.place
     s.arguments
-
--- interactions that are sent, in order
-abbrev pub sendings_faults : Outline → List Sending → List Fault
-sendings_faults o [] = []
-sendings_faults o (s ∷ ss) = sending_faults o s ++ sendings_faults o ss

@@ -1,4 +1,5 @@
 -- The rules that statements break (ISO 7185, 6.8; ISO 9074, statements).
+use Rattle.std.specs.Prelude.{flat_map}
 use Rattle.std.specs.Prelude.{ℕ, ◌+◌, Bool, true, false, List, [], ◌∷◌}
 use Rattle.std.specs.Prelude.{◌++◌, Option, Some, None, if◌then◌else◌}
 use Rattle.est_syntax.specs.Faults.{broken}
@@ -33,11 +34,11 @@ use Rattle.est_expressions.specs.Selections.{parameter, type_in}
 use Rattle.est_expressions.specs.Receivers.{number_faults}
 use Rattle.est_expressions.specs.ExpressionPlaces.{expr_place}
 use Rattle.est_expressions.specs.Variables.{selected_type}
-use Rattle.est_expressions.specs.Expressions.{expr_type, expr_faults, exprs_faults}
+use Rattle.est_expressions.specs.Expressions.{expr_type, expr_faults}
 use Rattle.est_expressions.specs.Accesses.{access_faults}
 use Rattle.est_statements.specs.Targets.{target, target_faults, end_faults}
 use Rattle.est_statements.specs.Targets.{assign_faults, place_faults}
-use Rattle.est_statements.specs.Signals.{sendings_faults}
+use Rattle.est_statements.specs.Signals.{sending_faults}
 use Rattle.est_statements.specs.Modules.{init_faults}
 use Rattle.est_statements.specs.LinkFaults.{connect_faults, attach_faults, untied_faults}
 use Rattle.est_statements.specs.Cases.{Chosen, chosen_host, with_constants, choices_faults}
@@ -76,7 +77,7 @@ arguments_faults o f loops p i name (e ∷ es) =
 -- what arguments break after a name, which is that of a procedure or of none
 abbrev pub called_faults :
     Outline → Option ℕ → List ℕ → Option ℕ → ℕ → List Expr → List Fault
-called_faults o f loops None name es = exprs_faults o es
+called_faults o f loops None name es = flat_map (expr_faults o) es
 called_faults o f loops (Some p) name es = arguments_faults o f loops p 0 name es
 
 -- a procedure with its arguments
@@ -139,7 +140,7 @@ plain_faults o f loops (statement.Assign target path value place) =
 plain_faults o f loops (statement.Call name arguments place) =
     function_faults f place ++ call_faults o f loops name arguments
 plain_faults o f loops (statement.Output sendings place) =
-    function_faults f place ++ sendings_faults o sendings
+    function_faults f place ++ flat_map (sending_faults o) sendings
 plain_faults o f loops (statement.Init target body arguments place) =
     function_faults f place ++ init_faults o target body arguments
 plain_faults o f loops (statement.Release target place) =
@@ -195,12 +196,6 @@ abbrev mutual
 abbrev pub option_faults : Outline → Option ℕ → List ℕ → Option Statement → List Fault
 option_faults o f loops None = []
 option_faults o f loops (Some s) = statement_faults o f loops s
-
--- what statements break, in order
-abbrev pub statements_faults : Outline → Option ℕ → List ℕ → List Statement → List Fault
-statements_faults o f loops [] = []
-statements_faults o f loops (s ∷ ss) =
-    statement_faults o f loops s ++ statements_faults o f loops ss
 
 -- what a choice of a `case` breaks, after those before it
 abbrev pub arm_faults : Outline → Option ℕ → List ℕ → Option Host → Chosen → Arm → List Fault

@@ -36,15 +36,17 @@ use Rattle.est_scope.specs.Uses.{meaning, meaning_faults}
 use Rattle.est_kinds.specs.declared.value.Valued.{Valued}
 use Rattle.est_kinds.specs.Constants.{predeclared_constant}
 use Rattle.est_alike.specs.Alike.{is_alike}
-use Rattle.est_expressions.specs.declared.names.Required.{Required}
+use Rattle.est_declares.specs.declared.required.Required.{Required}
+use Rattle.est_declares.specs.BareVariables.{Variable, bare}
 use Rattle.est_expressions.specs.Operators.{gives}
 use Rattle.est_expressions.specs.Selections.{Selection, Broken, Component, Modules, Module}
-use Rattle.est_expressions.specs.Selections.{SomeModule, value_head, variable_head}
-use Rattle.est_expressions.specs.Selections.{module_head, required_function}
+use Rattle.est_expressions.specs.Selections.{SomeModule, variable_head}
+use Rattle.est_expressions.specs.Selections.{module_head}
+use Rattle.est_declares.specs.RequiredFunctions.{required_function}
 use Rattle.est_expressions.specs.ExpressionPlaces.{expr_place}
 use Rattle.est_expressions.specs.Variables.{selected_type}
 use Rattle.est_expressions.specs.Expressions.{expr_type, expr_faults, selected, selected_faults}
-use Rattle.est_statements.specs.declared.targets.VariableAccess.{VariableAccess}
+use Rattle.est_declares.specs.declared.variables.VariableAccess.{VariableAccess}
 
 -- the names of an `any`, a `when` and an `all` are not written
 abbrev pub is_written_section : Section → Bool
@@ -88,7 +90,7 @@ is_writable f loops p s _ = false
 abbrev pub target_by : ℕ → Entry → Sort → Selection
 target_by p e sort.Variable = variable_head e.kind
 target_by p e sort.ModuleVariable = module_head e.dims p
-target_by p e sort.Function = value_head e.kind
+target_by p e sort.Function = variable_head e.kind
 target_by p e _ = Broken
 
 -- what is declared is as a target, where it may be written
@@ -206,50 +208,6 @@ abbrev pub assign_faults : Outline → Option ℕ → List ℕ → Used → List
 assign_faults o f loops u path e =
     path_target_faults o f loops u path ++ expr_faults o e
     ++ gives (selected_type (path_target o f loops u path)) (expr_type o e) (expr_place e)
-
--- a variable: its name and its selectors
-abbrev pub Variable : Type 0
-Variable = Used × List Selector
-
--- the variable that an operand is, if it is one and nothing else
-abbrev pub bare_factor : Factor → Option Variable
-bare_factor x = held (out-Factor x)
-  where
-    held : opened.Factor-F Factor Selector Expr Member ProductStep Relation Simple SumStep Term
-        → Option Variable
-    held (opened.Variable name path place) = Some (name, path)
-    held _ = None
-
--- that of a product of this operand and these steps
-abbrev pub bare_product : Factor → List ProductStep → Option Variable
-bare_product x [] = bare_factor x
-bare_product x (s ∷ ss) = None
-
--- that of a product
-abbrev pub bare_term : Term → Option Variable
-bare_term t = bare_product (out-Term t).first (out-Term t).rest
-
--- that of a sum of a sign, if there is one, this operand and these steps
-abbrev pub bare_sum : Option Sign → Term → List SumStep → Option Variable
-bare_sum None t [] = bare_term t
-bare_sum _ t ss = None
-
--- that of a sum
-abbrev pub bare_simple : Simple → Option Variable
-bare_simple s = bare_sum (out-Simple s).sign (out-Simple s).first (out-Simple s).rest
-
--- that of an expression of this sum and a relation, if there is one
-abbrev pub bare_by : Simple → Option Relation → Option Variable
-bare_by s None = bare_simple s
-bare_by s (Some r) = None
-
--- that of an expression
-abbrev pub bare : Expr → Option Variable
-bare e = bare_by (out-Expr e).left (out-Expr e).relation
-
--- what the program keeps says so
-abbrev pub variable_of : Option VariableAccess → Option Variable
-variable_of access = option_map (λ (a : VariableAccess). (a.name.now, a.path.now)) access
 
 -- what stands for a `var` parameter of this kind is alike to it
 abbrev pub unlike_faults : Option Measured → Selection → ℕ → List Fault

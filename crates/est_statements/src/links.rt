@@ -18,8 +18,7 @@ ghost use Rattle.est_statements.specs.LinkFaults.{do_connect, do_attach, opposed
 ghost use Rattle.est_statements.specs.LinkFaults.{joined_faults, connect_faults, attach_faults};
 ghost use Rattle.est_statements.specs.LinkFaults.{untied_faults};
 
-use crate::modules::header_at;
-use crate::signals::{point_side, side_at};
+use est_declares::lookups::{header_at, point_side, side_at};
 use est_expressions::accesses::check_access;
 use est_expressions::expressions::check_taken;
 use est_expressions::receivers::Receiver;

@@ -4,14 +4,16 @@
 ghost use Rattle.std.specs.Prelude.{◌≡◌};
 ghost use Rattle.est_scope.specs.LeastSoFar.{least_with};
 ghost use Rattle.est_scope.specs.Outline.{entry_at};
-ghost use Rattle.est_statements.specs.Modules.{header_at, section_faults, started_by};
+ghost use Rattle.est_statements.specs.Modules.{section_faults, started_by};
+ghost use Rattle.est_declares.specs.LookUps.{header_at};
 ghost use Rattle.est_statements.specs.Modules.{started_faults, header_faults, body_faults};
-ghost use Rattle.est_statements.specs.Modules.{parameters_of, init_faults, started_header};
+ghost use Rattle.est_statements.specs.Modules.{parameters_of, init_faults};
+ghost use Rattle.est_declares.specs.LookUps.{started_header};
 
+use est_declares::lookups::{header_at, header_in};
 use est_expressions::accesses::check_access;
 use est_expressions::expressions::check_taken;
 use est_expressions::receivers::Receiver;
-use est_expressions::variables::header_in;
 use est_scope::declaration::{Section, Sort};
 use est_scope::least::Least;
 use est_scope::outline::Outline;
@@ -19,31 +21,6 @@ use est_syntax::expression::{Access, Expr};
 use est_syntax::name::Used;
 use est_syntax::rule::Rule;
 use est_syntax::statement::Statement;
-
-/// The header of the module variable or body that is declared at a place.
-pub fn header_at(outline: &Outline, place: Option<u32>) -> Option<u32>
-    ensures { result ≡ header_at outline.now place }
-{
-    match place {
-        None => None,
-        Some(place) => header_in(outline, place),
-    }
-}
-
-/// The header of the module that a specification starts, by the place of its name.
-pub fn started_header(outline: &Outline, first: &Statement) -> Option<u32>
-    ensures { result ≡ started_header outline.now first.now }
-{
-    match first {
-        Statement::Init { target, .. } => {
-            header_at(
-                outline,
-                outline.declaration_of(Sort::ModuleVariable, &target.name),
-            )
-        }
-        _ => None,
-    }
-}
 
 // Notes the name of an `all`, which gets no module.
 fn check_section(section: Section, place: u32, least: &mut Least)

@@ -1,14 +1,17 @@
 //! Interaction points and what passes them (ISO 9074, output and when-clause).
 #![tactic(auto, using(est_scope::proofs::LeastLaws::least_append))]
 
+ghost use Rattle.std.specs.Prelude.{flat_map};
 ghost use Rattle.std.specs.Prelude.{◌≡◌};
 ghost use Rattle.est_scope.specs.LeastSoFar.{least_with};
 ghost use Rattle.est_scope.specs.Outline.{member_at};
-ghost use Rattle.est_statements.specs.Signals.{side_at, point_side, may_pass, direction_faults};
+ghost use Rattle.est_statements.specs.Signals.{direction_faults};
+ghost use Rattle.est_declares.specs.LookUps.{side_at, point_side, may_pass};
 ghost use Rattle.est_statements.specs.Signals.{standing_faults, signal_by_faults, signal_faults};
 ghost use Rattle.est_statements.specs.Signals.{signal_in, signal_standing, signal_of};
-ghost use Rattle.est_statements.specs.Signals.{sending_faults, sendings_faults};
+ghost use Rattle.est_statements.specs.Signals.{sending_faults};
 
+use est_declares::lookups::{may_pass, point_side};
 use est_expressions::accesses::check_access;
 use est_expressions::expressions::check_taken;
 use est_expressions::receivers::Receiver;
@@ -21,38 +24,6 @@ use est_syntax::name::Used;
 use est_syntax::ports::Direction;
 use est_syntax::rule::Rule;
 use est_syntax::statement::Sending;
-
-/// The channel and the role of the interaction point that is declared at a place.
-pub fn side_at(outline: &Outline, place: Option<u32>) -> Option<Side>
-    ensures { result ≡ side_at outline.now place }
-{
-    match place {
-        None => None,
-        Some(place) => match outline.entry(place) {
-            None => None,
-            Some(entry) => entry.side,
-        },
-    }
-}
-
-/// The channel and the role of the interaction point that a name means.
-pub fn point_side(outline: &Outline, at: &Used) -> Option<Side>
-    ensures { result ≡ point_side outline.now at.now }
-{
-    side_at(outline, outline.declaration_of(Sort::Point, at))
-}
-
-/// Whether a role of a channel sends or receives an interaction that these roles may send.
-pub fn may_pass(direction: Direction, role: Role, senders: Senders) -> bool
-    ensures { result ≡ may_pass direction role senders }
-{
-    match (direction, role) {
-        (Direction::Sends, Role::First) => senders.first,
-        (Direction::Sends, Role::Second) => senders.second,
-        (Direction::Receives, Role::First) => senders.second,
-        (Direction::Receives, Role::Second) => senders.first,
-    }
-}
 
 // Notes a name of a channel that is no interaction, or one that does not pass this way.
 fn check_direction(
@@ -189,7 +160,7 @@ fn check_sending(outline: &Outline, sending: &Sending, least: &mut Least)
 
 /// Interactions that are sent.
 pub fn check_sendings(outline: &Outline, sendings: &[Sending], least: &mut Least)
-    ensures { least.new.at ≡ least_with least.old.at (sendings_faults outline.now sendings.now) }
+    ensures { least.new.at ≡ least_with least.old.at (flat_map (sending_faults outline.now) sendings.now) }
 {
     for sending in sendings {
         check_sending(outline, sending, least);

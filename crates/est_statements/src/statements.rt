@@ -1,6 +1,7 @@
 //! The rules that statements break (ISO 7185, 6.8; ISO 9074, statements).
 #![tactic(auto, using(crate::proofs::StatementRows::rows))]
 
+ghost use Rattle.std.specs.Prelude.{flat_map};
 ghost use Rattle.std.specs.Prelude.{◌≡◌, ◌++◌, [], IfOk, OnOk};
 ghost use Rattle.est_scope.specs.LeastSoFar.{least_with};
 ghost use Rattle.est_kinds.specs.Dims.{dim_faults};
@@ -14,7 +15,7 @@ ghost use Rattle.est_statements.specs.Statements.{argument_faults, arguments_fau
 ghost use Rattle.est_statements.specs.Statements.{call_faults, bound_faults, for_faults};
 ghost use Rattle.est_statements.specs.Statements.{within_loop, over_faults, link_faults};
 ghost use Rattle.est_statements.specs.Statements.{plain_faults, statement_faults, option_faults};
-ghost use Rattle.est_statements.specs.Statements.{statements_faults, arm_faults, arms_faults};
+ghost use Rattle.est_statements.specs.Statements.{arm_faults, arms_faults};
 
 use crate::cases::{Chosen, check_choices, chosen_host};
 use crate::links::{check_attach, check_connect, check_untied};
@@ -437,7 +438,7 @@ fn check_repeat(
     least: &mut Least,
 ) -> Result<(), AllocError>
     ensures { OnOk result (least.new.at ≡ least_with least.old.at
-        (statements_faults outline.now function loops.now turn.now
+        (flat_map (statement_faults outline.now function loops.now) turn.now
         ++ wanted_faults outline.now wanted.Boolean until.now)) }
 {
     check_statements(alloc, outline, function, loops, turn.as_slice(), least)?;
@@ -501,7 +502,7 @@ pub fn check_statements(
     least: &mut Least,
 ) -> Result<(), AllocError>
     ensures { OnOk result (least.new.at ≡ least_with least.old.at
-        (statements_faults outline.now function loops.now statements.now)) }
+        (flat_map (statement_faults outline.now function loops.now) statements.now)) }
 {
     for statement in statements {
         check_statement(alloc, outline, function, loops, statement, least)?;

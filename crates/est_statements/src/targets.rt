@@ -7,7 +7,8 @@ ghost use Rattle.std.specs.Option.{option_copied};
 ghost use Rattle.est_scope.specs.LeastSoFar.{least_with};
 ghost use Rattle.est_scope.specs.Outline.{entry_at};
 ghost use Rattle.est_kinds.specs.Constants.{predeclared_constant};
-ghost use Rattle.est_expressions.specs.Selections.{selects, required_function};
+ghost use Rattle.est_expressions.specs.Selections.{selects};
+ghost use Rattle.est_declares.specs.RequiredFunctions.{required_function};
 ghost use Rattle.est_statements.specs.Targets.{is_written_section, is_within, is_uncontrolled};
 ghost use Rattle.est_statements.specs.Targets.{may_write, is_own};
 ghost use Rattle.est_statements.specs.Targets.{is_procedural, is_writable, target_by, target_in};
@@ -18,12 +19,15 @@ ghost use Rattle.est_statements.specs.Targets.{target, is_target_sort, entry_tar
 ghost use Rattle.est_statements.specs.Targets.{target_in_faults, function_target};
 ghost use Rattle.est_statements.specs.Targets.{predeclared_target, target_faults, end_faults};
 ghost use Rattle.est_statements.specs.Targets.{path_target, path_target_faults, assign_faults};
-ghost use Rattle.est_statements.specs.Targets.{variable_of, bare_factor, bare_term, bare_simple};
-ghost use Rattle.est_statements.specs.Targets.{bare, unlike_faults, place_faults};
+ghost use Rattle.est_declares.specs.BareVariables.{variable_of, bare_factor, bare_term, bare_simple};
+ghost use Rattle.est_statements.specs.Targets.{unlike_faults, place_faults};
+ghost use Rattle.est_declares.specs.BareVariables.{bare};
 
 use est_alike::alike::is_alike;
+use est_declares::required::required_function;
+use est_declares::variables::bare;
 use est_expressions::expressions::{check_expr, check_selectors};
-use est_expressions::names::{Selected, module_head, required_function, value_head, variable_head};
+use est_expressions::names::{Selected, module_head, variable_head};
 use est_expressions::operators::gives;
 use est_expressions::variables::selected_type;
 use est_scope::declaration::{Entry, Meant, Measured, Section, SharedKinds, Sort};
@@ -34,13 +38,6 @@ use est_syntax::expression::{Expr, Factor, Selector, Simple, Term};
 use est_syntax::kind::Kind;
 use est_syntax::name::Used;
 use est_syntax::rule::Rule;
-
-/// The variable that an expression is: its name and its selectors.
-#[derive(Clone, Copy)]
-pub struct VariableAccess<'e> {
-    pub name: &'e Used,
-    pub path: &'e [Selector],
-}
 
 // Whether names that this section declares are written.
 fn is_written_section(section: Section) -> bool
@@ -118,7 +115,7 @@ fn target_by<'o>(place: u32, entry: &'o Entry) -> Selected<'o>
     match entry.declared.sort {
         Sort::Variable => variable_head(&entry.kind),
         Sort::ModuleVariable => module_head(&entry.dims, place),
-        Sort::Function => value_head(&entry.kind),
+        Sort::Function => variable_head(&entry.kind),
         _ => Selected::Broken,
     }
 }
@@ -359,55 +356,6 @@ pub fn check_assign(
     let selected = check_path(outline, function, loops, used, path, least);
     let kind = check_expr(outline, value, least);
     gives(selected_type(selected), kind, value.place, least);
-}
-
-// The variable that an operand is.
-fn bare_factor(factor: &Factor) -> Option<VariableAccess<'_>>
-    ensures { variable_of result ≡ bare_factor factor.now }
-{
-    match factor {
-        Factor::Variable {
-            name,
-            path,
-            place: _,
-        } => Some(VariableAccess {
-            name,
-            path: path.as_slice(),
-        }),
-        _ => None,
-    }
-}
-
-// The variable that a product is.
-fn bare_term(term: &Term) -> Option<VariableAccess<'_>>
-    ensures { variable_of result ≡ bare_term term.now }
-{
-    if term.rest.as_slice().is_empty() {
-        bare_factor(&term.first)
-    } else {
-        None
-    }
-}
-
-// The variable that a sum is.
-fn bare_simple(simple: &Simple) -> Option<VariableAccess<'_>>
-    ensures { variable_of result ≡ bare_simple simple.now }
-{
-    if simple.sign.is_none() && simple.rest.as_slice().is_empty() {
-        bare_term(&simple.first)
-    } else {
-        None
-    }
-}
-
-/// The variable that an expression is, if it is one and nothing else.
-pub fn bare(expr: &Expr) -> Option<VariableAccess<'_>>
-    ensures { variable_of result ≡ bare expr.now }
-{
-    match &expr.relation {
-        None => bare_simple(&expr.left),
-        Some(_) => None,
-    }
 }
 
 // Notes a variable of another kind than that of the parameter that it stands for.

@@ -22,8 +22,8 @@ use Rattle.est_scope.specs.declared.declaration.Member.{Member}
 use Rattle.est_scope.specs.declared.declaration.Sort.TheVariants as sort
 use Rattle.est_scope.specs.declared.declaration.Standing.{Standing}
 use Rattle.est_scope.specs.declared.declaration.Within.{Within}
-use Rattle.est_outline.specs.Declares.{names_declare, numbers_declare, kinds_given}
-use Rattle.est_outline.specs.Entries.{numbered}
+use Rattle.est_declares.specs.Declares.{names_declare, numbers_declare, kinds_given}
+use Rattle.est_declares.specs.Entries.{numbered}
 use Rattle.est_order.proofs.Tables.{one_number, tested, inserted_here, inserted_apart, set_here}
 use Rattle.est_order.proofs.Tables.{set_apart}
 use Rattle.est_expressions.specs.Selections.{is_parameter}

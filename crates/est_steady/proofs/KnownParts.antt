@@ -52,35 +52,35 @@ use Rattle.est_kinds.specs.Constants.{constant_value, constant_place, constant_l
 use Rattle.est_kinds.specs.Dims.{dims_of, dims_elements}
 use Rattle.est_kinds.specs.TypeTexts.{text_type, text_place, named_type, scalar}
 use Rattle.est_kinds.specs.declared.value.Valued.{Valued}
-use Rattle.est_outline.specs.Bodies.{Clausal, statement_place, all_by, over_header, all_named}
-use Rattle.est_outline.specs.Bodies.{expr_place, arm_lying, within_declares, row_statements}
-use Rattle.est_outline.specs.Bodies.{held_declares, row_arms, statement_declares}
-use Rattle.est_outline.specs.Bodies.{statements_declare}
-use Rattle.est_outline.specs.Bodies.{clause_declares, clauses_declare, body_named, body_header}
-use Rattle.est_outline.specs.Bodies.{header_given, inside, routine_sort, routine_named}
-use Rattle.est_outline.specs.Bodies.{result_given}
-use Rattle.est_outline.specs.Bodies.{to_lying, closed_by, part_declares, row_parts}
-use Rattle.est_outline.specs.Bodies.{first_declares, row_groups, row_transitions, parts_declare}
-use Rattle.est_outline.specs.Bodies.{outline_of}
-use Rattle.est_outline.specs.Contexts.{under, dropped, given}
-use Rattle.est_outline.specs.Declares.{names_declare, kinds_given, constdef_declares}
-use Rattle.est_outline.specs.Declares.{consts_declare}
-use Rattle.est_outline.specs.Declares.{text_declares, typedef_declares, types_declare, vardef_named}
-use Rattle.est_outline.specs.Declares.{vardef_declares, vars_declare, roles_put, typedef_named}
-use Rattle.est_outline.specs.Declares.{interaction_declares, interactions_declare, senders}
-use Rattle.est_outline.specs.Declares.{by_part_declares, by_parts_declare, channel_declares}
-use Rattle.est_outline.specs.Declares.{side_of}
-use Rattle.est_outline.specs.Declares.{point_declares, points_declare, modvar_declares}
-use Rattle.est_outline.specs.Declares.{modvars_declare, before, after, stands_before}
-use Rattle.est_outline.specs.Declares.{sections_declare, has_exports, header_named, header_declares}
-use Rattle.est_outline.specs.Declares.{states_declare, states_named, stateset_declares}
-use Rattle.est_outline.specs.Declares.{statesets_declare, formal_section, formal_named}
-use Rattle.est_outline.specs.Declares.{formal_declares, formals_declare}
-use Rattle.est_outline.specs.Entries.{plain, constant, point, module_variable, state_set, header}
-use Rattle.est_outline.specs.Entries.{outermost, inner, in_region, in_section}
-use Rattle.est_outline.specs.Lasts.{names_last, text_last, channel_last, header_last}
-use Rattle.est_outline.specs.declared.context.ClauseKind.TheVariants as kind
-use Rattle.est_outline.specs.declared.context.Given.{Given}
+use Rattle.est_declares.specs.Bodies.{Clausal, statement_place, all_by, over_header, all_named}
+use Rattle.est_declares.specs.Bodies.{expr_place, arm_lying, within_declares, row_statements}
+use Rattle.est_declares.specs.Bodies.{held_declares, row_arms, statement_declares}
+use Rattle.est_declares.specs.Bodies.{statements_declare}
+use Rattle.est_declares.specs.Bodies.{clause_declares, clauses_declare, body_named, body_header}
+use Rattle.est_declares.specs.Bodies.{header_given, inside, routine_sort, routine_named}
+use Rattle.est_declares.specs.Bodies.{result_given}
+use Rattle.est_declares.specs.Bodies.{to_lying, closed_by, part_declares, row_parts}
+use Rattle.est_declares.specs.Bodies.{first_declares, row_groups, row_transitions, parts_declare}
+use Rattle.est_declares.specs.Bodies.{outline_of}
+use Rattle.est_declares.specs.Contexts.{under, dropped, given}
+use Rattle.est_declares.specs.Declares.{names_declare, kinds_given, constdef_declares}
+use Rattle.est_declares.specs.Declares.{consts_declare}
+use Rattle.est_declares.specs.Declares.{text_declares, typedef_declares, types_declare, vardef_named}
+use Rattle.est_declares.specs.Declares.{vardef_declares, vars_declare, roles_put, typedef_named}
+use Rattle.est_declares.specs.Declares.{interaction_declares, interactions_declare, senders}
+use Rattle.est_declares.specs.Declares.{by_part_declares, by_parts_declare, channel_declares}
+use Rattle.est_declares.specs.Declares.{side_of}
+use Rattle.est_declares.specs.Declares.{point_declares, points_declare, modvar_declares}
+use Rattle.est_declares.specs.Declares.{modvars_declare, before, after, stands_before}
+use Rattle.est_declares.specs.Declares.{sections_declare, has_exports, header_named, header_declares}
+use Rattle.est_declares.specs.Declares.{states_declare, states_named, stateset_declares}
+use Rattle.est_declares.specs.Declares.{statesets_declare, formal_section, formal_named}
+use Rattle.est_declares.specs.Declares.{formal_declares, formals_declare}
+use Rattle.est_declares.specs.Entries.{plain, constant, point, module_variable, state_set, header}
+use Rattle.est_declares.specs.Entries.{outermost, inner, in_region, in_section}
+use Rattle.est_declares.specs.Lasts.{names_last, text_last, channel_last, header_last}
+use Rattle.est_declares.specs.declared.context.ClauseKind.TheVariants as kind
+use Rattle.est_declares.specs.declared.context.Given.{Given}
 use Rattle.est_order.specs.Said.{Each}
 use Rattle.est_order.proofs.BodiesGoOn.{name_on, turn_on, clause_on, part_on}
 use Rattle.est_order.proofs.Placed.{names_on}

@@ -41,9 +41,9 @@ use Rattle.est_kinds.specs.TypeTexts.{are_members, record_of, text_type, row_typ
 use Rattle.est_kinds.specs.TypeTexts.{row_fields, scalar, fields}
 use Rattle.est_kinds.specs.declared.value.Gathered.{Gathered}
 use Rattle.est_kinds.specs.declared.value.Valued.{Valued}
-use Rattle.est_outline.specs.Declares.{names_put, text_declares, row_declares, row_fields_declare}
-use Rattle.est_outline.specs.Declares.{numbers_declare, enumeration_declares}
-use Rattle.est_outline.specs.Lasts.{names_last}
+use Rattle.est_declares.specs.Declares.{names_put, text_declares, row_declares, row_fields_declare}
+use Rattle.est_declares.specs.Declares.{numbers_declare, enumeration_declares}
+use Rattle.est_declares.specs.Lasts.{names_last}
 use Rattle.est_order.proofs.Placed.{NamesPlaced, TextPlaced, RowPlaced, FieldsPlaced, names_on}
 use Rattle.est_order.proofs.Placed.{text_on, row_on, fields_on}
 use Rattle.est_order.proofs.Tables.{two_numbers, same_number}

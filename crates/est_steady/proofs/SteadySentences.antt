@@ -14,7 +14,7 @@ use Rattle.est_scope.specs.Outline.{Outline, entry_at, nth}
 use Rattle.est_scope.specs.declared.declaration.Entry.{Entry}
 use Rattle.est_scope.specs.declared.declaration.Measured.{Measured}
 use Rattle.est_scope.specs.declared.declaration.Sort.TheVariants as sort
-use Rattle.est_outline.specs.Bodies.{outline_of}
+use Rattle.est_declares.specs.Bodies.{outline_of}
 use Rattle.est_order.specs.Said.{Each}
 use Rattle.est_order.proofs.Ascending.{specification_stands}
 use Rattle.est_order.proofs.Wholes.{spec_placed}

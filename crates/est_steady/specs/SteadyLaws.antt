@@ -2,12 +2,12 @@
 use Rattle.std.specs.Prelude.{List}
 use Rattle.std.specs.List.{AllByRecursion}
 use Rattle.est_syntax.specs.declared.specification.Spec.{Spec}
-use Rattle.est_outline.specs.Bodies.{outline_of}
+use Rattle.est_declares.specs.Bodies.{outline_of}
 use Rattle.est_check.specs.LeastFault.{IsGood}
 use Rattle.est_choices.specs.AllowedEvents.{IsAllowed}
 use Rattle.est_runs.specs.declared.run.Move.{Move}
 use Rattle.est_runs.specs.Run.{Setup, Place, IsBegun, IsRun, Explains}
-use Rattle.est_fullness.specs.SentenceOf.{IsSentence}
+use Rattle.est_check.specs.SentenceOf.{IsSentence}
 use Rattle.est_soundness.specs.SteadyOutlines.{IsSteady}
 use Rattle.est_soundness.specs.SoundnessLaws.{IsTyped, FitsSoFar, MayCome}
 

@@ -1,3 +1,4 @@
+pub mod Clauses
 pub mod Faults
 pub mod Kinds
 pub mod Least

@@ -1,51 +1,29 @@
-//! Equal copies of names and values.
+//! Equal copies of names and kinds.
 ghost use Rattle.std.specs.Prelude.{◌≡◌, IfOk};
 ghost use Rattle.est_syntax.specs.declared.kind.Kind.TheVariants.{ArrayOf};
 
-use crate::kind::{Kind, Ordinals, SharedKind, Value, Values};
+use crate::kind::{Kind, SharedKind};
 use crate::name::{Bytes, Name};
 use std::alloc::{AllocError, Global};
 
 impl Name {
+    /// The name of these bytes, which are in lower case.
+    pub fn of(alloc: Global, bytes: &[u8]) -> Result<Name, AllocError>
+        ensures { IfOk result (λ name. name.bytes ≡ bytes.now) }
+    {
+        Ok(Name {
+            bytes: Bytes {
+                items: Vec::from_slice(alloc, bytes)?,
+            },
+        })
+    }
+
     /// An equal name.
     pub fn copy(&self, alloc: Global) -> Result<Name, AllocError>
         ensures { IfOk result (λ name. name ≡ self.now) }
     {
-        Ok(Name {
-            bytes: Bytes {
-                items: Vec::from_slice(alloc, self.bytes.as_slice())?,
-            },
-        })
+        Name::of(alloc, self.bytes.as_slice())
     }
-}
-
-impl Value {
-    /// An equal value.
-    #[cycle(copy)]
-    pub fn copy(&self, alloc: Global) -> Result<Value, AllocError>
-        ensures { IfOk result (λ value. value ≡ self.now) }
-    {
-        match self {
-            Value::Undefined => Ok(Value::Undefined),
-            Value::Ordinal(ordinal) => Ok(Value::Ordinal(*ordinal)),
-            Value::Set(members) => Ok(Value::Set(Ordinals {
-                items: Vec::from_slice(alloc, members.as_slice())?,
-            })),
-            Value::Group(parts) => Ok(Value::Group(copy_values(alloc, parts)?)),
-        }
-    }
-}
-
-/// Equal values in the same order.
-#[cycle(copy)]
-pub fn copy_values(alloc: Global, values: &Values) -> Result<Values, AllocError>
-    ensures { IfOk result (λ copies. copies ≡ values.now) }
-{
-    let mut items = Vec::new(alloc);
-    for value in &values.items {
-        items.push(value.copy(alloc)?)?;
-    }
-    Ok(Values { items })
 }
 
 impl Kind {

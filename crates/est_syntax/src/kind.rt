@@ -1,4 +1,4 @@
-//! Kinds, the resolved types, and values (ISO 7185, 6.4).
+//! Kinds, the resolved types (ISO 7185, 6.4).
 
 use crate::name::Name;
 use est_items::{Items, Shared};
@@ -55,15 +55,3 @@ pub type Kinds = Items<Kind>;
 
 /// Ordinals in order.
 pub type Ordinals = Items<i32>;
-
-/// A value, or the lack of one.
-#[derive(Drop)]
-pub enum Value {
-    Undefined,
-    Ordinal(i32),
-    Set(Ordinals),
-    Group(Values),
-}
-
-/// Values in order.
-pub type Values = Items<Value>;

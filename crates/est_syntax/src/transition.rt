@@ -1,5 +1,8 @@
 //! Transitions (ISO 9074, transition-declaration).
 
+ghost use Rattle.std.specs.Prelude.{◌≡◌};
+ghost use Rattle.est_syntax.specs.Clauses.{clause_place};
+
 use crate::body::Block;
 use crate::constant::Constant;
 use crate::expression::{Access, Expr};
@@ -54,6 +57,24 @@ pub enum Clause {
         most: Most,
         place: u32,
     },
+}
+
+impl Clause {
+    /// The place of its first token.
+    pub fn place(&self) -> u32
+        ensures { result ≡ clause_place self.now }
+    {
+        match self {
+            Clause::From { place, .. } => *place,
+            Clause::To { place, .. } => *place,
+            Clause::When { place, .. } => *place,
+            Clause::Provided { place, .. } => *place,
+            Clause::Otherwise { place } => *place,
+            Clause::Any { place, .. } => *place,
+            Clause::Priority { place, .. } => *place,
+            Clause::Delay { place, .. } => *place,
+        }
+    }
 }
 
 /// The clauses of a transition in the order of the text.

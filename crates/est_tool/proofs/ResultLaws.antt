@@ -7,8 +7,8 @@ use Rattle.est_edge.specs.FaultCounts.{Rose, AllStay}
 use Rattle.est_files.specs.declared.report.Report.{Report}
 use Rattle.est_lexer.specs.declared.kind.Token.{Token}
 use Rattle.est_edge.specs.Pieces.{appended, IsPrefix}
-use Rattle.est_replay.specs.declared.verdict.Replayed.{Replayed}
-use Rattle.est_replay.specs.declared.verdict.Replayed.TheVariants.{Confirmed, Rejected}
+use Rattle.est_replaying.specs.declared.verdict.Replayed.{Replayed}
+use Rattle.est_replaying.specs.declared.verdict.Replayed.TheVariants.{Confirmed, Rejected}
 use Rattle.est_specification.specs.declared.error.SpecificationError.{SpecificationError}
 use Rattle.est_specification.specs.declared.error.SpecificationError.TheVariants as specification
 use Rattle.est_trace.specs.declared.error.TraceError.{TraceError}
@@ -39,7 +39,7 @@ use Rattle.est_tool.specs.Ends.{at_trace, at_explanation, replayed, Ends}
 use Rattle.est_tool.specs.Ends.{ends_at_specification, ends_at_trace, not_started}
 use Rattle.est_tool.specs.Ends.{start_over, searched}
 use Rattle.est_tool.specs.Result.{Reports, Writes, IsResult}
-use Rattle.est_make.specs.declared.made.Made.{Made}
+use Rattle.est_making.specs.declared.made.Made.{Made}
 use Rattle.est_syntax.specs.declared.specification.Spec.{Spec}
 use Rattle.est_tool.specs.SelfRuns.{MadeEnds, faults, start_passes, passes, refuses, explains}
 use Rattle.est_tool.specs.SelfRuns.{stops_at_its_file, makes}

@@ -11,18 +11,18 @@ use Rattle.est_search.specs.declared.verdict.Verdict.{Verdict}
 use Rattle.est_search.specs.Verdict.{IsVerdict}
 use Rattle.est_tool.specs.declared.search.Searched.TheVariants as came
 use Rattle.est_tool.specs.inside.Searching.{IsSearched}
-use Rattle.est_tool.specs.Tasks.{task_of}
+use Rattle.est_runs.specs.Task.{setup_from}
 
 -- a verdict from the start
 pub found_searched : (limits : Limits) (spec : Spec) (events : List Event) (s : Situation)
     (outs outs' : List Event) (verdict : Verdict) → outs' ≡ outs
     → start_of limits.statements (text_of spec) ≡ Done outs s
-    → IsVerdict (task_of limits.silent limits.statements spec events s outs') limits.budget verdict
+    → IsVerdict (setup_from limits.statements limits.silent spec events s outs') limits.budget verdict
     → IsSearched limits spec events (came.Found verdict)
 found_searched limits spec events s outs outs' verdict same begun is = (
   s,
   outs,
   begun,
-  subst (λ es. IsVerdict (task_of limits.silent limits.statements spec events s es) limits.budget
+  subst (λ es. IsVerdict (setup_from limits.statements limits.silent spec events s es) limits.budget
       verdict) same is,
 )

@@ -3,8 +3,8 @@ use Rattle.std.proofs.Common.{◌≡◌, ◌∙◌, ℕ, List, ◌++◌, length,
 use Rattle.est_syntax.specs.declared.specification.Spec.{Spec}
 use Rattle.est_choices.specs.declared.event.Event.{Event}
 use Rattle.est_runs.specs.declared.run.Move.{Move}
-use Rattle.est_make.specs.declared.made.Made.{Made}
-use Rattle.est_make.specs.declared.made.Made.TheVariants.{Trace, NoStart, StartLimit, Limit}
+use Rattle.est_making.specs.declared.made.Made.{Made}
+use Rattle.est_making.specs.declared.made.Made.TheVariants.{Trace, NoStart, StartLimit, Limit}
 use Rattle.est_files.specs.declared.file.File.TheVariants as file
 use Rattle.est_files.specs.FileEnds.{End, reported, EndsAtText}
 use Rattle.est_files.specs.FileTexts.{IsText, OfTrace, RefusesTrace}

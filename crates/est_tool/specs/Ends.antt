@@ -10,9 +10,9 @@ use Rattle.est_choices.specs.declared.event.Event.{Event}
 use Rattle.est_choices.specs.FiringSteps.{start_of}
 use Rattle.est_search.specs.Verdict.{IsVerdict}
 use Rattle.est_search.specs.declared.verdict.Verdict.{Verdict}
-use Rattle.est_replay.specs.Replay.{IsReplay}
+use Rattle.est_replaying.specs.Replay.{IsReplay}
 use Rattle.est_explanation.specs.declared.explanation.Explanation.{Explanation}
-use Rattle.est_replay.specs.declared.verdict.Replayed.{Replayed}
+use Rattle.est_replaying.specs.declared.verdict.Replayed.{Replayed}
 use Rattle.est_files.specs.FileEnds.{End, reported, EndsAt, HoldsSpecification}
 use Rattle.est_files.specs.FileEnds.{HoldsTrace, HoldsExplanation}
 use Rattle.est_files.specs.declared.file.File.TheVariants as file
@@ -24,7 +24,7 @@ use Rattle.est_reports.specs.SearchReports.{no_start_line, over_start_line, verd
 use Rattle.est_files.specs.Seen.{Seen}
 use Rattle.est_tool.specs.ReplayReports.{replay_status}
 use Rattle.est_tool.specs.SelfRuns.{SelfRunEnds}
-use Rattle.est_tool.specs.Tasks.{task_of}
+use Rattle.est_runs.specs.Task.{setup_from}
 use Rattle.est_reports.specs.SearchReports.{verdict_status}
 use Rattle.est_files.specs.FileTexts.{RefusesSpecification}
 use Rattle.est_files.specs.FileTexts.{RefusesTrace, RefusesExplanation}
@@ -90,7 +90,7 @@ pub data ExplainEnds
       → HoldsSpecification shelf specification spec
       → HoldsTrace shelf trace spec events
       → start_of statements (text_of spec) ≡ Done outs s
-      → IsVerdict (task_of silent statements spec events s outs) budget verdict
+      → IsVerdict (setup_from statements silent spec events s outs) budget verdict
       → IsReadable statements (length events) verdict
       → ExplainEnds shelf specification trace silent budget statements
       (reported (verdict_status verdict) (verdict_report statements (length events) verdict))

@@ -3,5 +3,4 @@ pub mod ReplayReports
 pub mod Result
 pub mod SelfRuns
 pub mod Started
-pub mod Tasks
 pub mod inside

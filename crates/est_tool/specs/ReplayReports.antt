@@ -1,11 +1,11 @@
 -- The reports of replays.
 use Rattle.std.specs.Prelude.{ℕ, List, ◌++◌, codes, if◌then◌else◌, nat_le}
 use Rattle.std.specs.Fmt.{decimal}
-use Rattle.est_replay.specs.declared.verdict.Replayed.{Replayed}
-use Rattle.est_replay.specs.declared.verdict.Replayed.TheVariants.{Confirmed, Rejected}
-use Rattle.est_replay.specs.declared.verdict.Why.{Why}
-use Rattle.est_replay.specs.declared.verdict.Why.TheVariants.{NoStart, Limit, WrongOutput, NoEvent}
-use Rattle.est_replay.specs.declared.verdict.Why.TheVariants.{NotOffered, Fault, TooSilent, NotAll}
+use Rattle.est_replaying.specs.declared.verdict.Replayed.{Replayed}
+use Rattle.est_replaying.specs.declared.verdict.Replayed.TheVariants.{Confirmed, Rejected}
+use Rattle.est_replaying.specs.declared.verdict.Why.{Why}
+use Rattle.est_replaying.specs.declared.verdict.Why.TheVariants.{NoStart, Limit, WrongOutput, NoEvent}
+use Rattle.est_replaying.specs.declared.verdict.Why.TheVariants.{NotOffered, Fault, TooSilent, NotAll}
 use Rattle.est_words.specs.declared.status.Status.{Status}
 use Rattle.est_words.specs.declared.status.Status.TheVariants.{Fine, Refused}
 use Rattle.est_words.specs.ReportLines.{line_feed}

@@ -21,11 +21,6 @@ CallEnds words shelf end =
 abbrev pub Reports : List (String Global) → Seen → Status → List ℕ → Type 0
 Reports words shelf status report = CallEnds words shelf (reported status report)
 
--- A file that the words ask for could not be read: its count of faults rose, and no refusal comes
--- before it.
-abbrev pub CannotRead : List (String Global) → Seen → Type 0
-CannotRead words shelf = CallEnds words shelf unread
-
 -- What a call writes that ends with a status: nothing where the words, a read or memory failed, a
 -- front part of its report where a write failed, and else the report.
 abbrev pub Writes :
@@ -55,8 +50,9 @@ pub record IsResult
     : Type 0 where
   -- the words ask for nothing that the program does, and nothing else ends so
   pub usage : (status ≡ Usage) ↔ AsksNothing words
-  -- a file could not be read, and no refusal comes before it
-  pub read_fault : status ≡ ReadFault → CannotRead words shelf
+  -- a file that the words ask for could not be read: its count of faults rose, and no refusal comes
+  -- before it
+  pub read_fault : status ≡ ReadFault → CallEnds words shelf unread
   -- else no count of a file rose
   pub no_read_fault : status ≢ ReadFault → AllStay shelf.before.faults shelf.after.faults
   -- the count of the output rose

@@ -2,7 +2,7 @@
 -- and the trace that it is of is explained.
 use Rattle.std.specs.Prelude.{◌≡◌, ℕ, List, ◌++◌, length}
 use Rattle.est_syntax.specs.declared.specification.Spec.{Spec}
-use Rattle.est_ports.specs.PortList.{ports_of}
+use Rattle.est_declares.specs.PortList.{ports_of}
 use Rattle.est_semantics.specs.declared.fault.BlockFault.{BlockFault}
 use Rattle.est_semantics.specs.GlobalSituation.{Situation}
 use Rattle.est_semantics.specs.Outcome.{Done}
@@ -12,9 +12,9 @@ use Rattle.est_choices.specs.FiringSteps.{start_of}
 use Rattle.est_runs.specs.declared.run.Move.{Move}
 use Rattle.est_search.specs.Verdict.{IsVerdict}
 use Rattle.est_search.specs.declared.verdict.Verdict.{Verdict}
-use Rattle.est_make.specs.declared.made.Made.{Made}
-use Rattle.est_make.specs.declared.made.Made.TheVariants.{Trace, NoStart, StartLimit, Limit}
-use Rattle.est_make.specs.Recipe as recipe
+use Rattle.est_making.specs.declared.made.Made.{Made}
+use Rattle.est_making.specs.declared.made.Made.TheVariants.{Trace, NoStart, StartLimit, Limit}
+use Rattle.est_making.specs.Recipe as recipe
 use Rattle.est_written_traces.specs.WrittenTraces.{trace_text}
 use Rattle.est_files.specs.FileEnds.{End, reported, EndsAt, EndsAtText, HoldsSpecification}
 use Rattle.est_files.specs.FileTexts.{IsText, OfTrace, RefusesSpecification, RefusesTrace}
@@ -24,7 +24,7 @@ use Rattle.est_words.specs.declared.status.Status.TheVariants as status
 use Rattle.est_words.specs.Requests.{usual_silent, usual_budget, usual_statements}
 use Rattle.est_reports.specs.SearchReports.{no_start_line, over_start_line, verdict_status}
 use Rattle.est_reports.specs.SelfRunReports.{limit_line, made_line, search_line}
-use Rattle.est_tool.specs.Tasks.{task_of}
+use Rattle.est_runs.specs.Task.{setup_from}
 
 -- this is made of the specification, by a seed and a least number of events, within the usual limits
 abbrev pub IsMadeOf : Spec → ℕ → ℕ → Made → Type 0
@@ -58,7 +58,7 @@ pub data MadeEnds (spec : Spec) : Made → End → Type 0 where
       (outs : List Event) (verdict : Verdict)
       → IsText file.Trace (written spec trace) (OfTrace spec events)
       → start_of usual_statements (text_of spec) ≡ Done outs s
-      → IsVerdict (task_of usual_silent usual_statements spec events s outs) usual_budget verdict
+      → IsVerdict (setup_from usual_statements usual_silent spec events s outs) usual_budget verdict
       → MadeEnds spec (Trace trace run)
       (reported (verdict_status verdict) (self_run_report spec trace run events verdict))
 

@@ -6,10 +6,6 @@ use Rattle.est_files.specs.Seen.{Seen}
 use Rattle.est_files.specs.FileEnds.{HoldsSpecification, HoldsTrace}
 use Rattle.est_words.specs.Requests.{Request, check, explain, replay, selfrun}
 
--- `check` starts its file, once, and so does `selfrun`
-abbrev pub CheckStarts : List ℕ → List (List ℕ) → Type 0
-CheckStarts name names = names ≡ name ∷ []
-
 -- `replay` starts its files in their order, each once, and one only where those before it are good
 pub data ReplayStarts (shelf : Seen) (specification trace explanation : List ℕ)
     : List (List ℕ) → Type 0 where
@@ -28,11 +24,12 @@ pub data ExplainStarts (shelf : Seen) (specification trace : List ℕ) : List (L
   both : (spec : Spec) → HoldsSpecification shelf specification spec
       → ExplainStarts shelf specification trace (specification ∷ trace ∷ [])
 
--- the files of these names are all that is started for what the words ask for
+-- the files of these names are all that is started for what the words ask for: `check` and `selfrun`
+-- start their file, once
 abbrev pub Starts : Seen → Request → List (List ℕ) → Type 0
-Starts shelf (check specification) names = CheckStarts specification names
+Starts shelf (check specification) names = names ≡ specification ∷ []
 Starts shelf (explain specification trace silent budget statements) names =
     ExplainStarts shelf specification trace names
 Starts shelf (replay specification trace explanation silent statements) names =
     ReplayStarts shelf specification trace explanation names
-Starts shelf (selfrun specification seed count) names = CheckStarts specification names
+Starts shelf (selfrun specification seed count) names = names ≡ specification ∷ []

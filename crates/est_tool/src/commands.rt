@@ -1,7 +1,7 @@
 //! The commands.
 ghost use Rattle.std.specs.Prelude.{◌≤◌, [], ◌∷◌, length};
 ghost use Rattle.est_choices.specs.AllowedEvents.{IsAllowedTrace, most_events};
-ghost use Rattle.est_replay.specs.Replay.{most_moves};
+ghost use Rattle.est_replaying.specs.Replay.{most_moves};
 ghost use Rattle.est_files.specs.declared.file.File.TheVariants as file;
 ghost use Rattle.est_files.specs.Seen.{seen, shelved};
 ghost use Rattle.est_files.specs.FileTexts.{Holds, OfSpecification, OfTrace};

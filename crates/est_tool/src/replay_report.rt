@@ -4,7 +4,7 @@ ghost use Rattle.est_reports.specs.Reports.{fault_text};
 ghost use Rattle.est_tool.specs.ReplayReports.{all_line, first_line, rejected_line, replay_line};
 ghost use Rattle.est_tool.specs.ReplayReports.{replay_status, why_text};
 
-use est_replay::verdict::{Replayed, Why};
+use est_replaying::verdict::{Replayed, Why};
 use est_reports::report::fault_text;
 use est_semantics::fault::BlockFault;
 use est_words::status::Status;

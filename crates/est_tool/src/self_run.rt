@@ -1,7 +1,7 @@
 //! Traces that a specification makes of itself, explained.
 ghost use Rattle.std.specs.Prelude.{[]};
 ghost use Rattle.est_choices.specs.AllowedEvents.{IsAllowedTrace};
-ghost use Rattle.est_make.specs.declared.made.Made.TheVariants as made;
+ghost use Rattle.est_making.specs.declared.made.Made.TheVariants as made;
 ghost use Rattle.est_files.specs.Seen.{seen, shelved};
 ghost use Rattle.est_words.specs.Requests.{selfrun};
 ghost use Rattle.est_reports.specs.SelfRunReports.{limit_line};
@@ -19,7 +19,7 @@ use est_files::specification::specification_in;
 use est_files::trace::trace_of_text;
 use est_files::{Report, Stop};
 use est_make::checked::make;
-use est_make::made::Made;
+use est_making::made::Made;
 use est_reports::search_report::verdict_status;
 use est_reports::self_run_report::{Sizes, limit_report, self_run_report};
 use est_runs::run::Move;

@@ -13,7 +13,7 @@ use Rattle.est_syntax.specs.declared.ports.Port.{Port}
 use Rattle.est_syntax.specs.declared.ports.Signal.{Signal}
 use Rattle.est_values.specs.declared.value.Value.{Value}
 use Rattle.est_values.specs.FittingValues.{IsOrdinalOf}
-use Rattle.est_outline.specs.Differing.{HaveDifferentNames}
+use Rattle.est_declares.specs.Differing.{HaveDifferentNames}
 use Rattle.est_choices.specs.declared.event.Interaction.{Interaction}
 use Rattle.est_reader.specs.declared.reader.Reader.{Reader}
 use Rattle.est_reader.specs.declared.outcome.Outcome.TheVariants.{Well}

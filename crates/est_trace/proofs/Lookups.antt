@@ -9,7 +9,7 @@ use Rattle.est_language.proofs.Members.{and_right}
 use Rattle.est_syntax.specs.declared.ports.Direction.{Direction}
 use Rattle.est_syntax.specs.declared.ports.Port.{Port}
 use Rattle.est_syntax.specs.declared.ports.Signal.{Signal}
-use Rattle.est_outline.specs.Differing.{HaveDifferentNames}
+use Rattle.est_declares.specs.Differing.{HaveDifferentNames}
 use Rattle.est_reader.specs.Moving.{IsNamedAt}
 use Rattle.est_value_texts.specs.TraceGrammar.{Rule, subscripts, parameters, passes, some_pass}
 use Rattle.est_value_texts.specs.TraceGrammar.{signal, dot_signal, is_head, port}

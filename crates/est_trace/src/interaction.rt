@@ -3,7 +3,7 @@
 ghost use Rattle.std.specs.Prelude.{◌≡◌, slice_get};
 ghost use Rattle.std.specs.Option.{IsSomeAnd};
 ghost use Rattle.est_language.specs.Grammar.{one_of};
-ghost use Rattle.est_outline.specs.Differing.{HaveDifferentNames};
+ghost use Rattle.est_declares.specs.Differing.{HaveDifferentNames};
 ghost use Rattle.est_reader.specs.declared.outcome.Outcome.TheVariants.{Well};
 ghost use Rattle.est_value_texts.specs.TraceGrammar as grammar;
 ghost use Rattle.est_value_texts.specs.ValueReading.{Reads};

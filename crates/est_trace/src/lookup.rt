@@ -2,7 +2,7 @@
 
 ghost use Rattle.std.specs.Prelude.{◌≡◌, false, slice_get};
 ghost use Rattle.std.specs.Option.{option_map_or};
-ghost use Rattle.est_outline.specs.Differing.{HaveDifferentNames};
+ghost use Rattle.est_declares.specs.Differing.{HaveDifferentNames};
 ghost use Rattle.est_reader.specs.Moving.{Still};
 ghost use Rattle.est_value_texts.specs.TraceGrammar as grammar;
 ghost use Rattle.est_port_names.specs.PortNames.{signal_name};

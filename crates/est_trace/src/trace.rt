@@ -4,7 +4,7 @@ ghost use Rattle.std.specs.Prelude.{◌≡◌, ◌≤◌, [], length, IfOk};
 ghost use Rattle.std.specs.Option.{IsSomeAnd, option_map};
 ghost use Rattle.est_lexer.specs.Offsets.{text_of, tokens_of};
 ghost use Rattle.est_language.specs.Grammar.{rule};
-ghost use Rattle.est_ports.specs.PortList.{ports_of};
+ghost use Rattle.est_declares.specs.PortList.{ports_of};
 ghost use Rattle.est_choices.specs.declared.event.Event.TheVariants as events;
 ghost use Rattle.est_choices.specs.AllowedEvents.{IsAllowedTrace, most_events};
 ghost use Rattle.est_reader.specs.Moving.{SeesOne};

@@ -12,7 +12,7 @@ use Rattle.est_syntax.specs.declared.expression.Expr.{Expr}
 use Rattle.est_syntax.specs.declared.transition.Clause.{Clause}
 use Rattle.est_syntax.specs.declared.transition.Clause.TheVariants as clause
 use Rattle.est_syntax.specs.declared.transition.Transition.{Transition, out-Transition}
-use Rattle.est_blocks.specs.Clauses.{clause_place}
+use Rattle.est_syntax.specs.Clauses.{clause_place}
 use Rattle.est_choices.specs.ClauseContexts.{GivenClause, is_same_kind, before, context_with}
 use Rattle.est_choices.specs.ClauseContexts.{context_after, given_after, condition_in, is_earlier}
 use Rattle.est_choices.specs.ClauseContexts.{referred, clauses_of}

@@ -2,7 +2,8 @@
 
 ghost use Rattle.std.specs.Prelude.{◌≡◌};
 ghost use Rattle.std.specs.Option.{option_copied, option_map};
-ghost use Rattle.est_blocks.specs.Clauses.{kind_of, clause_place};
+ghost use Rattle.est_syntax.specs.Clauses.{clause_place};
+ghost use Rattle.est_declares.specs.Contexts.{kind_of};
 ghost use Rattle.est_choices.specs.ClauseContexts.{is_same_kind, given_by, states_in, state_in};
 ghost use Rattle.est_choices.specs.ClauseContexts.{awaited_in, variables_in, constant_in, delay_in};
 ghost use Rattle.est_choices.specs.ClauseContexts.{condition_in};
@@ -10,49 +11,17 @@ ghost use Rattle.est_transitions.specs.WrittenTransitions.{awaited_of, bounds_of
 ghost use Rattle.est_transitions.specs.inside.HeldClauses.{held, ruling_in};
 
 use crate::written::{Awaits, Bounds};
-use est_outline::context::ClauseKind;
+use est_declares::context::ClauseKind;
 use est_syntax::constant::Constant;
 use est_syntax::expression::Expr;
 use est_syntax::name::{Used, UsedNames};
 use est_syntax::transition::Clause;
 
-// The kind of a clause.
-fn kind_of(clause: &Clause) -> ClauseKind
-    ensures { result ≡ kind_of clause.now }
-{
-    match clause {
-        Clause::From { .. } => ClauseKind::From,
-        Clause::To { .. } => ClauseKind::To,
-        Clause::When { .. } => ClauseKind::When,
-        Clause::Provided { .. } => ClauseKind::Provided,
-        Clause::Otherwise { .. } => ClauseKind::Provided,
-        Clause::Any { .. } => ClauseKind::Any,
-        Clause::Priority { .. } => ClauseKind::Priority,
-        Clause::Delay { .. } => ClauseKind::Delay,
-    }
-}
-
 /// Whether two clauses are of one kind.
 pub(crate) fn is_same_kind(clause: &Clause, other: &Clause) -> bool
     ensures { result ≡ is_same_kind clause.now other.now }
 {
-    kind_of(clause) == kind_of(other)
-}
-
-/// The place of the first token of a clause.
-pub(crate) fn clause_place(clause: &Clause) -> u32
-    ensures { result ≡ clause_place clause.now }
-{
-    match clause {
-        Clause::From { place, .. } => *place,
-        Clause::To { place, .. } => *place,
-        Clause::When { place, .. } => *place,
-        Clause::Provided { place, .. } => *place,
-        Clause::Otherwise { place } => *place,
-        Clause::Any { place, .. } => *place,
-        Clause::Priority { place, .. } => *place,
-        Clause::Delay { place, .. } => *place,
-    }
+    ClauseKind::of(clause) == ClauseKind::of(other)
 }
 
 /// The condition of a `provided`.

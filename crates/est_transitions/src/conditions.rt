@@ -2,7 +2,7 @@
 
 ghost use Rattle.std.specs.Prelude.{◌≡◌, ◌++◌, [], ◌∷◌, map, IfOk, OnOk};
 ghost use Rattle.std.specs.List.{flat_map};
-ghost use Rattle.est_blocks.specs.Clauses.{clause_place};
+ghost use Rattle.est_syntax.specs.Clauses.{clause_place};
 ghost use Rattle.est_choices.specs.ClauseContexts.{context_after, given_after, before, clauses_of};
 ghost use Rattle.est_transitions.specs.WrittenTransitions.{referred};
 ghost use Rattle.est_transitions.specs.inside.HeldClauses.{held, places_before, conditions_of};
@@ -10,7 +10,7 @@ ghost use Rattle.est_transitions.specs.inside.HeldClauses.{condition_of, given_c
 ghost use Rattle.est_transitions.specs.inside.HeldClauses.{is_before, conditions_before};
 ghost use Rattle.est_transitions.specs.inside.HeldClauses.{referred_by};
 
-use crate::clauses::{clause_place, condition_in};
+use crate::clauses::condition_in;
 use crate::contexts::{count_before, give};
 use est_syntax::expression::Expr;
 use est_syntax::transition::{Clause, Transition};
@@ -29,10 +29,7 @@ fn places(alloc: Global, clauses: &[&Clause]) -> Result<Vec<u32>, AllocError>
     ensures { IfOk result (λ places. places.items
         ≡ map (λ clause. clause_place clause.now) clauses.now) }
 {
-    clauses
-        .iter()
-        .map(|clause| clause_place(clause))
-        .collect(alloc)
+    clauses.iter().map(|clause| clause.place()).collect(alloc)
 }
 
 // The places of the clauses of a context before the one that is of the kind of this clause.
@@ -68,7 +65,7 @@ fn note<'t>(
     let under = places_before(alloc, clause, context)?;
     given.push(Given {
         under,
-        place: clause_place(clause),
+        place: clause.place(),
         condition,
     })?;
     Ok(())

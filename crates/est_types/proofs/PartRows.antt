@@ -1,5 +1,8 @@
 -- What a part breaks by the lists that it is made of.
-use Rattle.std.proofs.Common.{◌≡◌, refl, sym, ap, ◌∙◌, ℕ, List, ◌++◌, Option, Some, None}
+use Rattle.std.specs.Option.{option_map_or}
+use Rattle.est_kinds.specs.TypeTexts.{type_faults}
+use Rattle.std.specs.Prelude.{flat_map}
+use Rattle.std.proofs.Common.{◌≡◌, refl, sym, ap, ◌∙◌, ℕ, List, [], ◌++◌, Option, Some, None}
 use Rattle.est_syntax.specs.declared.body.Block.{Block}
 use Rattle.est_syntax.specs.declared.body.FirstPart.{FirstPart}
 use Rattle.est_syntax.specs.declared.body.Part.{Part, Row_of-Part, end_of-Part, more_of-Part}
@@ -20,13 +23,13 @@ use Rattle.est_syntax.specs.declared.transition.Transition.{Transition}
 use Rattle.est_syntax.specs.declared.routine.Routine.{Routine}
 use Rattle.est_scope.specs.Outline.{Outline}
 use Rattle.est_scope.specs.Uses.{twice_faults}
-use Rattle.est_types.specs.DeclarationFaults.{part_faults, row_faults, parts_faults}
+use Rattle.est_types.specs.DeclarationFaults.{part_faults, row_faults}
 use Rattle.est_types.specs.DeclarationFaults.{first_faults, row_groups_faults}
-use Rattle.est_types.specs.DeclarationFaults.{row_transitions_faults, clauses_faults}
+use Rattle.est_types.specs.DeclarationFaults.{row_transitions_faults, clause_faults}
 use Rattle.est_types.specs.DeclarationFaults.{row_has_states}
 use Rattle.est_sizes.specs.Scalars.{scalars_faults}
 use Rattle.est_types.specs.DeclarationFaults.{names_first, first_state_faults}
-use Rattle.est_types.specs.DeclarationFaults.{formals_faults, result_faults}
+use Rattle.est_types.specs.DeclarationFaults.{formal_faults}
 use Rattle.est_sizes.proofs.SizeRows.{scalars_hidden}
 use Rattle.est_types.specs.inside.DeclarationParts.{have_states, has_first}
 use Rattle.est_types.specs.inside.DeclarationParts.{first_part_faults, transitions_faults}
@@ -35,20 +38,20 @@ use Rattle.est_types.specs.declared.modules.Owner.{Owner}
 use Rattle.est_types.specs.declared.modules.Owner.TheVariants as owners
 
 parts_row : (o : Outline) (owner : Owner) (n : _) (row : Row_of-Part n)
-    → row_faults o owner row ≡ parts_faults o owner (items-the_row-Part n row)
+    → row_faults o owner row ≡ flat_map (part_faults o owner) (items-the_row-Part n row)
 parts_row o owner n end_of-Part = refl
 parts_row o owner n (more_of-Part p rest) = ap (λ l. part_faults o owner p ++ l)
     (parts_row o owner _ rest)
 
 parts_hidden : (o : Outline) (owner : Owner) (ps : List Part)
-    → row_faults o owner (hidden-the_row-Part-0 ps) ≡ parts_faults o owner ps
+    → row_faults o owner (hidden-the_row-Part-0 ps) ≡ flat_map (part_faults o owner) ps
 parts_hidden o owner ps = parts_row o owner _ (hidden-the_row-Part-0 ps)
-    ∙ ap (parts_faults o owner) (items_hidden-the_row-Part-0 ps)
+    ∙ ap (flat_map (part_faults o owner)) (items_hidden-the_row-Part-0 ps)
 
 parts_shown : (o : Outline) (owner : Owner) (a : _) (row : Row_of-Part _)
-    → row_faults o owner row ≡ parts_faults o owner (shown-the_row-Part-0 a row)
+    → row_faults o owner row ≡ flat_map (part_faults o owner) (shown-the_row-Part-0 a row)
 parts_shown o owner a row = parts_row o owner _ row
-    ∙ ap (parts_faults o owner) (sym (items_shown-the_row-Part-0 a row))
+    ∙ ap (flat_map (part_faults o owner)) (sym (items_shown-the_row-Part-0 a row))
 
 states_row : (n : _) (row : Row_of-Part n)
     → row_has_states row ≡ have_states (items-the_row-Part n row)
@@ -82,7 +85,7 @@ transitions_row : (o : Outline) (n : _) (row : Row_of-Transition n)
     → row_transitions_faults o row ≡ transitions_faults o (items-the_row-Transition n row)
 transitions_row o n end_of-Transition = refl
 transitions_row o n (more_of-Transition cs name a parts statements place rest) =
-    λ i. (clauses_faults o cs ++ parts_shown o owners.Body a parts i) ++ transitions_row o _ rest i
+    λ i. (flat_map (clause_faults o) cs ++ parts_shown o owners.Body a parts i) ++ transitions_row o _ rest i
 
 groups_row : (o : Outline) (n : _) (row : Row_of-Group n)
     → row_groups_faults o row ≡ groups_faults o (items-the_row-Group n row)
@@ -119,8 +122,8 @@ pub routine_at : (o : Outline) (owner : Owner) (p : Part) (r : Routine) → p �
     → part_faults o owner p ≡ routine_faults o r
 routine_at o owner p r h =
     ap (part_faults o owner) h
-    ∙ (λ i. twice_faults o r.name ++ formals_faults o r.result r.formals
-    ++ result_faults o r.result ++ parts_hidden o owners.Body r.block.parts i
+    ∙ (λ i. twice_faults o r.name ++ flat_map (formal_faults o r.result) r.formals
+    ++ option_map_or (type_faults o) r.result [] ++ parts_hidden o owners.Body r.block.parts i
     ++ scalars_faults (scalars_hidden o r.block.parts i) r.name.place)
 
 -- What the functions over parts need.

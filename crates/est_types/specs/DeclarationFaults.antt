@@ -1,7 +1,8 @@
 -- The rules that the declarations of a specification break, at a declared name, within a section of
 -- declarations, or within the formals or the result of a routine (ISO 9074, constraints; ISO 7185,
 -- 6.2 to 6.6).
-use Rattle.std.specs.Prelude.{ℕ, ◌-◌, Bool, true, false, ◌&&◌, not, nat_lt, List}
+use Rattle.std.specs.Option.{option_map_or}
+use Rattle.std.specs.Prelude.{ℕ, ◌-◌, Bool, true, false, ◌&&◌, not, nat_lt, List, flat_map}
 use Rattle.std.specs.Prelude.{[], ◌∷◌, ◌++◌, Option, Some, None, is_some, if◌then◌else◌}
 use Rattle.est_syntax.specs.Faults.{broken, broken_if}
 use Rattle.est_syntax.specs.declared.name.Used.{Used}
@@ -41,8 +42,8 @@ use Rattle.est_kinds.specs.Constants.{constant_faults}
 use Rattle.est_kinds.specs.TypeTexts.{text_faults, type_faults}
 use Rattle.est_kinds.specs.Dims.{dims_faults}
 use Rattle.est_sizes.specs.Scalars.{row_scalars, scalars_faults}
-use Rattle.est_outline.specs.Declares.{member_named}
-use Rattle.est_outline.specs.Bodies.{outline_of}
+use Rattle.est_declares.specs.Declares.{member_named}
+use Rattle.est_declares.specs.Bodies.{outline_of}
 use Rattle.est_types.specs.declared.modules.Owner.{Owner}
 use Rattle.est_types.specs.declared.modules.Owner.TheVariants as owners
 
@@ -50,25 +51,13 @@ use Rattle.est_types.specs.declared.modules.Owner.TheVariants as owners
 abbrev pub constdef_faults : Outline → ConstDef → List Fault
 constdef_faults o c = twice_faults o c.name ++ constant_faults o c.value
 
-abbrev pub constdefs_faults : Outline → List ConstDef → List Fault
-constdefs_faults o [] = []
-constdefs_faults o (c ∷ cs) = constdef_faults o c ++ constdefs_faults o cs
-
 -- types
 abbrev pub typedef_faults : Outline → TypeDef → List Fault
 typedef_faults o t = twice_faults o t.name ++ text_faults o t.text
 
-abbrev pub typedefs_faults : Outline → List TypeDef → List Fault
-typedefs_faults o [] = []
-typedefs_faults o (t ∷ ts) = typedef_faults o t ++ typedefs_faults o ts
-
 -- variables, parameters or exports
 abbrev pub vardef_faults : Outline → VarDef → List Fault
 vardef_faults o v = twices_faults o v.names ++ text_faults o v.text
-
-abbrev pub vardefs_faults : Outline → List VarDef → List Fault
-vardefs_faults o [] = []
-vardefs_faults o (v ∷ vs) = vardef_faults o v ++ vardefs_faults o vs
 
 -- the use of a role, which is looked up in its channel
 abbrev pub role_used : Option Member → ℕ → List Fault
@@ -79,28 +68,16 @@ role_used (Some _) place = broken place WrongSort
 abbrev pub role_faults : Outline → ℕ → Used → List Fault
 role_faults o channel u = role_used (member_named o channel u) u.place
 
-abbrev pub roles_faults : Outline → ℕ → List Used → List Fault
-roles_faults o channel [] = []
-roles_faults o channel (u ∷ us) = role_faults o channel u ++ roles_faults o channel us
-
 -- channels
 abbrev pub interaction_faults : Outline → InteractionDef → List Fault
-interaction_faults o i = again_faults o i.name ++ vardefs_faults o i.params
-
-abbrev pub interactions_faults : Outline → List InteractionDef → List Fault
-interactions_faults o [] = []
-interactions_faults o (i ∷ is) = interaction_faults o i ++ interactions_faults o is
+interaction_faults o i = again_faults o i.name ++ flat_map (vardef_faults o) i.params
 
 abbrev pub by_part_faults : Outline → ℕ → ByPart → List Fault
-by_part_faults o channel b = roles_faults o channel b.roles ++ interactions_faults o b.interactions
-
-abbrev pub by_parts_faults : Outline → ℕ → List ByPart → List Fault
-by_parts_faults o channel [] = []
-by_parts_faults o channel (b ∷ bs) = by_part_faults o channel b ++ by_parts_faults o channel bs
+by_part_faults o channel b = flat_map (role_faults o channel) b.roles ++ flat_map (interaction_faults o) b.interactions
 
 abbrev pub channel_faults : Outline → Channel → List Fault
 channel_faults o c =
-    twice_faults o c.name ++ agains_faults o c.roles ++ by_parts_faults o c.name.place c.by
+    twice_faults o c.name ++ agains_faults o c.roles ++ flat_map (by_part_faults o c.name.place) c.by
 
 -- interaction points, whose role is looked up where their channel is one
 abbrev pub side_faults : Outline → Option ℕ → Used → List Fault
@@ -113,15 +90,11 @@ point_faults o p =
     ++ use_faults o sort.Channel p.channel
     ++ side_faults o (declaration_of o sort.Channel p.channel) p.role
 
-abbrev pub points_faults : Outline → List Point → List Fault
-points_faults o [] = []
-points_faults o (p ∷ ps) = point_faults o p ++ points_faults o ps
-
 -- headers
 abbrev pub header_faults : Outline → Header → List Fault
 header_faults o h =
-    twice_faults o h.name ++ vardefs_faults o h.params ++ points_faults o h.points
-    ++ vardefs_faults o h.exports
+    twice_faults o h.name ++ flat_map (vardef_faults o) h.params ++ flat_map (point_faults o) h.points
+    ++ flat_map (vardef_faults o) h.exports
 
 -- module variables: those of the specification are of systems, those of bodies are not
 abbrev pub is_system : Option Entry → Bool
@@ -144,17 +117,9 @@ modvar_faults o owner m =
     ++ use_faults o sort.Header m.header
     ++ attribute_faults o owner (declaration_of o sort.Header m.header) m.header.place
 
-abbrev pub modvars_faults : Outline → Owner → List ModvarDef → List Fault
-modvars_faults o owner [] = []
-modvars_faults o owner (m ∷ ms) = modvar_faults o owner m ++ modvars_faults o owner ms
-
 -- state sets
 abbrev pub stateset_faults : Outline → StateSet → List Fault
 stateset_faults o s = twice_faults o s.name ++ uses_faults o sort.State s.states
-
-abbrev pub statesets_faults : Outline → List StateSet → List Fault
-statesets_faults o [] = []
-statesets_faults o (s ∷ ss) = stateset_faults o s ++ statesets_faults o ss
 
 -- formals of a routine with this result: a function has one, and no formals by place. The word
 -- `var` stands before the first name.
@@ -167,30 +132,13 @@ formal_faults o result f =
     twices_faults o f.names ++ type_faults o f.kind
     ++ broken_if (is_some result && f.by_place) (word_place f.names) NotInFunction
 
-abbrev pub formals_faults : Outline → Option Used → List Formal → List Fault
-formals_faults o result [] = []
-formals_faults o result (f ∷ fs) = formal_faults o result f ++ formals_faults o result fs
-
--- the result of a function
-abbrev pub result_faults : Outline → Option Used → List Fault
-result_faults o None = []
-result_faults o (Some u) = type_faults o u
-
 -- the `any` variables of a transition
 abbrev pub chosen_faults : Outline → VarDef → List Fault
 chosen_faults o v = twices_faults o v.names
 
-abbrev pub any_faults : Outline → List VarDef → List Fault
-any_faults o [] = []
-any_faults o (v ∷ vs) = chosen_faults o v ++ any_faults o vs
-
 abbrev pub clause_faults : Outline → Clause → List Fault
-clause_faults o (clause.Any names place) = any_faults o names
+clause_faults o (clause.Any names place) = flat_map (chosen_faults o) names
 clause_faults o _ = []
-
-abbrev pub clauses_faults : Outline → List Clause → List Fault
-clauses_faults o [] = []
-clauses_faults o (c ∷ cs) = clause_faults o c ++ clauses_faults o cs
 
 -- a body that has states needs a first one
 abbrev pub row_has_states : {n : _} → Row_of-Part n → Bool
@@ -208,8 +156,8 @@ first_state_faults states named place = broken_if (states && not named) place No
 -- What the parts of an owner break.
 abbrev mutual
   pub part_faults : Outline → Owner → Part → List Fault
-  part_faults o owner (part.Consts cs) = constdefs_faults o cs
-  part_faults o owner (part.Types ts) = typedefs_faults o ts
+  part_faults o owner (part.Consts cs) = flat_map (constdef_faults o) cs
+  part_faults o owner (part.Types ts) = flat_map (typedef_faults o) ts
   part_faults o owner (part.Channel c) = channel_faults o c
   part_faults o owner (part.Header h) = header_faults o h
   part_faults o owner (part.Body (Body' name header a parts f b groups)) =
@@ -217,14 +165,14 @@ abbrev mutual
       ++ first_faults o f ++ row_groups_faults o groups
       ++ first_state_faults (row_has_states parts) (names_first f) name.place
       ++ scalars_faults (row_scalars o 0 parts) name.place
-  part_faults o owner (part.Modvars ms) = modvars_faults o owner ms
-  part_faults o owner (part.Points ps) = points_faults o ps
-  part_faults o owner (part.Vars vs) = vardefs_faults o vs
+  part_faults o owner (part.Modvars ms) = flat_map (modvar_faults o owner) ms
+  part_faults o owner (part.Points ps) = flat_map (point_faults o) ps
+  part_faults o owner (part.Vars vs) = flat_map (vardef_faults o) vs
   part_faults o owner (part.States us) = twices_faults o us
-  part_faults o owner (part.StateSets ss) = statesets_faults o ss
+  part_faults o owner (part.StateSets ss) = flat_map (stateset_faults o) ss
   part_faults o owner (part.Routine' name formals result a parts statements place) =
-      twice_faults o name ++ formals_faults o result formals
-      ++ result_faults o result ++ row_faults o owners.Body parts
+      twice_faults o name ++ flat_map (formal_faults o result) formals
+      ++ option_map_or (type_faults o) result [] ++ row_faults o owners.Body parts
       ++ scalars_faults (row_scalars o 0 parts) name.place
 
   pub row_faults : Outline → Owner → {n : _} → Row_of-Part n → List Fault
@@ -243,12 +191,8 @@ abbrev mutual
   pub row_transitions_faults : Outline → {n : _} → Row_of-Transition n → List Fault
   row_transitions_faults o end_of-Transition = []
   row_transitions_faults o (more_of-Transition cs name a parts statements place rest) =
-      (clauses_faults o cs ++ row_faults o owners.Body parts) ++ row_transitions_faults o rest
-
-abbrev pub parts_faults : Outline → Owner → List Part → List Fault
-parts_faults o owner [] = []
-parts_faults o owner (p ∷ ps) = part_faults o owner p ++ parts_faults o owner ps
+      (flat_map (clause_faults o) cs ++ row_faults o owners.Body parts) ++ row_transitions_faults o rest
 
 -- all that the declarations of a specification break
 abbrev pub declaration_faults : Spec → List Fault
-declaration_faults s = parts_faults (outline_of s) owners.Specification s.parts
+declaration_faults s = flat_map (part_faults (outline_of s) owners.Specification) s.parts

@@ -1,17 +1,16 @@
 //! What channels, headers, interaction points and module variables break.
 #![tactic(auto, using(est_scope::proofs::LeastLaws::least_append))]
 
-ghost use Rattle.std.specs.Prelude.{◌≡◌, OnOk};
+ghost use Rattle.std.specs.Prelude.{◌≡◌, OnOk, flat_map};
 ghost use Rattle.est_scope.specs.LeastSoFar.{least_with};
 ghost use Rattle.est_scope.specs.Outline.{entry_at};
-ghost use Rattle.est_types.specs.DeclarationFaults.{role_faults, roles_faults, interaction_faults};
-ghost use Rattle.est_types.specs.DeclarationFaults.{interactions_faults, by_part_faults};
-ghost use Rattle.est_types.specs.DeclarationFaults.{by_parts_faults};
+ghost use Rattle.est_types.specs.DeclarationFaults.{role_faults, interaction_faults};
+ghost use Rattle.est_types.specs.DeclarationFaults.{by_part_faults};
 ghost use Rattle.est_types.specs.DeclarationFaults.{channel_faults, side_faults, point_faults};
-ghost use Rattle.est_types.specs.DeclarationFaults.{points_faults, header_faults};
+ghost use Rattle.est_types.specs.DeclarationFaults.{header_faults};
 ghost use Rattle.est_types.specs.DeclarationFaults.{is_system, may_own};
 ghost use Rattle.est_types.specs.DeclarationFaults.{attribute_faults};
-ghost use Rattle.est_types.specs.DeclarationFaults.{modvar_faults, modvars_faults};
+ghost use Rattle.est_types.specs.DeclarationFaults.{modvar_faults};
 
 use crate::sections::check_vardefs;
 use est_kinds::dims::check_dims;
@@ -46,7 +45,7 @@ fn check_role(outline: &Outline, channel: u32, used: &Used, least: &mut Least)
 // The roles of a part of a channel.
 fn check_roles(outline: &Outline, channel: u32, names: &[Used], least: &mut Least)
     ensures { least.new.at
-        ≡ least_with least.old.at (roles_faults outline.now channel names.now) }
+        ≡ least_with least.old.at (flat_map (role_faults outline.now channel) names.now) }
 {
     for used in names {
         check_role(outline, channel, used, least);
@@ -75,7 +74,7 @@ fn check_interactions(
     least: &mut Least,
 ) -> Result<(), AllocError>
     ensures { OnOk result
-        (least.new.at ≡ least_with least.old.at (interactions_faults outline.now items.now)) }
+        (least.new.at ≡ least_with least.old.at (flat_map (interaction_faults outline.now) items.now)) }
 {
     for item in items {
         check_interaction(alloc, outline, item, least)?;
@@ -107,7 +106,7 @@ fn check_by_parts(
     least: &mut Least,
 ) -> Result<(), AllocError>
     ensures { OnOk result
-        (least.new.at ≡ least_with least.old.at (by_parts_faults outline.now channel items.now)) }
+        (least.new.at ≡ least_with least.old.at (flat_map (by_part_faults outline.now channel) items.now)) }
 {
     for item in items {
         check_by_part(alloc, outline, channel, item, least)?;
@@ -165,7 +164,7 @@ pub fn check_points(
     least: &mut Least,
 ) -> Result<(), AllocError>
     ensures { OnOk result
-        (least.new.at ≡ least_with least.old.at (points_faults outline.now items.now)) }
+        (least.new.at ≡ least_with least.old.at (flat_map (point_faults outline.now) items.now)) }
 {
     for item in items {
         check_point(alloc, outline, item, least)?;
@@ -255,7 +254,7 @@ pub fn check_modvars(
     least: &mut Least,
 ) -> Result<(), AllocError>
     ensures { OnOk result
-        (least.new.at ≡ least_with least.old.at (modvars_faults outline.now owner items.now)) }
+        (least.new.at ≡ least_with least.old.at (flat_map (modvar_faults outline.now owner) items.now)) }
 {
     for item in items {
         check_modvar(alloc, outline, owner, item, least)?;

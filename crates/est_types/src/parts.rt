@@ -1,10 +1,10 @@
 //! What the parts of a specification break.
 #![tactic(auto, using(est_scope::proofs::LeastLaws::least_append, crate::proofs::PartRows::rows))]
 
-ghost use Rattle.std.specs.Prelude.{◌≡◌, OnOk};
+ghost use Rattle.std.specs.Prelude.{◌≡◌, OnOk, flat_map};
 ghost use Rattle.est_scope.specs.LeastSoFar.{least_with};
 ghost use Rattle.est_types.specs.DeclarationFaults.{first_state_faults};
-ghost use Rattle.est_types.specs.DeclarationFaults.{part_faults, parts_faults};
+ghost use Rattle.est_types.specs.DeclarationFaults.{part_faults};
 ghost use Rattle.est_types.specs.inside.DeclarationParts.{block_faults, first_part_faults};
 ghost use Rattle.est_types.specs.inside.DeclarationParts.{transition_faults, transitions_faults};
 ghost use Rattle.est_types.specs.inside.DeclarationParts.{group_faults, groups_faults, body_faults};
@@ -215,7 +215,7 @@ pub fn check_parts(
     least: &mut Least,
 ) -> Result<(), AllocError>
     ensures { OnOk result
-        (least.new.at ≡ least_with least.old.at (parts_faults outline.now owner parts.now)) }
+        (least.new.at ≡ least_with least.old.at (flat_map (part_faults outline.now owner) parts.now)) }
 {
     for part in parts {
         check_part(alloc, outline, owner, part, least)?;

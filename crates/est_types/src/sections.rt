@@ -1,15 +1,17 @@
 //! What sections of constants, types, variables, states and formals break.
 #![tactic(auto, using(est_scope::proofs::LeastLaws::least_append))]
 
-ghost use Rattle.std.specs.Prelude.{◌≡◌, OnOk};
+ghost use Rattle.std.specs.Option.{option_map_or};
+ghost use Rattle.est_kinds.specs.TypeTexts.{type_faults};
+ghost use Rattle.std.specs.Prelude.{◌≡◌, [], OnOk, flat_map};
 ghost use Rattle.est_scope.specs.LeastSoFar.{least_with};
-ghost use Rattle.est_types.specs.DeclarationFaults.{constdef_faults, constdefs_faults};
+ghost use Rattle.est_types.specs.DeclarationFaults.{constdef_faults};
 ghost use Rattle.est_types.specs.DeclarationFaults.{typedef_faults};
-ghost use Rattle.est_types.specs.DeclarationFaults.{typedefs_faults, vardef_faults, vardefs_faults};
-ghost use Rattle.est_types.specs.DeclarationFaults.{stateset_faults, statesets_faults, word_place};
-ghost use Rattle.est_types.specs.DeclarationFaults.{formal_faults, formals_faults, result_faults};
-ghost use Rattle.est_types.specs.DeclarationFaults.{chosen_faults, any_faults};
-ghost use Rattle.est_types.specs.DeclarationFaults.{clause_faults, clauses_faults};
+ghost use Rattle.est_types.specs.DeclarationFaults.{vardef_faults};
+ghost use Rattle.est_types.specs.DeclarationFaults.{stateset_faults, word_place};
+ghost use Rattle.est_types.specs.DeclarationFaults.{formal_faults};
+ghost use Rattle.est_types.specs.DeclarationFaults.{chosen_faults};
+ghost use Rattle.est_types.specs.DeclarationFaults.{clause_faults};
 
 use est_kinds::constants::check_constant;
 use est_kinds::names::check_type;
@@ -43,7 +45,7 @@ pub fn check_constdefs(
     least: &mut Least,
 ) -> Result<(), AllocError>
     ensures { OnOk result
-        (least.new.at ≡ least_with least.old.at (constdefs_faults outline.now items.now)) }
+        (least.new.at ≡ least_with least.old.at (flat_map (constdef_faults outline.now) items.now)) }
 {
     for item in items {
         check_constdef(outline, item, least)?;
@@ -74,7 +76,7 @@ pub fn check_typedefs(
     least: &mut Least,
 ) -> Result<(), AllocError>
     ensures { OnOk result
-        (least.new.at ≡ least_with least.old.at (typedefs_faults outline.now items.now)) }
+        (least.new.at ≡ least_with least.old.at (flat_map (typedef_faults outline.now) items.now)) }
 {
     for item in items {
         check_typedef(alloc, outline, item, least)?;
@@ -105,7 +107,7 @@ pub fn check_vardefs(
     least: &mut Least,
 ) -> Result<(), AllocError>
     ensures { OnOk result
-        (least.new.at ≡ least_with least.old.at (vardefs_faults outline.now items.now)) }
+        (least.new.at ≡ least_with least.old.at (flat_map (vardef_faults outline.now) items.now)) }
 {
     for item in items {
         check_vardef(alloc, outline, item, least)?;
@@ -123,7 +125,7 @@ fn check_stateset(outline: &Outline, item: &StateSet, least: &mut Least)
 
 /// State sets.
 pub fn check_statesets(outline: &Outline, items: &[StateSet], least: &mut Least)
-    ensures { least.new.at ≡ least_with least.old.at (statesets_faults outline.now items.now) }
+    ensures { least.new.at ≡ least_with least.old.at (flat_map (stateset_faults outline.now) items.now) }
 {
     for item in items {
         check_stateset(outline, item, least);
@@ -157,7 +159,7 @@ fn check_formal(outline: &Outline, of: &Option<Used>, item: &Formal, least: &mut
 /// Formals of a routine with this result: a function has one.
 pub fn check_formals(outline: &Outline, of: &Option<Used>, items: &[Formal], least: &mut Least)
     ensures { least.new.at
-        ≡ least_with least.old.at (formals_faults outline.now of.now items.now) }
+        ≡ least_with least.old.at (flat_map (formal_faults outline.now of.now) items.now) }
 {
     for item in items {
         check_formal(outline, of, item, least);
@@ -166,7 +168,7 @@ pub fn check_formals(outline: &Outline, of: &Option<Used>, items: &[Formal], lea
 
 /// The result of a function.
 pub fn check_result(outline: &Outline, of: &Option<Used>, least: &mut Least)
-    ensures { least.new.at ≡ least_with least.old.at (result_faults outline.now of.now) }
+    ensures { least.new.at ≡ least_with least.old.at (option_map_or (type_faults outline.now) of.now []) }
 {
     if let Some(used) = of {
         check_type(outline, used, least);
@@ -182,7 +184,7 @@ fn check_chosen(outline: &Outline, item: &VarDef, least: &mut Least)
 
 // The `any` variables of a transition.
 fn check_any(outline: &Outline, items: &[VarDef], least: &mut Least)
-    ensures { least.new.at ≡ least_with least.old.at (any_faults outline.now items.now) }
+    ensures { least.new.at ≡ least_with least.old.at (flat_map (chosen_faults outline.now) items.now) }
 {
     for item in items {
         check_chosen(outline, item, least);
@@ -200,7 +202,7 @@ fn check_clause(outline: &Outline, item: &Clause, least: &mut Least)
 
 /// The clauses of a transition.
 pub fn check_clauses(outline: &Outline, items: &[Clause], least: &mut Least)
-    ensures { least.new.at ≡ least_with least.old.at (clauses_faults outline.now items.now) }
+    ensures { least.new.at ≡ least_with least.old.at (flat_map (clause_faults outline.now) items.now) }
 {
     for item in items {
         check_clause(outline, item, least);

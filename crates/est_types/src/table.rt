@@ -1,13 +1,13 @@
 //! The table of a specification.
 
-ghost use Rattle.std.specs.Prelude.{◌≡◌, IfOk, None, Some};
+ghost use Rattle.std.specs.Prelude.{◌≡◌, IfOk, None, Some, flat_map};
 ghost use Rattle.std.specs.Option.{option_copied, option_map};
 ghost use Rattle.est_syntax.specs.Least.{IsIn, IsLeast};
 ghost use Rattle.est_scope.specs.Outline.{meant};
 ghost use Rattle.est_scope.specs.LeastSoFar.{least_with};
 ghost use Rattle.est_kinds.specs.Constants.{value_by};
-ghost use Rattle.est_outline.specs.Bodies.{outline_of};
-ghost use Rattle.est_types.specs.DeclarationFaults.{parts_faults, declaration_faults};
+ghost use Rattle.est_declares.specs.Bodies.{outline_of};
+ghost use Rattle.est_types.specs.DeclarationFaults.{part_faults, declaration_faults};
 ghost use Rattle.est_types.specs.Table.{declaration, kind_of, constant_of, dims_at};
 ghost use Rattle.est_types.specs.declared.modules.Owner.TheVariants as owners;
 
@@ -145,7 +145,7 @@ fn ordinal_of(entry: &Entry) -> Option<i32>
 fn least_fault(alloc: Global, outline: &Outline, spec: &Spec) -> Result<Option<Fault>, AllocError>
     ensures { IfOk result
         (λ fault. fault ≡ least_with None
-        (parts_faults outline.now owners.Specification spec.now.parts)) }
+        (flat_map (part_faults outline.now owners.Specification) spec.now.parts)) }
 {
     let mut least = Least { at: None };
     check_parts(

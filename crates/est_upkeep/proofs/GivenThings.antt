@@ -8,7 +8,7 @@ use Rattle.est_syntax.specs.declared.expression.Expr.{Expr}
 use Rattle.est_syntax.specs.declared.kind.Kind.{Kind}
 use Rattle.est_values.specs.declared.value.Value.{Value}
 use Rattle.est_scope.specs.Outline.{Outline}
-use Rattle.est_statements.specs.Targets.{bare}
+use Rattle.est_declares.specs.BareVariables.{bare}
 use Rattle.est_semantics.specs.declared.fault.BlockFault.{BlockFault}
 use Rattle.est_semantics.specs.declared.frame.Slot.{Slot}
 use Rattle.est_semantics.specs.declared.frame.Slot.TheVariants as slot

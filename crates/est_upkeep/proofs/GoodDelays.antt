@@ -2,7 +2,7 @@
 use Rattle.std.proofs.Common.{◌≡◌, refl, sym, ap, subst, ◌∙◌, ℕ, zero, suc, Bool, true, false}
 use Rattle.std.proofs.Common.{List, [], ◌∷◌, ◌++◌, map, Option, Some, None, is_some}
 use Rattle.std.proofs.Common.{inl, inr}
-use Rattle.std.specs.Prelude.{if◌then◌else◌, find, slice_get}
+use Rattle.std.specs.Prelude.{if◌then◌else◌, find, slice_get, flat_map}
 use Rattle.std.specs.List.{AllByRecursion, cons_option, filter_map, flat_map}
 use Rattle.std.specs.Option.{option_map_or}
 use Rattle.std.proofs.lemmas.Option.{same_Some}
@@ -17,9 +17,9 @@ use Rattle.est_syntax.specs.declared.transition.Clause.{Clause}
 use Rattle.est_syntax.specs.declared.transition.Group.{Group, out-Group}
 use Rattle.est_syntax.specs.declared.transition.Transition.{Transition, out-Transition}
 use Rattle.est_scope.specs.Outline.{Outline}
-use Rattle.est_outline.specs.Bodies.{outline_of}
-use Rattle.est_blocks.specs.Clauses.{with_clauses, delay_faults}
-use Rattle.est_blocks.specs.BlockFaults.{part_faults, row_faults, parts_faults, bodies_faults}
+use Rattle.est_declares.specs.Bodies.{outline_of}
+use Rattle.est_clauses.specs.GivenClauses.{with_clauses, delay_faults}
+use Rattle.est_blocks.specs.BlockFaults.{part_faults, row_faults, bodies_faults}
 use Rattle.est_types.specs.DeclarationFaults.{declaration_faults}
 use Rattle.est_check.specs.LeastFault.{IsGood, IsLeastFault}
 use Rattle.est_blocks.specs.inside.BlockParts.{transitions_faults, groups_faults}
@@ -131,11 +131,11 @@ module _ (o : Outline) where
     row_good (more_of-Part p rest) e = joined_all IsGoodPart (parts_within p) (row_parts rest)
         (within_good p (left_none _ (row_faults o rest) e)) (row_good rest (right_none _ _ e))
 
-  parts_good : (ps : List Part) → parts_faults o ps ≡ []
+  parts_good : (ps : List Part) → flat_map (part_faults o) ps ≡ []
       → AllByRecursion IsGoodPart (flat_map parts_within ps)
   parts_good [] e = tt
   parts_good (p ∷ ps) e = joined_all IsGoodPart (parts_within p) (flat_map parts_within ps)
-      (within_good p (left_none _ (parts_faults o ps) e)) (parts_good ps (right_none _ _ e))
+      (within_good p (left_none _ (flat_map (part_faults o) ps) e)) (parts_good ps (right_none _ _ e))
 
   bodies_good : (ps : List Part) → AllByRecursion IsGoodPart ps
       → AllByRecursion IsGoodBody (filter_map body_in ps)

@@ -1,3 +1,4 @@
+pub mod Ancestors
 pub mod BlocksOfExecutions
 pub mod BlocksOfInstances
 pub mod ClimbsEnd

@@ -19,13 +19,13 @@ use Rattle.est_semantics.specs.OutputEffects.{Sent}
 use Rattle.est_semantics.specs.LinkEffects.{with_point, is_taken, each}
 use Rattle.est_semantics.specs.InstanceEffects.{most_instances, variables_of, with_next, holds}
 use Rattle.est_semantics.specs.InstanceEffects.{in_state, untied, new_row}
-use Rattle.est_upkeep.specs.AncestorLaws.{IsRowOf, AreInAge, IsAncestor, parent, further}
+use Rattle.est_upkeep.specs.AncestorLaws.{IsRowOf, AreInAge}
 use Rattle.est_upkeep.specs.OrderLaws.{IsLiving, ParentsLive}
 use Rattle.est_upkeep.proofs.GivenThings.{OnGood}
 use Rattle.est_upkeep.proofs.SameRows.{HasSameRows, crossed_rows, parted_rows, end_rows, each_rows}
 use Rattle.est_upkeep.proofs.RowLaws.{From, IsMild, from_changed, from_joined}
-use Rattle.est_upkeep.proofs.RowLaws.{from_filtered, HasNumber, living_row, IsUpTo, up_child}
-use Rattle.est_upkeep.proofs.RowLaws.{of_rows}
+use Rattle.est_upkeep.proofs.RowLaws.{from_filtered, HasNumber, row_living, living_row, IsUpTo}
+use Rattle.est_upkeep.proofs.RowLaws.{here, child, of_rows}
 use Rattle.est_upkeep.proofs.ParentsOlder.{good_if}
 use Rattle.est_upkeep.proofs.OrderlyBlocks.{own_row, state_mild, holds_mild}
 use Rattle.est_upkeep.proofs.BlocksOfInstances.{Upkeep}
@@ -158,26 +158,22 @@ module _ (rs : List Row) (age : AreInAge rs) (parents : ParentsLive rs) (alone :
         one : (a.row.parent ≡ 0) ⊎ IsLiving rs a.row.parent
             → (a.row.parent < k → IsLiving rs a.row.parent → IsUpTo rs 1 a.row.parent)
             → IsUpTo rs 1 n
-        one (inl z) f = inl (sym (alone a.row a.found z) ∙ a.number)
+        one (inl z) f = here n (sym (alone a.row a.found z) ∙ a.number)
         one (inr g) f = let b = (of_rows rs a.row age a.found).0 in let e = a.number in
-            inr (subst (IsAncestor rs 1) a.number
-            (up_child rs 1 a.row a.found (f (omega (arith, b, e, l)) g)))
+            child n a.row a.found a.number (f (omega (arith, b, e, l)) g)
 
     pub root_above : (n : ℕ) → IsLiving rs n → IsUpTo rs 1 n
     root_above n h = above_by (n + 1) n (omega arith) h
 
-    ancestor_lives : (n : ℕ) → IsAncestor rs 1 n → IsLiving rs 1
-    ancestor_lives n (parent r c e) = one (parents r c)
+    above_lives : (n : ℕ) → IsLiving rs n → IsUpTo rs 1 n → IsLiving rs 1
+    above_lives n h (here m e) = subst (IsLiving rs) (sym e) h
+    above_lives n h (child m r c e k) = one (parents r c) (λ g. above_lives r.parent g k)
       where
-        one : (r.parent ≡ 0) ⊎ IsLiving rs r.parent → IsLiving rs 1
-        one (inl z) = absurd (omega (arith, z, e))
-        one (inr g) = subst (IsLiving rs) e g
-    ancestor_lives n (further r c k) = ancestor_lives r.parent k
+        one : (r.parent ≡ 0) ⊎ IsLiving rs r.parent → (IsLiving rs r.parent → IsLiving rs 1)
+            → IsLiving rs 1
+        one (inl z) f = subst (IsLiving rs) (alone r c z) (row_living rs r c)
+        one (inr g) f = f g
 
     -- so it lives where any instance does
     pub root_lives : (n : ℕ) → IsLiving rs n → IsLiving rs 1
-    root_lives n h = one (root_above n h)
-      where
-        one : IsUpTo rs 1 n → IsLiving rs 1
-        one (inl e) = subst (IsLiving rs) (sym e) h
-        one (inr a) = ancestor_lives n a
+    root_lives n h = above_lives n h (root_above n h)

@@ -40,7 +40,7 @@ use Rattle.est_semantics.specs.NamesInRuns.{header_at}
 use Rattle.est_semantics.specs.LoopEffects.{naming}
 use Rattle.est_semantics.proofs.NumbersAscend.{goes_kept}
 use Rattle.est_upkeep.specs.UpkeepLaws.{OnDone}
-use Rattle.est_upkeep.specs.AncestorLaws.{IsRowOf, IsYounger, AreInAge, IsAncestor}
+use Rattle.est_upkeep.specs.AncestorLaws.{IsRowOf, IsYounger, AreInAge}
 use Rattle.est_upkeep.specs.OrderLaws.{IsLiving, ParentsLive, IsOrderly}
 use Rattle.est_upkeep.specs.OrderLaws.{SituationsStayOrderly}
 use Rattle.est_upkeep.proofs.GivenThings.{OnGood}
@@ -48,15 +48,15 @@ use Rattle.est_upkeep.proofs.SameRows.{HasSameRows, crossed_rows, parted_rows, e
 use Rattle.est_upkeep.proofs.RowLaws.{HasRow, From, IsMild, from_changed, to_changed, from_joined}
 use Rattle.est_upkeep.proofs.RowLaws.{to_joined, to_end, to_filtered, from_filtered}
 use Rattle.est_upkeep.proofs.RowLaws.{row_living, living_row, living_from, within_numbers}
-use Rattle.est_upkeep.proofs.RowLaws.{living_number, IsUpTo, up_from, up_child, old_up}
-use Rattle.est_upkeep.proofs.RowLaws.{new_ancestor, among_self, descend, closed_below}
+use Rattle.est_upkeep.proofs.RowLaws.{living_number, IsUpTo, here, child, up_from, up_older}
+use Rattle.est_upkeep.proofs.RowLaws.{old_up, new_up, among_self, descend, closed_below}
 use Rattle.est_upkeep.proofs.FittingFrames.{OnFrames, plain_frame, plain_frames, opened_frames}
 use Rattle.est_upkeep.proofs.FittingFrames.{taken_frames, altered_frames, OnNumber, named_fits}
 use Rattle.est_upkeep.proofs.FittingFrames.{weaker_frames}
 use Rattle.est_upkeep.proofs.LivingLinks.{IsLinked, connected_living, attached_living}
 use Rattle.est_upkeep.proofs.LivingLinks.{parted_living, end_living, each_living, sent_living}
 use Rattle.est_upkeep.proofs.LivingLinks.{stay_living, without_living}
-use Rattle.est_upkeep.proofs.ParentsOlder.{age_kept, good_if, ancestors_older, InAge}
+use Rattle.est_upkeep.proofs.ParentsOlder.{age_kept, good_if, InAge}
 use Rattle.est_upkeep.proofs.BlocksOfInstances.{Upkeep, instance_keeps}
 use Rattle.est_upkeep.proofs.Executions.{with_situation, with_sent, held_child, IsEnd}
 
@@ -173,7 +173,7 @@ module _ (n i : ℕ) (s : State) (h : IsAtWork n s) (apart : IsUpTo s.situation.
 
   gone_below : (k : ℕ) → is_among gone k ≡ true → IsUpTo s.situation.rows i k
   gone_below k e = descend s.situation.rows i s.situation.rows (i ∷ []) (λ r c. c)
-      (λ j a. inl (sym (among_self i j a))) k e
+      (λ j a. here j (sym (among_self i j a))) k e
 
   either : (b : Bool) → (b ≡ true → ⊥) → b ≡ false
   either true f = absurd (f refl)
@@ -291,12 +291,8 @@ module _ (t : Text) (n body : ℕ) (e : Element) (f : Frame) (s : State) (h : Is
       (up_from more after.rows from_more i n k))
 
   not_above_new : (i : ℕ) → IsApart n s.situation i → IsUpTo after.rows i next → ⊥
-  not_above_new i a k = one (up_from more after.rows from_more i next k)
-    where
-      one : IsUpTo more i next → ⊥
-      one (inl z) = let l = a.0 in absurd (omega (arith, z, l))
-      one (inr g) = a.1 (new_ancestor s.situation.rows new old_number h.age i next refl
-          begun_before g)
+  not_above_new i a k = a.1 (new_up s.situation.rows new old_number h.age i next refl a.0
+      begun_before (up_from more after.rows from_more i next k))
 
   after_follows : Follows s.situation after
   after_follows = record {
@@ -385,8 +381,7 @@ reached_younger n e (r ∷ rs) h = one (nat_eq n r.number) refl (reached_younger
 
 -- no younger instance is above one
 younger_apart : (rs : List Row) (n i : ℕ) → AreInAge rs → n < i → IsUpTo rs i n → ⊥
-younger_apart rs n i h l (inl e) = absurd (omega (arith, e, l))
-younger_apart rs n i h l (inr a) = let k = ancestors_older rs i n h a in omega (arith, k, l)
+younger_apart rs n i h l a = let k = up_older rs i n h a in absurd (omega (arith, k, l))
 
 number_more : (P Q : ℕ → Type 0) → ((i : ℕ) → P i → Q i) → (o : Option ℕ) → OnNumber P o
     → OnNumber Q o
@@ -454,9 +449,8 @@ back_at_work t n body e f s v h k g =
       names = weaker_frames (IsApart s.situation.next v.situation) (IsApart n v.situation)
           (λ i c. (
             c.0,
-            λ w. c.1 (inr (subst (IsAncestor v.situation.rows i) a.number
-                (up_child v.situation.rows i a.row a.found
-                (subst (IsUpTo v.situation.rows i) (sym y) w)))),
+            λ w. c.1 (child s.situation.next a.row a.found a.number
+                (subst (IsUpTo v.situation.rows i) (sym y) w)),
           )) v.frames g.names;
     }
   where

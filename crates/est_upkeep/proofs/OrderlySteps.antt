@@ -1,7 +1,7 @@
 -- Firings and events leave orderly situations.
 use Rattle.std.proofs.Common.{◌≡◌, refl, sym, ap, subst, ◌∙◌, ℕ, nat_eq, Bool, true, false}
-use Rattle.std.proofs.Common.{List, [], ◌∷◌, ◌++◌, Option, Some, None, is_some, inl, inr}
-use Rattle.std.specs.Prelude.{if◌then◌else◌, ◌⊎◌, drop, find, map, slice_get}
+use Rattle.std.proofs.Common.{List, [], ◌∷◌, ◌++◌, Option, Some, None, is_some}
+use Rattle.std.specs.Prelude.{if◌then◌else◌, drop, find, map, slice_get}
 use Rattle.std.specs.Option.{option_map, option_map_or}
 use Rattle.std.proofs.lemmas.Bool.{eqb-true}
 use Rattle.std.proofs.lemmas.Option.{same_Some}
@@ -43,10 +43,10 @@ use Rattle.est_choices.proofs.Options.{then_some, map_some, by_option}
 use Rattle.est_choices.proofs.Outside.{ports_of_the_root}
 use Rattle.est_choices.proofs.Steps.{OnNext}
 use Rattle.est_upkeep.specs.UpkeepLaws.{OnDone, IsPlain}
-use Rattle.est_upkeep.specs.AncestorLaws.{IsAncestor}
 use Rattle.est_upkeep.specs.OrderLaws.{IsLiving, IsOrderly, IsOneTree, NameNone}
 use Rattle.est_upkeep.specs.RunOrder.{FiringsStayOrderly, EventsStayOrderly, OneTreeDescends}
-use Rattle.est_upkeep.proofs.RowLaws.{IsUpTo, living_number, from_changed}
+use Rattle.est_upkeep.proofs.RowLaws.{living_number, from_changed}
+use Rattle.est_upkeep.proofs.Ancestors.{up_ancestor}
 use Rattle.est_upkeep.proofs.LivingLinks.{queue_owner, appended_living, bottom_living}
 use Rattle.est_upkeep.proofs.ParentsOlder.{joined_all}
 use Rattle.est_upkeep.proofs.OrderlyBlocks.{order_kept, order_done, situations_stay_orderly}
@@ -324,9 +324,5 @@ events_stay_orderly t s (event.Passes units) h = record {
 -- ONE TREE
 
 pub one_tree_descends : OneTreeDescends
-one_tree_descends s h n l =
-    one (root_above s.rows h.order.age h.order.parents h.root.alone n l)
-  where
-    one : IsUpTo s.rows 1 n → (n ≡ 1) ⊎ IsAncestor s.rows 1 n
-    one (inl e) = inl (sym e)
-    one (inr a) = inr a
+one_tree_descends s h n l = up_ancestor s 1 h.order.numbers n
+    (root_above s.rows h.order.age h.order.parents h.root.alone n l)

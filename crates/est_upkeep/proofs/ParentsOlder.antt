@@ -34,14 +34,12 @@ use Rattle.est_semantics.specs.KeepingLaws.{Kept, Between, IsUnchanged}
 use Rattle.est_semantics.proofs.KeptByBlocks.{statements_silent}
 use Rattle.est_upkeep.specs.UpkeepLaws.{OnDone}
 use Rattle.est_upkeep.specs.AncestorLaws.{IsYounger, IsBetween, AreInAge, KeepsAge}
-use Rattle.est_upkeep.specs.AncestorLaws.{ParentsStayOlder, parent, further}
-use Rattle.est_upkeep.specs.AncestorLaws.{AncestorsAreOlder, NoneIsItsAncestor}
+use Rattle.est_upkeep.specs.AncestorLaws.{ParentsStayOlder}
 use Rattle.est_upkeep.proofs.GivenThings.{OnGood}
 use Rattle.est_upkeep.proofs.SameRows.{HasSameRows, crossed_rows, parted_rows, end_rows}
 use Rattle.est_upkeep.proofs.SameRows.{each_rows}
 use Rattle.est_upkeep.proofs.BlocksOfInstances.{Upkeep, instance_keeps}
 use Rattle.est_upkeep.proofs.Executions.{with_situation, held_child}
-use Rattle.est_upkeep.proofs.RowLaws.{of_rows}
 
 -- ROWS
 
@@ -238,15 +236,3 @@ parents_stay_older t n false levels xs s = age_done n s
     (statements_in xs (site t n false levels) s)
     (λ h. instance_keeps t InAge Later (λ n s i. Unit {0}) (λ n i. Unit {0}) (age_kept t) n levels
     xs s h)
-
--- ANCESTORS
-
-pub ancestors_older : AncestorsAreOlder
-ancestors_older rs n m h (parent r c e) =
-    subst (λ a. a < r.number) e (of_rows rs r h c).0
-ancestors_older rs n m h (further r c a) =
-    let g = ancestors_older rs n r.parent h a in
-    let k = (of_rows rs r h c).0 in omega (arith, g, k)
-
-pub none_its_ancestor : NoneIsItsAncestor
-none_its_ancestor rs n h a = let g = ancestors_older rs n n h a in absurd (omega (arith, g))

@@ -10,10 +10,10 @@ use Rattle.est_semantics.specs.GlobalSituation.{first_changed, is_numbered}
 use Rattle.est_semantics.specs.InstanceEffects.{is_among, descendants}
 use Rattle.est_semantics.specs.KeepingLaws.{AscendBelow}
 use Rattle.est_semantics.proofs.MutualPeers.{eq_self}
-use Rattle.est_upkeep.specs.AncestorLaws.{IsRowOf, IsAncestor, parent, further, AreInAge, IsBetween}
+use Rattle.est_upkeep.specs.AncestorLaws.{IsRowOf, AreInAge, IsBetween}
 use Rattle.est_upkeep.specs.OrderLaws.{IsLiving}
 
-true_false : (b : Bool) → b ≡ true → b ≡ false → ⊥
+pub true_false : (b : Bool) → b ≡ true → b ≡ false → ⊥
 true_false b h k = cc
 
 -- ROWS
@@ -192,69 +192,51 @@ living_number least next rs n h g =
     let a = living_row rs n g in
     subst (λ m. (least ≤ m) × (m < next)) a.number (within_numbers least next rs a.row h a.found)
 
--- ANCESTORS
+-- WHO IS ABOVE
 
--- an instance is another, or an ancestor of it
-abbrev pub IsUpTo : List Row → ℕ → ℕ → Type 0
-IsUpTo rs a n = (a ≡ n) ⊎ IsAncestor rs a n
-
-pub ancestor_from : (rs us : List Row) → From rs us → (a n : ℕ) → IsAncestor us a n
-    → IsAncestor rs a n
-ancestor_from rs us h a n (parent r c e) = let g = h r c in
-    subst (IsAncestor rs a) g.number (parent g.row g.found (g.parent ∙ e))
-ancestor_from rs us h a n (further r c k) = let g = h r c in
-    subst (IsAncestor rs a) g.number (further g.row g.found
-    (subst (IsAncestor rs a) (sym g.parent) (ancestor_from rs us h a r.parent k)))
+-- a climb along parents, of no step or of some, leads from an instance up to another
+pub data IsUpTo (rs : List Row) (a : ℕ) : ℕ → Type 0 where
+  here : (n : ℕ) → a ≡ n → IsUpTo rs a n
+  child : (n : ℕ) (r : Row) → IsRowOf rs r → r.number ≡ n → IsUpTo rs a r.parent → IsUpTo rs a n
 
 pub up_from : (rs us : List Row) → From rs us → (a n : ℕ) → IsUpTo us a n → IsUpTo rs a n
-up_from rs us h a n (inl e) = inl e
-up_from rs us h a n (inr k) = inr (ancestor_from rs us h a n k)
+up_from rs us h a n (here m e) = here m e
+up_from rs us h a n (child m r c e k) = let g = h r c in
+    child m g.row g.found (g.number ∙ e)
+    (subst (IsUpTo rs a) (sym g.parent) (up_from rs us h a r.parent k))
 
--- what is above a parent is above its child
-pub up_child : (rs : List Row) (a : ℕ) (r : Row) → IsRowOf rs r → IsUpTo rs a r.parent
-    → IsAncestor rs a r.number
-up_child rs a r c (inl e) = parent r c (sym e)
-up_child rs a r c (inr k) = further r c k
+-- who is above is no younger
+pub up_older : (rs : List Row) (a n : ℕ) → AreInAge rs → IsUpTo rs a n → a ≤ n
+up_older rs a n h (here m e) = omega (arith, e)
+up_older rs a n h (child m r c e k) =
+    let g = up_older rs a r.parent h k in
+    let d = (of_rows rs r h c).0 in omega (arith, g, d, e)
 
 -- A NEW INSTANCE
 
 module _ (rs : List Row) (new : Row) (old : (r : Row) → IsRowOf rs r → r.number < new.number)
     (age : AreInAge rs) where
-  -- an older instance has the ancestors that it had
-  pub old_ancestor : (a k : ℕ) → k < new.number → IsAncestor (rs ++ new ∷ []) a k
-      → IsAncestor rs a k
-  old_ancestor a k h (parent r c e) = one (from_joined rs new r c)
-    where
-      one : IsRowOf rs r ⊎ (new ≡ r) → IsAncestor rs a r.number
-      one (inl g) = parent r g e
-      one (inr i) = let e = ap (λ (y : Row). y.number) i in absurd (omega (arith, e, h))
-  old_ancestor a k h (further r c g) = one (from_joined rs new r c)
-      (λ l. old_ancestor a r.parent l g)
-    where
-      one : IsRowOf rs r ⊎ (new ≡ r)
-          → (r.parent < new.number → IsAncestor rs a r.parent) → IsAncestor rs a r.number
-      one (inl b) f = let d = (of_rows rs r age b).0 in
-          further r b (f (omega (arith, d, h)))
-      one (inr i) f = let e = ap (λ (y : Row). y.number) i in absurd (omega (arith, e, h))
-
+  -- above an older instance is what was there
   pub old_up : (a k : ℕ) → k < new.number → IsUpTo (rs ++ new ∷ []) a k → IsUpTo rs a k
-  old_up a k h (inl e) = inl e
-  old_up a k h (inr g) = inr (old_ancestor a k h g)
+  old_up a k h (here m e) = here m e
+  old_up a k h (child m r c e g) = one (from_joined rs new r c) (λ l. old_up a r.parent l g)
+    where
+      one : IsRowOf rs r ⊎ (new ≡ r) → (r.parent < new.number → IsUpTo rs a r.parent)
+          → IsUpTo rs a m
+      one (inl b) f = let d = (of_rows rs r age b).0 in
+          child m r b e (f (omega (arith, d, e, h)))
+      one (inr i) f = let j = ap (λ (y : Row). y.number) i in absurd (omega (arith, j, e, h))
 
-  -- the new one has its parent, and what is above that
-  pub new_ancestor : (a k : ℕ) → k ≡ new.number → new.parent < new.number
-      → IsAncestor (rs ++ new ∷ []) a k → IsUpTo rs a new.parent
-  new_ancestor a k h l (parent r c e) = one (from_joined rs new r c)
+  -- above the new one is what is above its parent, but for itself
+  pub new_up : (a k : ℕ) → k ≡ new.number → a < new.number → new.parent < new.number
+      → IsUpTo (rs ++ new ∷ []) a k → IsUpTo rs a new.parent
+  new_up a k h b l (here m e) = absurd (omega (arith, h, b, e))
+  new_up a k h b l (child m r c e g) = one (from_joined rs new r c)
     where
       one : IsRowOf rs r ⊎ (new ≡ r) → IsUpTo rs a new.parent
-      one (inl g) = let d = old r g in absurd (omega (arith, d, h))
-      one (inr i) = inl (sym e ∙ ap (λ (y : Row). y.parent) (sym i))
-  new_ancestor a k h l (further r c g) = one (from_joined rs new r c)
-    where
-      one : IsRowOf rs r ⊎ (new ≡ r) → IsUpTo rs a new.parent
-      one (inl b) = let d = old r b in absurd (omega (arith, d, h))
-      one (inr i) = inr (old_ancestor a new.parent l
-          (subst (IsAncestor (rs ++ new ∷ []) a) (ap (λ (y : Row). y.parent) (sym i)) g))
+      one (inl d) = let f = old r d in absurd (omega (arith, f, e, h))
+      one (inr i) = old_up a new.parent l
+          (subst (IsUpTo (rs ++ new ∷ []) a) (ap (λ (y : Row). y.parent) (sym i)) g)
 
 -- DESCENDANTS
 
@@ -299,7 +281,7 @@ among_split (m ∷ ns) n k h = one (nat_eq k m) h (among_split ns n k)
 abbrev grown : List ℕ → Row → Bool → List ℕ
 grown ns r b = if b then ns ++ r.number ∷ [] else ns
 
-grows : (rs : List Row) (ns : List ℕ) (k : ℕ) → is_among ns k ≡ true
+pub grows : (rs : List Row) (ns : List ℕ) (k : ℕ) → is_among ns k ≡ true
     → is_among (descendants ns rs) k ≡ true
 grows [] ns k h = h
 grows (r ∷ rs) ns k h = grows rs (grown ns r (is_among ns r.parent)) k (one (is_among ns r.parent))
@@ -320,8 +302,7 @@ descend all i (r ∷ rs) ns h g k e = descend all i rs (grown ns r (is_among ns 
     last : is_among ns r.parent ≡ true → (k : ℕ)
         → (is_among ns k ≡ true) ⊎ (k ≡ r.number) → IsUpTo all i k
     last b k (inl a) = g k a
-    last b k (inr a) = inr (subst (IsAncestor all i) (sym a)
-        (up_child all i r (h r (inl refl)) (g r.parent b)))
+    last b k (inr a) = child k r (h r (inl refl)) (sym a) (g r.parent b)
 
     one : (b : Bool) → is_among ns r.parent ≡ b → (k : ℕ) → is_among (grown ns r b) k ≡ true
         → IsUpTo all i k

@@ -1,14 +1,16 @@
--- Parents are older than their children.
-use Rattle.std.specs.Prelude.{◌≡◌, ℕ, ◌<◌, Bool, List, [], ◌∷◌, Some, ◌⊎◌}
+-- Parents are older than their children, and those who descend from an instance go with it.
+use Rattle.std.specs.Prelude.{◌≡◌, ℕ, ◌<◌, Bool, true, false, List, [], ◌∷◌, Some, ◌⊎◌}
 use Rattle.std.specs.List.{AllByRecursion}
 use Rattle.est_syntax.specs.declared.statement.Statement.{Statement}
 use Rattle.est_semantics.specs.declared.situation.Holding.{Holding}
 use Rattle.est_semantics.specs.declared.situation.Row.{Row}
 use Rattle.est_semantics.specs.TextByPlace.{Text}
-use Rattle.est_semantics.specs.GlobalSituation.{Situation}
-use Rattle.est_semantics.specs.KeepingLaws.{Keeping, Between}
+use Rattle.est_semantics.specs.GlobalSituation.{Situation, lives}
+use Rattle.est_semantics.specs.InstanceEffects.{is_among, descendants, released}
+use Rattle.est_semantics.specs.KeepingLaws.{Keeping, Between, AreNumbered}
 use Rattle.est_semantics.specs.StatementEffects.{statements_in}
 use Rattle.est_semantics.specs.BlockLevels.{site}
+use Rattle.est_choices.specs.TransitionSelection.{IsAncestor}
 
 -- Blocks of an instance keep a relation, which may depend on the instance: its statements, with the
 -- calls and initialize parts that they begin, within a function or not, however many levels are
@@ -43,15 +45,35 @@ abbrev pub IsRowOf : List Row → Row → Type 0
 IsRowOf [] r = ⊥
 IsRowOf (x ∷ xs) r = (x ≡ r) ⊎ IsRowOf xs r
 
--- an instance is an ancestor of another: its parent, or an ancestor of its parent
-pub data IsAncestor (rs : List Row) (n : ℕ) : ℕ → Type 0 where
-  parent : (r : Row) → IsRowOf rs r → r.parent ≡ n → IsAncestor rs n r.number
-  further : (r : Row) → IsRowOf rs r → IsAncestor rs n r.parent → IsAncestor rs n r.number
-
 -- an ancestor has the smaller number
 abbrev pub AncestorsAreOlder : Type 0
-AncestorsAreOlder = (rs : List Row) (n m : ℕ) → AreInAge rs → IsAncestor rs n m → n < m
+AncestorsAreOlder = (s : Situation) (n m : ℕ) → AreInAge s.rows → IsAncestor s n m → n < m
 
 -- so no instance is its own ancestor
 abbrev pub NoneIsItsAncestor : Type 0
-NoneIsItsAncestor = (rs : List Row) (n : ℕ) → AreInAge rs → IsAncestor rs n n → ⊥
+NoneIsItsAncestor = (s : Situation) (n : ℕ) → AreInAge s.rows → IsAncestor s n n → ⊥
+
+-- RELEASE
+
+-- an instance goes where another one is released (ISO 9074, release-statement)
+abbrev pub GoesWith : Situation → ℕ → ℕ → Type 0
+GoesWith s n m = is_among (descendants (n ∷ []) s.rows) m ≡ true
+
+-- who goes is the one that is released, or descends from it
+abbrev pub ThoseWhoGoDescend : Type 0
+ThoseWhoGoDescend = (s : Situation) (n m : ℕ) → AreNumbered s → GoesWith s n m
+    → (m ≡ n) ⊎ IsAncestor s n m
+
+-- it goes itself, and who descends from it goes, where parents are older than their children
+pub record DescendantsGo : Type 0 where
+  pub itself : (s : Situation) (n : ℕ) → GoesWith s n n
+  pub below : (s : Situation) (n m : ℕ) → AreNumbered s → AreInAge s.rows → IsAncestor s n m
+      → GoesWith s n m
+
+-- So a release ends the instance and those that descend from it, and leaves all others as they are,
+-- living or not.
+pub record ReleaseEndsDescendants : Type 0 where
+  pub ended : (t : Text) (s : Situation) (n m : ℕ) → AreNumbered s → AreInAge s.rows
+      → (m ≡ n) ⊎ IsAncestor s n m → lives (released t n s) m ≡ false
+  pub left : (t : Text) (s : Situation) (n m : ℕ) → AreNumbered s
+      → ((m ≡ n) ⊎ IsAncestor s n m → ⊥) → lives (released t n s) m ≡ lives s m

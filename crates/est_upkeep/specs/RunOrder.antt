@@ -9,7 +9,6 @@ use Rattle.est_syntax.specs.declared.statement.Statement.TheVariants.{Init}
 use Rattle.est_check.specs.LeastFault.{IsGood}
 use Rattle.est_semantics.specs.declared.situation.InteractionPoint.{InteractionPoint}
 use Rattle.est_semantics.specs.declared.situation.Item.{Item}
-use Rattle.est_semantics.specs.declared.situation.Row.{Row}
 use Rattle.est_semantics.specs.Outcome.{Done}
 use Rattle.est_semantics.specs.TextByPlace.{Text, text_of}
 use Rattle.est_semantics.specs.GlobalSituation.{Clocked, QueueName, Situation}
@@ -21,21 +20,21 @@ use Rattle.est_choices.specs.declared.firing.Firing.{Firing}
 use Rattle.est_choices.specs.OutsideEvents.{after_event}
 use Rattle.est_choices.specs.FiringSteps.{outcome}
 use Rattle.est_choices.specs.SelectionLaws.{DelaysAwaitNothing, HasStamps}
+use Rattle.est_choices.specs.TransitionSelection.{IsAncestor}
 use Rattle.est_runs.specs.declared.run.Move.{Move}
 use Rattle.est_runs.specs.Run.{Setup, Place, IsBegun, IsRun}
 use Rattle.est_waiting.specs.StepItems.{IsCounted}
-use Rattle.est_upkeep.specs.AncestorLaws.{IsAncestor}
 use Rattle.est_upkeep.specs.OrderLaws.{IsLiving, IsOrderly, IsOneTree}
 
 -- THE ROOT
 
 -- each living instance is the root or descends from it
-abbrev pub DescendFromRoot : List Row → Type 0
-DescendFromRoot rs = (n : ℕ) → IsLiving rs n → (n ≡ 1) ⊎ IsAncestor rs 1 n
+abbrev pub DescendFromRoot : Situation → Type 0
+DescendFromRoot s = (n : ℕ) → IsLiving s.rows n → (n ≡ 1) ⊎ IsAncestor s 1 n
 
 -- in an orderly situation with one root all instances descend from that
 abbrev pub OneTreeDescends : Type 0
-OneTreeDescends = (s : Situation) → IsOneTree s → DescendFromRoot s.rows
+OneTreeDescends = (s : Situation) → IsOneTree s → DescendFromRoot s
 
 -- STEPS
 

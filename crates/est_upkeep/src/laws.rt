@@ -1,6 +1,7 @@
 //! What holds of all blocks of instances, and so in each situation of a run.
 ghost use Rattle.est_upkeep.specs.AncestorLaws.{ParentsStayOlder, AncestorsAreOlder};
-ghost use Rattle.est_upkeep.specs.AncestorLaws.{NoneIsItsAncestor};
+ghost use Rattle.est_upkeep.specs.AncestorLaws.{NoneIsItsAncestor, ThoseWhoGoDescend};
+ghost use Rattle.est_upkeep.specs.AncestorLaws.{DescendantsGo, ReleaseEndsDescendants};
 ghost use Rattle.est_upkeep.specs.ClimbLaws.{ClimbsEnd, DescentsEnd};
 ghost use Rattle.est_upkeep.specs.OrderLaws.{SituationsStayOrderly, StartsAreOrderly};
 ghost use Rattle.est_upkeep.specs.RunOrder.{OneTreeDescends, FiringsStayOrderly};
@@ -19,6 +20,19 @@ pub fn parents_stay_older()
 pub fn ancestors_are_older()
     ensures older { AncestorsAreOlder }
     ensures other { NoneIsItsAncestor }
+{}
+
+/// With an instance that is released go those that descend from it, and no others.
+#[tactic(auto, using(crate::proofs::Ancestors::who_goes_descends, crate::proofs::Ancestors::descendants_go))]
+pub fn descendants_go()
+    ensures gone { ThoseWhoGoDescend }
+    ensures below { DescendantsGo }
+{}
+
+/// A release ends an instance and those that descend from it, and leaves the others.
+#[tactic(auto, using(crate::proofs::Ancestors::release_ends_descendants))]
+pub fn release_ends_descendants()
+    ensures { ReleaseEndsDescendants }
 {}
 
 /// After a block of a living instance links and queues are those of living instances where they

@@ -12,7 +12,6 @@ use Rattle.est_language.specs.Grammar.{when, one_of}
 use Rattle.est_language.specs.Marks.{Marks, can_begin}
 use Rattle.est_syntax.specs.declared.kind.Kind.{Kind, out-Kind}
 use Rattle.est_syntax.specs.declared.kind.Kind.TheOpen as kinds
-use Rattle.est_syntax.specs.declared.kind.FieldKind.{FieldKind}
 use Rattle.est_syntax.specs.declared.name.Name.{Name}
 use Rattle.est_syntax.specs.declared.ports.Direction.{Direction}
 use Rattle.est_syntax.specs.declared.ports.Direction.TheVariants.{Receives, Sends}
@@ -21,6 +20,8 @@ use Rattle.est_syntax.specs.declared.ports.Signal.{Signal}
 use Rattle.est_syntax.specs.Kinds.{maxint}
 use Rattle.est_values.specs.FittingValues.{first_ordinal, last_ordinal, ordinal_count, KindLayer}
 use Rattle.est_values.specs.OrdinalTuples.{ordinals_of}
+pub use Rattle.est_written_values.specs.WrittenOrdinals.{host_by, to_natural}
+pub use Rattle.est_written_values.specs.WrittenValues.{field_kinds}
 use Rattle.est_reader.specs.Tests.{Test, kind, said, named, number, character}
 use Rattle.est_reader.specs.Going as going
 
@@ -63,11 +64,6 @@ bracketed opening closing f (x ∷ xs) = enclosed opening closing f (x ∷ xs)
 abbrev pub is_natural : ℤ → Bool
 is_natural (pos n) = true
 is_natural (negsuc n) = false
-
--- the natural number that an integer is; 0 where it is negative
-abbrev pub to_natural : ℤ → ℕ
-to_natural (pos n) = n
-to_natural (negsuc n) = 0
 
 -- an integer within bounds that is not negative: a number
 abbrev pub numbers : ℤ → ℤ → Rule
@@ -114,11 +110,6 @@ boolean_names = codes "false" ∷ codes "true" ∷ []
 abbrev pub bytes_of : List Name → List (List ℕ)
 bytes_of names = map (λ (n : Name). n.bytes) names
 
--- the kind that a part of a kind is of
-abbrev pub host_by : KindLayer → Kind → Kind
-host_by (kinds.Part host low high) k = host
-host_by _ k = k
-
 -- an ordinal of a kind whose host is this; a kind without ordinals has none
 abbrev pub ordinal_by : KindLayer → Kind → Rule
 ordinal_by kinds.Integer k = integers (first_ordinal k) (last_ordinal k)
@@ -153,10 +144,6 @@ a_value k = rule (value_of k)
 -- the values of these kinds in order, in parentheses
 abbrev pub group : List Kind → Rule
 group ks = enclosed symbols.LeftParenthesis symbols.RightParenthesis a_value ks
-
--- the kinds of the fields of a record
-abbrev pub field_kinds : List FieldKind → List Kind
-field_kinds fields = map (λ (f : FieldKind). f.kind) fields
 
 -- a value of a kind of this form
 abbrev pub value_by : KindLayer → Kind → Rule

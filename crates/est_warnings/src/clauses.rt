@@ -1,9 +1,8 @@
 //! Clauses that have no effect.
 
 use crate::warning::{Slip, Warning};
-use est_blocks::context::give_clauses;
-use est_notes::clauses::clause_place;
-use est_outline::context::{Context, Given};
+use est_clauses::context::give_clauses;
+use est_declares::context::{Context, Given};
 use est_syntax::transition::{Clause, Group, Transition};
 use std::alloc::{AllocError, Global};
 
@@ -19,7 +18,7 @@ fn push_dropped(
     found: &mut Vec<Warning>,
 ) -> Result<(), AllocError> {
     for clause in clauses {
-        let place = clause_place(clause);
+        let place = clause.place();
         if !is_given(context, place) {
             found.push(Warning {
                 place,

@@ -218,7 +218,9 @@ fn push_at(
         } else {
             Ok(())
         },
-        (Sort::ModuleVariable, _) => push_variable(outline, entry.header, place, found),
+        (Sort::ModuleVariable, Section::Body) => {
+            push_variable(outline, entry.header, place, found)
+        }
         _ => Ok(()),
     }
 }

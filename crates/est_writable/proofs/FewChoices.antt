@@ -1,5 +1,5 @@
 -- The transitions of a sentence that breaks no rule have no more choices than the rules allow.
-use Rattle.std.specs.Prelude.{slice_get}
+use Rattle.std.specs.Prelude.{slice_get, flat_map}
 use Rattle.std.proofs.Common.{◌≡◌, refl, sym, ap, subst, ◌∙◌, ℕ, ◌≤◌, List, [], ◌∷◌, length}
 use Rattle.std.proofs.Common.{Option, Some, None, inl, inr, arith}
 use Rattle.std.specs.List.{AllByRecursion, filter, filter_map}
@@ -15,10 +15,10 @@ use Rattle.est_values.specs.OrdinalTuples.{ordinal_tuples}
 use Rattle.est_scope.specs.Outline.{Outline, entry_at}
 use Rattle.est_scope.specs.Uses.{is_sort}
 use Rattle.est_scope.specs.declared.declaration.Sort.TheVariants as sort
-use Rattle.est_outline.specs.Bodies.{outline_of}
+use Rattle.est_declares.specs.Bodies.{outline_of}
 use Rattle.est_types.specs.DeclarationFaults.{declaration_faults}
-use Rattle.est_blocks.specs.BlockFaults.{parts_faults, bodies_faults}
-use Rattle.est_blocks.specs.Clauses.{most_tuples, domains_faults, tuples, tuples_faults}
+use Rattle.est_blocks.specs.BlockFaults.{part_faults, bodies_faults}
+use Rattle.est_blocks.specs.Clauses.{most_tuples, domain_faults, tuples, tuples_faults}
 use Rattle.est_check.specs.LeastFault.{IsGood, IsLeastFault, specification_faults}
 use Rattle.est_semantics.specs.NamesInRuns.{kind_at, places_of}
 use Rattle.est_choices.specs.ClauseContexts.{variables_in, any_of}
@@ -69,7 +69,7 @@ choices_few spec sentence good body number x is = by (any_of x) refl
     fine : AllByRecursion (IsFineClause o) x.clauses
     fine =
         let none = no_faults spec good in
-        let own = parted (parts_faults o spec.parts) _
+        let own = parted (flat_map (part_faults o) spec.parts) _
         (parted (declaration_faults spec) (bodies_faults spec) none).1 in
         let whole =
         sentences_whole sentence.text sentence.tokens spec sentence.few sentence.tree none in
@@ -89,5 +89,5 @@ choices_few spec sentence good body number x is = by (any_of x) refl
         (anys_named spec sentence body number x a.names place is a.stands)
         ∙ variables_are o a.names a.fine.said))
         (few_tuples o a.names place a.fine.whole
-        (parted (domains_faults o a.names) (tuples_faults (tuples o (Some 1) a.names) place)
+        (parted (flat_map (domain_faults o) a.names) (tuples_faults (tuples o (Some 1) a.names) place)
         a.fine.unbroken).1)

@@ -1,5 +1,6 @@
 -- The clauses of a sentence that breaks no rule break none, lack nothing, and declare what its
 -- outline says.
+use Rattle.std.specs.Prelude.{flat_map}
 use Rattle.std.proofs.Common.{◌≡◌, List, [], ◌∷◌}
 use Rattle.std.specs.List.{AllByRecursion}
 use Rattle.est_syntax.specs.declared.body.Body.{Body', Row_of-Group, end_of-Group, more_of-Group}
@@ -9,10 +10,11 @@ use Rattle.est_syntax.specs.declared.transition.Clause.{Clause}
 use Rattle.est_syntax.specs.declared.transition.Group.{Group', Row_of-Transition}
 use Rattle.est_syntax.specs.declared.transition.Group.{end_of-Transition, more_of-Transition}
 use Rattle.est_scope.specs.Outline.{Outline}
-use Rattle.est_outline.specs.declared.context.Given.{Given}
-use Rattle.est_blocks.specs.BlockFaults.{part_faults, row_faults, first_faults, parts_faults}
+use Rattle.est_declares.specs.declared.context.Given.{Given}
+use Rattle.est_blocks.specs.BlockFaults.{part_faults, row_faults, first_faults}
 use Rattle.est_blocks.specs.BlockFaults.{row_groups_faults, row_transitions_faults}
-use Rattle.est_blocks.specs.Clauses.{clause_faults, clauses_faults, with_clauses, delay_faults}
+use Rattle.est_blocks.specs.Clauses.{clause_faults}
+use Rattle.est_clauses.specs.GivenClauses.{with_clauses, delay_faults}
 use Rattle.est_order.specs.Said.{Each, ClauseSaid, TransitionsSaid, GroupsSaid, PartSaid, PartsSaid}
 use Rattle.est_fullness.specs.WholeBodies.{ClauseLacksNothing, ClausesLackNothing}
 use Rattle.est_fullness.specs.WholeBodies.{TransitionsLackNothing, GroupsLackNothing}
@@ -30,11 +32,11 @@ module _ (o : Outline) where
     pub whole : ClauseLacksNothing o c
     pub said : ClauseSaid o c
 
-  clauses_fine : (cs : List Clause) → clauses_faults o cs ≡ [] → ClausesLackNothing o cs
+  clauses_fine : (cs : List Clause) → flat_map (clause_faults o) cs ≡ [] → ClausesLackNothing o cs
       → Each (ClauseSaid o) cs → AllByRecursion IsFineClause cs
   clauses_fine [] h k s = tt
   clauses_fine (c ∷ cs) h k s =
-      let own = parted (clause_faults o c) (clauses_faults o cs) h in
+      let own = parted (clause_faults o c) (flat_map (clause_faults o) cs) h in
       (record { unbroken = own.0; whole = k.0; said = s.0 }, clauses_fine cs own.1 k.1 s.1)
 
   transitions_fine : (hs : List Given) {n : _} (row : Row_of-Transition n)
@@ -43,7 +45,7 @@ module _ (o : Outline) where
   transitions_fine hs end_of-Transition k m s = tt
   transitions_fine hs (more_of-Transition ds name a parts ss place rest) k m s =
       let own = parted _ (row_transitions_faults o (with_clauses hs ds) rest) k in
-      let none = (three (clauses_faults o ds) (delay_faults (with_clauses hs ds)) _ own.0).0 in (
+      let none = (three (flat_map (clause_faults o) ds) (delay_faults (with_clauses hs ds)) _ own.0).0 in (
         clauses_fine ds none m.0.0 s.0,
         transitions_fine (with_clauses hs ds) rest own.1 m.1 s.3,
       )
@@ -74,9 +76,9 @@ module _ (o : Outline) where
         (part_fine x own.0 k.0 s.0, row_fine rest own.1 k.1 s.1)
 
   -- parts that break no rule and lack nothing
-  pub parts_fine : (xs : List Part) → parts_faults o xs ≡ [] → PartsLackNothing o xs
+  pub parts_fine : (xs : List Part) → flat_map (part_faults o) xs ≡ [] → PartsLackNothing o xs
       → Each (PartSaid o) xs → AllBodies (BodyHas IsFineClause) xs
   parts_fine [] h k s = tt
   parts_fine (x ∷ xs) h k s =
-      let own = parted (part_faults o x) (parts_faults o xs) h in
+      let own = parted (part_faults o x) (flat_map (part_faults o) xs) h in
       (part_fine x own.0 k.0 s.0, parts_fine xs own.1 k.1 s.1)

@@ -18,10 +18,10 @@ use Rattle.est_scope.specs.declared.declaration.Sort.TheVariants as sort
 use Rattle.est_scope.specs.declared.declaration.Standing.{Standing}
 use Rattle.est_scope.specs.declared.declaration.Within.{Within}
 use Rattle.est_kinds.specs.TypeTexts.{text_type, text_place}
-use Rattle.est_outline.specs.Declares.{names_declare, text_declares}
-use Rattle.est_outline.specs.Declares.{vardef_declares, vars_declare}
-use Rattle.est_outline.specs.Entries.{plain}
-use Rattle.est_outline.specs.Lasts.{text_last}
+use Rattle.est_declares.specs.Declares.{names_declare, text_declares}
+use Rattle.est_declares.specs.Declares.{vardef_declares, vars_declare}
+use Rattle.est_declares.specs.Entries.{plain}
+use Rattle.est_declares.specs.Lasts.{text_last}
 use Rattle.est_order.specs.Growth.{Anywhere, IsBefore}
 use Rattle.est_order.proofs.Declaring.{vardef_grows, vars_grow, vars_on, vardef_on}
 use Rattle.est_order.proofs.Following.{followed, like_present}

@@ -20,15 +20,15 @@ use Rattle.est_scope.specs.Outline.{Outline, Region}
 use Rattle.est_scope.specs.declared.declaration.Section.TheVariants as section
 use Rattle.est_scope.specs.declared.declaration.Standing.{Standing}
 use Rattle.est_scope.specs.declared.declaration.Within.{Within}
-use Rattle.est_outline.specs.Bodies.{Clausal, clause_declares, clauses_declare, body_named}
-use Rattle.est_outline.specs.Bodies.{header_given, inside, part_declares, row_parts, closed_by}
-use Rattle.est_outline.specs.Bodies.{first_declares, row_groups, row_transitions}
-use Rattle.est_outline.specs.Bodies.{statements_declare, parts_declare, outline_of}
-use Rattle.est_outline.specs.Contexts.{dropped, given, under}
-use Rattle.est_outline.specs.Declares.{vars_declare}
-use Rattle.est_outline.specs.Entries.{inner, in_region, outermost}
-use Rattle.est_outline.specs.declared.context.ClauseKind.TheVariants as kind
-use Rattle.est_outline.specs.declared.context.Given.{Given}
+use Rattle.est_declares.specs.Bodies.{Clausal, clause_declares, clauses_declare, body_named}
+use Rattle.est_declares.specs.Bodies.{header_given, inside, part_declares, row_parts, closed_by}
+use Rattle.est_declares.specs.Bodies.{first_declares, row_groups, row_transitions}
+use Rattle.est_declares.specs.Bodies.{statements_declare, parts_declare, outline_of}
+use Rattle.est_declares.specs.Contexts.{dropped, given, under}
+use Rattle.est_declares.specs.Declares.{vars_declare}
+use Rattle.est_declares.specs.Entries.{inner, in_region, outermost}
+use Rattle.est_declares.specs.declared.context.ClauseKind.TheVariants as kind
+use Rattle.est_declares.specs.declared.context.Given.{Given}
 use Rattle.est_order.specs.Growth.{Anywhere, IsBefore, Grows, g_then}
 use Rattle.est_order.proofs.Ascending.{specification_stands}
 use Rattle.est_order.proofs.BodiesGoOn.{clause_on, clauses_on, turn_on, part_on, parts_on}
@@ -45,7 +45,7 @@ use Rattle.est_order.proofs.PlacedBodies.{TransitionsPlaced}
 use Rattle.est_order.proofs.PlacedParts.{InOrder, VarDefPlaced}
 use Rattle.est_order.proofs.SaidWholes.{before_empty}
 use Rattle.est_order.proofs.Wholes.{spec_placed}
-use Rattle.est_fullness.specs.SentenceOf.{IsSentence}
+use Rattle.est_check.specs.SentenceOf.{IsSentence}
 use Rattle.est_fullness.proofs.Apart.{IsBegin, common_parts_apart}
 use Rattle.est_fullness.proofs.ParametersKept.{Leading, leading_later}
 use Rattle.est_fullness.proofs.ParametersLead.{PartApart, RowApart, GroupsApart, TransitionsApart}

@@ -15,8 +15,8 @@ use Rattle.est_scope.specs.declared.declaration.Measured.{Measured}
 use Rattle.est_scope.specs.declared.declaration.Member.{Member}
 use Rattle.est_scope.specs.declared.declaration.Standing.{Standing}
 use Rattle.est_scope.specs.declared.declaration.Within.{Within}
-use Rattle.est_outline.specs.Bodies.{closed_by}
-use Rattle.est_outline.specs.Declares.{kinds_given}
+use Rattle.est_declares.specs.Bodies.{closed_by}
+use Rattle.est_declares.specs.Declares.{kinds_given}
 use Rattle.est_order.specs.Growth.{IsOpen, Grows, g_not, g_then, g_declared, g_put, g_amended}
 use Rattle.est_order.specs.Growth.{g_completed, g_lying}
 use Rattle.est_order.proofs.Following.{followed, like_present}

@@ -8,11 +8,11 @@ use Rattle.est_syntax.specs.declared.transition.Clause.TheVariants as clause
 use Rattle.est_syntax.specs.declared.type_text.VarDef.{VarDef}
 use Rattle.est_scope.specs.Outline.{Outline, entry_at, names_of}
 use Rattle.est_scope.specs.declared.declaration.Standing.{Standing}
-use Rattle.est_outline.specs.Bodies.{outline_of}
+use Rattle.est_declares.specs.Bodies.{outline_of}
 use Rattle.est_blocks.specs.Clauses.{most_tuples}
 use Rattle.est_check.specs.LeastFault.{IsGood}
 use Rattle.est_check.specs.Small.{most_parts}
-use Rattle.est_fullness.specs.SentenceOf.{IsSentence}
+use Rattle.est_check.specs.SentenceOf.{IsSentence}
 use Rattle.est_semantics.specs.declared.situation.Row.{Row}
 use Rattle.est_semantics.specs.GlobalSituation.{row_of}
 use Rattle.est_semantics.specs.InstanceEffects.{most_instances}

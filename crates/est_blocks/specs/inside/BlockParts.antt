@@ -1,4 +1,5 @@
 -- What the parts of a body break, over lists.
+use Rattle.std.specs.Prelude.{flat_map}
 use Rattle.std.specs.Prelude.{List, [], ◌∷◌, ◌++◌, Option, Some, None}
 use Rattle.est_syntax.specs.declared.body.Block.{Block}
 use Rattle.est_syntax.specs.declared.body.Body.{Body, out-Body}
@@ -10,11 +11,12 @@ use Rattle.est_syntax.specs.declared.transition.Transition.{Transition}
 use Rattle.est_scope.specs.declared.declaration.Sort.TheVariants as sort
 use Rattle.est_scope.specs.Outline.{Outline}
 use Rattle.est_scope.specs.Uses.{use_faults}
-use Rattle.est_outline.specs.declared.context.Given.{Given}
+use Rattle.est_declares.specs.declared.context.Given.{Given}
 use Rattle.est_sizes.specs.Scalars.{parts_scalars}
-use Rattle.est_statements.specs.Statements.{statements_faults}
-use Rattle.est_blocks.specs.Clauses.{clauses_faults, with_clauses, delay_faults, next_faults}
-use Rattle.est_blocks.specs.BlockFaults.{function_of, block_faults, parts_faults}
+use Rattle.est_statements.specs.Statements.{statement_faults}
+use Rattle.est_blocks.specs.Clauses.{clause_faults, next_faults}
+use Rattle.est_clauses.specs.GivenClauses.{with_clauses, delay_faults}
+use Rattle.est_blocks.specs.BlockFaults.{function_of, block_faults, part_faults}
 
 -- what a block breaks
 abbrev pub held_block_faults : Outline → Block → List Fault
@@ -28,7 +30,7 @@ first_part_faults o (Some f) = next_faults o f.to ++ held_block_faults o f.block
 -- what a transition breaks, after these clauses
 abbrev pub transition_faults : Outline → List Given → Transition → List Fault
 transition_faults o gs t =
-    clauses_faults o t.clauses ++ delay_faults (with_clauses gs t.clauses)
+    flat_map (clause_faults o) t.clauses ++ delay_faults (with_clauses gs t.clauses)
     ++ held_block_faults o t.block
 
 -- what transitions of one group break, after these clauses
@@ -49,11 +51,11 @@ groups_faults o (g ∷ gs) = group_faults o g ++ groups_faults o gs
 -- what a body breaks
 abbrev pub body_faults : Outline → Body → List Fault
 body_faults o b =
-    use_faults o sort.Header (out-Body b).header ++ parts_faults o (out-Body b).parts
+    use_faults o sort.Header (out-Body b).header ++ flat_map (part_faults o) (out-Body b).parts
     ++ first_part_faults o (out-Body b).first ++ groups_faults o (out-Body b).groups
 
 -- what a routine breaks
 abbrev pub routine_faults : Outline → Routine → List Fault
 routine_faults o r =
-    statements_faults o (function_of (out-Routine r).name (out-Routine r).result) []
+    flat_map (statement_faults o (function_of (out-Routine r).name (out-Routine r).result) [])
     (out-Routine r).block.statements

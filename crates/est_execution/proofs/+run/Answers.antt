@@ -293,6 +293,18 @@ expressions::evaluate-related-requires t c = (
   tt,
 )
 
+pub expressions::part_reached-selected-requires : goal.expressions::part_reached-selected-requires
+expressions::part_reached-selected-requires t c = (
+  omega (
+    arith,
+    item_weighed (λ x. selector_weight x + 1) c.args.path.now
+        c.loop-selector.selector-index c.selector-item.result c.loop-selector-test.true,
+    ap
+        selector_weight c.selector-item.is,
+  ),
+  tt,
+)
+
 pub expressions::variable_of-selected-requires : goal.expressions::variable_of-selected-requires
 expressions::variable_of-selected-requires t c = (
   omega (

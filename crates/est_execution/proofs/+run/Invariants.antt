@@ -5,6 +5,7 @@ use Rattle.est_frames.specs.HeldSystems.{state_of, LooksSame}
 use Rattle.est_values.specs.FittingValues.{first_ordinal}
 use Rattle.est_values.specs.OrdinalTuples.{ordinals_of}
 use Rattle.est_semantics.specs.ExpressionValues.{sums_in, simple_of, products_in, term_of}
+use Rattle.est_execution.specs.ExpressionSteps.{result_begun}
 use Rattle.est_semantics.specs.ExpressionValues.{members_in, selected_in, variable_of}
 use Rattle.est_semantics.specs.ExpressionValues.{components_in, subscripts_in, values_in}
 use Rattle.est_semantics.specs.ExpressionValues.{arguments_in}
@@ -65,6 +66,15 @@ decreases-expressions::variable_value l = room l.site.now + path_weight l.path.n
 
 abbrev pub decreases-expressions::stored_value : goal.decreases-expressions::stored_value
 decreases-expressions::stored_value l = room l.site.now + path_weight l.path.now + 3
+
+abbrev pub decreases-expressions::function_value : goal.decreases-expressions::function_value
+decreases-expressions::function_value l = room l.site.now + path_weight l.path.now + 3
+
+abbrev pub decreases-expressions::function_part : goal.decreases-expressions::function_part
+decreases-expressions::function_part l = room l.site.now + path_weight l.path.now + 2
+
+abbrev pub decreases-expressions::part_reached : goal.decreases-expressions::part_reached
+decreases-expressions::part_reached l = room l.site.now + path_weight l.path.now + 1
 
 abbrev pub decreases-expressions::variable_of : goal.decreases-expressions::variable_of
 decreases-expressions::variable_of l = room l.site.now + path_weight l.path.now + 2
@@ -272,6 +282,14 @@ invariant-expressions::set_value-loop-member l =
     × (members_in (drop l.member-index l.members) zs (view_of l.site l.fn.working) l.left
     ≡ members_in l.members [] (view_of l.site l.fn.working) l.fn.left))) × LooksSame l.fn.working
     l.working
+
+abbrev pub invariant-expressions::part_reached-loop-selector :
+    goal.invariant-expressions::part_reached-loop-selector
+invariant-expressions::part_reached-loop-selector l =
+    (selected_in (drop l.selector-index l.path) (reached_of l.reached) (view_of l.site l.fn.working)
+    l.left
+    ≡ selected_in l.path (result_begun l.site.instance l.place l.kind)
+    (view_of l.site l.fn.working) l.fn.left) × LooksSame l.fn.working l.working
 
 abbrev pub invariant-expressions::variable_of-loop-selector :
     goal.invariant-expressions::variable_of-loop-selector

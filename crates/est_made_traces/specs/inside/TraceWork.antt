@@ -2,9 +2,9 @@
 use Rattle.std.specs.Prelude.{◌≡◌, ℕ, List, length, Result}
 use Rattle.est_syntax.specs.declared.ports.Port.{Port}
 use Rattle.est_syntax.specs.declared.specification.Spec.{Spec}
-use Rattle.est_ports.specs.PortList.{ports_of}
-use Rattle.est_make.specs.declared.made.Made.{Made}
-use Rattle.est_make.specs.declared.made.Made.TheVariants as made
+use Rattle.est_declares.specs.PortList.{ports_of}
+use Rattle.est_making.specs.declared.made.Made.{Made}
+use Rattle.est_making.specs.declared.made.Made.TheVariants as made
 use Rattle.est_written_traces.specs.WrittenTraces.{trace_text}
 use Rattle.est_files.specs.Reads.{Touches}
 use Rattle.est_files.specs.Seen.{Seen}

@@ -10,11 +10,11 @@ use Rattle.est_syntax.specs.declared.transition.Group.{Group, out-Group}
 use Rattle.est_syntax.specs.declared.transition.Transition.{Transition}
 use Rattle.est_scope.specs.declared.declaration.Within.{Within}
 use Rattle.est_scope.specs.Outline.{Outline}
-use Rattle.est_outline.specs.Contexts.{under}
-use Rattle.est_outline.specs.Entries.{inner}
-use Rattle.est_outline.specs.Bodies.{Clausal, statement_declares, statements_declare, arm_lying}
-use Rattle.est_outline.specs.Bodies.{clauses_declare, parts_declare, body_named, header_given}
-use Rattle.est_outline.specs.Bodies.{inside, to_lying, routine_named, head_declares}
+use Rattle.est_declares.specs.Contexts.{under}
+use Rattle.est_declares.specs.Entries.{inner}
+use Rattle.est_declares.specs.Bodies.{Clausal, statement_declares, statements_declare, arm_lying}
+use Rattle.est_declares.specs.Bodies.{clauses_declare, parts_declare, body_named, header_given}
+use Rattle.est_declares.specs.Bodies.{inside, to_lying, routine_named, head_declares}
 
 -- the other statement of an `if`, where there is one
 abbrev pub second_declares : Within → Option Statement → Outline → Outline

@@ -5,7 +5,7 @@ use Rattle.est_syntax.specs.declared.type_text.VarDef.{VarDef}
 use Rattle.est_scope.specs.declared.declaration.Member.TheVariants as member
 use Rattle.est_scope.specs.declared.declaration.Within.{Within}
 use Rattle.est_scope.specs.Outline.{Outline}
-use Rattle.est_outline.specs.Declares.{text_declares, names_put}
+use Rattle.est_declares.specs.Declares.{text_declares, names_put}
 
 abbrev pub texts_declare : Within → List TypeText → Outline → Outline
 texts_declare w [] o = o

@@ -1,7 +1,7 @@
 -- The tuples of ordinals by their numbers, from the last ordinal on.
 use Rattle.std.specs.Prelude.{◌≡◌, ℕ, ◌+◌, ◌*◌, ℤ, List, length, drop, reverse, Some, slice_get}
 use Rattle.est_syntax.specs.declared.kind.Kind.{Kind}
-use Rattle.est_ports.specs.OrdinalValues.{tuples_of}
+use Rattle.est_declares.specs.OrdinalValues.{tuples_of}
 
 -- What is known of the tuple of a number where its ordinals from a place on are there, the last one
 -- first: they are the tuple of some number of those kinds, and the rest counts the ones before.

@@ -4,10 +4,10 @@ use Rattle.est_syntax.specs.declared.name.Name.{Name}
 use Rattle.est_syntax.specs.declared.ports.Port.{Port}
 use Rattle.est_syntax.specs.declared.specification.Spec.{Spec}
 use Rattle.est_scope.specs.Outline.{Outline, Region, names_of}
-use Rattle.est_outline.specs.Bodies.{outline_of}
-use Rattle.est_statements.specs.Modules.{started_header}
-use Rattle.est_ports.specs.OrdinalValues.{tuples_of}
-use Rattle.est_ports.specs.PortList.{ports_of}
+use Rattle.est_declares.specs.Bodies.{outline_of}
+use Rattle.est_declares.specs.LookUps.{started_header}
+use Rattle.est_declares.specs.OrdinalValues.{tuples_of}
+use Rattle.est_declares.specs.PortList.{ports_of}
 use Rattle.est_outside.specs.inside.NamedPlaces.{AreFirst}
 
 -- the names of a header, if there is one

@@ -4,7 +4,7 @@ use Rattle.est_syntax.specs.declared.channel.Role.{Role}
 use Rattle.est_syntax.specs.declared.channel.Role.TheVariants.{First, Second}
 use Rattle.est_syntax.specs.declared.ports.Signal.{Signal}
 use Rattle.est_scope.specs.Outline.{Outline, names_of}
-use Rattle.est_ports.specs.PortList.{signals_in}
+use Rattle.est_declares.specs.PortList.{signals_in}
 use Rattle.est_ports.specs.declared.known.Sides.{Sides}
 
 -- the side of a role

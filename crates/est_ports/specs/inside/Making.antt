@@ -6,8 +6,8 @@ use Rattle.est_syntax.specs.Names.{is_name}
 use Rattle.est_syntax.specs.declared.kind.Kind.{Kind}
 use Rattle.est_syntax.specs.declared.ports.Port.{Port}
 use Rattle.est_scope.specs.Outline.{Outline, Region}
-use Rattle.est_ports.specs.OrdinalValues.{values_of, tuples_of}
-use Rattle.est_ports.specs.PortList.{ports_in}
+use Rattle.est_declares.specs.OrdinalValues.{values_of, tuples_of}
+use Rattle.est_declares.specs.PortList.{ports_in}
 use Rattle.est_ports.specs.PortTable.{Points, listed, capped, IsTable}
 use Rattle.est_ports.specs.inside.KnownSides.{AreKnown}
 use Rattle.est_ports.specs.declared.known.Sides.{Sides}

@@ -10,14 +10,14 @@ use Rattle.est_runs.specs.declared.run.Limits.{Limits}
 use Rattle.est_search.specs.Verdict.{IsVerdict}
 use Rattle.est_tool.specs.declared.search.Searched.{Searched}
 use Rattle.est_tool.specs.declared.search.Searched.TheVariants as searched
-use Rattle.est_tool.specs.Tasks.{task_of}
+use Rattle.est_runs.specs.Task.{setup_from}
 
 -- the verdict, where the start is ready, and else what comes of the start
 abbrev pub IsSearched : Limits → Spec → List Event → Searched → Type 0
 IsSearched limits spec events (searched.Found verdict) =
     (s : Situation) × (outs : List Event)
     × (start_of limits.statements (text_of spec) ≡ Done outs s)
-    × IsVerdict (task_of limits.silent limits.statements spec events s outs) limits.budget verdict
+    × IsVerdict (setup_from limits.statements limits.silent spec events s outs) limits.budget verdict
 IsSearched limits spec events (searched.Fault fault) =
     start_of limits.statements (text_of spec) ≡ Fault fault
 IsSearched limits spec events searched.Limit =

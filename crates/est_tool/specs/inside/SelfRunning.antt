@@ -8,8 +8,8 @@ use Rattle.est_choices.specs.declared.event.Event.{Event}
 use Rattle.est_choices.specs.FiringSteps.{start_of}
 use Rattle.est_search.specs.Verdict.{IsVerdict}
 use Rattle.est_search.specs.declared.verdict.Verdict.{Verdict}
-use Rattle.est_make.specs.declared.made.Made.{Made}
-use Rattle.est_make.specs.declared.made.Made.TheVariants.{Trace, NoStart, StartLimit, Limit}
+use Rattle.est_making.specs.declared.made.Made.{Made}
+use Rattle.est_making.specs.declared.made.Made.TheVariants.{Trace, NoStart, StartLimit, Limit}
 use Rattle.est_words.specs.declared.status.Status.{Status}
 use Rattle.est_words.specs.Requests.{usual_silent, usual_budget, usual_statements}
 use Rattle.est_reports.specs.declared.self_run_report.Sizes.{Sizes}
@@ -19,7 +19,7 @@ use Rattle.est_files.specs.FileEnds.{End, reported, EndsAtText}
 use Rattle.est_files.specs.FileTexts.{IsText, OfTrace, RefusesTrace}
 use Rattle.est_files.specs.declared.file.File.TheVariants as file
 use Rattle.est_tool.specs.SelfRuns.{IsMadeOf, MadeEnds}
-use Rattle.est_tool.specs.Tasks.{task_of}
+use Rattle.est_runs.specs.Task.{setup_from}
 
 -- the specification starts
 abbrev pub IsReady : Spec → Type 0
@@ -45,7 +45,7 @@ abbrev pub IsSearchedFor : Sizes → Spec → List Event → Status → List ℕ
 IsSearchedFor sizes spec events status report =
     (s : Situation) × (outs : List Event) × (verdict : Verdict)
     × (start_of usual_statements (text_of spec) ≡ Done outs s)
-    × IsVerdict (task_of usual_silent usual_statements spec events s outs) usual_budget verdict
+    × IsVerdict (setup_from usual_statements usual_silent spec events s outs) usual_budget verdict
     × (status ≡ verdict_status verdict)
     × (report ≡ made_line sizes.events sizes.bytes sizes.moves
     ++ search_line usual_statements (length events) verdict)

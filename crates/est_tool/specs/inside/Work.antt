@@ -10,9 +10,9 @@ use Rattle.est_words.specs.declared.status.Status.TheVariants.{Fine, OverBudget,
 use Rattle.est_syntax.specs.declared.specification.Spec.{Spec}
 use Rattle.est_counts.specs.Counts.{counts_of}
 use Rattle.est_choices.specs.declared.event.Event.{Event}
-use Rattle.est_replay.specs.Replay.{IsReplay}
+use Rattle.est_replaying.specs.Replay.{IsReplay}
 use Rattle.est_explanation.specs.declared.explanation.Explanation.{Explanation}
-use Rattle.est_replay.specs.declared.verdict.Replayed.{Replayed}
+use Rattle.est_replaying.specs.declared.verdict.Replayed.{Replayed}
 use Rattle.est_reports.specs.Reports.{ok_line}
 use Rattle.est_reports.specs.ReadableReports.{IsReadable}
 use Rattle.est_tool.specs.ReplayReports.{replay_line}

@@ -9,7 +9,7 @@ use Rattle.est_syntax.specs.declared.body.Block.{Block}
 use Rattle.est_syntax.specs.declared.expression.Expr.{Expr}
 use Rattle.est_syntax.specs.declared.transition.Clause.{Clause}
 use Rattle.est_syntax.specs.declared.transition.Clause.TheVariants as clause
-use Rattle.est_blocks.specs.Clauses.{clause_place}
+use Rattle.est_syntax.specs.Clauses.{clause_place}
 use Rattle.est_choices.specs.ClauseContexts.{GivenClause, FullTransition, is_same_kind, before}
 use Rattle.est_choices.specs.ClauseContexts.{condition_in}
 use Rattle.est_transitions.specs.declared.conditions.Given.{Given}

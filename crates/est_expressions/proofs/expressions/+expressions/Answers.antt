@@ -1,3 +1,4 @@
+use Rattle.std.specs.Prelude.{flat_map}
 use Rattle.std.proofs.Common.{refl}
 use Rattle.est_scope.proofs.LeastLaws.{least_loop}
 use Rattle.est_expressions.specs.Variables.{component}
@@ -5,7 +6,7 @@ use Rattle.est_expressions.specs.Expressions.{expr_type, with_term, summed, with
 use Rattle.est_expressions.specs.Expressions.{multiplied, components, selection, selected}
 use Rattle.est_expressions.specs.Expressions.{with_members, members, expr_faults, with_term_faults}
 use Rattle.est_expressions.specs.Expressions.{summed_faults, with_factor_faults, multiplied_faults}
-use Rattle.est_expressions.specs.Expressions.{exprs_faults, one_component_faults}
+use Rattle.est_expressions.specs.Expressions.{one_component_faults}
 use Rattle.est_expressions.specs.Expressions.{components_faults, selection_faults, selected_faults}
 use Rattle.est_expressions.specs.Expressions.{with_members_faults, members_faults}
 use Rattle.est_expressions.proofs.Rows.{group_yields, variable_gives, call_gives, call_breaks}
@@ -14,7 +15,7 @@ use Rattle.est_expressions.proofs.expressions.+expressions.Goals as goal
 
 pub check_exprs-loop-expr-preserved : goal.check_exprs-loop-expr-preserved
 check_exprs-loop-expr-preserved t c =
-    least_loop (exprs_faults c.args.outline.now) (expr_faults c.args.outline.now) _ _ _ _ _ _
+    least_loop (flat_map (expr_faults c.args.outline.now)) (expr_faults c.args.outline.now) _ _ _ _ _ _
     (λ y ys. refl) c.loop-expr-test.true c.expr-item.is c.check_alone.ensures
     c.loop-expr.invariant
 

@@ -1,10 +1,11 @@
+use Rattle.std.specs.Prelude.{flat_map}
 use Rattle.std.proofs.Common.{◌≡◌, ◌&&◌, Some, None, drop}
 use Rattle.est_scope.specs.LeastSoFar.{least_with}
 use Rattle.est_alike.specs.Types.{yielded, Set}
 use Rattle.est_expressions.specs.Selections.{selects}
 use Rattle.est_expressions.specs.Expressions.{summed, multiplied, are_taken, components}
 use Rattle.est_expressions.specs.Expressions.{selected, members, summed_faults}
-use Rattle.est_expressions.specs.Expressions.{multiplied_faults, exprs_faults, are_taken_faults}
+use Rattle.est_expressions.specs.Expressions.{multiplied_faults, expr_faults, are_taken_faults}
 use Rattle.est_expressions.specs.Expressions.{components_faults, selected_faults, members_faults}
 use Rattle.est_expressions.proofs.expressions.+expressions.Given as goal
 
@@ -18,8 +19,8 @@ invariant-check_components-loop-expr l =
 
 abbrev pub invariant-check_exprs-loop-expr : goal.invariant-check_exprs-loop-expr
 invariant-check_exprs-loop-expr l =
-    least_with l.least.at (exprs_faults l.outline (drop l.expr-index l.exprs))
-    ≡ least_with l.fn.least.at (exprs_faults l.outline l.exprs)
+    least_with l.least.at (flat_map (expr_faults l.outline) (drop l.expr-index l.exprs))
+    ≡ least_with l.fn.least.at (flat_map (expr_faults l.outline) l.exprs)
 
 abbrev pub invariant-check_members-loop-member : goal.invariant-check_members-loop-member
 invariant-check_members-loop-member l =

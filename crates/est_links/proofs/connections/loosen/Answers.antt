@@ -5,6 +5,6 @@ use Rattle.est_links.proofs.connections.loosen.Goals as goal
 pub returns : goal.returns
 returns c =
     unfastened_by c.args.text.now (situation_of c.args.system.now) c.args.outer.now
-    c.in_ok-innermost.innermost (situation_of c.move_items.new.system)
-    (linked c.unlink.new.links) c.in_ok-innermost.ensures c.in_ok-move_items.ensures
+    c.in_ok-innermost.innermost (situation_of c.move_items-done.new.system)
+    (linked c.unlink.new.links) c.in_ok-innermost.ensures c.in_ok-done.ensures
     c.in_ok-unlink.ensures

@@ -6,5 +6,5 @@ pub returns : goal.returns
 returns c =
     moved_by c.args.text.now (situation_of c.args.system.now) c.args.from.now c.args.to.now
     (queue_of c.in_ok-out_of.out_of) (queue_of c.in_ok-into.into)
-    (waiting_in c.transfer.new.queues) c.in_ok-out_of.ensures c.in_ok-into.ensures
-    c.in_ok-transfer.ensures
+    (waiting_in c.transfer-done.new.queues) c.in_ok-out_of.ensures c.in_ok-into.ensures
+    c.in_ok-done.ensures

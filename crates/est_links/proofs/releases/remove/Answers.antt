@@ -1,5 +1,5 @@
 use Rattle.est_frames.specs.HeldSystems.{linked, stamped, situation_of, waiting_in}
-use Rattle.est_links.proofs.LostLaws.{without_by}
+use Rattle.est_links.proofs.SystemLaws.{without_by}
 use Rattle.est_links.proofs.releases.remove.Goals as goal
 
 pub returns : goal.returns

@@ -1,9 +1,9 @@
 use Rattle.std.proofs.Common.{◌∙◌, sym, ap, subst}
-use Rattle.est_ports.specs.PortList.{ports_of}
+use Rattle.est_declares.specs.PortList.{ports_of}
 use Rattle.est_semantics.specs.TextByPlace.{Text, text_of}
 use Rattle.est_choices.specs.FiringSteps.{start_of}
-use Rattle.est_make.specs.Recipe.{task_of, IsMade}
-use Rattle.est_make.proofs.Chains.{if_ok_map, all_explained}
+use Rattle.est_making.specs.Recipe.{task_of, IsMade}
+use Rattle.est_making.proofs.Chains.{if_ok_map, all_explained}
 use Rattle.est_make.proofs.checked.make.Goals as goal
 
 pub make_in-requires : goal.make_in-requires

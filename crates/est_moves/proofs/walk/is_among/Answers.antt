@@ -1,6 +1,6 @@
 use Rattle.std.proofs.Common.{get_or}
 use Rattle.est_choices.specs.declared.firing.Firing.{Firing}
-use Rattle.est_replay.proofs.Events.{among_at, same_firing}
+use Rattle.est_replaying.proofs.Events.{among_at, same_firing}
 use Rattle.est_moves.proofs.walk.is_among.Goals as goal
 
 pub returns-then-eq : goal.returns-then-eq

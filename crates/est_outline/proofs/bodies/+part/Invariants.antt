@@ -1,5 +1,5 @@
 use Rattle.std.proofs.Common.{◌≡◌, drop}
-use Rattle.est_outline.specs.Bodies.{parts_declare}
+use Rattle.est_declares.specs.Bodies.{parts_declare}
 use Rattle.est_outline.specs.inside.DeclaredParts.{transitions_declare, groups_declare}
 use Rattle.est_outline.proofs.bodies.+part.Given as goal
 

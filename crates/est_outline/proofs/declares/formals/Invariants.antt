@@ -1,5 +1,5 @@
 use Rattle.std.proofs.Common.{◌≡◌, drop}
-use Rattle.est_outline.specs.Declares.{formals_declare}
+use Rattle.est_declares.specs.Declares.{formals_declare}
 use Rattle.est_outline.proofs.declares.formals.Given as goal
 
 abbrev pub invariant-loop-item : goal.invariant-loop-item

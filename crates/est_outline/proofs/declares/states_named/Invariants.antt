@@ -1,5 +1,5 @@
 use Rattle.std.proofs.Common.{◌≡◌, ◌++◌, drop}
-use Rattle.est_outline.specs.Declares.{states_named}
+use Rattle.est_declares.specs.Declares.{states_named}
 use Rattle.est_outline.proofs.declares.states_named.Given as goal
 
 abbrev pub invariant-loop-used : goal.invariant-loop-used

@@ -1,7 +1,7 @@
 use Rattle.std.proofs.Common.{◌≡◌, drop}
 use Rattle.est_scope.specs.declared.declaration.Sort.TheVariants as sort
-use Rattle.est_outline.specs.Declares.{names_declare}
-use Rattle.est_outline.specs.Entries.{plain}
+use Rattle.est_declares.specs.Declares.{names_declare}
+use Rattle.est_declares.specs.Entries.{plain}
 use Rattle.est_outline.proofs.declares.variables.Given as goal
 
 abbrev pub invariant-loop-used : goal.invariant-loop-used

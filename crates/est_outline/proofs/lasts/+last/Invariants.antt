@@ -1,5 +1,5 @@
 use Rattle.std.proofs.Common.{◌≡◌, drop}
-use Rattle.est_outline.specs.Lasts.{vars_last}
+use Rattle.est_declares.specs.Lasts.{vars_last}
 use Rattle.est_outline.proofs.lasts.+last.Given as goal
 
 abbrev pub invariant-vars_last-loop-var : goal.invariant-vars_last-loop-var

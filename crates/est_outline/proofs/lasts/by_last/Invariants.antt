@@ -1,5 +1,5 @@
 use Rattle.std.proofs.Common.{◌≡◌, drop}
-use Rattle.est_outline.specs.Lasts.{by_last}
+use Rattle.est_declares.specs.Lasts.{by_last}
 use Rattle.est_outline.proofs.lasts.by_last.Given as goal
 
 abbrev pub invariant-loop-part : goal.invariant-loop-part

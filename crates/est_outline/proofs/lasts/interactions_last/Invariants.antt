@@ -1,5 +1,5 @@
 use Rattle.std.proofs.Common.{◌≡◌, drop}
-use Rattle.est_outline.specs.Lasts.{interactions_last}
+use Rattle.est_declares.specs.Lasts.{interactions_last}
 use Rattle.est_outline.proofs.lasts.interactions_last.Given as goal
 
 abbrev pub invariant-loop-interaction : goal.invariant-loop-interaction

@@ -1,5 +1,5 @@
 use Rattle.std.proofs.Common.{◌≡◌, drop}
-use Rattle.est_outline.specs.Lasts.{names_last}
+use Rattle.est_declares.specs.Lasts.{names_last}
 use Rattle.est_outline.proofs.lasts.names_last.Given as goal
 
 abbrev pub invariant-loop-used : goal.invariant-loop-used

@@ -1,5 +1,5 @@
 use Rattle.std.proofs.Common.{◌≡◌, drop}
-use Rattle.est_outline.specs.Lasts.{points_last}
+use Rattle.est_declares.specs.Lasts.{points_last}
 use Rattle.est_outline.proofs.lasts.points_last.Given as goal
 
 abbrev pub invariant-loop-point : goal.invariant-loop-point

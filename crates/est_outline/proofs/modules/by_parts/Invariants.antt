@@ -1,5 +1,5 @@
 use Rattle.std.proofs.Common.{◌≡◌, drop}
-use Rattle.est_outline.specs.Declares.{by_parts_declare}
+use Rattle.est_declares.specs.Declares.{by_parts_declare}
 use Rattle.est_outline.proofs.modules.by_parts.Given as goal
 
 abbrev pub invariant-loop-item : goal.invariant-loop-item

@@ -1,5 +1,5 @@
 use Rattle.std.proofs.Common.{◌≡◌, ◌++◌, take, drop}
-use Rattle.est_outline.specs.Declares.{before, after}
+use Rattle.est_declares.specs.Declares.{before, after}
 use Rattle.est_outline.proofs.modules.count_before.Given as goal
 
 abbrev pub invariant-loop-export : goal.invariant-loop-export

@@ -1,5 +1,5 @@
 use Rattle.std.proofs.Common.{◌≡◌, drop}
-use Rattle.est_outline.specs.Declares.{interactions_declare}
+use Rattle.est_declares.specs.Declares.{interactions_declare}
 use Rattle.est_outline.proofs.modules.interactions.Given as goal
 
 abbrev pub invariant-loop-item : goal.invariant-loop-item

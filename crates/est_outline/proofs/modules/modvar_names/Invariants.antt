@@ -1,6 +1,6 @@
 use Rattle.std.proofs.Common.{◌≡◌, drop}
-use Rattle.est_outline.specs.Declares.{names_declare}
-use Rattle.est_outline.specs.Entries.{module_variable}
+use Rattle.est_declares.specs.Declares.{names_declare}
+use Rattle.est_declares.specs.Entries.{module_variable}
 use Rattle.est_outline.proofs.modules.modvar_names.Given as goal
 
 abbrev pub invariant-loop-used : goal.invariant-loop-used

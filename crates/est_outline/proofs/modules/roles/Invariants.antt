@@ -1,5 +1,5 @@
 use Rattle.std.proofs.Common.{◌≡◌, drop}
-use Rattle.est_outline.specs.Declares.{roles_put}
+use Rattle.est_declares.specs.Declares.{roles_put}
 use Rattle.est_outline.proofs.modules.roles.Given as goal
 
 abbrev pub invariant-loop-used : goal.invariant-loop-used

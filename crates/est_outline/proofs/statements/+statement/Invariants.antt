@@ -1,5 +1,5 @@
 use Rattle.std.proofs.Common.{◌≡◌, drop}
-use Rattle.est_outline.specs.Bodies.{statements_declare}
+use Rattle.est_declares.specs.Bodies.{statements_declare}
 use Rattle.est_outline.specs.inside.DeclaredParts.{arms_declare}
 use Rattle.est_outline.proofs.statements.+statement.Given as goal
 

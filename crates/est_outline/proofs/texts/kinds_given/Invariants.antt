@@ -1,5 +1,5 @@
 use Rattle.std.proofs.Common.{◌≡◌, drop}
-use Rattle.est_outline.specs.Declares.{kinds_given}
+use Rattle.est_declares.specs.Declares.{kinds_given}
 use Rattle.est_outline.proofs.texts.kinds_given.Given as goal
 
 abbrev pub invariant-loop-used : goal.invariant-loop-used

@@ -1,5 +1,5 @@
 use Rattle.std.proofs.Common.{◌≡◌, drop}
-use Rattle.est_outline.specs.Declares.{names_put}
+use Rattle.est_declares.specs.Declares.{names_put}
 use Rattle.est_outline.proofs.texts.names_put.Given as goal
 
 abbrev pub invariant-loop-used : goal.invariant-loop-used

@@ -1,5 +1,5 @@
 use Rattle.std.proofs.Common.{◌≡◌, drop}
-use Rattle.est_outline.specs.Declares.{numbers_declare}
+use Rattle.est_declares.specs.Declares.{numbers_declare}
 use Rattle.est_outline.proofs.texts.numbers_declare.Given as goal
 
 abbrev pub invariant-loop-number : goal.invariant-loop-number

@@ -1,5 +1,5 @@
 use Rattle.std.proofs.Common.{◌≡◌, drop}
-use Rattle.est_outline.specs.Bodies.{clauses_declare}
+use Rattle.est_declares.specs.Bodies.{clauses_declare}
 use Rattle.est_outline.proofs.transitions.clauses.Given as goal
 
 abbrev pub invariant-loop-clause : goal.invariant-loop-clause

@@ -1,7 +1,7 @@
 use Rattle.std.proofs.Common.{None, Some, List, subst}
 use Rattle.std.specs.Prelude.{IfOk}
 use Rattle.est_syntax.specs.declared.ports.Port.{Port}
-use Rattle.est_ports.specs.PortList.{ports_of}
+use Rattle.est_declares.specs.PortList.{ports_of}
 use Rattle.est_ports.specs.inside.Making.{AreMade}
 use Rattle.est_ports.proofs.TableSteps.{elements_along, names_along, header_is, header_in, empty_of}
 use Rattle.est_ports.proofs.making.points.Goals as goal

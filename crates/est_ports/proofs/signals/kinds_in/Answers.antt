@@ -1,7 +1,7 @@
 use Rattle.std.proofs.Common.{ℕ, List, ap, ◌∙◌, ◌++◌}
 use Rattle.est_scope.specs.declared.declaration.Standing.{Standing}
 use Rattle.est_scope.specs.Outline.{entry_at}
-use Rattle.est_ports.specs.PortList.{kind_by, kinds_in}
+use Rattle.est_declares.specs.PortList.{kind_by, kinds_in}
 use Rattle.est_ports.proofs.NameSteps.{gathered}
 use Rattle.est_ports.proofs.signals.kinds_in.Goals as goal
 

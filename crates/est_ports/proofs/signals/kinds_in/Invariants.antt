@@ -1,5 +1,5 @@
 use Rattle.std.proofs.Common.{◌≡◌, drop, ◌++◌}
-use Rattle.est_ports.specs.PortList.{kinds_in}
+use Rattle.est_declares.specs.PortList.{kinds_in}
 use Rattle.est_ports.proofs.signals.kinds_in.Given as goal
 
 abbrev pub invariant-loop-i : goal.invariant-loop-i

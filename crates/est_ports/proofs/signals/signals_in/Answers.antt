@@ -1,7 +1,7 @@
 use Rattle.std.proofs.Common.{ℕ, List}
 use Rattle.est_scope.specs.declared.declaration.Standing.{Standing}
 use Rattle.est_scope.specs.Outline.{member_at}
-use Rattle.est_ports.specs.PortList.{signal_by, signals_in}
+use Rattle.est_declares.specs.PortList.{signal_by, signals_in}
 use Rattle.est_ports.proofs.NameSteps.{gathered}
 use Rattle.est_ports.proofs.signals.signals_in.Goals as goal
 

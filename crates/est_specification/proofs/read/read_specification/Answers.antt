@@ -1,10 +1,22 @@
+use Rattle.std.proofs.Common.{arith}
 use Rattle.est_lexer.specs.Offsets.{text_of, tokens_of}
 use Rattle.est_specification.proofs.Refused.{good, refused}
 use Rattle.est_specification.proofs.Small.{sentence_is_small}
 use Rattle.est_specification.proofs.read.read_specification.Goals as goal
 
 pub check-requires : goal.check-requires
-check-requires c = sentence_is_small _ _ c.in_ok-tree.tree c.in_ok-tree.ensures.tree c.requires.few
+check-requires c =
+    let few = c.requires.few in
+    record {
+      sentence = record {
+        text = text_of c.args.tokens.now;
+        tokens = tokens_of c.args.tokens.now;
+        listed = c.requires.listed;
+        few = omega (arith, few);
+        tree = c.in_ok-tree.ensures.tree;
+      };
+      small = sentence_is_small _ _ c.in_ok-tree.tree c.in_ok-tree.ensures.tree c.requires.few;
+    }
 
 pub returns-in_err-check : goal.returns-in_err-check
 returns-in_err-check c =

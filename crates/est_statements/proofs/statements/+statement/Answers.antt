@@ -1,10 +1,11 @@
+use Rattle.std.specs.Prelude.{flat_map}
 use Rattle.std.proofs.Common.{◌≡◌, refl, sym, subst, OnOk}
 use Rattle.std.proofs.lemmas.Result.{on_ok_weaker}
 use Rattle.est_syntax.specs.declared.statement.Arm.{Arm}
 use Rattle.est_scope.specs.LeastSoFar.{least_with}
 use Rattle.est_scope.proofs.LeastLaws.{least_loop}
 use Rattle.est_statements.specs.Cases.{with_constants}
-use Rattle.est_statements.specs.Statements.{statement_faults, statements_faults}
+use Rattle.est_statements.specs.Statements.{statement_faults}
 use Rattle.est_statements.specs.Statements.{arm_faults, arms_faults}
 use Rattle.est_expressions.proofs.Turns.{broken_loop}
 use Rattle.est_statements.proofs.StatementRows.{all_at, if_least, for_least}
@@ -33,8 +34,7 @@ check_statement-returns-in-All t c =
     c.check_all.ensures
 
 pub check_statements-loop-statement-preserved : goal.check_statements-loop-statement-preserved
-check_statements-loop-statement-preserved t c = least_loop (statements_faults c.args.outline.now
-    c.args.function c.args.loops.now) (statement_faults c.args.outline.now c.args.function
+check_statements-loop-statement-preserved t c = least_loop (flat_map (statement_faults c.args.outline.now c.args.function c.args.loops.now)) (statement_faults c.args.outline.now c.args.function
     c.args.loops.now) _ _ _ _ _ _ (λ y ys. refl) c.loop-statement-test.true c.statement-item.is
     c.in_ok-check_statement.ensures c.loop-statement.invariant
 

@@ -1,9 +1,10 @@
+use Rattle.std.specs.Prelude.{flat_map}
 use Rattle.std.proofs.Common.{refl}
 use Rattle.est_scope.proofs.LeastLaws.{least_loop}
-use Rattle.est_types.specs.DeclarationFaults.{by_parts_faults, by_part_faults}
+use Rattle.est_types.specs.DeclarationFaults.{by_part_faults}
 use Rattle.est_types.proofs.modules.check_by_parts.Goals as goal
 
 pub loop-item-preserved : goal.loop-item-preserved
-loop-item-preserved c = least_loop (by_parts_faults c.args.outline.now c.args.channel)
+loop-item-preserved c = least_loop (flat_map (by_part_faults c.args.outline.now c.args.channel))
     (by_part_faults c.args.outline.now c.args.channel) _ _ _ _ _ _ (λ y ys. refl)
     c.loop-item-test.true c.item-item.is c.in_ok-check_by_part.ensures c.loop-item.invariant

@@ -1,8 +1,9 @@
+use Rattle.std.specs.Prelude.{flat_map}
 use Rattle.std.proofs.Common.{◌≡◌, drop}
 use Rattle.est_scope.specs.LeastSoFar.{least_with}
-use Rattle.est_types.specs.DeclarationFaults.{interactions_faults}
+use Rattle.est_types.specs.DeclarationFaults.{interaction_faults}
 use Rattle.est_types.proofs.modules.check_interactions.Given as goal
 
 abbrev pub invariant-loop-item : goal.invariant-loop-item
-invariant-loop-item l = least_with l.least.at (interactions_faults l.outline
-    (drop l.item-index l.items)) ≡ least_with l.fn.least.at (interactions_faults l.outline l.items)
+invariant-loop-item l = least_with l.least.at (flat_map (interaction_faults l.outline)
+    (drop l.item-index l.items)) ≡ least_with l.fn.least.at (flat_map (interaction_faults l.outline) l.items)

@@ -1,8 +1,9 @@
+use Rattle.std.specs.Prelude.{flat_map}
 use Rattle.std.proofs.Common.{◌≡◌, drop}
 use Rattle.est_scope.specs.LeastSoFar.{least_with}
-use Rattle.est_types.specs.DeclarationFaults.{points_faults}
+use Rattle.est_types.specs.DeclarationFaults.{point_faults}
 use Rattle.est_types.proofs.modules.check_points.Given as goal
 
 abbrev pub invariant-loop-item : goal.invariant-loop-item
-invariant-loop-item l = least_with l.least.at (points_faults l.outline (drop l.item-index l.items))
-    ≡ least_with l.fn.least.at (points_faults l.outline l.items)
+invariant-loop-item l = least_with l.least.at (flat_map (point_faults l.outline) (drop l.item-index l.items))
+    ≡ least_with l.fn.least.at (flat_map (point_faults l.outline) l.items)

@@ -1,9 +1,10 @@
+use Rattle.std.specs.Prelude.{flat_map}
 use Rattle.std.proofs.Common.{refl}
 use Rattle.est_scope.proofs.LeastLaws.{least_loop}
-use Rattle.est_types.specs.DeclarationFaults.{any_faults, chosen_faults}
+use Rattle.est_types.specs.DeclarationFaults.{chosen_faults}
 use Rattle.est_types.proofs.sections.check_any.Goals as goal
 
 pub loop-item-preserved : goal.loop-item-preserved
-loop-item-preserved c = least_loop (any_faults c.args.outline.now)
+loop-item-preserved c = least_loop (flat_map (chosen_faults c.args.outline.now))
     (chosen_faults c.args.outline.now) _ _ _ _ _ _ (λ y ys. refl) c.loop-item-test.true
     c.item-item.is c.check_chosen.ensures c.loop-item.invariant

@@ -1,8 +1,9 @@
+use Rattle.std.specs.Prelude.{flat_map}
 use Rattle.std.proofs.Common.{◌≡◌, drop}
 use Rattle.est_scope.specs.LeastSoFar.{least_with}
-use Rattle.est_types.specs.DeclarationFaults.{any_faults}
+use Rattle.est_types.specs.DeclarationFaults.{chosen_faults}
 use Rattle.est_types.proofs.sections.check_any.Given as goal
 
 abbrev pub invariant-loop-item : goal.invariant-loop-item
-invariant-loop-item l = least_with l.least.at (any_faults l.outline (drop l.item-index l.items))
-    ≡ least_with l.fn.least.at (any_faults l.outline l.items)
+invariant-loop-item l = least_with l.least.at (flat_map (chosen_faults l.outline) (drop l.item-index l.items))
+    ≡ least_with l.fn.least.at (flat_map (chosen_faults l.outline) l.items)

@@ -1,9 +1,10 @@
+use Rattle.std.specs.Prelude.{flat_map}
 use Rattle.std.proofs.Common.{◌≡◌, drop}
 use Rattle.est_scope.specs.LeastSoFar.{least_with}
-use Rattle.est_types.specs.DeclarationFaults.{constdefs_faults}
+use Rattle.est_types.specs.DeclarationFaults.{constdef_faults}
 use Rattle.est_types.proofs.sections.check_constdefs.Given as goal
 
 abbrev pub invariant-loop-item : goal.invariant-loop-item
 invariant-loop-item l =
-    least_with l.least.at (constdefs_faults l.outline (drop l.item-index l.items))
-    ≡ least_with l.fn.least.at (constdefs_faults l.outline l.items)
+    least_with l.least.at (flat_map (constdef_faults l.outline) (drop l.item-index l.items))
+    ≡ least_with l.fn.least.at (flat_map (constdef_faults l.outline) l.items)

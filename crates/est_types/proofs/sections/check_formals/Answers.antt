@@ -1,9 +1,10 @@
+use Rattle.std.specs.Prelude.{flat_map}
 use Rattle.std.proofs.Common.{refl}
 use Rattle.est_scope.proofs.LeastLaws.{least_loop}
-use Rattle.est_types.specs.DeclarationFaults.{formals_faults, formal_faults}
+use Rattle.est_types.specs.DeclarationFaults.{formal_faults}
 use Rattle.est_types.proofs.sections.check_formals.Goals as goal
 
 pub loop-item-preserved : goal.loop-item-preserved
-loop-item-preserved c = least_loop (formals_faults c.args.outline.now c.args.of.now)
+loop-item-preserved c = least_loop (flat_map (formal_faults c.args.outline.now c.args.of.now))
     (formal_faults c.args.outline.now c.args.of.now) _ _ _ _ _ _ (λ y ys. refl)
     c.loop-item-test.true c.item-item.is c.check_formal.ensures c.loop-item.invariant

@@ -1,9 +1,10 @@
+use Rattle.std.specs.Prelude.{flat_map}
 use Rattle.std.proofs.Common.{refl}
 use Rattle.est_scope.proofs.LeastLaws.{least_loop}
-use Rattle.est_types.specs.DeclarationFaults.{statesets_faults, stateset_faults}
+use Rattle.est_types.specs.DeclarationFaults.{stateset_faults}
 use Rattle.est_types.proofs.sections.check_statesets.Goals as goal
 
 pub loop-item-preserved : goal.loop-item-preserved
-loop-item-preserved c = least_loop (statesets_faults c.args.outline.now)
+loop-item-preserved c = least_loop (flat_map (stateset_faults c.args.outline.now))
     (stateset_faults c.args.outline.now) _ _ _ _ _ _ (λ y ys. refl) c.loop-item-test.true
     c.item-item.is c.check_stateset.ensures c.loop-item.invariant

@@ -1,9 +1,10 @@
+use Rattle.std.specs.Prelude.{flat_map}
 use Rattle.std.proofs.Common.{refl}
 use Rattle.est_scope.proofs.LeastLaws.{least_loop}
-use Rattle.est_types.specs.DeclarationFaults.{typedefs_faults, typedef_faults}
+use Rattle.est_types.specs.DeclarationFaults.{typedef_faults}
 use Rattle.est_types.proofs.sections.check_typedefs.Goals as goal
 
 pub loop-item-preserved : goal.loop-item-preserved
-loop-item-preserved c = least_loop (typedefs_faults c.args.outline.now)
+loop-item-preserved c = least_loop (flat_map (typedef_faults c.args.outline.now))
     (typedef_faults c.args.outline.now) _ _ _ _ _ _ (λ y ys. refl) c.loop-item-test.true
     c.item-item.is c.in_ok-check_typedef.ensures c.loop-item.invariant

@@ -1,9 +1,10 @@
+use Rattle.std.specs.Prelude.{flat_map}
 use Rattle.std.proofs.Common.{◌≡◌, drop}
 use Rattle.est_scope.specs.LeastSoFar.{least_with}
-use Rattle.est_types.specs.DeclarationFaults.{typedefs_faults}
+use Rattle.est_types.specs.DeclarationFaults.{typedef_faults}
 use Rattle.est_types.proofs.sections.check_typedefs.Given as goal
 
 abbrev pub invariant-loop-item : goal.invariant-loop-item
 invariant-loop-item l = least_with l.least.at
-    (typedefs_faults l.outline (drop l.item-index l.items)) ≡ least_with l.fn.least.at
-    (typedefs_faults l.outline l.items)
+    (flat_map (typedef_faults l.outline) (drop l.item-index l.items)) ≡ least_with l.fn.least.at
+    (flat_map (typedef_faults l.outline) l.items)

@@ -1,4 +1,4 @@
-use Rattle.est_upkeep.proofs.ParentsOlder.{ancestors_older, none_its_ancestor}
+use Rattle.est_upkeep.proofs.Ancestors.{ancestors_older, none_its_ancestor}
 use Rattle.est_upkeep.proofs.laws.ancestors_are_older.Goals as goal
 
 pub returns-clause-older : goal.returns-clause-older

@@ -1,6 +1,6 @@
 use Rattle.std.proofs.Common.{ℤ, sym, ap, ◌∙◌, subst, List, None, slice_get, arith}
 use Rattle.est_syntax.specs.declared.kind.Kind.{Kind}
-use Rattle.est_ports.specs.OrdinalValues.{tuples_of}
+use Rattle.est_declares.specs.OrdinalValues.{tuples_of}
 use Rattle.est_ports.specs.PortTable.{IsPortNumber}
 use Rattle.est_semantics.specs.TextByPlace.{Text}
 use Rattle.est_outside.specs.inside.OutsideParts.{IsFirstOf}

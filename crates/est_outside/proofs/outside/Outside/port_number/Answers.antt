@@ -1,6 +1,6 @@
 use Rattle.std.proofs.Common.{◌≡◌, ℤ, subst, List, Some, None, arith}
 use Rattle.std.specs.List.{position}
-use Rattle.est_ports.specs.PortList.{ports_of}
+use Rattle.est_declares.specs.PortList.{ports_of}
 use Rattle.est_ports.specs.PortTable.{IsPortNumber}
 use Rattle.est_semantics.specs.TextByPlace.{Text}
 use Rattle.est_choices.specs.OutsideEvents.{is_port}

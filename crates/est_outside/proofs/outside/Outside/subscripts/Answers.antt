@@ -1,7 +1,7 @@
 use Rattle.std.proofs.Common.{◌≡◌, ◌-◌, ℤ, ap, ◌∙◌, subst, List, Option, slice_get}
 use Rattle.std.specs.Prelude.{IfOk}
 use Rattle.est_syntax.specs.declared.kind.Kind.{Kind}
-use Rattle.est_ports.specs.OrdinalValues.{tuples_of}
+use Rattle.est_declares.specs.OrdinalValues.{tuples_of}
 use Rattle.est_outside.specs.inside.OutsideParts.{IsFirstOf}
 use Rattle.est_outside.proofs.OutsideSteps.{no_first, subscripts_at}
 use Rattle.est_outside.proofs.outside.Outside.subscripts.Goals as goal

@@ -1,0 +1,3 @@
+pub mod AttachmentLaws
+pub mod LinkLaws
+pub mod LostLaws

@@ -1,0 +1,2 @@
+pub mod LinksOfPoints
+pub mod LostLinks

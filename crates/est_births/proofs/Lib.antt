@@ -1,0 +1,2 @@
+pub mod BirthLaws
+pub mod StampLaws

@@ -1,0 +1,2 @@
+pub mod LostRows
+pub mod NewInstances

@@ -1,0 +1,5 @@
+pub mod Elements
+pub mod Growing
+pub mod Grown
+pub mod Names
+pub mod Regions

@@ -1,0 +1,10 @@
+pub mod Chains
+pub mod Drawing
+pub mod DrawnFits
+pub mod DrawnOnce
+pub mod Draws
+pub mod Explaining
+pub mod Happening
+pub mod OneMade
+pub mod Receiving
+pub mod Turning

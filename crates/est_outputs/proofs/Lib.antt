@@ -1,0 +1,2 @@
+pub mod DeliveryLaws
+pub mod OutsideLaws

@@ -1,0 +1,4 @@
+//! What outputs do.
+#![tactic(auto)]
+
+pub mod outputs;

@@ -1,0 +1,4 @@
+pub mod DeclaredLaws
+pub mod FirstPlaces
+pub mod SamePoints
+pub mod TupleLaws

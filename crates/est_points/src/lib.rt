@@ -1,0 +1,6 @@
+//! Interaction points that headers declare, and their subscripts.
+#![tactic(auto)]
+
+pub mod declared;
+pub mod points;
+pub mod subscripts;

@@ -1,0 +1,2 @@
+pub mod ChangedQueues
+pub mod LostQueues
