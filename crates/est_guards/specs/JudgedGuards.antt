@@ -44,6 +44,10 @@ pub record IsSight (limit : ℕ) (t : Text) (s : Situation) (c : Choice) (frames
       ≡ list_any is_limit
       (if is_from t c then subscripts limit t s c (when_of c.transition) else [])
 
+-- what a guard says whose `when` fails, though no part of it passes its limit
+abbrev pub says_nothing : Verdict
+says_nothing = record { passes = false; enabled = false; offered = false; due = false }
+
 -- what the guard of a choice says
 pub record IsVerdict (limit : ℕ) (t : Text) (s : Situation) (c : Choice) (v : Verdict)
     : Type 0 where

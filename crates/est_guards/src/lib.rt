@@ -6,6 +6,7 @@ pub mod candidate;
 mod conditions;
 mod delays;
 pub mod judging;
+pub mod missed;
 mod parts;
 pub mod sight;
 mod subscripts;

@@ -17,9 +17,10 @@ use Rattle.est_choices.specs.TransitionSelection.{passes_limit, IsSettled, is_of
 use Rattle.est_choices.specs.TransitionSelection.{is_offered_choice, is_due_choice, priority_in}
 use Rattle.est_choices.proofs.Options.{some_is, then_some, map_some}
 use Rattle.est_transitions.specs.FittingTransitions.{IsFitting}
+use Rattle.est_transitions.specs.WrittenTransitions.{IsWritten}
 use Rattle.est_guards.specs.declared.candidate.Candidate.{Candidate}
 use Rattle.est_guards.specs.declared.verdict.Verdict.{Verdict}
-use Rattle.est_guards.specs.JudgedGuards.{IsOf, IsVerdict}
+use Rattle.est_guards.specs.JudgedGuards.{IsOf, IsVerdict, says_nothing}
 use Rattle.est_worlds.specs.FiringOrder.{FiringBefore}
 use Rattle.est_selection.specs.declared.offers.Instance.{Instance}
 use Rattle.est_selection.specs.declared.offers.Offer.{Offer}
@@ -28,6 +29,7 @@ use Rattle.est_selection.specs.inside.InstanceOffers.{firing_of, HasChoice, IsCa
 use Rattle.est_selection.specs.inside.InstanceOffers.{IsLiving}
 use Rattle.est_selection.proofs.Surveys.{IsIdle, unsettled, survey_skips, survey_passes}
 use Rattle.est_selection.proofs.Surveys.{survey_takes, idle_within, idle_unoffered, not_both}
+use Rattle.est_selection.proofs.Surveys.{IsQuiet, survey_stays}
 
 -- PLACES OF FIRINGS
 
@@ -67,6 +69,7 @@ up_to_before i n k f u = inr (u.of, u.before)
 -- what a choice is that a firing names
 pub record HasParts (t : Text) (s : Situation) (f : Firing) (c : Choice) : Type 0 where
   pub row : row_of s f.instance ≡ Some c.row
+  pub number : c.number ≡ f.transition
   pub transition : numbered (transitions_of t c.row.body) f.transition ≡ Some c.transition
   pub tuple : List ℤ
   pub chosen : numbered (any_tuples t.outline c.transition) f.choice ≡ Some tuple
@@ -83,7 +86,7 @@ parts_by : (t : Text) (s : Situation) (f : Firing) (c : Choice) (r : Row) (x : F
     } ≡ c
     → HasParts t s f c
 parts_by t s f c r x zs a b d e = subst (HasParts t s f) e
-    (record { row = a; transition = b; tuple = zs; chosen = d })
+    (record { row = a; number = refl; transition = b; tuple = zs; chosen = d })
 
 pub choice_parts : (t : Text) (s : Situation) (f : Firing) (c : Choice)
     → choice_of t s f ≡ Some c → HasParts t s f c
@@ -243,6 +246,59 @@ choices_end limit t s x choice os d one e v = survey_skips limit t s
     ]
 
 -- TRANSITIONS
+
+-- a transition each choice of which says nothing
+module _ (limit : ℕ) (t : Text) (s : Situation) (x : Candidate) (d : IsCandidate t s x)
+    (says : (chosen : Frame) (c : Choice) → IsOf t x chosen c
+    → IsVerdict limit t s c says_nothing) where
+  is_of : (f : Firing) (c : Choice) → f.instance ≡ x.instance → f.transition ≡ x.number
+      → choice_of t s f ≡ Some c → IsOf t x c.chosen c
+  is_of f c a b h =
+      let p = choice_parts t s f c h in
+      let r = some_is c.row d.row (sym p.row ∙ ap (row_of s) a ∙ d.is) in
+      let q = some_is c.transition d.transition (sym p.transition
+      ∙ (λ i. numbered (transitions_of t (r i).body) (b i)) ∙ d.found) in
+      record {
+        instance = ap (λ (y : Row). y.number) r ∙ d.instance;
+        state = ap (λ (y : Row). y.state) r ∙ d.state;
+        number = p.number ∙ b;
+        transition = subst (λ (y : FullTransition). IsWritten t.outline y x.transition.now)
+            (sym q) d.written;
+        chosen_is = refl;
+      }
+
+  quiet_by : (f : Firing) (o : Option Choice) → choice_of t s f ≡ o
+      → f.instance ≡ x.instance → f.transition ≡ x.number
+      → (option_map_or (passes_limit limit t s) o false ≡ false)
+      × (option_map_or (is_offered_choice limit t s) o false ≡ false)
+  quiet_by f None h a b = (refl, refl)
+  quiet_by f (Some c) h a b =
+      let v = says c.chosen c (is_of f c a b h) in (sym v.passes, sym v.offered)
+
+  quiet : (f : Firing) → f.instance ≡ x.instance → f.transition ≡ x.number
+      → IsQuiet limit t s f
+  quiet f a b = quiet_by f (choice_of t s f) refl a b
+
+  pub transition_missed : (os : List Offer)
+      → IsSurvey limit t s (IsUpTo x.instance x.number 1) os
+      → IsSurvey limit t s (IsUpTo x.instance (x.number + 1) 0) os
+  transition_missed os v = survey_stays limit t s (IsUpTo x.instance x.number 1)
+      (IsUpTo x.instance (x.number + 1) 0) os v
+      (λ f u. record { of = u.of; before = inl (up f u.before) }) (λ f u. down f u)
+    where
+      up : (f : Firing) → (f.transition < x.number)
+          ⊎ ((f.transition ≡ x.number) × (f.choice < 1)) → f.transition < x.number + 1
+      up f b = elim b [ inl a ↦ omega (arith, a) | inr a ↦ (let h = a.0 in omega arith) ]
+
+      down : (f : Firing) → IsUpTo x.instance (x.number + 1) 0 f
+          → IsUpTo x.instance x.number 1 f ⊎ IsQuiet limit t s f
+      down f u = elim (cases_lt f.transition x.number) [
+        | inl k ↦ inl (record { of = u.of; before = inl k })
+        | inr k ↦ elim u.before [
+          | inl j ↦ (let b : f.transition ≡ x.number = omega arith in inr (quiet f u.of b))
+          | inr j ↦ (let m : f.choice < 0 = j.1 in absurd (omega arith))
+        ]
+      ]
 
 -- a transition that is not there
 pub transition_skips : (limit : ℕ) (t : Text) (s : Situation) (r : Row) (i n : ℕ)

@@ -24,6 +24,11 @@ use Rattle.est_selection.proofs.Members.{ascending_snoc}
 abbrev pub IsIdle : Text → Situation → Firing → Type 0
 IsIdle t s f = (c : Choice) → choice_of t s f ≡ Some c → is_from t c ≡ false
 
+-- a firing is not offered, and its guard passes no limit
+abbrev pub IsQuiet : ℕ → Text → Situation → Firing → Type 0
+IsQuiet limit t s f = (is_choice (passes_limit limit t s) t s f ≡ false)
+    × (is_offered limit t s f ≡ false)
+
 pub not_both : (b : Bool) → b ≡ true → b ≡ false → ⊥
 not_both b p q = let n : true ≡ false = sym p ∙ q in cc
 
@@ -76,6 +81,19 @@ module _ (limit : ℕ) (t : Text) (s : Situation) where
       complete = λ f q e. elim (down f q) [
         | inl p ↦ v.complete f p e
         | inr i ↦ absurd (not_both (is_offered limit t s f) e (idle_unoffered f i))
+      ];
+    }
+
+    -- of the others none is offered, and no guard of them passes its limit
+    pub survey_stays : ((f : Firing) → Q f → P f ⊎ IsQuiet limit t s f) → IsSurvey limit t s Q os
+    survey_stays down = record {
+      settled = λ f q. elim (down f q) [ inl p ↦ v.settled f p | inr i ↦ i.0 ];
+      ascending = v.ascending;
+      reached = λ f a. up f (v.reached f a);
+      sound = v.sound;
+      complete = λ f q e. elim (down f q) [
+        | inl p ↦ v.complete f p e
+        | inr i ↦ absurd (not_both (is_offered limit t s f) e i.1)
       ];
     }
 

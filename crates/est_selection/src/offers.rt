@@ -12,6 +12,7 @@ use est_choices::firing::Firing;
 use est_frames::system::{System, Working};
 use est_guards::candidate::Candidate;
 use est_guards::judging::judge;
+use est_guards::missed::is_missed;
 use est_semantics::frame::Frame;
 use est_transitions::behaviour::Behaviour;
 use est_worlds::answers::Offers;
@@ -147,6 +148,9 @@ fn add_transition(
                 number,
                 transition,
             };
+            if is_missed(alloc, behaviour.text(), &candidate, &working.system) {
+                return Ok(Offers::Settled);
+            }
             add_choices(alloc, behaviour, limit, &candidate, working, offers)
         }
     }

@@ -1,10 +1,11 @@
 -- Transitions with all their clauses, as the program holds them: each clause is looked up once.
-use Rattle.std.specs.Prelude.{◌≡◌, ℕ, List, map, flat_map, Option, option_and_then}
+use Rattle.std.specs.Prelude.{◌≡◌, ℕ, List, [], map, flat_map, Option, Some, None}
+use Rattle.std.specs.Prelude.{option_and_then}
 use Rattle.std.specs.Option.{option_map}
 use Rattle.std.specs.Borrow.{Bor}
 use Rattle.est_syntax.specs.declared.expression.Expr.{Expr}
 use Rattle.est_scope.specs.Outline.{Outline}
-use Rattle.est_semantics.specs.NamesInRuns.{declared_at}
+use Rattle.est_semantics.specs.NamesInRuns.{declared_at, interaction_of}
 use Rattle.est_choices.specs.ClauseContexts.{FullTransition, from_of, to_of, when_of, any_of}
 use Rattle.est_choices.specs.ClauseContexts.{delay_of, Awaited, Delay, condition_of}
 use Rattle.est_choices.specs.ClauseContexts.{Condition, Always, Provided, Otherwise}
@@ -12,6 +13,7 @@ use Rattle.est_choices.specs.GuardParts.{states_named}
 use Rattle.est_choices.specs.TransitionSelection.{priority_in}
 use Rattle.est_transitions.specs.declared.written.Awaits.{Awaits}
 use Rattle.est_transitions.specs.declared.written.Bounds.{Bounds}
+use Rattle.est_transitions.specs.declared.written.Fixed.{Fixed}
 use Rattle.est_transitions.specs.declared.written.Provision.{Provision}
 use Rattle.est_transitions.specs.declared.written.Provision.TheVariants as provision
 use Rattle.est_transitions.specs.declared.written.Written.{Written}
@@ -19,6 +21,13 @@ use Rattle.est_transitions.specs.declared.written.Written.{Written}
 -- the interaction that is awaited
 abbrev pub awaited_of : Awaits → Awaited
 awaited_of a = record { at = a.at.now; signal = a.signal.now }
+
+-- this, where it is there, is what a `when` without subscripts awaits
+abbrev pub IsFixed : Outline → Option Awaited → Option Fixed → Type 0
+IsFixed o w None = Unit {0}
+IsFixed o None (Some x) = ⊥
+IsFixed o (Some w) (Some x) = (w.at.index ≡ []) × (declared_at o w.at.name ≡ Some x.point)
+    × (interaction_of o x.point w.signal ≡ Some x.signal)
 
 -- the bounds of a delay
 abbrev pub bounds_of : Bounds → Delay
@@ -38,6 +47,7 @@ provided_of (provision.Otherwise es) = Otherwise (referred es.items)
 pub record IsWritten (o : Outline) (x : FullTransition) (w : Written) : Type 0 where
   pub states : w.states ≡ option_map (λ us. flat_map (states_named o) us) (from_of x)
   pub awaits : option_map awaited_of w.awaits ≡ when_of x
+  pub fixed : IsFixed o (when_of x) w.fixed
   pub any : w.any ≡ any_of x
   pub condition : provided_of w.condition ≡ condition_of x
   pub delay : option_map bounds_of w.delay ≡ delay_of x

@@ -7,9 +7,11 @@ ghost use Rattle.est_scope.specs.Outline.{entry_at};
 ghost use Rattle.est_kinds.specs.Constants.{constant_value};
 ghost use Rattle.est_semantics.specs.NamesInRuns.{declared_at};
 ghost use Rattle.est_choices.specs.ClauseContexts.{given_by, states_in, state_in, constant_in};
+ghost use Rattle.est_choices.specs.ClauseContexts.{awaited_in};
 ghost use Rattle.est_choices.specs.ClauseContexts.{context_after, group_transitions};
 ghost use Rattle.est_choices.specs.GuardParts.{states_named};
-ghost use Rattle.est_transitions.specs.WrittenTransitions.{IsWritten, provided_of};
+ghost use Rattle.est_transitions.specs.WrittenTransitions.{IsWritten, IsFixed, provided_of};
+ghost use Rattle.est_transitions.specs.WrittenTransitions.{awaited_of};
 ghost use Rattle.est_transitions.specs.inside.HeldClauses.{held, conditions_of, written_of};
 ghost use Rattle.est_transitions.specs.inside.HeldClauses.{ruling_in};
 ghost use Rattle.est_transitions.specs.inside.AddedTransitions.{provided_by, written_after};
@@ -20,10 +22,10 @@ use crate::clauses::{
 };
 use crate::conditions::{Given, given_in, referred};
 use crate::contexts::give_all;
-use crate::written::{Provision, Written};
+use crate::written::{Awaits, Fixed, Provision, Written};
 use est_items::Items;
 use est_kinds::constants::constant_value;
-use est_names::declared::declared_at;
+use est_names::declared::{declared_at, interaction_of};
 use est_scope::outline::Outline;
 use est_syntax::body::Block;
 use est_syntax::name::Used;
@@ -125,6 +127,26 @@ fn next_state(outline: &Outline, context: &[&Clause]) -> Option<u32>
     }
 }
 
+// What a `when` awaits, where it has no subscripts and both names are declared.
+fn fixed_at(outline: &Outline, awaits: &Awaits) -> Option<Fixed>
+    ensures { IsFixed outline.now (Some (awaited_of awaits.now)) result }
+{
+    if !awaits.at.index.as_slice().is_empty() {
+        return None;
+    }
+    let point = declared_at(outline, &awaits.at.name)?;
+    let signal = interaction_of(outline, point, awaits.signal)?;
+    Some(Fixed { point, signal })
+}
+
+// The same of the `when` of a context, if it has one.
+fn fixed_of(outline: &Outline, context: &[&Clause]) -> Option<Fixed>
+    ensures { IsFixed outline.now (given_by awaited_in (held context.now)) result }
+{
+    let awaits = when_of(context)?;
+    fixed_at(outline, &awaits)
+}
+
 // What is provided in a context, by the clause of it that says so.
 fn provision_by<'t>(
     alloc: Global,
@@ -177,6 +199,7 @@ fn write<'t>(
     Ok(Written {
         states,
         awaits: when_of(context),
+        fixed: fixed_of(outline, context),
         any: any_of(context),
         condition,
         delay: delay_of(context),

@@ -13,6 +13,14 @@ pub struct Awaits<'t> {
     pub signal: &'t Used,
 }
 
+/// Where the interaction point and the interaction are declared that a `when` without subscripts
+/// awaits.
+#[derive(Clone, Copy)]
+pub struct Fixed {
+    pub point: u32,
+    pub signal: u32,
+}
+
 /// The bounds of a `delay`.
 #[derive(Clone, Copy)]
 pub struct Bounds<'t> {
@@ -34,6 +42,8 @@ pub struct Written<'t> {
     /// The places of the states that its `from` stands for.
     pub states: Option<Items<u32>>,
     pub awaits: Option<Awaits<'t>>,
+    /// What its `when` awaits, where that has no subscripts and both names are declared.
+    pub fixed: Option<Fixed>,
     /// The region of its `any` variables.
     pub any: Option<u32>,
     pub condition: Provision<'t>,
