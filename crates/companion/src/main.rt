@@ -3,10 +3,10 @@
 #![tactic(auto)]
 
 use est_advice::call::advise;
-use est_edge::{FileShelf, OutSink};
-use est_made_traces::call::write_made;
 use est_show::top::show;
-use est_words::status::Status;
+use est_tool::call_files::status::Status;
+use est_tool::call_files::{FileShelf, OutSink};
+use est_tool::made_trace::write_made;
 use std::process::ExitCode;
 use std::rt::{Env, Files};
 use std::{env, io};

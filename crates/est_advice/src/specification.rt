@@ -3,15 +3,14 @@
 use crate::reading::text_in;
 use crate::trace::{Good, append_trace};
 use crate::words::Asked;
-use est_check::Checked;
-use est_edge::Shelf;
-use est_files::file::File;
-use est_lexer::lex::lex;
-use est_lexer::tokens::Tokens;
-use est_rule_notes::append_rule;
-use est_specification::{SpecificationError, read_specification};
-use est_wanted::refused::{append_refused, append_too_deep};
-use est_warnings::append_warnings;
+use advice_rules::append_rule;
+use advice_tokens::refused::{append_refused, append_too_deep};
+use advice_warnings::append_warnings;
+use call_files::Shelf;
+use call_files::est_check::{Checked, SpecificationError, read_specification};
+use call_files::est_lexer::lex::lex;
+use call_files::est_lexer::tokens::Tokens;
+use call_files::file::File;
 use std::alloc::{AllocError, Global};
 
 /// Adds what is known of the specification that is asked about, or of what comes after it.

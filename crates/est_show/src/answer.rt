@@ -1,8 +1,8 @@
 //! The line with which a replay answers.
 
-use est_replaying::verdict::{Replayed, Why};
-use est_reports::report::fault_text;
-use est_words::status::Status;
+use call_files::check_report::fault_text;
+use call_files::est_explanation::verdict::{Replayed, Why};
+use call_files::status::Status;
 use std::alloc::{AllocError, Global};
 
 // Why an explanation is rejected, and the fault that it comes from, if it is one.

@@ -1,19 +1,19 @@
 //! The texts of interactions and events.
 
 use crate::source::{Source, ascii};
-use est_choices::event::Event;
-use est_names::declared::{dims_at, kind_at, places_of};
-use est_ports::ports::Ports;
-use est_scope::declaration::Sort;
-use est_semantics::situation::{InteractionPoint, Item};
+use call_files::est_trace::written_trace::append_trace;
+use est_meaning::event::Event;
+use est_meaning::mean_blocks::situation::{InteractionPoint, Item};
+use est_meaning::rule_scope::declaration::Sort;
 use est_syntax::body::Body;
 use est_syntax::transition::Transition;
-use est_written_traces::trace::append_trace;
-use est_written_values::lists::append_separator;
-use est_written_values::ordinals::append_ordinal;
-use est_written_values::values::append_value;
+use plain_frames::plain_names::declared::{dims_at, kind_at, places_of};
+use rule_ports::ports::Ports;
 use std::alloc::{AllocError, Global};
 use std::slice;
+use text_values::written_lists::append_separator;
+use text_values::written_ordinals::append_ordinal;
+use text_values::written_values::append_value;
 
 // Adds the subscripts of an interaction point, if it has some.
 fn append_subscripts(

@@ -1,26 +1,25 @@
 //! The top call.
 ghost use Rattle.std.specs.Prelude.{◌≤◌, length};
-ghost use Rattle.est_choices.specs.AllowedEvents.{IsAllowedTrace};
-ghost use Rattle.est_replaying.specs.Replay.{most_moves};
+ghost use Rattle.est_meaning.specs.AllowedEvents.{IsAllowedTrace};
+ghost use Rattle.call_files.specs.est_explanation.Replay.{most_moves};
 
 use crate::answer::{answer_line, shown_count, status_of};
 use crate::moves::push_run;
 use crate::reading::{specification_of, text_in};
 use crate::source::Source;
-use est_check::Checked;
-use est_choices::event::Trace;
-use est_edge::{Shelf, Sink, write_whole};
-use est_explanation::explanation::Explanation;
-use est_files::explanation::explanation_in;
-use est_files::trace::trace_in;
-use est_files::{Report, Stop};
-use est_layout::chart::append_chart;
-use est_layout::sheet::Sheet;
-use est_layout::table::append_table;
+use advice_lines::chart::append_chart;
+use advice_lines::sheet::Sheet;
+use advice_lines::table::append_table;
+use call_files::est_check::Checked;
+use call_files::est_explanation::explanation::Explanation;
+use call_files::explanation::explanation_in;
+use call_files::status::Status;
+use call_files::trace::trace_in;
+use call_files::words::{Command, read_words};
+use call_files::{Report, Shelf, Sink, Stop, write_whole};
+use est_meaning::event::Trace;
+use est_meaning::run::{Limits, Move};
 use est_replay::checked::replay;
-use est_runs::run::{Limits, Move};
-use est_words::status::Status;
-use est_words::words::{Command, read_words};
 use std::alloc::{AllocError, Global};
 
 // What is shown: a table of text, or a chart as a drawing in SVG.

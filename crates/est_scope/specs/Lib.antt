@@ -1,6 +1,0 @@
-pub mod Declaring
-pub mod LeastSoFar
-pub mod Outline
-pub mod Predeclared
-pub mod Uses
-pub mod inside

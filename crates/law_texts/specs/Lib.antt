@@ -1,0 +1,5 @@
+pub mod PlainNames
+pub mod ReadBackLaws
+pub mod ReadableKinds
+pub mod ReadableLaws
+pub mod ReadablePorts

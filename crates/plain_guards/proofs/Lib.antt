@@ -1,0 +1,4 @@
+pub mod ArrivalLaws
+pub mod ConditionLaws
+pub mod JudgedLaws
+pub mod PartLaws

@@ -1,0 +1,7 @@
+pub mod KnownNames
+pub mod PartIndices
+pub mod ShownNames
+pub use Rattle.mean_blocks.specs.est_syntax
+pub use Rattle.mean_blocks.specs.rule_scope
+pub use Rattle.mean_blocks.specs.est_values
+pub use Rattle.mean_blocks.specs as mean_blocks

@@ -1,0 +1,5 @@
+pub mod PointsOfHeaders
+pub use Rattle.plain_names.specs.est_syntax
+pub use Rattle.plain_names.specs.rule_scope
+pub use Rattle.plain_names.specs.mean_blocks
+pub use Rattle.plain_names.specs as plain_names

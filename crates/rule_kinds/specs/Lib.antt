@@ -1,0 +1,6 @@
+pub mod CleanConstants
+pub mod Constants
+pub mod Dims
+pub mod TypeTexts
+pub use Rattle.rule_scope.specs.est_syntax
+pub use Rattle.rule_scope.specs as rule_scope

@@ -1,0 +1,7 @@
+pub mod Declaring
+pub mod LeastSoFar
+pub mod Outline
+pub mod Predeclared
+pub mod Uses
+pub mod inside
+pub use Rattle.est_syntax.specs as est_syntax
