@@ -1,0 +1,5 @@
+pub mod Putting
+pub mod Within
+pub mod Parts
+pub mod Printing
+pub mod Turns
