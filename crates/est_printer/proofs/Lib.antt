@@ -1,3 +1,4 @@
+pub mod SpelledWords
 pub mod Putting
 pub mod Within
 pub mod Parts

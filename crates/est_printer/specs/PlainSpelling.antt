@@ -1,5 +1,5 @@
 -- Tokens that are spelled in the one way.
-use Rattle.std.specs.Prelude.{◌≡◌, ℕ, List, [], ◌∷◌, Bool, true, false, ◌||◌, Some, slice_get, bytes_eq}
+use Rattle.std.specs.Prelude.{◌≡◌, ℕ, List, [], ◌∷◌, Some, slice_get, nat_eq, if◌then◌else◌}
 use Rattle.std.specs.Fmt.{decimal}
 use Rattle.std.specs.Str.{str_to_ascii_lowercase}
 use Rattle.est_lexer.specs.declared.kind.Token.{Token}
@@ -29,3 +29,7 @@ pub record IsSpelledPlainly (kind : TokenKind) (bytes : List ℕ) : Type 0 where
 abbrev pub AreSpelledPlainly : List ℕ → List Token → Type 0
 AreSpelledPlainly text tokens = (place : ℕ) (token : Token) → slice_get tokens place ≡ Some token
     → IsSpelledPlainly token.kind (spelling text token)
+
+-- the constant of a character, whose quote is written as two
+abbrev pub character_bytes : ℕ → List ℕ
+character_bytes code = if nat_eq code 39 then 39 ∷ 39 ∷ 39 ∷ 39 ∷ [] else 39 ∷ code ∷ 39 ∷ []

@@ -63,3 +63,8 @@ pub data Laid : List ℕ → List Token → Option TokenKind → ℕ → Type 0 
 -- a printer has printed tokens one by one
 pub record IsLaid (P : Printer) : Type 0 where
   pub laid : Laid P.text.items P.tokens.items P.last P.nested
+
+-- What was printed ends with a line feed.
+pub record Ends (printer : Printer) (text : List ℕ) : Type 0 where
+  pub well : printer.spent ≡ false
+  pub text_is : text ≡ printer.text.items ++ 10 ∷ []

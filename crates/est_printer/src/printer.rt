@@ -1,11 +1,17 @@
 //! A printer of tokens, which puts between them what the one canonical text has there.
 
-ghost use Rattle.std.specs.Prelude.{◌≡◌, false, OnOk};
+ghost use Rattle.std.specs.Prelude.{◌≡◌, false, OnOk, IfOk};
+ghost use Rattle.std.specs.Fmt.{decimal};
+ghost use Rattle.est_printer.specs.PlainSpelling.{character_bytes};
 
 use crate::spacing::{count_of, gap_before, open_after};
 use crate::spelling::{symbol_spelling, word_spelling};
 use est_lexer::kind::{ReservedWord, Symbol, Token, TokenKind};
+use est_syntax::name::Used;
+use itoa::Buffer;
 use std::alloc::{AllocError, Global};
+
+const QUOTE: u8 = b'\'';
 
 /// The printed text and its tokens, the kind of the last one, how many round brackets are open, and
 /// whether memory ran out. Once it has, nothing more is printed.
@@ -19,7 +25,7 @@ pub struct Printer {
 }
 
 impl Printer {
-    ghost use Rattle.est_printer.specs.Putting.{Put, Puts, PutsKind, Starts};
+    ghost use Rattle.est_printer.specs.Putting.{Put, Puts, PutsKind, Starts, Ends};
     ghost use Rattle.est_lexer.specs.declared.kind.TokenKind.TheVariants as token;
 
     /// A printer that has printed nothing.
@@ -83,5 +89,49 @@ impl Printer {
         ensures { PutsKind (token.Symbol symbol) self.old self.new }
     {
         self.put(TokenKind::Symbol(symbol), symbol_spelling(symbol));
+    }
+
+    /// Prints a name.
+    pub fn name(&mut self, used: &Used)
+        ensures { Puts token.Identifier used.now.name.bytes self.old self.new }
+    {
+        self.put(TokenKind::Identifier, used.name.bytes.as_slice());
+    }
+
+    /// Prints a number in decimal digits.
+    pub fn number(&mut self, number: u64)
+        ensures { Puts token.Number (decimal number) self.old self.new }
+    {
+        let mut buffer = Buffer::new();
+        self.put(TokenKind::Number, buffer.format(number).as_bytes());
+    }
+
+    /// Prints the constant of a character.
+    pub fn character(&mut self, code: u8)
+        ensures { Puts token.Character (character_bytes code) self.old self.new }
+    {
+        if code == QUOTE {
+            self.put(TokenKind::Character, b"''''");
+        } else {
+            self.put(TokenKind::Character, &[QUOTE, code, QUOTE]);
+        }
+    }
+
+    /// Ends the text with a line feed. Errs where memory ran out, now or before.
+    pub fn finish(self) -> Result<Vec<u8>, AllocError>
+        ensures { IfOk result (λ text. Ends self text.items) }
+    {
+        let Printer {
+            mut text,
+            tokens: _,
+            last: _,
+            nested: _,
+            spent,
+        } = self;
+        if spent {
+            return Err(AllocError);
+        }
+        text.push(b'\n')?;
+        Ok(text)
     }
 }

@@ -1,7 +1,6 @@
 //! What stands between tokens.
 
 ghost use Rattle.std.specs.Prelude.{◌≡◌, IfOk};
-ghost use Rattle.est_lexer.specs.TokenKinds.{is_same};
 ghost use Rattle.est_printer.specs.Spacing as spacing;
 
 use est_lexer::kind::{Symbol, TokenKind};
@@ -35,28 +34,23 @@ fn between_them(last: TokenKind, nested: u32, kind: TokenKind) -> &'static [u8]
 fn joins_left(kind: TokenKind) -> bool
     ensures { result ≡ spacing.joins_left kind }
 {
-    match kind {
-        TokenKind::Symbol(symbol) => match symbol {
-            Symbol::Semicolon | Symbol::Comma | Symbol::RightParenthesis => true,
-            Symbol::RightBracket | Symbol::Period | Symbol::Colon | Symbol::DoublePeriod => true,
-            _ => false,
-        },
-        _ => false,
-    }
+    kind == TokenKind::Symbol(Symbol::Semicolon)
+        || kind == TokenKind::Symbol(Symbol::Comma)
+        || kind == TokenKind::Symbol(Symbol::RightParenthesis)
+        || kind == TokenKind::Symbol(Symbol::RightBracket)
+        || kind == TokenKind::Symbol(Symbol::Period)
+        || kind == TokenKind::Symbol(Symbol::Colon)
+        || kind == TokenKind::Symbol(Symbol::DoublePeriod)
 }
 
 // Whether nothing stands after a token.
 fn joins_right(kind: TokenKind) -> bool
     ensures { result ≡ spacing.joins_right kind }
 {
-    match kind {
-        TokenKind::Symbol(symbol) => match symbol {
-            Symbol::LeftParenthesis | Symbol::LeftBracket => true,
-            Symbol::Period | Symbol::DoublePeriod => true,
-            _ => false,
-        },
-        _ => false,
-    }
+    kind == TokenKind::Symbol(Symbol::LeftParenthesis)
+        || kind == TokenKind::Symbol(Symbol::LeftBracket)
+        || kind == TokenKind::Symbol(Symbol::Period)
+        || kind == TokenKind::Symbol(Symbol::DoublePeriod)
 }
 
 // Whether nothing stands between two tokens, since they are a name and `(` or `[`.

@@ -1,5 +1,6 @@
 //! How words and symbols are spelled.
 
+ghost use Rattle.std.specs.Prelude.{◌≡◌, ◌<◌, [], length, map, slice_index_or};
 ghost use Rattle.est_lexer.specs.declared.kind.TokenKind.TheVariants as token;
 ghost use Rattle.est_printer.specs.PlainSpelling.{IsSpelledPlainly};
 
@@ -105,12 +106,20 @@ static SYMBOLS: [&[u8]; 21] = [
 pub fn word_spelling(word: ReservedWord) -> &'static [u8]
     ensures { IsSpelledPlainly (token.Reserved word) result.now }
 {
-    WORDS[word as usize]
+    spelling_at(&WORDS, word as usize)
 }
 
 /// The spelling of a symbol.
 pub fn symbol_spelling(symbol: Symbol) -> &'static [u8]
     ensures { IsSpelledPlainly (token.Symbol symbol) result.now }
 {
-    SYMBOLS[symbol as usize]
+    spelling_at(&SYMBOLS, symbol as usize)
+}
+
+// The spelling at a place of a table.
+fn spelling_at(table: &'static [&'static [u8]], place: usize) -> &'static [u8]
+    requires { place < length table.now }
+    ensures { result.now ≡ slice_index_or (map (λ spelling. spelling.now) table.now) place [] }
+{
+    table[place]
 }
