@@ -1,9 +1,8 @@
 -- What the parts of a syntax tree show a printer: what they show a reader, but that a header has its
 -- points in one section, and then its exports in one.
 use Rattle.std.specs.Prelude.{List, [], ◌∷◌, map}
-use Rattle.est_syntax.specs.declared.type_text.VarDef.{VarDef}
-use Rattle.est_syntax.specs.declared.header.Point.{Point}
 use Rattle.est_syntax.specs.declared.header.Header.{Header}
+use Rattle.est_language.specs.Shown as shown
 use Rattle.est_language.specs.Shown.{empty, pair, first, second, nodes}
 use Rattle.est_reader.specs.Going.{used}
 use Rattle.est_productions.specs.Productions.{Production, production}
@@ -11,20 +10,21 @@ use Rattle.est_productions.specs.Nodes as whole
 use Rattle.est_productions.specs.Nodes.{Node, View, a_header, a_point, an_export}
 use Rattle.est_printer.specs.Printing.{Plan}
 
--- exports in one section, where there are any
-abbrev pub export_section : List VarDef → View
-export_section [] = empty
-export_section (v ∷ vs) = pair (second (nodes (map an_export (v ∷ vs)))) empty
+-- parts in one section, where there are any
+abbrev pub second_section : {V N : Type 0} → List N → shown.View V N
+second_section [] = empty
+second_section (n ∷ ns) = pair (second (nodes (n ∷ ns))) empty
 
--- points in one section, where there are any, and then the exports
-abbrev pub one_section_each : List Point → List VarDef → View
-one_section_each [] vs = export_section vs
-one_section_each (p ∷ ps) vs = pair (first (nodes (map a_point (p ∷ ps)))) (export_section vs)
+-- parts in one section, where there are any, and then the rest
+abbrev pub first_section : {V N : Type 0} → List N → shown.View V N → shown.View V N
+first_section [] v = v
+first_section (n ∷ ns) v = pair (first (nodes (n ∷ ns))) v
 
 -- a header
 abbrev pub header : Header → View
 header h = pair (used h.name) (pair (whole.attribute h.system) (pair (whole.parameters h.params)
-    (pair (one_section_each h.points h.exports) empty)))
+    (pair (first_section (map a_point h.points) (second_section (map an_export h.exports)))
+    empty)))
 
 -- the layer of each part
 abbrev pub plain_layer : Node → View

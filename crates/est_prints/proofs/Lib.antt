@@ -1,0 +1,4 @@
+pub mod Widening
+pub mod SameViews
+pub mod Twins
+pub mod Reading

@@ -1,0 +1,74 @@
+-- What a specification tells and another shows: they are the same but for their places.
+use Rattle.std.proofs.Common.{◌≡◌, ◌⊎◌, inl, inr, List, map, refl, sym, ◌∙◌, subst}
+use Rattle.est_language.specs.Shown.{Shows, node, s_node}
+use Rattle.est_language.proofs.Alike.{f_empty}
+use Rattle.est_syntax.specs.declared.header.Header.{Header}
+use Rattle.est_syntax.specs.declared.specification.Spec.{Spec}
+use Rattle.est_reader.specs.Tests.{Kept}
+use Rattle.est_reader.specs.Going.{Shape}
+use Rattle.est_productions.specs.Nodes as whole
+use Rattle.est_productions.specs.Nodes.{Node, a_header, a_specification, a_point, an_export}
+use Rattle.est_productions.proofs.Sorts.{Tag, headers, points, exports, tag, IsOf, all, of_used}
+use Rattle.est_productions.proofs.Sorts.{used_is, of_either, attribute_is, of_parameters, parameters_are}
+use Rattle.est_productions.proofs.Layers.{sort_of, layer_is}
+use Rattle.est_printer.specs.Aside.{Tells, a_node, Alike, b_node}
+use Rattle.est_plain_parts.specs.PlainNodes.{plain_layer}
+use Rattle.est_prints.specs.PrintedText.{SameButPlaces}
+use Rattle.est_prints.proofs.SameViews.{Twin, w_same, w_pair, w_sections, Twins, same_twin}
+
+-- but for headers a printer is shown what a reader is shown
+plain_is : (n : Node) → (tag n ≡ headers → ⊥) → whole.layer n ≡ plain_layer n
+plain_is (a_header h) no = absurd (no refl)
+plain_is n no = refl
+
+header_of : (n : Node) → tag n ≡ headers → (h : Header) × (n ≡ a_header h)
+header_of (a_header h) e = (h, refl)
+header_of n e = absurd cc
+
+header_twin : (h g : Header)
+    → Twin tag whole.layer plain_layer (plain_layer (a_header h)) (whole.layer (a_header g))
+    (plain_layer (a_header g))
+header_twin h g =
+    w_pair (w_same of_used (used_is h.name) (used_is g.name))
+    (w_pair (w_same of_either (attribute_is h.system) (attribute_is g.system))
+    (w_pair (w_same of_parameters (parameters_are h.params) (parameters_are g.params))
+    (w_pair (w_sections points exports (map a_point h.points) (map an_export h.exports)
+    (map a_point g.points) (map an_export g.exports)
+    (all a_point points (λ x. refl) h.points) (all an_export exports (λ x. refl) h.exports)
+    (all a_point points (λ x. refl) g.points) (all an_export exports (λ x. refl) g.exports))
+    (w_same _ f_empty f_empty))))
+
+other_twin : (n m : Node) → tag n ≡ tag m → (tag n ≡ headers → ⊥)
+    → Twin tag whole.layer plain_layer (plain_layer n) (whole.layer m) (plain_layer m)
+other_twin n m e no =
+    let p = plain_is n no in
+    let q = plain_is m (λ f. no (e ∙ f)) in
+    subst (λ v. Twin tag whole.layer plain_layer v (whole.layer m) (plain_layer m)) p
+    (subst (λ v. Twin tag whole.layer plain_layer (whole.layer n) (whole.layer m) v) q
+    (w_same (sort_of (tag n)) (layer_is n)
+    (subst (λ g. IsOf (sort_of g) (whole.layer m)) (sym e) (layer_is m))))
+
+is_header : (g : Tag) → (g ≡ headers) ⊎ (g ≡ headers → ⊥)
+is_header headers = inl refl
+is_header g = inr (λ e. cc)
+
+twins : Twins tag whole.layer plain_layer
+twins n m e = elim (is_header (tag n)) [
+  inl p ↦ headers_twin n m p (sym e ∙ p)
+  | inr no ↦ other_twin n m e no
+]
+  where
+    headers_twin : (n m : Node) → tag n ≡ headers → tag m ≡ headers
+        → Twin tag whole.layer plain_layer (plain_layer n) (whole.layer m) (plain_layer m)
+    headers_twin n m p q =
+        let h = header_of n p in
+        let g = header_of m q in
+        subst (λ v. Twin tag whole.layer plain_layer (plain_layer v) (whole.layer m) (plain_layer m))
+        (sym h.1) (subst (λ v. Twin tag whole.layer plain_layer (plain_layer (a_header h.0))
+        (whole.layer v) (plain_layer v)) (sym g.1) (header_twin h.0 g.0))
+
+-- a specification that tells a shape is the same, but for places, as one that shows it
+pub told_and_shown : (a b : Spec) (t : Shape) → Tells plain_layer (node (a_specification a)) t
+    → Shows whole.layer (node (a_specification b)) t → SameButPlaces a b
+told_and_shown a b t (a_node d) (s_node e) = b_node (same_twin tag whole.layer plain_layer twins d
+    (twins (a_specification a) (a_specification b) refl) e)
