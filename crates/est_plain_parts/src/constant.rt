@@ -18,7 +18,9 @@ pub fn constant(printer: &mut Printer, value: &Constant)
 {
     match value {
         Constant::Named {
-            sign: None, name, ..
+            sign: None,
+            name,
+            ..
         } => printer.name(name),
         _ => unnamed(printer, value),
     }
@@ -30,12 +32,24 @@ pub fn unnamed(printer: &mut Printer, value: &Constant)
         printer.old printer.new }
 {
     match value {
-        Constant::Number { sign: None, number, .. } => printer.number(*number),
-        Constant::Number { sign: Some(sign), number, .. } => {
+        Constant::Number {
+            sign: None,
+            number,
+            ..
+        } => printer.number(*number),
+        Constant::Number {
+            sign: Some(sign),
+            number,
+            ..
+        } => {
             plus_or_minus(printer, *sign);
             printer.number(*number);
         }
-        Constant::Named { sign: Some(sign), name, .. } => {
+        Constant::Named {
+            sign: Some(sign),
+            name,
+            ..
+        } => {
             plus_or_minus(printer, *sign);
             printer.name(name);
         }

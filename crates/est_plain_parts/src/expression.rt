@@ -13,8 +13,10 @@ use crate::operator::{adding_operator, multiplying_operator, relational_operator
 use est_lexer::kind::{ReservedWord, Symbol};
 use est_printer::Printer;
 use est_syntax::constant::Sign;
-use est_syntax::expression::{Expr, Exprs, Factor, Member, Members, ProductStep, ProductSteps};
-use est_syntax::expression::{Relation, Selector, Selectors, Simple, SumStep, SumSteps, Term};
+use est_syntax::expression::{
+    Expr, Exprs, Factor, Member, Members, ProductStep, ProductSteps, Relation, Selector, Selectors,
+    Simple, SumStep, SumSteps, Term,
+};
 
 /// expr = simple [ relational_operator simple ] .
 #[cycle(expr)]
@@ -130,7 +132,11 @@ fn factor(printer: &mut Printer, operand: &Factor)
             printer.name(name);
             selectors_given(printer, path);
         }
-        Factor::Call { name, arguments, .. } => {
+        Factor::Call {
+            name,
+            arguments,
+            ..
+        } => {
             printer.name(name);
             called(printer, arguments);
         }

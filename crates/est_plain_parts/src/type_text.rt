@@ -36,7 +36,9 @@ fn range(printer: &mut Printer, low: &Constant, high: &Constant)
 {
     match low {
         Constant::Named {
-            sign: None, name, ..
+            sign: None,
+            name,
+            ..
         } => printer.name(name),
         _ => unnamed(printer, low),
     }

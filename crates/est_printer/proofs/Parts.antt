@@ -147,10 +147,10 @@ module _ {P N : Type 0} {X : Plan P N} where
         let m = met source read a k j in
         let kind_is : m.token.kind ≡ k = one m.token.kind m.kind_is in
         let was : kept_of source m.token ≡ v =
-            subst (λ o. KeptOf (language X.production source) o v) m.there z in
+        subst (λ o. KeptOf (language X.production source) o v) m.there z in
         let q = told (spelling source m.token)
-            (l a m.token m.there (λ bad. good (sym kind_is ∙ bad)) ∙ ap Some kind_is)
-            (ap (λ j. kept_as j (spelling source m.token)) (sym kind_is) ∙ was) in
+        (l a m.token m.there (λ bad. good (sym kind_is ∙ bad)) ∙ ap Some kind_is)
+        (ap (λ j. kept_as j (spelling source m.token)) (sym kind_is) ∙ was) in
         let here = put_there p text s x in
         let bytes_are = put_spelled p text s x in
         record {

@@ -131,41 +131,41 @@ module _ {P N : Type 0} {X : Plan P N} where
   }
 
   module _ {f : Next} {g : Rule P} {v w : View N} {A B : Printer} (x : PrintsFor f X g v w A B)
-      where
-    pub here_prints : (p : ℕ) → PrintsFor f X (here g) (at p v) (at p w) A B
-    here_prints p = record {
-      grows = x.grows;
-      same = λ e. parts.here_as same_else (x.same e);
-      without = λ e. parts.here_as no_else (x.without e);
-    }
+    where
+      pub here_prints : (p : ℕ) → PrintsFor f X (here g) (at p v) (at p w) A B
+      here_prints p = record {
+        grows = x.grows;
+        same = λ e. parts.here_as same_else (x.same e);
+        without = λ e. parts.here_as no_else (x.without e);
+      }
 
-    pub in_first : {h : Rule P} → PrintsFor f X (alt g h) (first v) (first w) A B
-    in_first = record {
-      grows = x.grows;
-      same = λ e. parts.left_as same_else (x.same e);
-      without = λ e. parts.left_as no_else (x.without e);
-    }
+      pub in_first : {h : Rule P} → PrintsFor f X (alt g h) (first v) (first w) A B
+      in_first = record {
+        grows = x.grows;
+        same = λ e. parts.left_as same_else (x.same e);
+        without = λ e. parts.left_as no_else (x.without e);
+      }
 
-    pub in_second : {h : Rule P} → PrintsFor f X (alt h g) (second v) (second w) A B
-    in_second = record {
-      grows = x.grows;
-      same = λ e. parts.right_as same_else (x.same e);
-      without = λ e. parts.right_as no_else (x.without e);
-    }
+      pub in_second : {h : Rule P} → PrintsFor f X (alt h g) (second v) (second w) A B
+      in_second = record {
+        grows = x.grows;
+        same = λ e. parts.right_as same_else (x.same e);
+        without = λ e. parts.right_as no_else (x.without e);
+      }
 
-    pub opt_in : PrintsFor f X (opt g) (given v) (given w) A B
-    opt_in = record {
-      grows = x.grows;
-      same = λ e. parts.opt_in_as same_else (x.same e);
-      without = λ e. parts.opt_in_as no_else (x.without e);
-    }
+      pub opt_in : PrintsFor f X (opt g) (given v) (given w) A B
+      opt_in = record {
+        grows = x.grows;
+        same = λ e. parts.opt_in_as same_else (x.same e);
+        without = λ e. parts.opt_in_as no_else (x.without e);
+      }
 
-    pub deep : PrintsFor f X (deeper g) v w A B
-    deep = record {
-      grows = x.grows;
-      same = λ e. parts.deeper_as same_else (x.same e);
-      without = λ e. parts.deeper_as no_else (x.without e);
-    }
+      pub deep : PrintsFor f X (deeper g) v w A B
+      deep = record {
+        grows = x.grows;
+        same = λ e. parts.deeper_as same_else (x.same e);
+        without = λ e. parts.deeper_as no_else (x.without e);
+      }
 
   -- a production
   pub rule_prints : {f : Next} {p : P} {v w : View N} {A B : Printer}
@@ -181,8 +181,8 @@ module _ {P N : Type 0} {X : Plan P N} where
       → w ≡ X.plain n → PrintsFor f X g v w A B → PrintsFor f X g (node n) (node n) A B
   part {f} {g} {n} {v} {w} {A} {B} p q x =
       let y : PrintsFor f X g (X.layer n) (X.plain n) A B =
-          subst (λ u. PrintsFor f X g (X.layer n) u A B) q
-          (subst (λ u. PrintsFor f X g u w A B) p x) in
+      subst (λ u. PrintsFor f X g (X.layer n) u A B) q
+      (subst (λ u. PrintsFor f X g u w A B) p x) in
       record {
         grows = y.grows;
         same = λ e. parts.node_as same_else (y.same e);

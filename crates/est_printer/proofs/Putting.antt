@@ -35,8 +35,11 @@ module _ {k : TokenKind} {bytes : List ℕ} {A B : Printer} (p : Put k bytes A B
   }
 
   pub put_count : suc (count A) ≡ count B
-  put_count = omega (arith, ap length p.tokens,
-      length-append A.tokens.items (next_token A k bytes ∷ []))
+  put_count = omega (
+    arith,
+    ap length p.tokens,
+    length-append A.tokens.items (next_token A k bytes ∷ []),
+  )
 
   pub put_laid : IsLaid A → IsLaid B
   put_laid l = record { laid = rw (p.text, p.tokens, p.last, p.nested) (l_more k bytes l.laid) }

@@ -11,10 +11,10 @@ use Rattle.est_printer.proofs.Printing.{no_part, one_more, ended_out, ended_in}
 
 -- Parts are printed one after the other.
 pub data Turns {P N : Type 0} (X : Plan P N) (g : Rule P) : List N → Printer → Printer → Type 0
-    where
-  no_turn : {A : Printer} → Turns X g [] A A
-  turn : {A B C : Printer} (ns : List N) (n : N) → Turns X g ns A B → Prints X g (node n) B C
-      → Turns X g (ns ++ n ∷ []) A C
+  where
+    no_turn : {A : Printer} → Turns X g [] A A
+    turn : {A B C : Printer} (ns : List N) (n : N) → Turns X g ns A B → Prints X g (node n) B C
+        → Turns X g (ns ++ n ∷ []) A C
 
 module _ {P N : Type 0} {X : Plan P N} {g : Rule P} where
   -- before others that are printed

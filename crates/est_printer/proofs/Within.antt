@@ -28,7 +28,7 @@ module _ {text : List ℕ} {s : List Token} where
       → AreSpelledWithin text s a c
   within_both a b c x y = record {
     spelled = λ place token l h e. elim (cases_lt place b) [
-      inl k ↦ x.spelled place token l k e
+      | inl k ↦ x.spelled place token l k e
       | inr k ↦ y.spelled place token k h e
     ];
   }

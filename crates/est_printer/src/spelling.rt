@@ -79,27 +79,8 @@ static WORDS: [&[u8]; 67] = [
 
 // The symbols in their order.
 static SYMBOLS: [&[u8]; 21] = [
-    b"+",
-    b"-",
-    b"*",
-    b"=",
-    b"<>",
-    b"<",
-    b"<=",
-    b">",
-    b">=",
-    b"(",
-    b")",
-    b"[",
-    b"]",
-    b",",
-    b";",
-    b":",
-    b":=",
-    b".",
-    b"..",
-    b"_",
-    b"?",
+    b"+", b"-", b"*", b"=", b"<>", b"<", b"<=", b">", b">=", b"(", b")", b"[", b"]", b",", b";",
+    b":", b":=", b".", b"..", b"_", b"?",
 ];
 
 /// The spelling of a reserved word.

@@ -1,3 +1,4 @@
+pub mod Spaced
 pub mod Widening
 pub mod SameViews
 pub mod Twins

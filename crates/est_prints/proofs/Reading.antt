@@ -1,7 +1,7 @@
 -- Printed texts are read as what was printed.
 use Rattle.std.proofs.Common.{◌≡◌, List, ℕ, refl, sym, subst}
 use Rattle.est_lexer.specs.declared.kind.Token.{Token}
-use Rattle.est_lexer.proofs.Unique.{token_list_unique}
+use Rattle.est_lexer.proofs.Unique.{tokens_unique}
 use Rattle.est_language.specs.Grammar.{rule}
 use Rattle.est_language.specs.Shown.{node}
 use Rattle.est_syntax.specs.declared.specification.Spec.{Spec}
@@ -72,12 +72,12 @@ whole_tree spec text p = widen production can_skip text p.tokens _ (rule specifi
 
 pub are_sentences : PrintedTextsAreSentences
 are_sentences spec text tokens p l =
-    let same : p.tokens ≡ tokens = token_list_unique text p.tokens tokens p.list l in
+    let same : p.tokens ≡ tokens = tokens_unique text 0 p.tokens tokens p.list l in
     (p.plain.shape, subst (λ ts. HasTree text ts p.plain.shape) same (whole_tree spec text p))
 
 pub are_read : PrintedTextsAreRead
 are_read spec back text tokens p l h =
-    let same : p.tokens ≡ tokens = token_list_unique text p.tokens tokens p.list l in
+    let same : p.tokens ≡ tokens = tokens_unique text 0 p.tokens tokens p.list l in
     let tree = subst (λ ts. HasTree text ts p.plain.shape) same (whole_tree spec text p) in
     let one : p.plain.shape ≡ h.shape = h.only_tree p.plain.shape tree in
     told_and_shown spec back h.shape

@@ -8,8 +8,8 @@ use Rattle.est_reader.specs.Tests.{Kept}
 use Rattle.est_reader.specs.Going.{Shape}
 use Rattle.est_productions.specs.Nodes as whole
 use Rattle.est_productions.specs.Nodes.{Node, a_header, a_specification, a_point, an_export}
-use Rattle.est_productions.proofs.Sorts.{Tag, headers, points, exports, tag, IsOf, all, of_used}
-use Rattle.est_productions.proofs.Sorts.{used_is, of_either, attribute_is, of_parameters, parameters_are}
+use Rattle.est_productions.proofs.Sorts.{Tag, headers, points, exports, tag, IsOf, all}
+use Rattle.est_productions.proofs.Sorts.{used_is, attribute_is, parameters_are}
 use Rattle.est_productions.proofs.Layers.{sort_of, layer_is}
 use Rattle.est_printer.specs.Aside.{Tells, a_node, Alike, b_node}
 use Rattle.est_plain_parts.specs.PlainNodes.{plain_layer}
@@ -29,14 +29,14 @@ header_twin : (h g : Header)
     → Twin tag whole.layer plain_layer (plain_layer (a_header h)) (whole.layer (a_header g))
     (plain_layer (a_header g))
 header_twin h g =
-    w_pair (w_same of_used (used_is h.name) (used_is g.name))
-    (w_pair (w_same of_either (attribute_is h.system) (attribute_is g.system))
-    (w_pair (w_same of_parameters (parameters_are h.params) (parameters_are g.params))
+    w_pair (w_same (used_is h.name) (used_is g.name))
+    (w_pair (w_same (attribute_is h.system) (attribute_is g.system))
+    (w_pair (w_same (parameters_are h.params) (parameters_are g.params))
     (w_pair (w_sections points exports (map a_point h.points) (map an_export h.exports)
     (map a_point g.points) (map an_export g.exports)
     (all a_point points (λ x. refl) h.points) (all an_export exports (λ x. refl) h.exports)
     (all a_point points (λ x. refl) g.points) (all an_export exports (λ x. refl) g.exports))
-    (w_same _ f_empty f_empty))))
+    (w_same f_empty f_empty))))
 
 other_twin : (n m : Node) → tag n ≡ tag m → (tag n ≡ headers → ⊥)
     → Twin tag whole.layer plain_layer (plain_layer n) (whole.layer m) (plain_layer m)
@@ -45,7 +45,7 @@ other_twin n m e no =
     let q = plain_is m (λ f. no (e ∙ f)) in
     subst (λ v. Twin tag whole.layer plain_layer v (whole.layer m) (plain_layer m)) p
     (subst (λ v. Twin tag whole.layer plain_layer (whole.layer n) (whole.layer m) v) q
-    (w_same (sort_of (tag n)) (layer_is n)
+    (w_same (layer_is n)
     (subst (λ g. IsOf (sort_of g) (whole.layer m)) (sym e) (layer_is m))))
 
 is_header : (g : Tag) → (g ≡ headers) ⊎ (g ≡ headers → ⊥)
@@ -54,7 +54,7 @@ is_header g = inr (λ e. cc)
 
 twins : Twins tag whole.layer plain_layer
 twins n m e = elim (is_header (tag n)) [
-  inl p ↦ headers_twin n m p (sym e ∙ p)
+  | inl p ↦ headers_twin n m p (sym e ∙ p)
   | inr no ↦ other_twin n m e no
 ]
   where

@@ -10,7 +10,7 @@ use Rattle.est_reader.specs.Tests.{language}
 use Rattle.est_reader.specs.Going.{Shape}
 use Rattle.est_productions.specs.Productions.{specification}
 use Rattle.est_productions.specs.Nodes.{a_specification}
-use Rattle.est_grammar.specs.Answer.{levels}
+use Rattle.est_grammar.specs.Answer.{levels, HasOneTree}
 use Rattle.est_printer.specs.Aside.{Tells, Alike}
 use Rattle.est_printer.specs.PlainSpelling.{AreSpelledPlainly}
 use Rattle.est_printer.specs.Printing.{plain_production}
@@ -36,3 +36,10 @@ pub record IsPrintedText (spec : Spec) (text : List ℕ) : Type 0 where
 -- two specifications are the same but for their places
 abbrev pub SameButPlaces : Spec → Spec → Type 0
 SameButPlaces a b = Alike plain_layer (node (a_specification a)) (node (a_specification b))
+
+-- The specification is that of a sentence: the tokens of a text have this tree and no other.
+pub record IsOfSentence (spec : Spec) : Type 0 where
+  pub source : List ℕ
+  pub read : List Token
+  pub listed : IsTokenList source read
+  pub tree : HasOneTree source read spec

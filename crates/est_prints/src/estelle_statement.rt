@@ -48,7 +48,10 @@ fn link_statement(printer: &mut Printer, done: &Statement)
             end_point(printer, end);
         }
         Statement::Attach {
-            own, child, point, ..
+            own,
+            child,
+            point,
+            ..
         } => attach_statement(printer, own, child, point),
         Statement::Detach { end, .. } => {
             printer.word(ReservedWord::Detach);

@@ -4,6 +4,7 @@
 mod block;
 mod body;
 mod estelle_statement;
+pub mod laws;
 mod print;
 mod routine;
 mod specification;

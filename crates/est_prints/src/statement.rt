@@ -47,9 +47,16 @@ pub fn statement(printer: &mut Printer, done: &Statement)
         Statement::Empty { .. } => {}
         Statement::Compound { turn, .. } => compound(printer, turn),
         Statement::Assign {
-            target, path, value, ..
+            target,
+            path,
+            value,
+            ..
         } => assignment(printer, target, path, value.get()),
-        Statement::Call { name, arguments, .. } => call(printer, name, arguments),
+        Statement::Call {
+            name,
+            arguments,
+            ..
+        } => call(printer, name, arguments),
         Statement::If {
             condition,
             first,
@@ -69,7 +76,9 @@ fn loop_statement(printer: &mut Printer, done: &Statement)
 {
     match done {
         Statement::While {
-            condition, turn, ..
+            condition,
+            turn,
+            ..
         } => while_statement(printer, condition.get(), turn.get()),
         Statement::Repeat { turn, until, .. } => repeat_statement(printer, turn, until.get()),
         Statement::For {
@@ -81,7 +90,10 @@ fn loop_statement(printer: &mut Printer, done: &Statement)
             ..
         } => for_statement(printer, name, first.get(), *down, last.get(), turn.get()),
         Statement::All {
-            name, over, turn, ..
+            name,
+            over,
+            turn,
+            ..
         } => all_statement(printer, name, over.get(), turn.get()),
         _ => estelle_statement(printer, done),
     }
@@ -132,7 +144,12 @@ fn call(printer: &mut Printer, name: &Used, arguments: &Exprs)
 
 // "if" expr "then" statement [ "else" statement ]
 #[cycle(statement)]
-fn if_statement(printer: &mut Printer, condition: &Expr, one: &Statement, other: &Option<Boxed<Statement>>)
+fn if_statement(
+    printer: &mut Printer,
+    condition: &Expr,
+    one: &Statement,
+    other: &Option<Boxed<Statement>>,
+)
     ensures { Prints estelle grammar.if_statement (pair (node (view.an_expr condition.now)) (pair (node (view.a_statement one.now)) (view.else_part other.now)))
         printer.old printer.new }
 {
@@ -234,7 +251,14 @@ fn repeat_statement(printer: &mut Printer, turn: &Statements, until: &Expr)
 
 // "for" ident ":=" expr ( "to" | "downto" ) expr "do" statement
 #[cycle(statement)]
-fn for_statement(printer: &mut Printer, name: &Used, from: &Expr, down: bool, to: &Expr, turn: &Statement)
+fn for_statement(
+    printer: &mut Printer,
+    name: &Used,
+    from: &Expr,
+    down: bool,
+    to: &Expr,
+    turn: &Statement,
+)
     ensures { Prints estelle grammar.for_statement (pair (used name.now) (pair (node (view.an_expr from.now)) (pair (view.direction down) (pair (node (view.an_expr to.now)) (node (view.a_statement turn.now))))))
         printer.old printer.new }
 {
