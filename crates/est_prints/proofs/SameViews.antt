@@ -21,9 +21,18 @@ module _ {V N G : Type 0} (tag : N → G) (layer plain : N → View V N) where
     w_same : {s : Sort V N G} {w x : View V N} → IsOf tag s w → IsOf tag s x → Twin w x x
     w_pair : {w x y w' x' y' : View V N} → Twin w x y → Twin w' x' y'
         → Twin (pair w w') (pair x x') (pair y y')
-    w_sections : (h k : G) (ns ms os qs : List N) → All tag h ns → All tag k ms → All tag h os
-        → All tag k qs → Twin (first_section ns (second_section ms)) (sections nodes nodes os qs)
+    w_neither : (os qs : List N)
+        → Twin empty (sections nodes nodes os qs) (first_section os (second_section qs))
+    w_first : (h : G) (n : N) (ns os qs : List N) → All tag h (n ∷ ns) → All tag h os
+        → Twin (pair (first (nodes (n ∷ ns))) empty) (sections nodes nodes os qs)
         (first_section os (second_section qs))
+    w_second : (k : G) (n : N) (ns os qs : List N) → All tag k (n ∷ ns) → All tag k qs
+        → Twin (pair (second (nodes (n ∷ ns))) empty) (sections nodes nodes os qs)
+        (first_section os (second_section qs))
+    w_both : (h k : G) (n n' : N) (ns ns' os qs : List N) → All tag h (n ∷ ns)
+        → All tag k (n' ∷ ns') → All tag h os → All tag k qs
+        → Twin (pair (first (nodes (n ∷ ns))) (pair (second (nodes (n' ∷ ns'))) empty))
+        (sections nodes nodes os qs) (first_section os (second_section qs))
 
   -- Parts of one tag have layers of one sort, or such sections.
   abbrev pub Twins : Type 0
@@ -67,32 +76,32 @@ module _ {V N G : Type 0} (tag : N → G) (layer plain : N → View V N) where
     same_twin d (w_same (f_sections ns ms h i h' i' p p') k) e = elim d [ ]
     same_twin (a_pair d d') (w_pair p q) (s_pair e e') =
         b_pair (same_twin d p e) (same_twin d' q e')
-    same_twin a_empty (w_sections h k [] [] os qs a b c f) s_no_section = b_empty
-    same_twin (a_pair (a_first d) a_empty) (w_sections h k (n ∷ ns) [] os qs a b c f)
+    same_twin a_empty (w_neither os qs) s_no_section = b_empty
+    same_twin (a_pair (a_first d) a_empty) (w_first h n ns os qs a c)
         (s_first_section [] e s_no_section) = absurd (none_more d e)
-    same_twin (a_pair (a_first d) a_empty) (w_sections h k (n ∷ ns) [] os qs a b c f)
+    same_twin (a_pair (a_first d) a_empty) (w_first h n ns os qs a c)
         (s_first_section (m ∷ ks) e s_no_section) =
         subst (λ l. Alike plain (pair (first (nodes (n ∷ ns))) empty)
         (pair (first (nodes (m ∷ l))) empty)) (sym (append-nil ks))
         (b_pair (b_first (same_twin d (w_same (f_parts {g = h} (n ∷ ns) a) (f_parts (m ∷ ks)
         (all_tagged {N = N} tag h (m ∷ ks) [] c).0)) e)) b_empty)
-    same_twin (a_pair (a_second d) a_empty) (w_sections h k [] (n ∷ ns) os qs a b c f)
+    same_twin (a_pair (a_second d) a_empty) (w_second k n ns os qs b f)
         (s_second_section [] e s_no_section) = absurd (none_more d e)
-    same_twin (a_pair (a_second d) a_empty) (w_sections h k [] (n ∷ ns) os qs a b c f)
+    same_twin (a_pair (a_second d) a_empty) (w_second k n ns os qs b f)
         (s_second_section (m ∷ ks) e s_no_section) =
         subst (λ l. Alike plain (pair (second (nodes (n ∷ ns))) empty)
         (pair (second (nodes (m ∷ l))) empty)) (sym (append-nil ks))
         (b_pair (b_second (same_twin d (w_same (f_parts {g = k} (n ∷ ns) b) (f_parts (m ∷ ks)
         (all_tagged {N = N} tag k (m ∷ ks) [] f).0)) e)) b_empty)
     same_twin (a_pair (a_first d) (a_pair (a_second d') a_empty))
-        (w_sections h k (n ∷ ns) (n' ∷ ns') os qs a b c f)
+        (w_both h k n n' ns ns' os qs a b c f)
         (s_first_section [] e (s_second_section ls e' s_no_section)) = absurd (none_more d e)
     same_twin (a_pair (a_first d) (a_pair (a_second d') a_empty))
-        (w_sections h k (n ∷ ns) (n' ∷ ns') os qs a b c f)
+        (w_both h k n n' ns ns' os qs a b c f)
         (s_first_section (m ∷ ks) e (s_second_section [] e' s_no_section)) =
         absurd (none_more d' e')
     same_twin (a_pair (a_first d) (a_pair (a_second d') a_empty))
-        (w_sections h k (n ∷ ns) (n' ∷ ns') os qs a b c f)
+        (w_both h k n n' ns ns' os qs a b c f)
         (s_first_section (m ∷ ks) e (s_second_section (m' ∷ ls) e' s_no_section)) =
         subst (λ l. Alike plain (pair (first (nodes (n ∷ ns))) (pair (second (nodes (n' ∷ ns')))
         empty)) (pair (first (nodes (m ∷ l))) (second_section ((m' ∷ ls) ++ []))))

@@ -1,6 +1,7 @@
 -- What a specification tells and another shows: they are the same but for their places.
-use Rattle.std.proofs.Common.{◌≡◌, ◌⊎◌, inl, inr, List, map, refl, sym, ◌∙◌, subst}
-use Rattle.est_language.specs.Shown.{Shows, node, s_node}
+use Rattle.std.proofs.Common.{◌≡◌, ◌⊎◌, inl, inr, List, [], ◌∷◌, map, refl, sym, ◌∙◌, subst}
+use Rattle.est_language.specs.Shown.{Shows, node, nodes, sections, s_node}
+use Rattle.est_language.proofs.Alike as alike
 use Rattle.est_language.proofs.Alike.{f_empty}
 use Rattle.est_syntax.specs.declared.header.Header.{Header}
 use Rattle.est_syntax.specs.declared.specification.Spec.{Spec}
@@ -12,9 +13,13 @@ use Rattle.est_productions.proofs.Sorts.{Tag, headers, points, exports, tag, IsO
 use Rattle.est_productions.proofs.Sorts.{used_is, attribute_is, parameters_are}
 use Rattle.est_productions.proofs.Layers.{sort_of, layer_is}
 use Rattle.est_printer.specs.Aside.{Tells, a_node, Alike, b_node}
-use Rattle.est_plain_parts.specs.PlainNodes.{plain_layer}
+use Rattle.est_plain_parts.specs.PlainNodes.{plain_layer, first_section, second_section}
 use Rattle.est_prints.specs.PrintedText.{SameButPlaces}
-use Rattle.est_prints.proofs.SameViews.{Twin, w_same, w_pair, w_sections, Twins, same_twin}
+use Rattle.est_prints.proofs.SameViews.{Twin, w_same, w_pair, w_neither, w_first}
+use Rattle.est_prints.proofs.SameViews.{w_second, w_both, Twins, same_twin}
+
+abbrev All : Tag → List Node → Type 0
+All g ns = alike.All tag g ns
 
 -- but for headers a printer is shown what a reader is shown
 plain_is : (n : Node) → (tag n ≡ headers → ⊥) → whole.layer n ≡ plain_layer n
@@ -25,6 +30,14 @@ header_of : (n : Node) → tag n ≡ headers → (h : Header) × (n ≡ a_header
 header_of (a_header h) e = (h, refl)
 header_of n e = absurd cc
 
+sections_twin : (ns ms os qs : List Node) → All points ns → All exports ms → All points os
+    → All exports qs → Twin tag whole.layer plain_layer (first_section ns (second_section ms))
+    (sections nodes nodes os qs) (first_section os (second_section qs))
+sections_twin [] [] os qs a b c d = w_neither os qs
+sections_twin (n ∷ ns) [] os qs a b c d = w_first points n ns os qs a c
+sections_twin [] (m ∷ ms) os qs a b c d = w_second exports m ms os qs b d
+sections_twin (n ∷ ns) (m ∷ ms) os qs a b c d = w_both points exports n m ns ms os qs a b c d
+
 header_twin : (h g : Header)
     → Twin tag whole.layer plain_layer (plain_layer (a_header h)) (whole.layer (a_header g))
     (plain_layer (a_header g))
@@ -32,7 +45,7 @@ header_twin h g =
     w_pair (w_same (used_is h.name) (used_is g.name))
     (w_pair (w_same (attribute_is h.system) (attribute_is g.system))
     (w_pair (w_same (parameters_are h.params) (parameters_are g.params))
-    (w_pair (w_sections points exports (map a_point h.points) (map an_export h.exports)
+    (w_pair (sections_twin (map a_point h.points) (map an_export h.exports)
     (map a_point g.points) (map an_export g.exports)
     (all a_point points (λ x. refl) h.points) (all an_export exports (λ x. refl) h.exports)
     (all a_point points (λ x. refl) g.points) (all an_export exports (λ x. refl) g.exports))

@@ -70,7 +70,7 @@ module _ {P : Type 0} (production : P → Grammar Test P) (all : (p : P) → Can
   widened (t_word k i e x) (n_word _ q) = t_word k i e (widened x q)
   widened (t_token v k i e z) (n_token _) = t_token v k i e z
   widened (t_here x) (n_here q) = t_here (widened x q)
-  widened (t_skip x) n_skip = elim x [ t_done ↦ t_skip t_opt_out ]
+  widened (t_skip t_done) n_skip = t_skip t_opt_out
   widened (t_seq x y) (n_seq q r) = t_seq (widened x q) (widened y r)
   widened (t_left x) (n_alt q r) = t_left (widened x q)
   widened (t_right x) (n_alt q r) = t_right (widened x r)
