@@ -63,9 +63,9 @@ plain_of (rule p) c = n_rule p
 
 module _ {P : Type 0} (production : P → Grammar Test P) (all : (p : P) → CanSkip (production p))
     (text : List ℕ) (s : List Token) (n : ℕ) where
-  widened : {g h : Grammar Test P} {d a b : ℕ} {t : Shape Kept}
-      → Tree (language (λ p. plainly (production p)) text) s n h d a b t → PlainOf g h
-      → Tree (language production text) s n g d a b t
+  widened : {h : Grammar Test P} {d a b : ℕ} {t : Shape Kept}
+      → Tree (language (λ p. plainly (production p)) text) s n h d a b t → {g : Grammar Test P}
+      → PlainOf g h → Tree (language production text) s n g d a b t
   widened t_done n_done = t_done
   widened (t_word k i e x) (n_word _ q) = t_word k i e (widened x q)
   widened (t_token v k i e z) (n_token _) = t_token v k i e z
