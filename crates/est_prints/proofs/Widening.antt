@@ -5,6 +5,7 @@ use Rattle.est_language.specs.Grammar.{alt, opt, rep, nearest, ended, deeper, ru
 use Rattle.est_language.specs.Grammar.{t_word, t_token, t_here, t_skip, t_seq, t_left, t_right}
 use Rattle.est_language.specs.Grammar.{t_opt_out, t_opt_in, t_rep_out, t_rep_in, t_nearest_out}
 use Rattle.est_language.specs.Grammar.{t_nearest_in, t_ended_out, t_ended_in, t_deeper, t_rule}
+use Rattle.est_language.specs.Grammar.{nothing}
 use Rattle.est_lexer.specs.declared.kind.Token.{Token}
 use Rattle.est_reader.specs.Tests.{Test, Kept, language}
 use Rattle.est_printer.specs.PlainGrammar.{plainly}
@@ -63,6 +64,11 @@ plain_of (rule p) c = n_rule p
 
 module _ {P : Type 0} (production : P → Grammar Test P) (all : (p : P) → CanSkip (production p))
     (text : List ℕ) (s : List Token) (n : ℕ) where
+  skipped : {g : Grammar Test P} {d a b : ℕ} {t : Shape Kept}
+      → Tree (language (λ p. plainly (production p)) text) s n done d a b t
+      → Tree (language production text) s n (skip (opt g)) d a b nothing
+  skipped t_done = t_skip t_opt_out
+
   widened : {h : Grammar Test P} {d a b : ℕ} {t : Shape Kept}
       → Tree (language (λ p. plainly (production p)) text) s n h d a b t → {g : Grammar Test P}
       → PlainOf g h → Tree (language production text) s n g d a b t
@@ -70,7 +76,7 @@ module _ {P : Type 0} (production : P → Grammar Test P) (all : (p : P) → Can
   widened (t_word k i e x) (n_word _ q) = t_word k i e (widened x q)
   widened (t_token v k i e z) (n_token _) = t_token v k i e z
   widened (t_here x) (n_here q) = t_here (widened x q)
-  widened (t_skip t_done) n_skip = t_skip t_opt_out
+  widened (t_skip x) n_skip = skipped x
   widened (t_seq x y) (n_seq q r) = t_seq (widened x q) (widened y r)
   widened (t_left x) (n_alt q r) = t_left (widened x q)
   widened (t_right x) (n_alt q r) = t_right (widened x r)
