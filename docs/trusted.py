@@ -73,7 +73,10 @@ def said(comments):
 
 
 def module_file(crate, parts):
-    """The file that a path of modules names, and the parts that are left of the path."""
+    """The file that a path of modules names, and the parts that are left of the path. A crate passes others on under their
+    names."""
+    while len(parts) > 1 and (CRATES / parts[0] / "src").is_dir():
+        crate, *parts = parts
     folders = ("src", parts[1:]) if parts[0] == "declared" else ("specs", parts)
     folder, names = folders
     ending = ".rt" if folder == "src" else ".antt"
@@ -174,6 +177,8 @@ def code_imports(file, crate, text):
     for found in CODE_USE.finditer(text):
         first, *rest = found[1].split("::")
         owner = crate if first == "crate" else first
+        while rest and (CRATES / rest[0] / "src").is_dir():
+            owner, *rest = rest
         if (CRATES / owner / "src" / "lib.rt").exists():
             path = f"{owner}/src/{'/'.join(rest) or 'lib'}.rt"
         else:

@@ -1,29 +1,66 @@
 # shellcheck shell=bash
 # It is sourced by the scripts that start a program and go on when it has ended.
 
+# Files that go where a signal ends the shell.
+temporary=()
+
 # attended COMMAND..: runs it, and answers its status. A signal that ends this shell ends the command too. It stands in the
-# background, since a shell heeds no signal while it waits for the foreground, with the standard input that there is.
+# background, since a shell heeds no signal while it waits for the foreground, with the standard input that there is. Where
+# the variable waits_for has a word, it is told how long that lasts.
 attended() {
-    local status
+    local status ticker='' begun=$SECONDS
     if { : <&0; } 2>/dev/null; then
         "$@" <&0 &
     else
         "$@" <&- &
     fi
     attended=$!
+    if [ -n "${waits_for:-}" ]; then
+        tick </dev/null >/dev/null &
+        ticker=$!
+    fi
     trap 'end_attended INT' INT
     trap 'end_attended TERM' TERM
     trap 'end_attended HUP' HUP
     wait "$attended"
     status=$?
     trap - INT TERM HUP
+    end_ticks
     return "$status"
 }
 
 # end_attended SIGNAL: ends the command, and then this shell by the signal, as if it had no trap.
 end_attended() {
+    trap '' INT TERM HUP
     kill -TERM "$attended" 2>/dev/null
     wait "$attended" 2>/dev/null
+    end_ticks
+    rm -f "${temporary[@]}"
     trap - INT TERM HUP
     kill "-$1" "$BASHPID"
+}
+
+# tick: says from the second second on how long the command has run, until it ends or begins to write. What is written next
+# goes over it.
+tick() {
+    local never
+    { exec {never}<> <(:); } 2>/dev/null || return
+    while read -r -t 1 -u "$never"; [ $? -gt 128 ] && kill -0 "$attended" 2>/dev/null && ! has_written; do
+        [ $((SECONDS - begun)) -lt 2 ] || printf '%s: %d s\r' "$waits_for" $((SECONDS - begun)) >&2
+    done
+}
+
+# has_written: whether it is known that the command has written anything.
+has_written() {
+    local counts
+    { counts=$(<"/proc/$attended/io"); } 2>/dev/null || return
+    [[ $counts =~ wchar:\ [1-9] ]]
+}
+
+# end_ticks: ends what `attended` began, and takes away what it said.
+end_ticks() {
+    [ -n "$ticker" ] || return 0
+    kill "$ticker" 2>/dev/null
+    wait "$ticker" 2>/dev/null
+    [ $((SECONDS - begun)) -lt 2 ] || printf '%30s\r' '' >&2
 }

@@ -3,10 +3,11 @@
 #![tactic(auto)]
 
 use est_advice::call::advise;
-use est_edge::{FileShelf, OutSink};
-use est_made_traces::call::write_made;
+use est_show::list::list;
 use est_show::top::show;
-use est_words::status::Status;
+use est_tool::call_files::status::Status;
+use est_tool::call_files::{FileShelf, OutSink};
+use est_tool::made_trace::write_made;
 use std::process::ExitCode;
 use std::rt::{Env, Files};
 use std::{env, io};
@@ -31,6 +32,12 @@ fn obey<R: Env + AllocGlobal + Files + Input + Print>(rt: &R, words: &[String]) 
             &mut OutSink::new(rt),
         ),
         [command, ..] if command.as_str() == "show" || command.as_str() == "chart" => show(
+            rt.alloc(),
+            words,
+            &mut FileShelf::new(rt),
+            &mut OutSink::new(rt),
+        ),
+        [command, ..] if command.as_str() == "list" => list(
             rt.alloc(),
             words,
             &mut FileShelf::new(rt),

@@ -2,8 +2,8 @@
 
 use crate::specification::append_specification;
 use crate::words::{Asked, asked_of};
-use est_edge::{Shelf, Sink, write_whole};
-use est_words::status::Status;
+use call_files::status::Status;
+use call_files::{Shelf, Sink, write_whole};
 use std::alloc::{AllocError, Global};
 
 /// Does what the words ask for: reads files as the other commands do, and writes what is known of

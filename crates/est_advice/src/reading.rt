@@ -1,7 +1,7 @@
 //! The bytes of a file.
 
-use est_edge::{ReadError, Shelf, read_whole};
-use est_files::file::File;
+use call_files::file::File;
+use call_files::{ReadError, Shelf, read_whole};
 use std::alloc::{AllocError, Global};
 
 /// The bytes of the file of this name, where it can be read and is not too long.

@@ -3,15 +3,15 @@
 use crate::reading::text_in;
 use crate::trace::{Good, append_trace};
 use crate::words::Asked;
-use est_check::Checked;
-use est_edge::Shelf;
-use est_files::file::File;
-use est_lexer::lex::lex;
-use est_lexer::tokens::Tokens;
-use est_rule_notes::append_rule;
-use est_specification::{SpecificationError, read_specification};
-use est_wanted::refused::{append_refused, append_too_deep};
-use est_warnings::append_warnings;
+use advice_rules::append_rule;
+use advice_tokens::comments::append_swallowing;
+use advice_tokens::refused::{append_refused, append_too_deep};
+use advice_warnings::append_warnings;
+use call_files::Shelf;
+use call_files::est_check::{Checked, SpecificationError, read_specification};
+use call_files::est_lexer::lex::lex;
+use call_files::est_lexer::tokens::Tokens;
+use call_files::file::File;
 use std::alloc::{AllocError, Global};
 
 /// Adds what is known of the specification that is asked about, or of what comes after it.
@@ -48,7 +48,7 @@ fn append_text<S: Shelf>(
     }
     let tokens = lex(alloc, text)?;
     match read_specification(alloc, &tokens) {
-        Ok(checked) => append_good(alloc, shelf, asked, &tokens, &checked, notes),
+        Ok(checked) => append_good(alloc, shelf, asked, text, &tokens, &checked, notes),
         Err(error) => append_refusal(alloc, asked, text, &tokens, error, notes),
     }
 }
@@ -106,6 +106,7 @@ fn append_good<S: Shelf>(
     alloc: Global,
     shelf: &mut S,
     asked: Asked<'_>,
+    text: &[u8],
     tokens: &Tokens,
     checked: &Checked,
     notes: &mut String,
@@ -120,6 +121,7 @@ fn append_good<S: Shelf>(
             append_trace(alloc, shelf, &good, trace, then, notes)
         }
         Asked::Warnings { specification: _ } => {
+            append_swallowing(alloc, text, tokens, notes)?;
             append_warnings(
                 alloc,
                 tokens,

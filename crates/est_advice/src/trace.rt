@@ -1,22 +1,23 @@
 //! Advice on traces and explanations.
-ghost use Rattle.est_choices.specs.AllowedEvents.{IsAllowedTrace};
+ghost use Rattle.est_meaning.specs.AllowedEvents.{IsAllowedTrace};
 
+use crate::event_notes::append_next;
+use crate::looked::Looked;
 use crate::reading::text_in;
+use crate::rejected::{Texts, append_rejected};
 use crate::words::Then;
-use est_check::Checked;
-use est_choices::event::Trace;
-use est_edge::Shelf;
-use est_explanation::error::ExplanationError;
-use est_explanation::explanation::read_explanation;
-use est_files::file::File;
-use est_lexer::lex::lex;
-use est_lexer::tokens::{MOST_BYTES, Tokens};
-use est_move_notes::rejected::{Texts, append_rejected};
-use est_next_notes::next::append_next;
-use est_runs::run::Limits;
-use est_trace::error::TraceError;
-use est_trace::trace::read_trace;
-use est_trace_notes::{explanation as of_explanation, trace as of_trace};
+use advice_traces::{explanation as of_explanation, trace as of_trace};
+use call_files::Shelf;
+use call_files::est_check::Checked;
+use call_files::est_explanation::error::ExplanationError;
+use call_files::est_explanation::explanation::read_explanation;
+use call_files::est_lexer::lex::lex;
+use call_files::est_lexer::tokens::{MOST_BYTES, Tokens};
+use call_files::est_trace::error::TraceError;
+use call_files::est_trace::trace::read_trace;
+use call_files::file::File;
+use est_meaning::event::Trace;
+use est_meaning::run::Limits;
 use std::alloc::{AllocError, Global};
 
 /// A good specification.
@@ -78,7 +79,14 @@ fn append_then<S: Shelf>(
     match then {
         Then::Nothing => Ok(()),
         Then::Explained { limits } => {
-            append_next(alloc, good.checked, tokens, trace, &limits, notes)
+            let looked = Looked {
+                checked: good.checked,
+                specification: good.tokens,
+                tokens,
+                trace,
+                limits: &limits,
+            };
+            append_next(alloc, &looked, notes)
         }
         Then::Replayed {
             explanation,

@@ -1,7 +1,7 @@
 //! What the words of a call of advice ask for.
 
-use est_runs::run::Limits;
-use est_words::words::{Command, read_words};
+use call_files::words::{Command, read_words};
+use est_meaning::run::Limits;
 use std::alloc::{AllocError, Global};
 
 /// What is asked of a good specification and a good trace: nothing, why a replay of an explanation

@@ -7,7 +7,7 @@ use crate::table::Table;
 use crate::tally::Tally;
 use crate::texts::Texts;
 use crate::trial::Trial;
-use est_edge::Shelf;
+use call_files::Shelf;
 use std::alloc::{AllocError, Global};
 
 /// The texts that cases share, and what is told and counted of the cases of a file.

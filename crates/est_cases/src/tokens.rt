@@ -1,9 +1,9 @@
 //! The tokens of a text, written down.
 
 use crate::mistake::Mistake;
-use est_lexer::kind::{Token, TokenKind};
-use est_lexer::lex::lex;
-use est_lexer::tokens::MOST_BYTES;
+use call_files::est_lexer::kind::{Token, TokenKind};
+use call_files::est_lexer::lex::lex;
+use call_files::est_lexer::tokens::MOST_BYTES;
 use std::alloc::{AllocError, Global};
 
 /// The tokens of a text: of each its kind, where it starts and how many bytes it has. After them

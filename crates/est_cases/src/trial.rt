@@ -7,7 +7,7 @@ use crate::plan::Plan;
 use crate::replace::replaced;
 use crate::texts::Texts;
 use crate::tokens::listed_tokens;
-use est_edge::{MemShelf, MemSink, Shelf};
+use call_files::{MemShelf, MemSink, Shelf};
 use est_tool::top::run;
 use std::alloc::Global;
 

@@ -2,12 +2,12 @@
 use Rattle.std.specs.Prelude.{◌≡◌, List}
 use Rattle.est_syntax.specs.declared.ports.Port.{Port}
 use Rattle.est_syntax.specs.declared.specification.Spec.{Spec}
-use Rattle.est_declares.specs.Bodies.{outline_of}
+use Rattle.rule_declares.specs.Bodies.{outline_of}
 use Rattle.est_types.specs.Table.{Table}
 use Rattle.est_check.specs.LeastFault.{IsGood}
-use Rattle.est_counts.specs.Counts.{counts_of}
-use Rattle.est_counts.specs.declared.counts.Counts.{Counts}
-use Rattle.est_declares.specs.PortList.{ports_of}
+use Rattle.rule_ports.specs.Counts.{counts_of}
+use Rattle.rule_ports.specs.declared.counts.Counts.{Counts}
+use Rattle.rule_declares.specs.PortList.{ports_of}
 use Rattle.est_check.specs.SentenceOf.{IsSentence}
 use Rattle.est_check.specs.Small.{IsSmall}
 

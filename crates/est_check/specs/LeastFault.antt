@@ -4,7 +4,7 @@ use Rattle.est_syntax.specs.Least.{IsIn, IsLeast}
 use Rattle.est_syntax.specs.declared.rule.Fault.{Fault}
 use Rattle.est_syntax.specs.declared.specification.Spec.{Spec}
 use Rattle.est_types.specs.DeclarationFaults.{declaration_faults}
-use Rattle.est_blocks.specs.BlockFaults.{bodies_faults}
+use Rattle.est_check.specs.BlockFaults.{bodies_faults}
 
 -- all that a specification breaks
 abbrev pub specification_faults : Spec → List Fault

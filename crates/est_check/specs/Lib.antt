@@ -1,6 +1,13 @@
+pub mod BlockFaults
 pub mod Checked
+pub mod Clauses
+pub mod Errors
 pub mod Found
+pub mod Layout
 pub mod LeastFault
 pub mod SentenceOf
+pub mod Sizes
 pub mod Small
+pub mod SpecificationText
+pub mod Unique
 pub mod inside

@@ -1,2 +1,3 @@
 -- What only the private functions say.
+pub mod BlockParts
 pub mod Kept

@@ -1,20 +1,20 @@
 //! Checked specifications.
 
 ghost use Rattle.std.specs.Prelude.{◌≡◌, IfOk};
-ghost use Rattle.est_declares.specs.Bodies.{outline_of};
+ghost use Rattle.rule_declares.specs.Bodies.{outline_of};
 ghost use Rattle.est_check.specs.LeastFault.{IsGood};
-ghost use Rattle.est_counts.specs.Counts.{counts_of};
-ghost use Rattle.est_declares.specs.PortList.{ports_of};
+ghost use Rattle.rule_ports.specs.Counts.{counts_of};
+ghost use Rattle.rule_declares.specs.PortList.{ports_of};
 ghost use Rattle.est_check.specs.SentenceOf.{IsSentence};
 ghost use Rattle.est_check.specs.Small.{IsSmall};
 ghost use Rattle.est_check.specs.Checked.{IsChecked};
 
-use est_counts::counts::Counts;
-use est_items::Boxed;
-use est_ports::ports::Ports;
+use est_syntax::est_items::Boxed;
 use est_syntax::specification::Spec;
 use est_syntax::tree::SyntaxTree;
 use est_types::table::Table;
+use rule_ports::counts::Counts;
+use rule_ports::ports::Ports;
 use std::alloc::{AllocError, Global};
 use std::marker::Model;
 

@@ -2,10 +2,10 @@
 #![tactic(auto)]
 
 ghost use Rattle.std.specs.Prelude.{◌≡◌, IfOk, IfErr, None};
-ghost use Rattle.est_scope.specs.LeastSoFar.{least_with};
-ghost use Rattle.est_declares.specs.Bodies.{outline_of};
+ghost use Rattle.rule_scope.specs.LeastSoFar.{least_with};
+ghost use Rattle.rule_declares.specs.Bodies.{outline_of};
 ghost use Rattle.est_check.specs.LeastFault.{IsGood};
-ghost use Rattle.est_counts.specs.Counts.{counts_of};
+ghost use Rattle.rule_ports.specs.Counts.{counts_of};
 ghost use Rattle.est_types.specs.DeclarationFaults.{declaration_faults};
 ghost use Rattle.est_check.specs.SentenceOf.{IsSentence};
 ghost use Rattle.est_check.specs.Small.{IsSmall};
@@ -15,13 +15,13 @@ ghost use Rattle.est_check.specs.inside.Kept.{IsKept};
 use crate::checked::Checked;
 use crate::error::CheckError;
 use crate::rules::judge;
-use est_counts::counts::{Counts, numbers};
-use est_ports::making::ports;
-use est_ports::ports::Ports;
 use est_syntax::rule::Fault;
 use est_syntax::specification::Spec;
 use est_syntax::tree::SyntaxTree;
 use est_types::table::{Table, declare};
+use rule_ports::counts::{Counts, numbers};
+use rule_ports::making::ports;
+use rule_ports::ports::Ports;
 use std::alloc::Global;
 
 // What is kept of a specification that breaks no rule, beside its tree.

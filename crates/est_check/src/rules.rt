@@ -1,19 +1,19 @@
 //! All rules, over a whole specification.
-#![tactic(auto, using(est_scope::proofs::LeastLaws::least_append))]
+#![tactic(auto, using(rule_scope::proofs::LeastLaws::least_append))]
 
 ghost use Rattle.std.specs.Prelude.{◌≡◌, ◌++◌, IfOk, None, []};
-ghost use Rattle.est_scope.specs.LeastSoFar.{least_with};
-ghost use Rattle.est_declares.specs.Bodies.{outline_of};
+ghost use Rattle.rule_scope.specs.LeastSoFar.{least_with};
+ghost use Rattle.rule_declares.specs.Bodies.{outline_of};
 ghost use Rattle.est_types.specs.DeclarationFaults.{declaration_faults};
 ghost use Rattle.est_check.specs.LeastFault.{specification_faults};
 ghost use Rattle.est_check.specs.LeastFault.{IsLeastFault};
 
-use est_blocks::blocks::check_parts;
-use est_scope::least::Least;
-use est_statements::statements::check_statement;
+use crate::blocks::check_parts;
 use est_syntax::rule::Fault;
 use est_syntax::specification::Spec;
 use est_types::table::Table;
+use rule_scope::least::Least;
+use rule_statements::statements::check_statement;
 use std::alloc::{AllocError, Global};
 
 // The least rule that a specification with this table breaks.

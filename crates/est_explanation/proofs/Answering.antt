@@ -3,13 +3,13 @@ use Rattle.std.proofs.Common.{◌≡◌, sym, subst, Result, Ok, Err}
 use Rattle.std.specs.Result.{IsErr, IsErrAnd}
 use Rattle.est_lexer.specs.declared.tokens.Tokens.{Tokens}
 use Rattle.est_lexer.specs.Offsets.{text_of, tokens_of}
-use Rattle.est_language.specs.Shown.{Shows, node}
-use Rattle.est_reader.specs.declared.reader.Reader.{Reader}
-use Rattle.est_reader.specs.declared.refusal.Refusal.{Refusal}
-use Rattle.est_reader.specs.declared.refusal.Refusal.TheVariants.{BadToken, TooDeep, Memory}
-use Rattle.est_reader.specs.Going.{Goes}
-use Rattle.est_reader.specs.Whole.{Starts, Finishes}
-use Rattle.est_reader.proofs.Whole.{whole_read, whole_refused}
+use Rattle.text_reader.specs.Shown.{Shows, node}
+use Rattle.text_reader.specs.declared.reader.Reader.{Reader}
+use Rattle.text_reader.specs.declared.refusal.Refusal.{Refusal}
+use Rattle.text_reader.specs.declared.refusal.Refusal.TheVariants.{BadToken, TooDeep, Memory}
+use Rattle.text_reader.specs.Going.{Goes}
+use Rattle.text_reader.specs.Whole.{Starts, Finishes}
+use Rattle.text_reader.proofs.Whole.{whole_read, whole_refused}
 use Rattle.est_explanation.specs.declared.explanation.Explanation.{Explanation}
 use Rattle.est_explanation.specs.declared.error.ExplanationError.{ExplanationError}
 use Rattle.est_explanation.specs.ExplanationErrors.{of_refusal}

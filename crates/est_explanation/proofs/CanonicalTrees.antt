@@ -8,17 +8,17 @@ use Rattle.std.proofs.lemmas.List.Elements.{All-head, All-tail}
 use Rattle.est_lexer.specs.declared.kind.Token.{Token}
 use Rattle.est_lexer.specs.Spellings.{name_kind, word_kind}
 use Rattle.est_lexer.specs.Words.{words}
-use Rattle.est_language.specs.Grammar.{done, word, token, seq, rep, Tree, At, KeptOf}
-use Rattle.est_language.specs.Grammar.{meets, t_done, t_word, t_token, t_seq, t_left, t_right}
-use Rattle.est_language.specs.Grammar.{t_rep_out, t_rep_in}
-use Rattle.est_language.specs.Shown.{Shows, empty, pair, node, nodes, s_empty, s_kept}
-use Rattle.est_language.specs.Shown.{s_pair, s_first, s_second, s_node, s_none, s_more}
-use Rattle.est_choices.specs.declared.firing.Firing.{Firing}
-use Rattle.est_runs.specs.declared.run.Move.{Move}
-use Rattle.est_runs.specs.declared.run.Move.TheVariants.{Take, Fire}
-use Rattle.est_choices.specs.AllowedEvents.{most_events}
-use Rattle.est_reader.specs.Tests.{Test, spelled, said, number, is_spelled, holds, kept_of, value}
-use Rattle.est_reader.specs.Going.{Shape}
+use Rattle.text_reader.specs.Grammar.{done, word, token, seq, rep, Tree, At, KeptOf}
+use Rattle.text_reader.specs.Grammar.{meets, t_done, t_word, t_token, t_seq, t_left, t_right}
+use Rattle.text_reader.specs.Grammar.{t_rep_out, t_rep_in}
+use Rattle.text_reader.specs.Shown.{Shows, empty, pair, node, nodes, s_empty, s_kept}
+use Rattle.text_reader.specs.Shown.{s_pair, s_first, s_second, s_node, s_none, s_more}
+use Rattle.est_meaning.specs.declared.firing.Firing.{Firing}
+use Rattle.est_meaning.specs.declared.run.Move.{Move}
+use Rattle.est_meaning.specs.declared.run.Move.TheVariants.{Take, Fire}
+use Rattle.est_meaning.specs.AllowedEvents.{most_events}
+use Rattle.text_reader.specs.Tests.{Test, spelled, said, number, is_spelled, holds, kept_of, value}
+use Rattle.text_reader.specs.Going.{Shape}
 use Rattle.est_explanation.specs.declared.explanation.Explanation.{Explanation}
 use Rattle.est_explanation.specs.ExplanationGrammar as grammar
 use Rattle.est_explanation.specs.ExplanationGrammar.{Rule, most_ordinal}

@@ -8,9 +8,9 @@ use Rattle.std.proofs.lemmas.List.Elements.{All-head, All-tail}
 use Rattle.est_lexer.specs.declared.kind.TokenKind.TheVariants.{Number}
 use Rattle.est_lexer.specs.Between.{is_blank}
 use Rattle.est_lexer.specs.Spellings.{name_kind}
-use Rattle.est_choices.specs.declared.firing.Firing.{Firing}
-use Rattle.est_runs.specs.declared.run.Move.{Move}
-use Rattle.est_runs.specs.declared.run.Move.TheVariants.{Take, Fire}
+use Rattle.est_meaning.specs.declared.firing.Firing.{Firing}
+use Rattle.est_meaning.specs.declared.run.Move.{Move}
+use Rattle.est_meaning.specs.declared.run.Move.TheVariants.{Take, Fire}
 use Rattle.est_explanation.specs.declared.explanation.Explanation.{Explanation}
 use Rattle.est_explanation.specs.CanonicalExplanation.{canonical, move_line, claim_line}
 use Rattle.est_explanation.specs.CanonicalExplanation.{IsWritable, IsWritableMove, IsWritableFiring}

@@ -1,8 +1,8 @@
 -- What is known of the syntax of explanations.
 use Rattle.std.proofs.Common.{ℕ, List}
-use Rattle.est_language.specs.Marks.{Fits}
-use Rattle.est_reader.specs.Tests.{language}
-use Rattle.est_reader.proofs.Going.{Known}
+use Rattle.text_reader.specs.Marks.{Fits}
+use Rattle.text_reader.specs.Tests.{language}
+use Rattle.text_reader.proofs.Going.{Known}
 use Rattle.est_explanation.specs.ExplanationGrammar.{NoName, production, marks}
 use Rattle.est_explanation.specs.ExplanationNodes.{Node, explaining}
 

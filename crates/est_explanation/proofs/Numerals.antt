@@ -9,7 +9,7 @@ use Rattle.std.proofs.lemmas.Fmt.{digits_decimal, digits_value-decimal, decimal_
 use Rattle.std.proofs.lemmas.Fmt.{length-decimal-le}
 use Rattle.std.proofs.lemmas.Str.Parse.{IsNumeralModel, numerals_by_fold}
 use Rattle.est_lexer.specs.Spellings.{is_number}
-use Rattle.est_reader.specs.Tests.{with_digit, value_of}
+use Rattle.text_reader.specs.Tests.{with_digit, value_of}
 
 own : IsNumeralModel (λ ds. list_all is_ascii_digit ds ≡ true) value_of
 own = numerals_by_fold _ (search rules) (fold with_digit) (search rules)

@@ -1,15 +1,15 @@
 -- One explanation shows a shape, and it has no more moves than its text has tokens.
 use Rattle.std.proofs.Common.{◌≡◌, ℕ, ◌+◌, ◌≤◌, List, [], ◌∷◌, length, map, refl, ap, arith}
 use Rattle.est_lexer.specs.declared.kind.Token.{Token}
-use Rattle.est_language.specs.Grammar.{rep, Tree, t_word, t_seq, t_left}
-use Rattle.est_language.specs.Grammar.{t_right, t_rep_out, t_rep_in}
-use Rattle.est_language.specs.Shown.{Shows, node, nodes, s_kept, s_pair}
-use Rattle.est_language.specs.Shown.{s_first, s_second, s_node, s_none, s_more}
-use Rattle.est_language.proofs.Trees.{tree_forward}
-use Rattle.est_choices.specs.declared.firing.Firing.{Firing}
-use Rattle.est_runs.specs.declared.run.Move.{Move}
-use Rattle.est_runs.specs.declared.run.Move.TheVariants.{Take, Fire}
-use Rattle.est_reader.specs.Going.{Shape}
+use Rattle.text_reader.specs.Grammar.{rep, Tree, t_word, t_seq, t_left}
+use Rattle.text_reader.specs.Grammar.{t_right, t_rep_out, t_rep_in}
+use Rattle.text_reader.specs.Shown.{Shows, node, nodes, s_kept, s_pair}
+use Rattle.text_reader.specs.Shown.{s_first, s_second, s_node, s_none, s_more}
+use Rattle.text_reader.proofs.Trees.{tree_forward}
+use Rattle.est_meaning.specs.declared.firing.Firing.{Firing}
+use Rattle.est_meaning.specs.declared.run.Move.{Move}
+use Rattle.est_meaning.specs.declared.run.Move.TheVariants.{Take, Fire}
+use Rattle.text_reader.specs.Going.{Shape}
 use Rattle.est_explanation.specs.declared.explanation.Explanation.{Explanation}
 use Rattle.est_explanation.specs.ExplanationGrammar.{move, explanation}
 use Rattle.est_explanation.specs.ExplanationNodes.{layer, a_move, an_explanation}

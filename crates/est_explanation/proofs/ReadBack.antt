@@ -7,14 +7,14 @@ use Rattle.est_lexer.specs.declared.kind.Token.{Token}
 use Rattle.est_lexer.specs.Between.{IsBetween, nothing}
 use Rattle.est_lexer.specs.TokenList.{IsTokenList}
 use Rattle.est_lexer.proofs.Unique.{tokens_unique}
-use Rattle.est_language.specs.Grammar.{Tree}
-use Rattle.est_language.specs.Sentences.{HasTree}
-use Rattle.est_language.specs.Shown.{Shows, node}
-use Rattle.est_language.proofs.OneTree.{at_most_one_tree, decides}
-use Rattle.est_language.proofs.Trees.{tree_inside}
-use Rattle.est_reader.specs.Tests.{apart}
-use Rattle.est_reader.specs.Going.{Shape}
-use Rattle.est_reader.proofs.Apart.{apart-holds}
+use Rattle.text_reader.specs.Grammar.{Tree}
+use Rattle.text_reader.specs.Sentences.{HasTree}
+use Rattle.text_reader.specs.Shown.{Shows, node}
+use Rattle.text_reader.proofs.OneTree.{at_most_one_tree, decides}
+use Rattle.text_reader.proofs.Trees.{tree_inside}
+use Rattle.text_reader.specs.Tests.{apart}
+use Rattle.text_reader.specs.Going.{Shape}
+use Rattle.text_reader.proofs.Apart.{apart-holds}
 use Rattle.est_explanation.specs.declared.error.ExplanationError.{ExplanationError}
 use Rattle.est_explanation.specs.declared.error.ExplanationError.TheVariants.{BadToken, Memory}
 use Rattle.est_explanation.specs.declared.explanation.Explanation.{Explanation}

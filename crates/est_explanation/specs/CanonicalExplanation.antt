@@ -1,10 +1,10 @@
 -- The canonical text of an explanation, and which explanations a text can have.
 use Rattle.std.specs.Prelude.{ℕ, ◌+◌, ◌≤◌, List, ◌++◌, All, codes, flat_map}
 use Rattle.std.specs.Fmt.{decimal}
-use Rattle.est_choices.specs.declared.firing.Firing.{Firing}
-use Rattle.est_runs.specs.declared.run.Move.{Move}
-use Rattle.est_runs.specs.declared.run.Move.TheVariants.{Take, Fire}
-use Rattle.est_choices.specs.AllowedEvents.{most_events}
+use Rattle.est_meaning.specs.declared.firing.Firing.{Firing}
+use Rattle.est_meaning.specs.declared.run.Move.{Move}
+use Rattle.est_meaning.specs.declared.run.Move.TheVariants.{Take, Fire}
+use Rattle.est_meaning.specs.AllowedEvents.{most_events}
 use Rattle.est_explanation.specs.declared.explanation.Explanation.{Explanation}
 use Rattle.est_explanation.specs.ExplanationGrammar.{most_ordinal}
 

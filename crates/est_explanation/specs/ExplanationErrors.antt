@@ -1,6 +1,6 @@
 -- What a refusal by the reader is as an error of explanations.
-use Rattle.est_reader.specs.declared.refusal.Refusal.{Refusal}
-use Rattle.est_reader.specs.declared.refusal.Refusal.TheVariants as refusals
+use Rattle.text_reader.specs.declared.refusal.Refusal.{Refusal}
+use Rattle.text_reader.specs.declared.refusal.Refusal.TheVariants as refusals
 use Rattle.est_explanation.specs.declared.error.ExplanationError.{ExplanationError}
 use Rattle.est_explanation.specs.declared.error.ExplanationError.TheVariants as errors
 

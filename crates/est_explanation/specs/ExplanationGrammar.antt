@@ -1,10 +1,10 @@
 -- The grammar of explanations.
 use Rattle.std.specs.Prelude.{ℕ, ◌+◌, true, List, [], ◌∷◌}
-use Rattle.est_language.specs.Grammar.{done, word, token, seq, alt, rep}
-use Rattle.est_language.specs.Marks.{Marks}
-use Rattle.est_choices.specs.AllowedEvents.{most_events}
-use Rattle.est_reader.specs.Tests.{Test, said, number}
-use Rattle.est_reader.specs.Going as going
+use Rattle.text_reader.specs.Grammar.{done, word, token, seq, alt, rep}
+use Rattle.text_reader.specs.Marks.{Marks}
+use Rattle.est_meaning.specs.AllowedEvents.{most_events}
+use Rattle.text_reader.specs.Tests.{Test, said, number}
+use Rattle.text_reader.specs.Going as going
 
 -- The grammar has no named productions.
 pub data NoName : Type 0 where

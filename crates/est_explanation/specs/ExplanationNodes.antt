@@ -1,12 +1,12 @@
 -- What explanations show of their texts, a layer at a time.
 use Rattle.std.specs.Prelude.{ℕ, map}
-use Rattle.est_language.specs.Shown.{empty, kept, pair, first, second, nodes}
-use Rattle.est_choices.specs.declared.firing.Firing.{Firing}
-use Rattle.est_runs.specs.declared.run.Move.{Move}
-use Rattle.est_runs.specs.declared.run.Move.TheVariants.{Take, Fire}
-use Rattle.est_reader.specs.Tests.{value}
-use Rattle.est_reader.specs.Going as going
-use Rattle.est_reader.specs.Going.{Syntax}
+use Rattle.text_reader.specs.Shown.{empty, kept, pair, first, second, nodes}
+use Rattle.est_meaning.specs.declared.firing.Firing.{Firing}
+use Rattle.est_meaning.specs.declared.run.Move.{Move}
+use Rattle.est_meaning.specs.declared.run.Move.TheVariants.{Take, Fire}
+use Rattle.text_reader.specs.Tests.{value}
+use Rattle.text_reader.specs.Going as going
+use Rattle.text_reader.specs.Going.{Syntax}
 use Rattle.est_explanation.specs.declared.explanation.Explanation.{Explanation}
 use Rattle.est_explanation.specs.ExplanationGrammar.{NoName, production, marks}
 

@@ -1,11 +1,11 @@
 -- Which tokens are the text of an explanation, and what its reader answers.
 use Rattle.std.specs.Prelude.{◌≡◌, ℕ, List, Result, Ok, Err}
 use Rattle.est_lexer.specs.declared.kind.Token.{Token}
-use Rattle.est_language.specs.Grammar.{Language}
-use Rattle.est_language.specs.Sentences.{HasTree, IsFirstBadPlace}
-use Rattle.est_language.specs.Shown.{Shows, node}
-use Rattle.est_reader.specs.Tests.{Test, Kept, language}
-use Rattle.est_reader.specs.Going.{Shape}
+use Rattle.text_reader.specs.Grammar.{Language}
+use Rattle.text_reader.specs.Sentences.{HasTree, IsFirstBadPlace}
+use Rattle.text_reader.specs.Shown.{Shows, node}
+use Rattle.text_reader.specs.Tests.{Test, Kept, language}
+use Rattle.text_reader.specs.Going.{Shape}
 use Rattle.est_explanation.specs.declared.error.ExplanationError.{ExplanationError}
 use Rattle.est_explanation.specs.declared.error.ExplanationError.TheVariants.{BadToken, Memory}
 use Rattle.est_explanation.specs.declared.explanation.Explanation.{Explanation}

@@ -5,3 +5,5 @@ pub mod ExplanationGrammar
 pub mod ExplanationLaws
 pub mod ExplanationNodes
 pub mod ExplanationText
+pub mod Replay
+pub mod inside

@@ -3,8 +3,8 @@
 ghost use Rattle.std.specs.Prelude.{◌≡◌};
 ghost use Rattle.est_explanation.specs.ExplanationErrors.{of_refusal};
 
-use est_reader::Refusal;
 use std::alloc::AllocError;
+use text_reader::Refusal;
 use thiserror::Error;
 
 /// Why no explanation is read: the first bad token, counted from 0, or out of memory. The number

@@ -2,22 +2,22 @@
 
 ghost use Rattle.std.specs.Prelude.{◌≤◌, length, map, true, IfOk};
 ghost use Rattle.est_lexer.specs.Offsets.{text_of, tokens_of};
-ghost use Rattle.est_language.specs.Grammar.{rep};
-ghost use Rattle.est_language.specs.Shown.{node, nodes, pair, kept};
-ghost use Rattle.est_reader.specs.Tests.{said};
-ghost use Rattle.est_reader.specs.Moving.{Sees, SeesOne};
-ghost use Rattle.est_reader.specs.Going.{Goes};
+ghost use Rattle.text_reader.specs.Grammar.{rep};
+ghost use Rattle.text_reader.specs.Shown.{node, nodes, pair, kept};
+ghost use Rattle.text_reader.specs.Tests.{said};
+ghost use Rattle.text_reader.specs.Moving.{Sees, SeesOne};
+ghost use Rattle.text_reader.specs.Going.{Goes};
 ghost use Rattle.est_explanation.specs.ExplanationGrammar as grammar;
 ghost use Rattle.est_explanation.specs.ExplanationNodes.{a_move, an_explanation};
 ghost use Rattle.est_explanation.specs.ExplanationNodes.{firing_view, explaining};
 ghost use Rattle.est_explanation.specs.ExplanationText.{ReadsExplanation};
 
 use crate::error::ExplanationError;
-use est_choices::firing::Firing;
 use est_lexer::tokens::Tokens;
-use est_reader::Reader;
-use est_runs::run::{Move, Run};
+use est_meaning::firing::Firing;
+use est_meaning::run::{Move, Run};
 use std::alloc::Global;
+use text_reader::Reader;
 
 // The greatest number of an instance, a transition or a choice that can be written.
 const MOST_ORDINAL: u32 = 999_999_999;

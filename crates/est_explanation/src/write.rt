@@ -6,8 +6,8 @@ ghost use Rattle.est_explanation.specs.CanonicalExplanation.{canonical, move_lin
 ghost use Rattle.est_explanation.specs.declared.write.TheConstants.{WIDEST};
 
 use crate::explanation::Explanation;
-use est_choices::firing::Firing;
-use est_runs::run::Move;
+use est_meaning::firing::Firing;
+use est_meaning::run::Move;
 use itoa::write_digits;
 use std::alloc::{AllocError, Global};
 

@@ -1,20 +1,20 @@
 //! Blocks (ISO 7185, 6.2).
 
 ghost use Rattle.std.specs.Prelude.{map};
-ghost use Rattle.est_language.specs.Grammar.{rule, rep};
-ghost use Rattle.est_language.specs.Shown.{node, nodes};
-ghost use Rattle.est_reader.specs.Going.{Goes};
-ghost use Rattle.est_reader.specs.Moving.{SeesOne};
-ghost use Rattle.est_productions.specs.Productions as grammar;
-ghost use Rattle.est_productions.specs.Nodes as view;
-ghost use Rattle.est_productions.specs.Syntax.{estelle};
-ghost use Rattle.est_productions.specs.Tokens.{block_part_tokens};
+ghost use Rattle.text_reader.specs.Grammar.{rule, rep};
+ghost use Rattle.text_reader.specs.Shown.{node, nodes};
+ghost use Rattle.text_reader.specs.Going.{Goes};
+ghost use Rattle.text_reader.specs.Moving.{SeesOne};
+ghost use Rattle.text_productions.specs.Productions as grammar;
+ghost use Rattle.text_productions.specs.Nodes as view;
+ghost use Rattle.text_productions.specs.Syntax.{estelle};
+ghost use Rattle.text_productions.specs.Tokens.{block_part_tokens};
 
 use crate::statement::statements;
 use est_lexer::kind::{ReservedWord, TokenKind};
-use est_productions::declaration::{consts, types, vars};
-use est_reader::Reader;
 use est_syntax::body::{Block, Part, Parts};
+use text_productions::declaration::{consts, types, vars};
+use text_reader::Reader;
 
 /// block = { consts | types | vars } "begin" statements "end" .
 pub fn block(reader: &mut Reader) -> Block

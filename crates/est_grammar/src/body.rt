@@ -1,33 +1,33 @@
 //! Module bodies and the parts that declare (ISO 9074, module-body-definition).
 
 ghost use Rattle.std.specs.Prelude.{true, map};
-ghost use Rattle.est_language.specs.Grammar.{rule, rep};
-ghost use Rattle.est_language.specs.Shown.{node, nodes};
+ghost use Rattle.text_reader.specs.Grammar.{rule, rep};
+ghost use Rattle.text_reader.specs.Shown.{node, nodes};
 ghost use Rattle.est_lexer.specs.declared.kind.ReservedWord.TheVariants as words;
 ghost use Rattle.est_lexer.specs.declared.kind.TokenKind.TheVariants.{Reserved};
 ghost use Rattle.est_syntax.specs.declared.body.Part.{out-Part};
-ghost use Rattle.est_reader.specs.Going.{Goes};
-ghost use Rattle.est_reader.specs.Moving.{Sees, SeesOne};
-ghost use Rattle.est_reader.specs.Tests.{kind};
-ghost use Rattle.est_productions.specs.Productions as grammar;
-ghost use Rattle.est_productions.specs.Nodes as view;
-ghost use Rattle.est_productions.specs.Syntax.{estelle};
-ghost use Rattle.est_productions.specs.Tokens.{body_part_tokens, common_tokens};
-ghost use Rattle.est_productions.specs.Tokens.{own_tokens, routine_tokens};
+ghost use Rattle.text_reader.specs.Going.{Goes};
+ghost use Rattle.text_reader.specs.Moving.{Sees, SeesOne};
+ghost use Rattle.text_reader.specs.Tests.{kind};
+ghost use Rattle.text_productions.specs.Productions as grammar;
+ghost use Rattle.text_productions.specs.Nodes as view;
+ghost use Rattle.text_productions.specs.Syntax.{estelle};
+ghost use Rattle.text_productions.specs.Tokens.{body_part_tokens, common_tokens};
+ghost use Rattle.text_productions.specs.Tokens.{own_tokens, routine_tokens};
 
 use crate::block::block;
 use crate::routine::routine;
 use crate::transition::transpart;
 use est_lexer::kind::{ReservedWord, Symbol, TokenKind};
-use est_productions::channel::channel;
-use est_productions::declaration::{consts, types, vars};
-use est_productions::header::{header, modvars, points};
-use est_productions::names::idents;
-use est_productions::stateset::statesets;
-use est_reader::Reader;
 use est_syntax::body::{Body, FirstPart, Part, Parts};
 use est_syntax::name::Used;
 use est_syntax::transition::Groups;
+use text_productions::channel::channel;
+use text_productions::declaration::{consts, types, vars};
+use text_productions::header::{header, modvars, points};
+use text_productions::names::idents;
+use text_productions::stateset::statesets;
+use text_reader::Reader;
 
 /// common = consts | types | channel | header | body | routine | "modvar" modvar { modvar } .
 #[cycle(body)]

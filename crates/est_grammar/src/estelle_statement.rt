@@ -1,23 +1,23 @@
 //! The statements that only Estelle knows (ISO 9074).
 
 ghost use Rattle.std.specs.Prelude.{true, map};
-ghost use Rattle.est_language.specs.Grammar.{rule};
-ghost use Rattle.est_language.specs.Shown.{node, nodes};
+ghost use Rattle.text_reader.specs.Grammar.{rule};
+ghost use Rattle.text_reader.specs.Shown.{node, nodes};
 ghost use Rattle.est_lexer.specs.declared.kind.ReservedWord.TheVariants as words;
 ghost use Rattle.est_lexer.specs.declared.kind.TokenKind.TheVariants.{Reserved};
-ghost use Rattle.est_reader.specs.Going.{Goes};
-ghost use Rattle.est_reader.specs.Moving.{Sees, NoneSeen};
-ghost use Rattle.est_reader.specs.Tests.{kind};
-ghost use Rattle.est_productions.specs.Productions as grammar;
-ghost use Rattle.est_productions.specs.Nodes as view;
-ghost use Rattle.est_productions.specs.Syntax.{estelle};
-ghost use Rattle.est_productions.specs.Tokens.{pascal_tokens, unlinked_tokens};
+ghost use Rattle.text_reader.specs.Going.{Goes};
+ghost use Rattle.text_reader.specs.Moving.{Sees, NoneSeen};
+ghost use Rattle.text_reader.specs.Tests.{kind};
+ghost use Rattle.text_productions.specs.Productions as grammar;
+ghost use Rattle.text_productions.specs.Nodes as view;
+ghost use Rattle.text_productions.specs.Syntax.{estelle};
+ghost use Rattle.text_productions.specs.Tokens.{pascal_tokens, unlinked_tokens};
 ghost use Rattle.est_grammar.specs.inside.Initialized.{Initializes};
 
 use est_lexer::kind::{ReservedWord, Symbol, TokenKind};
-use est_productions::access::{access, arguments, end_point};
-use est_reader::Reader;
 use est_syntax::statement::{Sending, Sendings, Statement};
+use text_productions::access::{access, arguments, end_point};
+use text_reader::Reader;
 
 /// "output" .. | init | "release" .. | "connect" .. | "disconnect" .. | "attach" .. | "detach" ..,
 /// or no statement

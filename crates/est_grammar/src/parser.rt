@@ -2,8 +2,8 @@
 
 ghost use Rattle.std.specs.Prelude.{◌≡◌, IfOk, IfErr, MatchResult};
 ghost use Rattle.est_lexer.specs.Offsets.{text_of, tokens_of};
-ghost use Rattle.est_language.specs.Refusals.{wrong_at};
-ghost use Rattle.est_reader.specs.Whole.{cause_of};
+ghost use Rattle.text_reader.specs.Refusals.{wrong_at};
+ghost use Rattle.text_reader.specs.Whole.{cause_of};
 ghost use Rattle.est_grammar.specs.Answer.{HasOneTree, IsRefusal, Says};
 ghost use Rattle.est_grammar.specs.inside.OutOfMemory.{IsMemory};
 
@@ -11,10 +11,10 @@ use crate::error::ParseError;
 use crate::specification::specification;
 use est_lexer::kind::TokenKind;
 use est_lexer::tokens::Tokens;
-use est_reader::{Reader, Refusal};
 use est_syntax::specification::Spec;
 use est_syntax::tree::SyntaxTree;
 use std::alloc::Global;
+use text_reader::{Reader, Refusal};
 
 // So many levels may be open.
 const LEVELS: u32 = 32;

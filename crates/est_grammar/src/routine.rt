@@ -1,21 +1,21 @@
 //! Procedures and functions (ISO 7185, 6.6).
 
 ghost use Rattle.std.specs.Prelude.{map};
-ghost use Rattle.est_language.specs.Grammar.{rule, skip, opt};
-ghost use Rattle.est_language.specs.Shown.{node, nodes, empty};
+ghost use Rattle.text_reader.specs.Grammar.{rule, skip, opt};
+ghost use Rattle.text_reader.specs.Shown.{node, nodes, empty};
 ghost use Rattle.est_lexer.specs.declared.kind.ReservedWord.TheVariants as words;
-ghost use Rattle.est_reader.specs.Going.{Goes};
-ghost use Rattle.est_reader.specs.Moving.{OneSeen};
-ghost use Rattle.est_productions.specs.Productions as grammar;
-ghost use Rattle.est_productions.specs.Nodes as view;
-ghost use Rattle.est_productions.specs.Syntax.{estelle};
-ghost use Rattle.est_productions.specs.Tokens.{function_tokens};
+ghost use Rattle.text_reader.specs.Going.{Goes};
+ghost use Rattle.text_reader.specs.Moving.{OneSeen};
+ghost use Rattle.text_productions.specs.Productions as grammar;
+ghost use Rattle.text_productions.specs.Nodes as view;
+ghost use Rattle.text_productions.specs.Syntax.{estelle};
+ghost use Rattle.text_productions.specs.Tokens.{function_tokens};
 
 use crate::block::block;
 use est_lexer::kind::{ReservedWord, Symbol, TokenKind};
-use est_productions::names::idents;
-use est_reader::Reader;
 use est_syntax::routine::{Formal, Formals, Routine};
+use text_productions::names::idents;
+use text_reader::Reader;
 
 /// routine = "procedure" ident [ "(" formals ")" ] ";" block ";"
 ///     | [ "pure" ] "function" ident [ "(" formals ")" ] ":" ident ";" block ";" .

@@ -1,25 +1,25 @@
 //! Specifications (ISO 9074, specification).
 
 ghost use Rattle.std.specs.Prelude.{map};
-ghost use Rattle.est_language.specs.Grammar.{rule, rep, skip, opt};
-ghost use Rattle.est_language.specs.Shown.{node, nodes, empty, pair};
+ghost use Rattle.text_reader.specs.Grammar.{rule, rep, skip, opt};
+ghost use Rattle.text_reader.specs.Shown.{node, nodes, empty, pair};
 ghost use Rattle.est_lexer.specs.declared.kind.Symbol.TheVariants as symbols;
 ghost use Rattle.est_syntax.specs.declared.statement.Statement.{out-Statement};
-ghost use Rattle.est_reader.specs.Going.{Goes};
-ghost use Rattle.est_productions.specs.Productions as grammar;
-ghost use Rattle.est_productions.specs.Nodes as view;
-ghost use Rattle.est_productions.specs.Syntax.{estelle};
+ghost use Rattle.text_reader.specs.Going.{Goes};
+ghost use Rattle.text_productions.specs.Productions as grammar;
+ghost use Rattle.text_productions.specs.Nodes as view;
+ghost use Rattle.text_productions.specs.Syntax.{estelle};
 
 use crate::body::{begins_common, common};
 use crate::estelle_statement::init;
 use est_lexer::kind::{ReservedWord, Symbol, TokenKind};
-use est_productions::header::queue;
-use est_reader::Reader;
 use est_syntax::body::Parts;
 use est_syntax::header::Queue;
 use est_syntax::name::Used;
 use est_syntax::specification::Spec;
 use est_syntax::statement::Statement;
+use text_productions::header::queue;
+use text_reader::Reader;
 
 /// specification = "specification" ident ";" [ "default" queue ";" ] [ "timescale" ident ";" ]
 ///     { common } "initialize" "begin" init [ ";" ] "end" ";" "end" "." .

@@ -1,29 +1,29 @@
 //! Statements (ISO 7185, 6.8).
 
 ghost use Rattle.std.specs.Prelude.{true, map};
-ghost use Rattle.est_language.specs.Grammar.{rule};
-ghost use Rattle.est_language.specs.Shown.{node, nodes};
+ghost use Rattle.text_reader.specs.Grammar.{rule};
+ghost use Rattle.text_reader.specs.Shown.{node, nodes};
 ghost use Rattle.est_lexer.specs.declared.kind.ReservedWord.TheVariants as words;
 ghost use Rattle.est_lexer.specs.declared.kind.TokenKind.TheVariants.{Identifier, Reserved};
-ghost use Rattle.est_reader.specs.Going.{Goes};
-ghost use Rattle.est_reader.specs.Moving.{Sees, SeesOne, NoneSeen};
-ghost use Rattle.est_reader.specs.Tests.{kind};
-ghost use Rattle.est_productions.specs.Productions as grammar;
-ghost use Rattle.est_productions.specs.Nodes as view;
-ghost use Rattle.est_productions.specs.Syntax.{estelle};
-ghost use Rattle.est_productions.specs.Tokens.{assigned_tokens, constant_tokens};
-ghost use Rattle.est_productions.specs.Tokens.{first_statement_tokens};
+ghost use Rattle.text_reader.specs.Going.{Goes};
+ghost use Rattle.text_reader.specs.Moving.{Sees, SeesOne, NoneSeen};
+ghost use Rattle.text_reader.specs.Tests.{kind};
+ghost use Rattle.text_productions.specs.Productions as grammar;
+ghost use Rattle.text_productions.specs.Nodes as view;
+ghost use Rattle.text_productions.specs.Syntax.{estelle};
+ghost use Rattle.text_productions.specs.Tokens.{assigned_tokens, constant_tokens};
+ghost use Rattle.text_productions.specs.Tokens.{first_statement_tokens};
 
 use crate::estelle_statement::estelle_statement;
-use est_items::Boxed;
 use est_lexer::kind::{ReservedWord, Symbol, TokenKind};
-use est_productions::constant::constant;
-use est_productions::expression::{called, expr, sees_selector, selectors};
-use est_productions::type_text::shorttype;
-use est_reader::Reader;
 use est_syntax::constant::Constants;
+use est_syntax::est_items::Boxed;
 use est_syntax::expression::{Exprs, Selectors};
 use est_syntax::statement::{Arm, Arms, Statement, Statements};
+use text_productions::constant::constant;
+use text_productions::expression::{called, expr, sees_selector, selectors};
+use text_productions::type_text::shorttype;
+use text_reader::Reader;
 
 /// statements = statement { ";" statement } .
 #[cycle(statement)]

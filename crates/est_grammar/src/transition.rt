@@ -1,28 +1,28 @@
 //! Transitions (ISO 9074, transition-declaration).
 
 ghost use Rattle.std.specs.Prelude.{true, map};
-ghost use Rattle.est_language.specs.Grammar.{rule, rep};
-ghost use Rattle.est_language.specs.Shown.{node, nodes};
+ghost use Rattle.text_reader.specs.Grammar.{rule, rep};
+ghost use Rattle.text_reader.specs.Shown.{node, nodes};
 ghost use Rattle.est_lexer.specs.declared.kind.ReservedWord.TheVariants as words;
 ghost use Rattle.est_lexer.specs.declared.kind.TokenKind.TheVariants.{Reserved};
-ghost use Rattle.est_reader.specs.Going.{Goes};
-ghost use Rattle.est_reader.specs.Moving.{Sees, SeesOne};
-ghost use Rattle.est_reader.specs.Tests.{kind};
-ghost use Rattle.est_productions.specs.Productions as grammar;
-ghost use Rattle.est_productions.specs.Nodes as view;
-ghost use Rattle.est_productions.specs.Syntax.{estelle};
-ghost use Rattle.est_productions.specs.Tokens.{clause_tokens, transition_tokens};
+ghost use Rattle.text_reader.specs.Going.{Goes};
+ghost use Rattle.text_reader.specs.Moving.{Sees, SeesOne};
+ghost use Rattle.text_reader.specs.Tests.{kind};
+ghost use Rattle.text_productions.specs.Productions as grammar;
+ghost use Rattle.text_productions.specs.Nodes as view;
+ghost use Rattle.text_productions.specs.Syntax.{estelle};
+ghost use Rattle.text_productions.specs.Tokens.{clause_tokens, transition_tokens};
 
 use crate::block::block;
 use est_lexer::kind::{ReservedWord, Symbol, TokenKind};
-use est_productions::access::access;
-use est_productions::constant::constant;
-use est_productions::declaration::params;
-use est_productions::expression::expr;
-use est_productions::names::idents;
-use est_reader::Reader;
 use est_syntax::name::Used;
 use est_syntax::transition::{Clause, Clauses, Group, Most, Transition, Transitions};
+use text_productions::access::access;
+use text_productions::constant::constant;
+use text_productions::declaration::params;
+use text_productions::expression::expr;
+use text_productions::names::idents;
+use text_reader::Reader;
 
 /// transpart = "trans" transition { transition } .
 pub fn transpart(reader: &mut Reader) -> Group

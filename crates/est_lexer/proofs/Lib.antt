@@ -3,10 +3,10 @@ pub mod Longest
 pub mod Lookups
 pub mod Marks
 pub mod Runs
+pub mod SameKinds
+pub mod Spelled
 pub mod SymbolBytes
 pub mod SymbolFront
 pub mod There
 pub mod TokenLaws
 pub mod Unique
-pub mod SameKinds
-pub mod Spelled

@@ -1,10 +1,10 @@
 pub mod Between
-pub mod TokenLaws
 pub mod Lines
 pub mod Offsets
 pub mod Spans
 pub mod Spellings
+pub mod TokenKinds
+pub mod TokenLaws
 pub mod TokenList
 pub mod Words
-pub mod TokenKinds
 pub mod inside

@@ -1,16 +1,16 @@
 //! Replays of explanations of checked specifications.
 ghost use Rattle.std.specs.Prelude.{◌≤◌, length, IfOk};
-ghost use Rattle.est_choices.specs.AllowedEvents.{IsAllowedTrace};
-ghost use Rattle.est_replaying.specs.Replay.{IsReplay, most_moves};
+ghost use Rattle.est_meaning.specs.AllowedEvents.{IsAllowedTrace};
+ghost use Rattle.est_explanation.specs.Replay.{IsReplay, most_moves};
 
-use est_check::Checked;
-use est_choices::event::Trace;
 use est_explanation::explanation::Explanation;
-use est_replaying::replay::{Replaying, replay_in};
-use est_replaying::verdict::{Replayed, Why};
-use est_running::world::PlainWorld;
-use est_runs::run::Limits;
-use est_worlds::answers::Started;
+use est_explanation::replay::{Replaying, replay_in};
+use est_explanation::verdict::{Replayed, Why};
+use est_meaning::answers::Started;
+use est_meaning::event::Trace;
+use est_meaning::run::Limits;
+use est_plain::est_check::Checked;
+use est_plain::world::PlainWorld;
 use std::alloc::{AllocError, Global};
 
 /// Replays an explanation of a trace from the start of a specification. The answer is the only one

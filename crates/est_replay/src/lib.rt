@@ -2,3 +2,5 @@
 #![tactic(auto)]
 
 pub mod checked;
+
+pub use est_plain;

@@ -1,10 +1,10 @@
 -- What a step does to what is ahead.
 use Rattle.std.proofs.Common.{◌≡◌, ◌⊎◌, List, [], ◌∷◌, ◌++◌, Option, Some, None}
 use Rattle.std.proofs.Common.{ap, subst, inl, inr}
-use Rattle.est_runs.specs.Order.{Mark, MarkBefore, StartsWith, Before, longer, differs}
-use Rattle.est_runs.specs.Run.{Setup}
-use Rattle.est_runs.proofs.OrderLaws.{mark_transitive, starts_self, starts_less, starts_cases}
-use Rattle.est_runs.proofs.TreeLaws.{IsInTree, nothing_starts}
+use Rattle.est_meaning.specs.Order.{Mark, MarkBefore, StartsWith, Before, longer, differs}
+use Rattle.est_meaning.specs.Run.{Setup}
+use Rattle.est_meaning.proofs.OrderLaws.{mark_transitive, starts_self, starts_less, starts_cases}
+use Rattle.est_meaning.proofs.TreeLaws.{IsInTree, nothing_starts}
 use Rattle.est_search.specs.inside.Ahead.{IsLater, IsAfter, IsAhead}
 
 -- LATER

@@ -8,27 +8,27 @@ use Rattle.std.specs.Option.{option_or}
 use Rattle.std.proofs.lemmas.Bool.Decides.{nat_tests}
 use Rattle.std.proofs.lemmas.List.{length-reverse, reverse-reverse, append_cancel_left}
 use Rattle.est_syntax.specs.declared.specification.Spec.{Spec}
-use Rattle.est_semantics.specs.declared.fault.BlockFault.{BlockFault}
-use Rattle.est_semantics.specs.GlobalSituation.{Situation}
-use Rattle.est_semantics.specs.Outcome.{Outcome, Done, Fault, Limit}
-use Rattle.est_semantics.specs.TextByPlace.{text_of}
-use Rattle.est_choices.specs.declared.event.Event.{Event}
-use Rattle.est_choices.specs.declared.firing.Firing.{Firing}
-use Rattle.est_choices.specs.AllowedEvents.{IsAllowed}
-use Rattle.est_choices.specs.OutsideEvents.{after_event, units_of}
-use Rattle.est_choices.specs.TransitionSelection.{IsSettled, IsPossible}
-use Rattle.est_choices.specs.FiringSteps.{outcome}
-use Rattle.est_worlds.specs.declared.answers.Fired.TheVariants as fired
-use Rattle.est_worlds.specs.declared.answers.Offers.TheVariants.{Settled, Unsettled}
-use Rattle.est_worlds.specs.PossibleFirings.{AreOptions, OffersAre}
-use Rattle.est_worlds.specs.SituationStacks.{Stack, pushed, FiredAs}
-use Rattle.est_runs.specs.declared.run.Move.{Move}
-use Rattle.est_runs.specs.declared.run.Move.TheVariants.{Take, Fire}
-use Rattle.est_runs.specs.Run.{Setup, Place, Takes, IsFromOutside, after_taking, silent_after}
-use Rattle.est_runs.specs.Trials.{IsTrial, HasMany}
-use Rattle.est_runs.proofs.ClockLaws.{clock_bounded}
-use Rattle.est_runs.proofs.RunLaws.{bounded_is_run}
-use Rattle.est_runs.proofs.StackLaws.{fired_done, fired_fault, fired_limit}
+use Rattle.est_meaning.specs.mean_blocks.declared.fault.BlockFault.{BlockFault}
+use Rattle.est_meaning.specs.mean_blocks.GlobalSituation.{Situation}
+use Rattle.est_meaning.specs.mean_blocks.Outcome.{Outcome, Done, Fault, Limit}
+use Rattle.est_meaning.specs.mean_blocks.TextByPlace.{text_of}
+use Rattle.est_meaning.specs.declared.event.Event.{Event}
+use Rattle.est_meaning.specs.declared.firing.Firing.{Firing}
+use Rattle.est_meaning.specs.AllowedEvents.{IsAllowed}
+use Rattle.est_meaning.specs.OutsideEvents.{after_event, units_of}
+use Rattle.est_meaning.specs.TransitionSelection.{IsSettled, IsPossible}
+use Rattle.est_meaning.specs.FiringSteps.{outcome}
+use Rattle.est_meaning.specs.declared.answers.Fired.TheVariants as fired
+use Rattle.est_meaning.specs.declared.answers.Offers.TheVariants.{Settled, Unsettled}
+use Rattle.est_meaning.specs.PossibleFirings.{AreOptions, OffersAre}
+use Rattle.est_meaning.specs.SituationStacks.{Stack, pushed, FiredAs}
+use Rattle.est_meaning.specs.declared.run.Move.{Move}
+use Rattle.est_meaning.specs.declared.run.Move.TheVariants.{Take, Fire}
+use Rattle.est_meaning.specs.Run.{Setup, Place, Takes, IsFromOutside, after_taking, silent_after}
+use Rattle.est_meaning.specs.Trials.{IsTrial, HasMany}
+use Rattle.est_meaning.proofs.ClockLaws.{clock_bounded}
+use Rattle.est_meaning.proofs.RunLaws.{bounded_is_run}
+use Rattle.est_meaning.proofs.StackLaws.{fired_done, fired_fault, fired_limit}
 use Rattle.est_search.specs.declared.path.Stage.TheVariants.{Fresh, Taken, Listed}
 use Rattle.est_search.specs.declared.path.Path.{Path}
 use Rattle.est_search.specs.declared.walk.Notes.{Notes}

@@ -6,12 +6,12 @@ use Rattle.std.proofs.lemmas.List.{take-append-drop, take_more, length-append, l
 use Rattle.std.proofs.lemmas.List.{get_or-append_right, take-append-le}
 use Rattle.std.proofs.lemmas.Option.{slice_get-get_or}
 use Rattle.std.proofs.Math.Seq.{drop-cons, take-length, take-append-add}
-use Rattle.est_choices.specs.declared.event.Event.{Event}
-use Rattle.est_runs.specs.declared.run.Move.{Move}
-use Rattle.est_runs.specs.Run.{Setup, Place, IsBoundedRun, Follows, FollowsBefore}
-use Rattle.est_runs.specs.Run.{Explains, YieldsFirst}
-use Rattle.est_runs.proofs.RunLaws.{one_place}
-use Rattle.est_runs.proofs.TreeLaws.{IsOnTree}
+use Rattle.est_meaning.specs.declared.event.Event.{Event}
+use Rattle.est_meaning.specs.declared.run.Move.{Move}
+use Rattle.est_meaning.specs.Run.{Setup, Place, IsBoundedRun, Follows, FollowsBefore}
+use Rattle.est_meaning.specs.Run.{Explains, YieldsFirst}
+use Rattle.est_meaning.proofs.RunLaws.{one_place}
+use Rattle.est_meaning.proofs.TreeLaws.{IsOnTree}
 use Rattle.est_search.specs.inside.Agreement.{AgreeFor}
 
 -- where e is the event at a place

@@ -3,23 +3,24 @@ use Rattle.std.proofs.Common.{◌≡◌, ℕ, ◌+◌, ◌<◌, ◌≤◌, ◌�
 use Rattle.std.proofs.Common.{length, take, refl, sym, ap, subst, ◌∙◌, inl, inr}
 use Rattle.std.proofs.Common.{reverse, arith}
 use Rattle.std.specs.Option.{option_or}
-use Rattle.est_semantics.specs.declared.fault.BlockFault.{BlockFault}
-use Rattle.est_semantics.specs.GlobalSituation.{Situation}
-use Rattle.est_semantics.specs.Outcome.{Outcome, Done, Fault, Limit}
-use Rattle.est_semantics.specs.TextByPlace.{text_of}
-use Rattle.est_choices.specs.declared.event.Event.{Event}
-use Rattle.est_choices.specs.declared.firing.Firing.{Firing}
-use Rattle.est_choices.specs.TransitionSelection.{IsPossible}
-use Rattle.est_choices.specs.FiringSteps.{outcome}
-use Rattle.est_worlds.specs.SituationStacks.{Stack, pushed}
-use Rattle.est_runs.specs.declared.run.Move.{Move}
-use Rattle.est_runs.specs.declared.run.Move.TheVariants.{Take, Fire}
-use Rattle.est_runs.specs.Order.{Mark, Trying, mark_of, marks_of, StartsWith}
-use Rattle.est_runs.specs.Run.{Setup, Place, after_firing, silent_after, IsBoundedRun, YieldsFirst}
-use Rattle.est_runs.specs.Trials.{IsTrial, ComesTo, PassesLimit, block, Faults}
-use Rattle.est_runs.proofs.OrderLaws.{marks_same, starts_self, starts_one}
-use Rattle.est_runs.proofs.RunLaws.{one_place, explains_follows}
-use Rattle.est_runs.proofs.TreeLaws.{IsInTree, IsOnTree, passes_in_tree, faults_in_tree}
+use Rattle.est_meaning.specs.mean_blocks.declared.fault.BlockFault.{BlockFault}
+use Rattle.est_meaning.specs.mean_blocks.GlobalSituation.{Situation}
+use Rattle.est_meaning.specs.mean_blocks.Outcome.{Outcome, Done, Fault, Limit}
+use Rattle.est_meaning.specs.mean_blocks.TextByPlace.{text_of}
+use Rattle.est_meaning.specs.declared.event.Event.{Event}
+use Rattle.est_meaning.specs.declared.firing.Firing.{Firing}
+use Rattle.est_meaning.specs.TransitionSelection.{IsPossible}
+use Rattle.est_meaning.specs.FiringSteps.{outcome}
+use Rattle.est_meaning.specs.SituationStacks.{Stack, pushed}
+use Rattle.est_meaning.specs.declared.run.Move.{Move}
+use Rattle.est_meaning.specs.declared.run.Move.TheVariants.{Take, Fire}
+use Rattle.est_meaning.specs.Order.{Mark, Trying, mark_of, marks_of, StartsWith}
+use Rattle.est_meaning.specs.Run.{Setup, Place, after_firing, silent_after, IsBoundedRun}
+use Rattle.est_meaning.specs.Run.{YieldsFirst}
+use Rattle.est_meaning.specs.Trials.{IsTrial, ComesTo, PassesLimit, block, Faults}
+use Rattle.est_meaning.proofs.OrderLaws.{marks_same, starts_self, starts_one}
+use Rattle.est_meaning.proofs.RunLaws.{one_place, explains_follows}
+use Rattle.est_meaning.proofs.TreeLaws.{IsInTree, IsOnTree, passes_in_tree, faults_in_tree}
 use Rattle.est_search.specs.declared.path.Stage.TheVariants.{Listed}
 use Rattle.est_search.specs.declared.path.Level.{Level}
 use Rattle.est_search.specs.declared.path.Best.{Best}

@@ -3,13 +3,13 @@ use Rattle.std.proofs.Common.{◌≡◌, ℕ, ◌+◌, ◌<◌, ◌≤◌, ◌�
 use Rattle.std.proofs.Common.{refl, sym, subst, inl, inr, arith}
 use Rattle.std.specs.Option.{option_or}
 use Rattle.est_syntax.specs.Least.{IsIn}
-use Rattle.est_runs.specs.declared.run.Move.{Move}
-use Rattle.est_runs.specs.Order.{Mark, marks_of, Before, NotAfter, IsFirst}
-use Rattle.est_runs.specs.Run.{Setup, Explains, YieldsFirst}
-use Rattle.est_runs.specs.Trials.{IsTrial, IsTrialUpTo, HasMany, PassesLimit, Faults}
-use Rattle.est_runs.proofs.OrderLaws.{marks_same, before_irreflexive, not_after_before}
-use Rattle.est_runs.proofs.TreeLaws.{IsInTree, explains_in_tree, trial_in_tree, yields_in_tree}
-use Rattle.est_runs.proofs.TreeLaws.{passes_in_tree, faults_in_tree}
+use Rattle.est_meaning.specs.declared.run.Move.{Move}
+use Rattle.est_meaning.specs.Order.{Mark, marks_of, Before, NotAfter, IsFirst}
+use Rattle.est_meaning.specs.Run.{Setup, Explains, YieldsFirst}
+use Rattle.est_meaning.specs.Trials.{IsTrial, IsTrialUpTo, HasMany, PassesLimit, Faults}
+use Rattle.est_meaning.proofs.OrderLaws.{marks_same, before_irreflexive, not_after_before}
+use Rattle.est_meaning.proofs.TreeLaws.{IsInTree, explains_in_tree, trial_in_tree, yields_in_tree}
+use Rattle.est_meaning.proofs.TreeLaws.{passes_in_tree, faults_in_tree}
 use Rattle.est_search.specs.inside.Known.{KnowsTrials, KnowsBest, IsNoted, Knows}
 use Rattle.est_search.specs.inside.Walk.{Accepts, IsOver}
 use Rattle.est_search.proofs.AheadLaws.{Turn, Skip}

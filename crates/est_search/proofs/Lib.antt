@@ -1,10 +1,10 @@
 pub mod AheadLaws
-pub mod KnownLaws
+pub mod CallLaws
 pub mod EventLaws
-pub mod PathLaws
-pub mod WalkLaws
 pub mod FiringLaws
+pub mod KnownLaws
+pub mod OneVerdict
+pub mod PathLaws
 pub mod StartLaws
 pub mod VerdictLaws
-pub mod CallLaws
-pub mod OneVerdict
+pub mod WalkLaws

@@ -5,18 +5,18 @@ use Rattle.std.proofs.Common.{inl, inr, zero-le, arith}
 use Rattle.std.proofs.lemmas.Bool.{cases_lt}
 use Rattle.std.proofs.lemmas.List.{reverse-reverse}
 use Rattle.est_syntax.specs.Least.{IsIn}
-use Rattle.est_semantics.specs.declared.fault.BlockFault.{BlockFault}
-use Rattle.est_semantics.specs.Outcome.{Fault}
-use Rattle.est_semantics.specs.TextByPlace.{text_of}
-use Rattle.est_choices.specs.declared.firing.Firing.{Firing}
-use Rattle.est_choices.specs.FiringSteps.{outcome}
-use Rattle.est_runs.specs.declared.run.Move.{Move}
-use Rattle.est_runs.specs.Order.{Mark, Trying, marks_of, NotAfter, IsFirst, IsEarliest}
-use Rattle.est_runs.specs.Run.{Setup, Place, IsBoundedRun, Yields}
-use Rattle.est_runs.specs.Trials.{AreDistinct, HasMany, HasAtMost, ComesTo, Faults, mark_passed}
-use Rattle.est_runs.proofs.OrderLaws.{marks_same, before_asymmetric}
-use Rattle.est_runs.proofs.RunLaws.{one_place, yields_below_all}
-use Rattle.est_runs.proofs.StackLaws.{faulted}
+use Rattle.est_meaning.specs.mean_blocks.declared.fault.BlockFault.{BlockFault}
+use Rattle.est_meaning.specs.mean_blocks.Outcome.{Fault}
+use Rattle.est_meaning.specs.mean_blocks.TextByPlace.{text_of}
+use Rattle.est_meaning.specs.declared.firing.Firing.{Firing}
+use Rattle.est_meaning.specs.FiringSteps.{outcome}
+use Rattle.est_meaning.specs.declared.run.Move.{Move}
+use Rattle.est_meaning.specs.Order.{Mark, Trying, marks_of, NotAfter, IsFirst, IsEarliest}
+use Rattle.est_meaning.specs.Run.{Setup, Place, IsBoundedRun, Yields}
+use Rattle.est_meaning.specs.Trials.{AreDistinct, HasMany, HasAtMost, ComesTo, Faults, mark_passed}
+use Rattle.est_meaning.proofs.OrderLaws.{marks_same, before_asymmetric}
+use Rattle.est_meaning.proofs.RunLaws.{one_place, yields_below_all}
+use Rattle.est_meaning.proofs.StackLaws.{faulted}
 use Rattle.est_search.specs.declared.verdict.Faulted.{Faulted}
 use Rattle.est_search.specs.declared.verdict.Verdict.{Verdict}
 use Rattle.est_search.specs.declared.verdict.Verdict.TheVariants.{Accepted, Refused}

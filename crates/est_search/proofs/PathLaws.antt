@@ -5,20 +5,21 @@ use Rattle.std.proofs.Common.{inl, inr, append_assoc, arith}
 use Rattle.std.proofs.lemmas.Bool.{cases_lt}
 use Rattle.std.proofs.lemmas.List.{take-append-drop, length-take-le, length-append}
 use Rattle.est_syntax.specs.Least.{IsIn}
-use Rattle.est_semantics.specs.GlobalSituation.{Situation}
-use Rattle.est_semantics.specs.TextByPlace.{text_of}
-use Rattle.est_choices.specs.declared.firing.Firing.{Firing}
-use Rattle.est_choices.specs.TransitionSelection.{IsPossible}
-use Rattle.est_worlds.specs.FiringOrder.{FiringBefore, IsBeforeAll}
-use Rattle.est_runs.specs.declared.run.Move.{Move}
-use Rattle.est_runs.specs.declared.run.Move.TheVariants.{Fire}
-use Rattle.est_runs.specs.Order.{Mark, Taking, Guarding, Trying, MarkBefore, marks_of, StartsWith}
-use Rattle.est_runs.specs.Run.{Setup, Place, IsBoundedRun, YieldsFirst}
-use Rattle.est_runs.specs.Trials.{IsInner}
-use Rattle.est_runs.proofs.OrderLaws.{firing_irreflexive, mark_transitive, starts_self}
-use Rattle.est_runs.proofs.OrderLaws.{starts_trans}
-use Rattle.est_runs.proofs.RunLaws.{one_place}
-use Rattle.est_runs.proofs.TreeLaws.{IsInTree, IsOnTree, CanGoOn}
+use Rattle.est_meaning.specs.mean_blocks.GlobalSituation.{Situation}
+use Rattle.est_meaning.specs.mean_blocks.TextByPlace.{text_of}
+use Rattle.est_meaning.specs.declared.firing.Firing.{Firing}
+use Rattle.est_meaning.specs.TransitionSelection.{IsPossible}
+use Rattle.est_meaning.specs.FiringOrder.{FiringBefore, IsBeforeAll}
+use Rattle.est_meaning.specs.declared.run.Move.{Move}
+use Rattle.est_meaning.specs.declared.run.Move.TheVariants.{Fire}
+use Rattle.est_meaning.specs.Order.{Mark, Taking, Guarding, Trying, MarkBefore, marks_of}
+use Rattle.est_meaning.specs.Order.{StartsWith}
+use Rattle.est_meaning.specs.Run.{Setup, Place, IsBoundedRun, YieldsFirst}
+use Rattle.est_meaning.specs.Trials.{IsInner}
+use Rattle.est_meaning.proofs.OrderLaws.{firing_irreflexive, mark_transitive, starts_self}
+use Rattle.est_meaning.proofs.OrderLaws.{starts_trans}
+use Rattle.est_meaning.proofs.RunLaws.{one_place}
+use Rattle.est_meaning.proofs.TreeLaws.{IsInTree, IsOnTree, CanGoOn}
 use Rattle.est_search.specs.declared.path.Stage.{Stage}
 use Rattle.est_search.specs.declared.path.Stage.TheVariants.{Fresh, Taken, Listed}
 use Rattle.est_search.specs.declared.path.Level.{Level}

@@ -4,16 +4,16 @@ use Rattle.std.proofs.Common.{length, take, reverse, refl, sym, ap, subst, â—Œâˆ
 use Rattle.std.proofs.Common.{zero-le, arith}
 use Rattle.std.proofs.lemmas.List.{append-nil}
 use Rattle.est_syntax.specs.declared.specification.Spec.{Spec}
-use Rattle.est_choices.specs.declared.event.Event.{Event}
-use Rattle.est_worlds.specs.SituationStacks.{Stack}
-use Rattle.est_runs.specs.declared.run.Move.{Move}
-use Rattle.est_runs.specs.declared.run.Move.TheVariants.{Take, Fire}
-use Rattle.est_runs.specs.Order.{Mark, marks_of, Before, longer, differs, NotAfter}
-use Rattle.est_runs.specs.Run.{Setup, Place, first_place, IsBoundedRun, Explains, YieldsFirst}
-use Rattle.est_runs.specs.Trials.{IsTrial, PassesLimit, guards, block, Faults}
-use Rattle.est_runs.proofs.OrderLaws.{starts_cases, marks_same}
-use Rattle.est_runs.proofs.RunLaws.{explains_follows, yields_below_all}
-use Rattle.est_runs.proofs.TreeLaws.{IsOnTree, starts_on_tree, nothing_starts}
+use Rattle.est_meaning.specs.declared.event.Event.{Event}
+use Rattle.est_meaning.specs.SituationStacks.{Stack}
+use Rattle.est_meaning.specs.declared.run.Move.{Move}
+use Rattle.est_meaning.specs.declared.run.Move.TheVariants.{Take, Fire}
+use Rattle.est_meaning.specs.Order.{Mark, marks_of, Before, longer, differs, NotAfter}
+use Rattle.est_meaning.specs.Run.{Setup, Place, first_place, IsBoundedRun, Explains, YieldsFirst}
+use Rattle.est_meaning.specs.Trials.{IsTrial, PassesLimit, guards, block, Faults}
+use Rattle.est_meaning.proofs.OrderLaws.{starts_cases, marks_same}
+use Rattle.est_meaning.proofs.RunLaws.{explains_follows, yields_below_all}
+use Rattle.est_meaning.proofs.TreeLaws.{IsOnTree, starts_on_tree, nothing_starts}
 use Rattle.est_search.specs.declared.path.Best.{Best}
 use Rattle.est_search.specs.declared.walk.Walk.{Walk}
 use Rattle.est_search.specs.Verdict.{IsRefused, IsVerdict, IsWithinTried}

@@ -4,12 +4,13 @@ use Rattle.std.proofs.Common.{length, reverse, refl, sym, ap, subst, ◌∙◌, 
 use Rattle.std.proofs.Common.{Result, Ok, Err, IfOk}
 use Rattle.std.proofs.lemmas.List.{append-nil, reverse-reverse}
 use Rattle.est_syntax.specs.Least.{IsIn}
-use Rattle.est_worlds.specs.SituationStacks.{Stack}
-use Rattle.est_runs.specs.declared.run.Move.{Move}
-use Rattle.est_runs.specs.Order.{Mark, IsFirst}
-use Rattle.est_runs.specs.Run.{Setup, Yields}
-use Rattle.est_runs.specs.Trials.{IsTrial, IsTrialUpTo, AreDistinct, HasMany, PassesLimit, Faults}
-use Rattle.est_runs.proofs.RunLaws.{yields_below_all}
+use Rattle.est_meaning.specs.SituationStacks.{Stack}
+use Rattle.est_meaning.specs.declared.run.Move.{Move}
+use Rattle.est_meaning.specs.Order.{Mark, IsFirst}
+use Rattle.est_meaning.specs.Run.{Setup, Yields}
+use Rattle.est_meaning.specs.Trials.{IsTrial, IsTrialUpTo, AreDistinct, HasMany, PassesLimit}
+use Rattle.est_meaning.specs.Trials.{Faults}
+use Rattle.est_meaning.proofs.RunLaws.{yields_below_all}
 use Rattle.est_search.specs.declared.verdict.Faulted.{Faulted}
 use Rattle.est_search.specs.declared.verdict.Verdict.{Verdict}
 use Rattle.est_search.specs.declared.verdict.Verdict.TheVariants.{Accepted, Refused}

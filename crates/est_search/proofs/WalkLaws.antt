@@ -4,27 +4,27 @@ use Rattle.std.proofs.Common.{length, take, drop, get_or, refl, sym, ap, subst, 
 use Rattle.std.proofs.Common.{reverse, zero-le, arith}
 use Rattle.std.specs.Option.{option_or}
 use Rattle.std.proofs.lemmas.List.{length-take-le}
-use Rattle.est_semantics.specs.declared.fault.BlockFault.{BlockFault}
-use Rattle.est_semantics.specs.Outcome.{Outcome, Fault, Limit}
-use Rattle.est_semantics.specs.GlobalSituation.{Situation}
-use Rattle.est_semantics.specs.TextByPlace.{text_of}
-use Rattle.est_choices.specs.declared.event.Event.{Event}
-use Rattle.est_choices.specs.declared.firing.Firing.{Firing}
-use Rattle.est_choices.specs.TransitionSelection.{IsSettled}
-use Rattle.est_choices.specs.FiringSteps.{outcome}
-use Rattle.est_choices.specs.OutsideEvents.{after_event}
-use Rattle.est_choices.proofs.Steps.{possible_settled}
-use Rattle.est_worlds.specs.PossibleFirings.{AreOptions}
-use Rattle.est_worlds.specs.SituationStacks.{Stack, pushed}
-use Rattle.est_runs.specs.declared.run.Move.{Move}
-use Rattle.est_runs.specs.declared.run.Move.TheVariants.{Take, Fire}
-use Rattle.est_runs.specs.Order.{Mark, Taking, Guarding, Trying, marks_of}
-use Rattle.est_runs.specs.Run.{Setup, Place, Takes, IsFromOutside, after_taking}
-use Rattle.est_runs.specs.Run.{IsBoundedRun, Explains, YieldsFirst}
-use Rattle.est_runs.specs.Trials.{IsTrial, ComesTo, PassesLimit, guards, block, Faults}
-use Rattle.est_runs.proofs.OrderLaws.{marks_same, starts_one}
-use Rattle.est_runs.proofs.RunLaws.{one_place}
-use Rattle.est_runs.proofs.TreeLaws.{passes_in_tree, faults_in_tree}
+use Rattle.est_meaning.specs.mean_blocks.declared.fault.BlockFault.{BlockFault}
+use Rattle.est_meaning.specs.mean_blocks.Outcome.{Outcome, Fault, Limit}
+use Rattle.est_meaning.specs.mean_blocks.GlobalSituation.{Situation}
+use Rattle.est_meaning.specs.mean_blocks.TextByPlace.{text_of}
+use Rattle.est_meaning.specs.declared.event.Event.{Event}
+use Rattle.est_meaning.specs.declared.firing.Firing.{Firing}
+use Rattle.est_meaning.specs.TransitionSelection.{IsSettled}
+use Rattle.est_meaning.specs.FiringSteps.{outcome}
+use Rattle.est_meaning.specs.OutsideEvents.{after_event}
+use Rattle.est_meaning.proofs.Steps.{possible_settled}
+use Rattle.est_meaning.specs.PossibleFirings.{AreOptions}
+use Rattle.est_meaning.specs.SituationStacks.{Stack, pushed}
+use Rattle.est_meaning.specs.declared.run.Move.{Move}
+use Rattle.est_meaning.specs.declared.run.Move.TheVariants.{Take, Fire}
+use Rattle.est_meaning.specs.Order.{Mark, Taking, Guarding, Trying, marks_of}
+use Rattle.est_meaning.specs.Run.{Setup, Place, Takes, IsFromOutside, after_taking}
+use Rattle.est_meaning.specs.Run.{IsBoundedRun, Explains, YieldsFirst}
+use Rattle.est_meaning.specs.Trials.{IsTrial, ComesTo, PassesLimit, guards, block, Faults}
+use Rattle.est_meaning.proofs.OrderLaws.{marks_same, starts_one}
+use Rattle.est_meaning.proofs.RunLaws.{one_place}
+use Rattle.est_meaning.proofs.TreeLaws.{passes_in_tree, faults_in_tree}
 use Rattle.est_search.specs.declared.path.Stage.TheVariants.{Fresh, Taken}
 use Rattle.est_search.specs.declared.path.Level.{Level}
 use Rattle.est_search.specs.declared.path.Best.{Best}

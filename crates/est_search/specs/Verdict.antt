@@ -1,11 +1,11 @@
 -- The verdict on a specification, a trace and limits.
 use Rattle.std.specs.Prelude.{◌≡◌, ℕ, ◌+◌, ◌<◌, List, Option, Some, None, length, reverse}
-use Rattle.est_choices.specs.declared.firing.Firing.{Firing}
-use Rattle.est_runs.specs.declared.run.Move.{Move}
-use Rattle.est_runs.specs.Order.{Mark, IsFirst}
-use Rattle.est_runs.specs.Run.{Setup, Place, IsBoundedRun, Explains, Yields}
-use Rattle.est_runs.specs.Trials.{IsTrial, IsTrialUpTo, HasMany, HasAtMost}
-use Rattle.est_runs.specs.Trials.{PassesLimit, Faults, IsFirstPass, IsFirstFault}
+use Rattle.est_meaning.specs.declared.firing.Firing.{Firing}
+use Rattle.est_meaning.specs.declared.run.Move.{Move}
+use Rattle.est_meaning.specs.Order.{Mark, IsFirst}
+use Rattle.est_meaning.specs.Run.{Setup, Place, IsBoundedRun, Explains, Yields}
+use Rattle.est_meaning.specs.Trials.{IsTrial, IsTrialUpTo, HasMany, HasAtMost}
+use Rattle.est_meaning.specs.Trials.{PassesLimit, Faults, IsFirstPass, IsFirstFault}
 use Rattle.est_search.specs.declared.verdict.Faulted.{Faulted}
 use Rattle.est_search.specs.declared.verdict.Verdict.{Verdict}
 use Rattle.est_search.specs.declared.verdict.Verdict.TheVariants.{Accepted, Refused}

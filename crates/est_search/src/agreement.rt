@@ -1,9 +1,9 @@
 //! How far events agree with a trace, and what they make of the silent firings in a row.
 ghost use Rattle.std.specs.Prelude.{◌≡◌, ◌<◌, ◌≤◌, length, MatchOption};
-ghost use Rattle.est_runs.specs.Run.{silent_after};
+ghost use Rattle.est_meaning.specs.Run.{silent_after};
 ghost use Rattle.est_search.specs.inside.Agreement.{AgreeFor};
 
-use est_choices::event::Event;
+use est_meaning::event::Event;
 
 /// For how many events these agree with the trace from a place on.
 pub fn agreed(trace: &[Event], from: usize, events: &[Event]) -> usize

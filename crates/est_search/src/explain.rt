@@ -1,14 +1,14 @@
 //! The search for a run that explains a trace.
 ghost use Rattle.std.specs.Prelude.{◌≡◌, ℕ, ◌+◌, ◌-◌, ◌<◌, ◌≤◌, ◌^◌, [], length, IfOk};
 ghost use Rattle.est_syntax.specs.declared.specification.Spec.{Spec};
-ghost use Rattle.est_semantics.specs.Outcome.{Done};
-ghost use Rattle.est_semantics.specs.TextByPlace.{text_of};
-ghost use Rattle.est_choices.specs.AllowedEvents.{IsAllowedTrace, most_events};
-ghost use Rattle.est_choices.specs.FiringSteps.{start_of};
-ghost use Rattle.est_worlds.specs.SituationStacks.{Keeps, SameStack};
-ghost use Rattle.est_runs.specs.Run.{Setup};
-ghost use Rattle.est_runs.specs.Task.{setup_of};
-ghost use Rattle.est_runs.specs.Trials.{IsTrial, HasMany};
+ghost use Rattle.est_meaning.specs.mean_blocks.Outcome.{Done};
+ghost use Rattle.est_meaning.specs.mean_blocks.TextByPlace.{text_of};
+ghost use Rattle.est_meaning.specs.AllowedEvents.{IsAllowedTrace, most_events};
+ghost use Rattle.est_meaning.specs.FiringSteps.{start_of};
+ghost use Rattle.est_meaning.specs.SituationStacks.{Keeps, SameStack};
+ghost use Rattle.est_meaning.specs.Run.{Setup};
+ghost use Rattle.est_meaning.specs.Task.{setup_of};
+ghost use Rattle.est_meaning.specs.Trials.{IsTrial, HasMany};
 ghost use Rattle.est_search.specs.Verdict.{IsVerdict, IsWithinTried};
 ghost use Rattle.est_search.specs.inside.Walk.{SameBottom, IsReady, StepIs};
 ghost use Rattle.est_search.specs.inside.Walk.{Concludes, Answers, IsStarting};
@@ -17,10 +17,10 @@ use crate::agreement::agreed;
 use crate::turn::turn;
 use crate::verdict::Verdict;
 use crate::walk::{Notes, Step, Task, Walk, reversed};
-use est_choices::event::{Event, Trace};
-use est_items::Items;
-use est_runs::run::Limits;
-use est_worlds::world::World;
+use est_meaning::event::{Event, Trace};
+use est_meaning::run::Limits;
+use est_meaning::world::World;
+use est_syntax::est_items::Items;
 use std::alloc::{AllocError, Global};
 
 // Goes on until there is an answer.

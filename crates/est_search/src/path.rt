@@ -4,8 +4,8 @@ ghost use Rattle.std.specs.Prelude.{IfSome, IfNone, OnOk};
 ghost use Rattle.est_search.specs.inside.Path.{view_of, entered, with_firings, IsNext, IsUndone};
 ghost use Rattle.est_search.specs.inside.Path.{first_view, HasReached, HasKept};
 
-use est_choices::firing::Firing;
-use est_runs::run::Move;
+use est_meaning::firing::Firing;
+use est_meaning::run::Move;
 use std::alloc::{AllocError, Global};
 
 /// What was done after the run in which the path ends.

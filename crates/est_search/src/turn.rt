@@ -2,12 +2,12 @@
 ghost use Rattle.std.specs.Prelude.{◌≡◌, ℕ, ◌+◌, ◌-◌, ◌<◌, ◌≤◌, ◌*◌, ◌^◌, ◌⊎◌, false, [], length};
 ghost use Rattle.std.specs.Prelude.{IfOk, OnErr, OnOk, MatchBool};
 ghost use Rattle.est_syntax.specs.declared.specification.Spec.{Spec};
-ghost use Rattle.est_semantics.specs.TextByPlace.{text_of};
-ghost use Rattle.est_choices.specs.AllowedEvents.{IsAllowed, most_events};
-ghost use Rattle.est_choices.specs.OutsideEvents.{units_of, after_event};
-ghost use Rattle.est_worlds.specs.SituationStacks.{Keeps, SameStack, pushed};
-ghost use Rattle.est_runs.specs.Run.{Setup, IsFromOutside};
-ghost use Rattle.est_runs.specs.Trials.{IsTrial, HasMany};
+ghost use Rattle.est_meaning.specs.mean_blocks.TextByPlace.{text_of};
+ghost use Rattle.est_meaning.specs.AllowedEvents.{IsAllowed, most_events};
+ghost use Rattle.est_meaning.specs.OutsideEvents.{units_of, after_event};
+ghost use Rattle.est_meaning.specs.SituationStacks.{Keeps, SameStack, pushed};
+ghost use Rattle.est_meaning.specs.Run.{Setup, IsFromOutside};
+ghost use Rattle.est_meaning.specs.Trials.{IsTrial, HasMany};
 ghost use Rattle.est_search.specs.inside.Path.{view_of};
 ghost use Rattle.est_search.specs.inside.Walk.{SameBottom, IsWalk, IsReady, IsTrying, IsFound};
 ghost use Rattle.est_search.specs.inside.Walk.{HasLanded, StepIs, load, work};
@@ -15,11 +15,11 @@ ghost use Rattle.est_search.specs.inside.Walk.{HasLanded, StepIs, load, work};
 use crate::agreement::{agreed, silent_with};
 use crate::path::Stage;
 use crate::walk::{Landed, Step, Task, Walk};
-use est_choices::event::Event;
-use est_choices::firing::Firing;
-use est_runs::run::Move;
-use est_worlds::answers::{Fired, Offers};
-use est_worlds::world::World;
+use est_meaning::answers::{Fired, Offers};
+use est_meaning::event::Event;
+use est_meaning::firing::Firing;
+use est_meaning::run::Move;
+use est_meaning::world::World;
 use std::alloc::{AllocError, Global};
 
 // Lets an event happen that comes from outside. The answer says whether it does.

@@ -1,8 +1,8 @@
 //! What a search answers.
 
-use est_choices::firing::Firing;
-use est_runs::run::Run;
-use est_semantics::fault::BlockFault;
+use est_meaning::firing::Firing;
+use est_meaning::mean_blocks::fault::BlockFault;
+use est_meaning::run::Run;
 
 /// After these moves the block of this firing has this fault.
 #[derive(Drop)]

@@ -5,11 +5,11 @@ ghost use Rattle.est_search.specs.inside.Path.{view_of, first_view};
 
 use crate::path::{Best, Path};
 use crate::verdict::Faulted;
-use est_choices::event::Event;
-use est_choices::firing::Firing;
-use est_items::Items;
-use est_runs::run::{Move, Run};
-use est_semantics::fault::BlockFault;
+use est_meaning::event::Event;
+use est_meaning::firing::Firing;
+use est_meaning::mean_blocks::fault::BlockFault;
+use est_meaning::run::{Move, Run};
+use est_syntax::est_items::Items;
 use std::alloc::{AllocError, Global};
 
 /// What is searched for: a run that explains the trace, in which so many silent firings may stand

@@ -1,8 +1,8 @@
 //! The line with which a replay answers.
 
-use est_replaying::verdict::{Replayed, Why};
-use est_reports::report::fault_text;
-use est_words::status::Status;
+use call_files::check_report::fault_text;
+use call_files::est_explanation::verdict::{Replayed, Why};
+use call_files::status::Status;
 use std::alloc::{AllocError, Global};
 
 // Why an explanation is rejected, and the fault that it comes from, if it is one.
@@ -23,11 +23,11 @@ fn why_text(why: Why) -> (&'static str, &'static str) {
 pub(crate) fn answer_line(
     alloc: Global,
     answer: Replayed,
-    events: u32,
+    events: usize,
 ) -> Result<String, AllocError> {
     match answer {
         Replayed::Confirmed { events: claim } => {
-            if claim <= events {
+            if claim as usize <= events {
                 format!(in alloc; "confirmed: first {claim} of {events} events")
             } else {
                 format!(in alloc; "confirmed: all {events} events")

@@ -2,12 +2,12 @@
 
 use crate::source::Source;
 use crate::texts::{event_text, item_text};
-use est_choices::event::Event;
-use est_chunks::Queue;
-use est_frames::system::Waiting;
-use est_items::Twin;
-use est_layout::sheet::{Effect, EffectKind};
-use est_semantics::situation::Item;
+use advice_lines::sheet::{Effect, EffectKind};
+use est_meaning::event::Event;
+use est_meaning::mean_blocks::situation::Item;
+use est_syntax::est_items::Twin;
+use est_values::Queue;
+use plain_frames::system::Waiting;
 use std::alloc::{AllocError, Global};
 
 // Adds an item that came to a queue.

@@ -1,9 +1,9 @@
 //! Which instances begin and end.
 
 use crate::source::{Source, ascii};
-use est_frames::system::{Rows, System};
-use est_layout::sheet::{Effect, EffectKind, Life};
-use est_semantics::situation::Row;
+use advice_lines::sheet::{Effect, EffectKind, Life};
+use est_meaning::mean_blocks::situation::Row;
+use plain_frames::system::{Rows, System};
 use std::alloc::{AllocError, Global};
 
 // Adds an instance that begins in the move of a number.

@@ -4,16 +4,16 @@ use crate::effects::{push_arrivals, push_departures};
 use crate::lives::{push_begun, push_births, push_ends};
 use crate::source::{Source, ascii};
 use crate::texts::{event_text, item_text, label, place_in, transition_in};
-use est_check::Checked;
-use est_choices::event::Event;
-use est_choices::firing::Firing;
-use est_frames::rows::row_of;
-use est_frames::system::System;
-use est_layout::sheet::{Effect, Life, MoveKind, Sheet, ShownMove};
-use est_moves::made::Made;
-use est_moves::walk::Walk;
-use est_runs::run::Move;
-use est_worlds::answers::Started;
+use advice_lines::sheet::{Effect, Life, MoveKind, Sheet, ShownMove};
+use call_files::est_check::Checked;
+use est_meaning::answers::Started;
+use est_meaning::event::Event;
+use est_meaning::firing::Firing;
+use est_meaning::run::Move;
+use plain_frames::rows::row_of;
+use plain_frames::system::System;
+use plain_walk::made::Made;
+use plain_walk::walk::Walk;
 use std::alloc::{AllocError, Global};
 
 // Adds which instances began and ended in the move of a number.

@@ -1,11 +1,10 @@
 //! The specification of a call, with its text.
 
-use est_check::Checked;
-use est_edge::{MemShelf, ReadError, Shelf, read_whole};
-use est_files::file::File;
-use est_files::specification::specification_in;
-use est_files::{Report, Stop};
-use est_words::status::Status;
+use call_files::est_check::Checked;
+use call_files::file::File;
+use call_files::specification::specification_in;
+use call_files::status::Status;
+use call_files::{MemShelf, ReadError, Report, Shelf, Stop, read_whole};
 use std::alloc::{AllocError, Global};
 
 // How many bytes of a text are handed on at once.

@@ -1,16 +1,16 @@
 //! The text of a specification, where names are looked up by their places.
 
-use est_check::Checked;
-use est_lexer::lex::lex;
-use est_lexer::tokens::{MOST_BYTES, Tokens};
-use est_ports::ports::Ports;
-use est_scope::outline::Outline;
+use call_files::est_check::Checked;
+use call_files::est_lexer::lex::lex;
+use call_files::est_lexer::tokens::{MOST_BYTES, Tokens};
+use est_meaning::rule_scope::outline::Outline;
+use rule_ports::ports::Ports;
 use std::alloc::{AllocError, Global};
 
 /// The tokens of a specification and where its lines end, with what it declares and its ports.
 #[derive(Drop)]
 pub(crate) struct Source<'t> {
-    tokens: Tokens<'t>,
+    pub tokens: Tokens<'t>,
     line_ends: Vec<usize>,
     pub outline: &'t Outline,
     pub ports: &'t Ports,

@@ -1,83 +1,20 @@
 //! The texts of interactions and events.
 
 use crate::source::{Source, ascii};
-use est_choices::event::Event;
-use est_names::declared::{dims_at, kind_at, places_of};
-use est_ports::ports::Ports;
-use est_scope::declaration::Sort;
-use est_semantics::situation::{InteractionPoint, Item};
+use advice_guards::items::append_item;
+use call_files::est_trace::written_trace::append_trace;
+use est_meaning::event::Event;
+use est_meaning::mean_blocks::situation::Item;
 use est_syntax::body::Body;
 use est_syntax::transition::Transition;
-use est_written_traces::trace::append_trace;
-use est_written_values::lists::append_separator;
-use est_written_values::ordinals::append_ordinal;
-use est_written_values::values::append_value;
+use rule_ports::ports::Ports;
 use std::alloc::{AllocError, Global};
 use std::slice;
-
-// Adds the subscripts of an interaction point, if it has some.
-fn append_subscripts(
-    source: &Source,
-    text: &mut Vec<u8>,
-    point: &InteractionPoint,
-) -> Result<(), AllocError> {
-    let Some(kinds) = dims_at(source.outline, point.declared) else {
-        return Ok(());
-    };
-    for (at, ordinal) in point.index.as_slice().iter().enumerate() {
-        let Some(kind) = kinds.get(at) else {
-            return Ok(());
-        };
-        text.extend_from_slice(if at == 0 { b"[" } else { b"," })?;
-        append_ordinal(text, kind, *ordinal)?;
-    }
-    text.extend_from_slice(if kinds.is_empty() { b"" } else { b"]" })
-}
-
-// Adds the values of an interaction, whose parameters are declared at these places.
-fn append_parameters(
-    source: &Source,
-    text: &mut Vec<u8>,
-    item: &Item,
-    places: &[u32],
-) -> Result<(), AllocError> {
-    for (at, place) in places.iter().enumerate() {
-        let Some(value) = item.values.get(at) else {
-            return Ok(());
-        };
-        let Some(kind) = kind_at(source.outline, *place) else {
-            return Ok(());
-        };
-        append_separator(text, at)?;
-        append_value(text, value, kind)?;
-    }
-    Ok(())
-}
-
-// Adds the values of an interaction in parentheses, if it has some.
-fn append_values(
-    alloc: Global,
-    source: &Source,
-    text: &mut Vec<u8>,
-    item: &Item,
-) -> Result<(), AllocError> {
-    if item.values.len() == 0 {
-        return Ok(());
-    }
-    text.extend_from_slice(b"(")?;
-    let places = places_of(alloc, source.outline, Sort::Variable, item.signal)?;
-    append_parameters(source, text, item, places.as_slice())?;
-    text.extend_from_slice(b")")
-}
 
 /// The text of an interaction at its interaction point, as specifications write names.
 pub(crate) fn item_text(alloc: Global, source: &Source, item: &Item) -> Result<String, AllocError> {
     let mut text = Vec::new(alloc);
-    text.extend_from_slice(source.name(item.at.declared))?;
-    append_subscripts(source, &mut text, &item.at)?;
-    text.extend_from_slice(b".")?;
-    text.extend_from_slice(source.name(item.signal))?;
-    append_values(alloc, source, &mut text, item)?;
+    append_item(alloc, &source.tokens, source.outline, item, &mut text)?;
     ascii(alloc, &text)
 }
 

@@ -1,26 +1,27 @@
 //! The top call.
 ghost use Rattle.std.specs.Prelude.{◌≤◌, length};
-ghost use Rattle.est_choices.specs.AllowedEvents.{IsAllowedTrace};
-ghost use Rattle.est_replaying.specs.Replay.{most_moves};
+ghost use Rattle.est_meaning.specs.AllowedEvents.{IsAllowedTrace};
+ghost use Rattle.call_files.specs.est_explanation.Replay.{most_moves};
 
 use crate::answer::{answer_line, shown_count, status_of};
+use crate::ending::ending_of;
 use crate::moves::push_run;
 use crate::reading::{specification_of, text_in};
 use crate::source::Source;
-use est_check::Checked;
-use est_choices::event::Trace;
-use est_edge::{Shelf, Sink, write_whole};
-use est_explanation::explanation::Explanation;
-use est_files::explanation::explanation_in;
-use est_files::trace::trace_in;
-use est_files::{Report, Stop};
-use est_layout::chart::append_chart;
-use est_layout::sheet::Sheet;
-use est_layout::table::append_table;
+use advice_lines::chart::append_chart;
+use advice_lines::sheet::{Ending, Sheet};
+use advice_lines::table::append_table;
+use call_files::est_check::Checked;
+use call_files::est_explanation::explanation::Explanation;
+use call_files::est_explanation::verdict::Replayed;
+use call_files::explanation::explanation_in;
+use call_files::status::Status;
+use call_files::trace::trace_in;
+use call_files::words::{Command, read_words};
+use call_files::{Report, Shelf, Sink, Stop, write_whole};
+use est_meaning::event::Trace;
+use est_meaning::run::{Limits, Move};
 use est_replay::checked::replay;
-use est_runs::run::{Limits, Move};
-use est_words::status::Status;
-use est_words::words::{Command, read_words};
 use std::alloc::{AllocError, Global};
 
 // What is shown: a table of text, or a chart as a drawing in SVG.
@@ -155,30 +156,66 @@ fn replay_report(
     requires few { length explanation.now.moves ≤ most_moves }
 {
     let answer = replay(alloc, checked, trace, explanation, &asked.limits)?;
-    let line = answer_line(alloc, answer, trace.len() as u32)?;
+    let ending = ending_after(alloc, asked, checked, trace, answer)?;
     let moves = explanation.moves.as_slice();
     let count = shown_count(answer, moves.len()).min(moves.len());
-    let text = source_text(alloc, asked, text, checked, trace, &moves[..count], &line);
-    drop(line);
+    let shown = Shown {
+        moves: &moves[..count],
+        answer,
+        ending,
+    };
+    let text = source_text(alloc, asked, text, checked, trace, shown)?;
     Ok(Report {
         status: status_of(answer),
-        text: text?.into_bytes(),
+        text: text.into_bytes(),
     })
 }
 
-// What is shown of these moves, with the answer of the replay.
+// What a chart has after the moves of an explanation that yields a part of the trace.
+fn ending_after(
+    alloc: Global,
+    asked: &Asked,
+    checked: &Checked,
+    trace: &Trace,
+    answer: Replayed,
+) -> Result<Option<Ending>, AllocError>
+    requires { IsAllowedTrace checked.now trace.now }
+{
+    match answer {
+        Replayed::Confirmed { events: claim }
+            if asked.form == Form::Chart && claim as usize <= trace.len() => {
+            ending_of(alloc, checked, trace, claim as usize, &asked.limits)
+        }
+        _ => Ok(None),
+    }
+}
+
+// What is shown: moves, the answer of the replay, and what comes after the moves.
+#[derive(Drop)]
+struct Shown<'m> {
+    moves: &'m [Move],
+    answer: Replayed,
+    ending: Option<Ending>,
+}
+
+// The text of what is shown.
 fn source_text(
     alloc: Global,
     asked: &Asked,
     text: &[u8],
     checked: &Checked,
     trace: &Trace,
-    moves: &[Move],
-    answer: &str,
+    shown: Shown,
 ) -> Result<String, AllocError> {
+    let Shown {
+        moves,
+        answer,
+        ending,
+    } = shown;
     let source = Source::new(alloc, text, checked)?;
     let statements = asked.limits.statements;
     let mut sheet = Sheet::new(alloc);
+    sheet.ending = ending;
     let pushed = push_run(
         alloc,
         &source,
@@ -190,14 +227,26 @@ fn source_text(
     );
     drop(source);
     let shown = match pushed {
-        Ok(()) => sheet_text(alloc, asked.form, &sheet, answer),
+        Ok(()) => shown_text(alloc, asked.form, &sheet, answer, trace.len()),
         Err(error) => Err(error),
     };
     drop(sheet);
     shown
 }
 
-// A sheet in a form, with the answer of the replay.
+// A sheet in a form, with the answer of the replay of a trace of so many events.
+fn shown_text(
+    alloc: Global,
+    form: Form,
+    sheet: &Sheet,
+    answer: Replayed,
+    events: usize,
+) -> Result<String, AllocError> {
+    let line = answer_line(alloc, answer, events)?;
+    sheet_text(alloc, form, sheet, &line)
+}
+
+// A sheet in a form, with this line.
 fn sheet_text(
     alloc: Global,
     form: Form,
@@ -216,8 +265,8 @@ fn sheet_text(
     Ok(text)
 }
 
-// Writes a report that was made, and answers its status where that went well.
-fn deliver<K: Sink>(made: Result<Report, Stop>, sink: &mut K) -> Status {
+/// Writes a report that was made, and answers its status where that went well.
+pub(crate) fn deliver<K: Sink>(made: Result<Report, Stop>, sink: &mut K) -> Status {
     let report = match made {
         Ok(report) => report,
         Err(Stop::Refused(report)) => report,

@@ -17,3 +17,5 @@ pub mod statement;
 pub mod transition;
 pub mod tree;
 pub mod type_text;
+
+pub use est_items;

@@ -3,47 +3,48 @@ use Rattle.std.proofs.Common.{◌≡◌, ◌≢◌, ◌∙◌, refl, ap, ℕ, Li
 use Rattle.std.proofs.Common.{Some, None, sym, subst, Result, Ok, Err}
 use Rattle.std.specs.Prelude.{String}
 use Rattle.std.specs.Global.{Global}
-use Rattle.est_edge.specs.FaultCounts.{Rose, AllStay}
-use Rattle.est_files.specs.declared.report.Report.{Report}
-use Rattle.est_lexer.specs.declared.kind.Token.{Token}
-use Rattle.est_edge.specs.Pieces.{appended, IsPrefix}
-use Rattle.est_replaying.specs.declared.verdict.Replayed.{Replayed}
-use Rattle.est_replaying.specs.declared.verdict.Replayed.TheVariants.{Confirmed, Rejected}
-use Rattle.est_specification.specs.declared.error.SpecificationError.{SpecificationError}
-use Rattle.est_specification.specs.declared.error.SpecificationError.TheVariants as specification
-use Rattle.est_trace.specs.declared.error.TraceError.{TraceError}
-use Rattle.est_trace.specs.declared.error.TraceError.TheVariants as trace
-use Rattle.est_explanation.specs.declared.error.ExplanationError.{ExplanationError}
-use Rattle.est_explanation.specs.declared.error.ExplanationError.TheVariants as explanation
+use Rattle.call_files.specs.FaultCounts.{Rose, AllStay}
+use Rattle.call_files.specs.declared.report.Report.{Report}
+use Rattle.call_files.specs.est_lexer.declared.kind.Token.{Token}
+use Rattle.call_files.specs.Pieces.{appended, IsPrefix}
+use Rattle.call_files.specs.est_explanation.declared.verdict.Replayed.{Replayed}
+use Rattle.call_files.specs.est_explanation.declared.verdict.Replayed.TheVariants.{Confirmed}
+use Rattle.call_files.specs.est_explanation.declared.verdict.Replayed.TheVariants.{Rejected}
+use Rattle.call_files.specs.est_check.declared.specification_error.SpecificationError.{SpecificationError}
+use Rattle.call_files.specs.est_check.declared.specification_error.SpecificationError.TheVariants as specification
+use Rattle.call_files.specs.est_trace.declared.error.TraceError.{TraceError}
+use Rattle.call_files.specs.est_trace.declared.error.TraceError.TheVariants as trace
+use Rattle.call_files.specs.est_explanation.declared.error.ExplanationError.{ExplanationError}
+use Rattle.call_files.specs.est_explanation.declared.error.ExplanationError.TheVariants as explanation
 use Rattle.est_search.specs.declared.verdict.Verdict.{Verdict}
 use Rattle.est_search.specs.declared.verdict.Verdict.TheVariants as verdict
-use Rattle.est_files.specs.declared.stop.Stop.{Stop}
-use Rattle.est_files.specs.declared.stop.Stop.TheVariants as stop
-use Rattle.est_files.specs.declared.file.File.{File}
-use Rattle.est_words.specs.declared.status.Status.{Status}
-use Rattle.est_words.specs.declared.status.Status.TheVariants.{Fine, Refused, BadSpec, BadTrace}
-use Rattle.est_words.specs.declared.status.Status.TheVariants.{BadExplanation, OverBudget, TooLong}
-use Rattle.est_words.specs.declared.status.Status.TheVariants.{Usage, ReadFault, WriteFault}
-use Rattle.est_words.specs.declared.status.Status.TheVariants.{OutOfMemory, NoStart}
+use Rattle.call_files.specs.declared.stop.Stop.{Stop}
+use Rattle.call_files.specs.declared.stop.Stop.TheVariants as stop
+use Rattle.call_files.specs.declared.file.File.{File}
+use Rattle.call_files.specs.declared.status.Status.{Status}
+use Rattle.call_files.specs.declared.status.Status.TheVariants.{Fine, Refused, BadSpec, BadTrace}
+use Rattle.call_files.specs.declared.status.Status.TheVariants.{BadExplanation, OverBudget, TooLong}
+use Rattle.call_files.specs.declared.status.Status.TheVariants.{Usage, ReadFault, WriteFault}
+use Rattle.call_files.specs.declared.status.Status.TheVariants.{OutOfMemory, NoStart}
 use Rattle.est_tool.specs.ReplayReports.{replay_status}
-use Rattle.est_reports.specs.SearchReports.{verdict_status}
-use Rattle.est_files.specs.FileTexts.{Holds, Refusals, RefusesSpecification, RefusesTrace}
-use Rattle.est_files.specs.FileTexts.{RefusesExplanation, SaysOfSpecification}
-use Rattle.est_files.specs.FileTexts.{SaysOfTrace, SaysOfExplanation, IsReported}
-use Rattle.est_words.specs.Requests.{Request, check, explain, replay, selfrun}
-use Rattle.est_files.specs.Seen.{Seen, Sent}
-use Rattle.est_files.specs.FileEnds.{End, reported, unread, EndsAt, longer, refused}
-use Rattle.est_files.specs.FileEnds.{failed, EndsAtText, text_longer, text_refused}
+use Rattle.call_files.specs.SearchReports.{verdict_status}
+use Rattle.call_files.specs.FileTexts.{Holds, Refusals, RefusesSpecification, RefusesTrace}
+use Rattle.call_files.specs.FileTexts.{RefusesExplanation, SaysOfSpecification}
+use Rattle.call_files.specs.FileTexts.{SaysOfTrace, SaysOfExplanation, IsReported}
+use Rattle.call_files.specs.Requests.{Request, check, explain, replay, selfrun}
+use Rattle.call_files.specs.Seen.{Seen, Sent}
+use Rattle.call_files.specs.FileEnds.{End, reported, unread, EndsAt, longer, refused}
+use Rattle.call_files.specs.FileEnds.{failed, EndsAtText, text_longer, text_refused}
 use Rattle.est_tool.specs.Ends.{at_its_file, good, at_specification}
 use Rattle.est_tool.specs.Ends.{at_trace, at_explanation, replayed, Ends}
 use Rattle.est_tool.specs.Ends.{ends_at_specification, ends_at_trace, not_started}
 use Rattle.est_tool.specs.Ends.{start_over, searched}
 use Rattle.est_tool.specs.Result.{Reports, Writes, IsResult}
-use Rattle.est_making.specs.declared.made.Made.{Made}
+use Rattle.run_make.specs.declared.made.Made.{Made}
 use Rattle.est_syntax.specs.declared.specification.Spec.{Spec}
 use Rattle.est_tool.specs.SelfRuns.{MadeEnds, faults, start_passes, passes, refuses, explains}
 use Rattle.est_tool.specs.SelfRuns.{stops_at_its_file, makes}
-use Rattle.est_files.specs.Reads.{IsQuiet}
+use Rattle.call_files.specs.Reads.{IsQuiet}
 use Rattle.est_tool.specs.inside.Work.{IsMade, IsObeyed}
 use Rattle.est_tool.specs.inside.Written.{HasReport, IsReportable, IsSent, whole}
 use Rattle.est_tool.specs.inside.Written.{broken_off, IsDelivered, Delivers, Sends}

@@ -1,17 +1,17 @@
 -- What comes of a search from the start of a specification.
 use Rattle.std.proofs.Common.{◌≡◌, List, subst}
 use Rattle.est_syntax.specs.declared.specification.Spec.{Spec}
-use Rattle.est_semantics.specs.GlobalSituation.{Situation}
-use Rattle.est_semantics.specs.Outcome.{Done}
-use Rattle.est_semantics.specs.TextByPlace.{text_of}
-use Rattle.est_choices.specs.declared.event.Event.{Event}
-use Rattle.est_choices.specs.FiringSteps.{start_of}
-use Rattle.est_runs.specs.declared.run.Limits.{Limits}
+use Rattle.est_meaning.specs.mean_blocks.GlobalSituation.{Situation}
+use Rattle.est_meaning.specs.mean_blocks.Outcome.{Done}
+use Rattle.est_meaning.specs.mean_blocks.TextByPlace.{text_of}
+use Rattle.est_meaning.specs.declared.event.Event.{Event}
+use Rattle.est_meaning.specs.FiringSteps.{start_of}
+use Rattle.est_meaning.specs.declared.run.Limits.{Limits}
 use Rattle.est_search.specs.declared.verdict.Verdict.{Verdict}
 use Rattle.est_search.specs.Verdict.{IsVerdict}
 use Rattle.est_tool.specs.declared.search.Searched.TheVariants as came
 use Rattle.est_tool.specs.inside.Searching.{IsSearched}
-use Rattle.est_runs.specs.Task.{setup_from}
+use Rattle.est_meaning.specs.Task.{setup_from}
 
 -- a verdict from the start
 pub found_searched : (limits : Limits) (spec : Spec) (events : List Event) (s : Situation)

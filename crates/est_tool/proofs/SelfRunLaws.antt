@@ -1,17 +1,17 @@
 -- What comes of a trace that is made.
 use Rattle.std.proofs.Common.{◌≡◌, ◌∙◌, ℕ, List, ◌++◌, length, ap, sym, subst}
 use Rattle.est_syntax.specs.declared.specification.Spec.{Spec}
-use Rattle.est_choices.specs.declared.event.Event.{Event}
-use Rattle.est_runs.specs.declared.run.Move.{Move}
-use Rattle.est_making.specs.declared.made.Made.{Made}
-use Rattle.est_making.specs.declared.made.Made.TheVariants.{Trace, NoStart, StartLimit, Limit}
-use Rattle.est_files.specs.declared.file.File.TheVariants as file
-use Rattle.est_files.specs.FileEnds.{End, reported, EndsAtText}
-use Rattle.est_files.specs.FileTexts.{IsText, OfTrace, RefusesTrace}
-use Rattle.est_words.specs.Requests.{usual_statements}
-use Rattle.est_reports.specs.declared.self_run_report.Sizes.{Sizes}
-use Rattle.est_reports.specs.SearchReports.{verdict_status}
-use Rattle.est_reports.specs.SelfRunReports.{made_line, search_line}
+use Rattle.est_meaning.specs.declared.event.Event.{Event}
+use Rattle.est_meaning.specs.declared.run.Move.{Move}
+use Rattle.run_make.specs.declared.made.Made.{Made}
+use Rattle.run_make.specs.declared.made.Made.TheVariants.{Trace, NoStart, StartLimit, Limit}
+use Rattle.call_files.specs.declared.file.File.TheVariants as file
+use Rattle.call_files.specs.FileEnds.{End, reported, EndsAtText}
+use Rattle.call_files.specs.FileTexts.{IsText, OfTrace, RefusesTrace}
+use Rattle.call_files.specs.Requests.{usual_statements}
+use Rattle.call_files.specs.declared.self_run_report.Sizes.{Sizes}
+use Rattle.call_files.specs.SearchReports.{verdict_status}
+use Rattle.call_files.specs.SelfRunReports.{made_line, search_line}
 use Rattle.est_tool.specs.SelfRuns.{IsMadeOf, MadeEnds, refuses, explains, written}
 use Rattle.est_tool.specs.SelfRuns.{self_run_report}
 use Rattle.est_tool.specs.inside.SelfRunning.{IsReadyFor, EndsWritten, at_text, at_trace}

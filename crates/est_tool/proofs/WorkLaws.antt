@@ -2,32 +2,32 @@
 use Rattle.std.proofs.Common.{◌≡◌, ◌∙◌, ◌<◌, ℕ, List, [], ◌∷◌, ◌++◌, Option, length}
 use Rattle.std.proofs.Common.{sym, subst, ap, IfSome, Result, Ok, Err, append_assoc}
 use Rattle.std.specs.Result.{IsErr, IsErrAnd}
-use Rattle.est_lexer.specs.declared.kind.Token.{Token}
-use Rattle.est_edge.specs.FaultCounts.{AllStay}
-use Rattle.est_edge.specs.Pieces.{SameTold}
-use Rattle.est_edge.proofs.CountLaws.{AllStay-then, rose_then}
-use Rattle.est_edge.proofs.PieceLaws.{SameTold-then}
+use Rattle.call_files.specs.est_lexer.declared.kind.Token.{Token}
+use Rattle.call_files.specs.FaultCounts.{AllStay}
+use Rattle.call_files.specs.Pieces.{SameTold}
+use Rattle.call_files.proofs.CountLaws.{AllStay-then, rose_then}
+use Rattle.call_files.proofs.PieceLaws.{SameTold-then}
 use Rattle.est_syntax.specs.declared.specification.Spec.{Spec}
-use Rattle.est_choices.specs.declared.event.Event.{Event}
-use Rattle.est_explanation.specs.declared.explanation.Explanation.{Explanation}
-use Rattle.est_runs.specs.declared.run.Limits.{Limits}
+use Rattle.est_meaning.specs.declared.event.Event.{Event}
+use Rattle.call_files.specs.est_explanation.declared.explanation.Explanation.{Explanation}
+use Rattle.est_meaning.specs.declared.run.Limits.{Limits}
 use Rattle.est_tool.specs.declared.search.Searched.{Searched}
 use Rattle.est_tool.specs.declared.search.Searched.TheVariants as came
-use Rattle.est_files.specs.declared.report.Report.{Report}
-use Rattle.est_files.specs.declared.stop.Stop.{Stop}
-use Rattle.est_files.specs.declared.stop.Stop.TheVariants.{Refused, ReadFault, OutOfMemory}
-use Rattle.est_files.specs.declared.file.File.{File}
-use Rattle.est_words.specs.declared.status.Status.{Status}
-use Rattle.est_words.specs.declared.status.Status.TheVariants.{Fine}
-use Rattle.est_files.specs.Files.{limit_of}
+use Rattle.call_files.specs.declared.report.Report.{Report}
+use Rattle.call_files.specs.declared.stop.Stop.{Stop}
+use Rattle.call_files.specs.declared.stop.Stop.TheVariants.{Refused, ReadFault, OutOfMemory}
+use Rattle.call_files.specs.declared.file.File.{File}
+use Rattle.call_files.specs.declared.status.Status.{Status}
+use Rattle.call_files.specs.declared.status.Status.TheVariants.{Fine}
+use Rattle.call_files.specs.Files.{limit_of}
 use Rattle.est_tool.specs.ReplayReports.{replay_status}
-use Rattle.est_files.specs.Seen.{Shelved, Seen, seen}
-use Rattle.est_files.specs.FileTexts.{Holds, Refusals, IsReported, OfSpecification}
-use Rattle.est_files.specs.FileTexts.{OfTrace, OfExplanation}
-use Rattle.est_words.specs.Requests.{Request, check, explain, replay, selfrun}
-use Rattle.est_files.specs.FileEnds.{End, reported, IsTooLong, EndsAt, longer, refused, failed}
-use Rattle.est_files.specs.FileEnds.{HoldsSpecification, HoldsTrace}
-use Rattle.est_files.specs.FileEnds.{HoldsExplanation}
+use Rattle.call_files.specs.Seen.{Shelved, Seen, seen}
+use Rattle.call_files.specs.FileTexts.{Holds, Refusals, IsReported, OfSpecification}
+use Rattle.call_files.specs.FileTexts.{OfTrace, OfExplanation}
+use Rattle.call_files.specs.Requests.{Request, check, explain, replay, selfrun}
+use Rattle.call_files.specs.FileEnds.{End, reported, IsTooLong, EndsAt, longer, refused, failed}
+use Rattle.call_files.specs.FileEnds.{HoldsSpecification, HoldsTrace}
+use Rattle.call_files.specs.FileEnds.{HoldsExplanation}
 use Rattle.est_tool.specs.Ends.{CheckEnds, at_its_file, good, ReplayEnds, at_specification}
 use Rattle.est_tool.specs.Ends.{at_trace, at_explanation, replayed, Ends}
 use Rattle.est_tool.specs.Ends.{ExplainEnds, ends_at_specification, ends_at_trace}
@@ -35,11 +35,11 @@ use Rattle.est_tool.specs.Ends.{not_started, start_over, searched}
 use Rattle.est_tool.specs.SelfRuns.{stops_at_its_file, makes}
 use Rattle.est_tool.specs.Started.{ExplainStarts, first_alone, both}
 use Rattle.est_tool.specs.Started.{ReplayStarts, one, two, three, Starts}
-use Rattle.est_files.specs.Reads.{IsStop, IsQuiet, ReadsFile}
+use Rattle.call_files.specs.Reads.{IsStop, IsQuiet, ReadsFile}
 use Rattle.est_tool.specs.inside.Work.{IsMade, Gives, IsReport, IsCounted}
 use Rattle.est_tool.specs.inside.Work.{IsAnswered, Tells, IsExplained, IsWork}
 use Rattle.est_tool.specs.inside.Searching.{IsSearched}
-use Rattle.est_files.proofs.ReadLaws.{stop_then, stops_for, quiet_any, quiet_stop}
+use Rattle.call_files.proofs.ReadLaws.{stop_then, stops_for, quiet_any, quiet_stop}
 
 -- what is held where a shelf tells the same as before was held before
 pub holds_before : (file : File) {old new : Option (List ℕ)} (Is : List ℕ → List Token → Type 0)

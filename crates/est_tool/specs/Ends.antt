@@ -1,34 +1,34 @@
 -- How a call ends.
 use Rattle.std.specs.Prelude.{◌≡◌, ℕ, List, length}
 use Rattle.est_syntax.specs.declared.specification.Spec.{Spec}
-use Rattle.est_counts.specs.Counts.{counts_of}
-use Rattle.est_semantics.specs.declared.fault.BlockFault.{BlockFault}
-use Rattle.est_semantics.specs.GlobalSituation.{Situation}
-use Rattle.est_semantics.specs.Outcome.{Done, Fault, Limit}
-use Rattle.est_semantics.specs.TextByPlace.{text_of}
-use Rattle.est_choices.specs.declared.event.Event.{Event}
-use Rattle.est_choices.specs.FiringSteps.{start_of}
+use Rattle.rule_ports.specs.Counts.{counts_of}
+use Rattle.est_meaning.specs.mean_blocks.declared.fault.BlockFault.{BlockFault}
+use Rattle.est_meaning.specs.mean_blocks.GlobalSituation.{Situation}
+use Rattle.est_meaning.specs.mean_blocks.Outcome.{Done, Fault, Limit}
+use Rattle.est_meaning.specs.mean_blocks.TextByPlace.{text_of}
+use Rattle.est_meaning.specs.declared.event.Event.{Event}
+use Rattle.est_meaning.specs.FiringSteps.{start_of}
 use Rattle.est_search.specs.Verdict.{IsVerdict}
 use Rattle.est_search.specs.declared.verdict.Verdict.{Verdict}
-use Rattle.est_replaying.specs.Replay.{IsReplay}
-use Rattle.est_explanation.specs.declared.explanation.Explanation.{Explanation}
-use Rattle.est_replaying.specs.declared.verdict.Replayed.{Replayed}
-use Rattle.est_files.specs.FileEnds.{End, reported, EndsAt, HoldsSpecification}
-use Rattle.est_files.specs.FileEnds.{HoldsTrace, HoldsExplanation}
-use Rattle.est_files.specs.declared.file.File.TheVariants as file
-use Rattle.est_words.specs.declared.status.Status.TheVariants.{Fine, OverBudget, NoStart}
-use Rattle.est_reports.specs.ReadableReports.{IsReadable}
-use Rattle.est_reports.specs.Reports.{ok_line}
+use Rattle.call_files.specs.est_explanation.Replay.{IsReplay}
+use Rattle.call_files.specs.est_explanation.declared.explanation.Explanation.{Explanation}
+use Rattle.call_files.specs.est_explanation.declared.verdict.Replayed.{Replayed}
+use Rattle.call_files.specs.FileEnds.{End, reported, EndsAt, HoldsSpecification}
+use Rattle.call_files.specs.FileEnds.{HoldsTrace, HoldsExplanation}
+use Rattle.call_files.specs.declared.file.File.TheVariants as file
+use Rattle.call_files.specs.declared.status.Status.TheVariants.{Fine, OverBudget, NoStart}
+use Rattle.call_files.specs.ReadableReports.{IsReadable}
+use Rattle.call_files.specs.Reports.{ok_line}
 use Rattle.est_tool.specs.ReplayReports.{replay_line}
-use Rattle.est_reports.specs.SearchReports.{no_start_line, over_start_line, verdict_report}
-use Rattle.est_files.specs.Seen.{Seen}
+use Rattle.call_files.specs.SearchReports.{no_start_line, over_start_line, verdict_report}
+use Rattle.call_files.specs.Seen.{Seen}
 use Rattle.est_tool.specs.ReplayReports.{replay_status}
 use Rattle.est_tool.specs.SelfRuns.{SelfRunEnds}
-use Rattle.est_runs.specs.Task.{setup_from}
-use Rattle.est_reports.specs.SearchReports.{verdict_status}
-use Rattle.est_files.specs.FileTexts.{RefusesSpecification}
-use Rattle.est_files.specs.FileTexts.{RefusesTrace, RefusesExplanation}
-use Rattle.est_words.specs.Requests.{Request, check, explain, replay, selfrun}
+use Rattle.est_meaning.specs.Task.{setup_from}
+use Rattle.call_files.specs.SearchReports.{verdict_status}
+use Rattle.call_files.specs.FileTexts.{RefusesSpecification}
+use Rattle.call_files.specs.FileTexts.{RefusesTrace, RefusesExplanation}
+use Rattle.call_files.specs.Requests.{Request, check, explain, replay, selfrun}
 
 -- `check` ends at its file, or tells the numbers of a good specification
 pub data CheckEnds (shelf : Seen) (name : List ℕ) : End → Type 0 where

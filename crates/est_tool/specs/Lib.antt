@@ -3,4 +3,7 @@ pub mod ReplayReports
 pub mod Result
 pub mod SelfRuns
 pub mod Started
+pub mod TraceEnds
+pub mod TraceResult
+pub mod TraceWords
 pub mod inside

@@ -1,15 +1,18 @@
 -- The reports of replays.
 use Rattle.std.specs.Prelude.{ℕ, List, ◌++◌, codes, if◌then◌else◌, nat_le}
 use Rattle.std.specs.Fmt.{decimal}
-use Rattle.est_replaying.specs.declared.verdict.Replayed.{Replayed}
-use Rattle.est_replaying.specs.declared.verdict.Replayed.TheVariants.{Confirmed, Rejected}
-use Rattle.est_replaying.specs.declared.verdict.Why.{Why}
-use Rattle.est_replaying.specs.declared.verdict.Why.TheVariants.{NoStart, Limit, WrongOutput, NoEvent}
-use Rattle.est_replaying.specs.declared.verdict.Why.TheVariants.{NotOffered, Fault, TooSilent, NotAll}
-use Rattle.est_words.specs.declared.status.Status.{Status}
-use Rattle.est_words.specs.declared.status.Status.TheVariants.{Fine, Refused}
-use Rattle.est_words.specs.ReportLines.{line_feed}
-use Rattle.est_reports.specs.Reports.{fault_text}
+use Rattle.call_files.specs.est_explanation.declared.verdict.Replayed.{Replayed}
+use Rattle.call_files.specs.est_explanation.declared.verdict.Replayed.TheVariants.{Confirmed}
+use Rattle.call_files.specs.est_explanation.declared.verdict.Replayed.TheVariants.{Rejected}
+use Rattle.call_files.specs.est_explanation.declared.verdict.Why.{Why}
+use Rattle.call_files.specs.est_explanation.declared.verdict.Why.TheVariants.{NoStart, Limit}
+use Rattle.call_files.specs.est_explanation.declared.verdict.Why.TheVariants.{WrongOutput, NoEvent}
+use Rattle.call_files.specs.est_explanation.declared.verdict.Why.TheVariants.{NotOffered, Fault}
+use Rattle.call_files.specs.est_explanation.declared.verdict.Why.TheVariants.{TooSilent, NotAll}
+use Rattle.call_files.specs.declared.status.Status.{Status}
+use Rattle.call_files.specs.declared.status.Status.TheVariants.{Fine, Refused}
+use Rattle.call_files.specs.ReportLines.{line_feed}
+use Rattle.call_files.specs.Reports.{fault_text}
 
 -- an explanation that is confirmed for the first events of a trace
 abbrev pub first_line : ℕ → ℕ → List ℕ

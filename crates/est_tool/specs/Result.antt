@@ -1,16 +1,16 @@
 -- What a call answers, and what it leaves.
 use Rattle.std.specs.Prelude.{◌≡◌, ◌≢◌, ◌↔◌, ℕ, List, ◌++◌, Option, String}
 use Rattle.std.specs.Global.{Global}
-use Rattle.est_edge.specs.FaultCounts.{Rose, AllStay}
-use Rattle.est_edge.specs.Pieces.{SameTold, appended, IsPrefix}
-use Rattle.est_words.specs.declared.status.Status.{Status}
-use Rattle.est_words.specs.declared.status.Status.TheVariants.{Usage, ReadFault}
-use Rattle.est_words.specs.declared.status.Status.TheVariants.{WriteFault, OutOfMemory}
-use Rattle.est_files.specs.Seen.{Seen, Sent}
-use Rattle.est_files.specs.FileEnds.{End, reported, unread}
+use Rattle.call_files.specs.FaultCounts.{Rose, AllStay}
+use Rattle.call_files.specs.Pieces.{SameTold, appended, IsPrefix}
+use Rattle.call_files.specs.declared.status.Status.{Status}
+use Rattle.call_files.specs.declared.status.Status.TheVariants.{Usage, ReadFault}
+use Rattle.call_files.specs.declared.status.Status.TheVariants.{WriteFault, OutOfMemory}
+use Rattle.call_files.specs.Seen.{Seen, Sent}
+use Rattle.call_files.specs.FileEnds.{End, reported, unread}
 use Rattle.est_tool.specs.Ends.{Ends}
 use Rattle.est_tool.specs.Started.{Starts}
-use Rattle.est_words.specs.Requests.{Request, Asks, AsksNothing, bytes_of}
+use Rattle.call_files.specs.Requests.{Request, Asks, AsksNothing, bytes_of}
 
 -- the words ask for something, and that ends so
 abbrev pub CallEnds : List (String Global) → Seen → End → Type 0

@@ -2,29 +2,29 @@
 -- and the trace that it is of is explained.
 use Rattle.std.specs.Prelude.{◌≡◌, ℕ, List, ◌++◌, length}
 use Rattle.est_syntax.specs.declared.specification.Spec.{Spec}
-use Rattle.est_declares.specs.PortList.{ports_of}
-use Rattle.est_semantics.specs.declared.fault.BlockFault.{BlockFault}
-use Rattle.est_semantics.specs.GlobalSituation.{Situation}
-use Rattle.est_semantics.specs.Outcome.{Done}
-use Rattle.est_semantics.specs.TextByPlace.{text_of}
-use Rattle.est_choices.specs.declared.event.Event.{Event}
-use Rattle.est_choices.specs.FiringSteps.{start_of}
-use Rattle.est_runs.specs.declared.run.Move.{Move}
+use Rattle.est_meaning.specs.rule_declares.PortList.{ports_of}
+use Rattle.est_meaning.specs.mean_blocks.declared.fault.BlockFault.{BlockFault}
+use Rattle.est_meaning.specs.mean_blocks.GlobalSituation.{Situation}
+use Rattle.est_meaning.specs.mean_blocks.Outcome.{Done}
+use Rattle.est_meaning.specs.mean_blocks.TextByPlace.{text_of}
+use Rattle.est_meaning.specs.declared.event.Event.{Event}
+use Rattle.est_meaning.specs.FiringSteps.{start_of}
+use Rattle.est_meaning.specs.declared.run.Move.{Move}
 use Rattle.est_search.specs.Verdict.{IsVerdict}
 use Rattle.est_search.specs.declared.verdict.Verdict.{Verdict}
-use Rattle.est_making.specs.declared.made.Made.{Made}
-use Rattle.est_making.specs.declared.made.Made.TheVariants.{Trace, NoStart, StartLimit, Limit}
-use Rattle.est_making.specs.Recipe as recipe
-use Rattle.est_written_traces.specs.WrittenTraces.{trace_text}
-use Rattle.est_files.specs.FileEnds.{End, reported, EndsAt, EndsAtText, HoldsSpecification}
-use Rattle.est_files.specs.FileTexts.{IsText, OfTrace, RefusesSpecification, RefusesTrace}
-use Rattle.est_files.specs.declared.file.File.TheVariants as file
-use Rattle.est_files.specs.Seen.{Seen}
-use Rattle.est_words.specs.declared.status.Status.TheVariants as status
-use Rattle.est_words.specs.Requests.{usual_silent, usual_budget, usual_statements}
-use Rattle.est_reports.specs.SearchReports.{no_start_line, over_start_line, verdict_status}
-use Rattle.est_reports.specs.SelfRunReports.{limit_line, made_line, search_line}
-use Rattle.est_runs.specs.Task.{setup_from}
+use Rattle.run_make.specs.declared.made.Made.{Made}
+use Rattle.run_make.specs.declared.made.Made.TheVariants.{Trace, NoStart, StartLimit, Limit}
+use Rattle.run_make.specs.Recipe as recipe
+use Rattle.call_files.specs.est_trace.WrittenTraces.{trace_text}
+use Rattle.call_files.specs.FileEnds.{End, reported, EndsAt, EndsAtText, HoldsSpecification}
+use Rattle.call_files.specs.FileTexts.{IsText, OfTrace, RefusesSpecification, RefusesTrace}
+use Rattle.call_files.specs.declared.file.File.TheVariants as file
+use Rattle.call_files.specs.Seen.{Seen}
+use Rattle.call_files.specs.declared.status.Status.TheVariants as status
+use Rattle.call_files.specs.Requests.{usual_silent, usual_budget, usual_statements}
+use Rattle.call_files.specs.SearchReports.{no_start_line, over_start_line, verdict_status}
+use Rattle.call_files.specs.SelfRunReports.{limit_line, made_line, search_line}
+use Rattle.est_meaning.specs.Task.{setup_from}
 
 -- this is made of the specification, by a seed and a least number of events, within the usual limits
 abbrev pub IsMadeOf : Spec → ℕ → ℕ → Made → Type 0

@@ -1,10 +1,10 @@
 -- Which files a call starts.
 use Rattle.std.specs.Prelude.{◌≡◌, ℕ, List, [], ◌∷◌}
 use Rattle.est_syntax.specs.declared.specification.Spec.{Spec}
-use Rattle.est_choices.specs.declared.event.Event.{Event}
-use Rattle.est_files.specs.Seen.{Seen}
-use Rattle.est_files.specs.FileEnds.{HoldsSpecification, HoldsTrace}
-use Rattle.est_words.specs.Requests.{Request, check, explain, replay, selfrun}
+use Rattle.est_meaning.specs.declared.event.Event.{Event}
+use Rattle.call_files.specs.Seen.{Seen}
+use Rattle.call_files.specs.FileEnds.{HoldsSpecification, HoldsTrace}
+use Rattle.call_files.specs.Requests.{Request, check, explain, replay, selfrun}
 
 -- `replay` starts its files in their order, each once, and one only where those before it are good
 pub data ReplayStarts (shelf : Seen) (specification trace explanation : List ℕ)

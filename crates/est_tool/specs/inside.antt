@@ -1,5 +1,6 @@
 -- What only the private functions say.
 pub mod Searching
 pub mod SelfRunning
+pub mod TraceWork
 pub mod Work
 pub mod Written

@@ -1,33 +1,32 @@
 //! The commands.
 ghost use Rattle.std.specs.Prelude.{◌≤◌, [], ◌∷◌, length};
-ghost use Rattle.est_choices.specs.AllowedEvents.{IsAllowedTrace, most_events};
-ghost use Rattle.est_replaying.specs.Replay.{most_moves};
-ghost use Rattle.est_files.specs.declared.file.File.TheVariants as file;
-ghost use Rattle.est_files.specs.Seen.{seen, shelved};
-ghost use Rattle.est_files.specs.FileTexts.{Holds, OfSpecification, OfTrace};
-ghost use Rattle.est_words.specs.Requests.{check, explain, replay};
+ghost use Rattle.est_meaning.specs.AllowedEvents.{IsAllowedTrace, most_events};
+ghost use Rattle.call_files.specs.est_explanation.Replay.{most_moves};
+ghost use Rattle.call_files.specs.declared.file.File.TheVariants as file;
+ghost use Rattle.call_files.specs.Seen.{seen, shelved};
+ghost use Rattle.call_files.specs.FileTexts.{Holds, OfSpecification, OfTrace};
+ghost use Rattle.call_files.specs.Requests.{check, explain, replay};
 ghost use Rattle.est_tool.specs.inside.Work.{IsWork, Gives, IsCounted};
 ghost use Rattle.est_tool.specs.inside.Work.{IsAnswered, IsExplained, IsReport, Tells};
-ghost use Rattle.est_reports.specs.SearchReports.{no_start_line, over_start_line};
+ghost use Rattle.call_files.specs.SearchReports.{no_start_line, over_start_line};
 
 use crate::replay_report::{replay_report, replay_status};
 use crate::search::{Searched, search};
-use est_check::Checked;
-use est_choices::event::Trace;
-use est_edge::Shelf;
-use est_explanation::explanation::Explanation;
-use est_files::explanation::explanation_in;
-use est_files::specification::specification_in;
-use est_files::trace::trace_in;
-use est_files::{Report, Stop};
-use est_replay::checked::replay;
-use est_reports::report::ok_report;
-use est_reports::search_report::{
+use call_files::check_report::ok_report;
+use call_files::est_check::Checked;
+use call_files::est_explanation::explanation::Explanation;
+use call_files::explanation::explanation_in;
+use call_files::search_report::{
     no_start_report, over_start_report, verdict_report, verdict_status,
 };
-use est_runs::run::Limits;
-use est_semantics::fault::BlockFault;
-use est_words::status::Status;
+use call_files::specification::specification_in;
+use call_files::status::Status;
+use call_files::trace::trace_in;
+use call_files::{Report, Shelf, Stop};
+use est_meaning::event::Trace;
+use est_meaning::mean_blocks::fault::BlockFault;
+use est_meaning::run::Limits;
+use est_replay::checked::replay;
 use std::alloc::Global;
 
 /// The names of the files of a search.

@@ -1,8 +1,15 @@
-//! The commands of the program, and the top call.
+//! The commands of the programs, with the top call; among them `trace` of the second one, which
+//! writes a trace that a specification makes of itself.
 #![tactic(auto)]
 
 mod commands;
+pub mod made;
+mod made_report;
+pub mod made_trace;
+mod made_words;
 mod replay_report;
 pub mod search;
 mod self_run;
 pub mod top;
+
+pub use call_files;

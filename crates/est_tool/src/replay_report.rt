@@ -1,13 +1,13 @@
 //! The reports of replays.
 ghost use Rattle.std.specs.Prelude.{◌≡◌, ◌++◌, IfOk, codes, string_bytes};
-ghost use Rattle.est_reports.specs.Reports.{fault_text};
+ghost use Rattle.call_files.specs.Reports.{fault_text};
 ghost use Rattle.est_tool.specs.ReplayReports.{all_line, first_line, rejected_line, replay_line};
 ghost use Rattle.est_tool.specs.ReplayReports.{replay_status, why_text};
 
-use est_replaying::verdict::{Replayed, Why};
-use est_reports::report::fault_text;
-use est_semantics::fault::BlockFault;
-use est_words::status::Status;
+use call_files::check_report::fault_text;
+use call_files::est_explanation::verdict::{Replayed, Why};
+use call_files::status::Status;
+use est_meaning::mean_blocks::fault::BlockFault;
 use std::alloc::{AllocError, Global};
 
 /// The report of a replay on a trace of so many events.

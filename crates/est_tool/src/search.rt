@@ -1,16 +1,16 @@
 //! The search for an explanation, from the start of a specification.
 ghost use Rattle.std.specs.Prelude.{IfOk};
-ghost use Rattle.est_choices.specs.AllowedEvents.{IsAllowedTrace};
+ghost use Rattle.est_meaning.specs.AllowedEvents.{IsAllowedTrace};
 ghost use Rattle.est_tool.specs.inside.Searching.{IsSearched};
 
-use est_check::Checked;
-use est_choices::event::Trace;
-use est_running::world::PlainWorld;
-use est_runs::run::Limits;
+use call_files::est_check::Checked;
+use est_meaning::answers::Started;
+use est_meaning::event::Trace;
+use est_meaning::mean_blocks::fault::BlockFault;
+use est_meaning::run::Limits;
+use est_replay::est_plain::world::PlainWorld;
 use est_search::explain::explain;
 use est_search::verdict::Verdict;
-use est_semantics::fault::BlockFault;
-use est_worlds::answers::Started;
 use std::alloc::{AllocError, Global};
 
 /// What came of a search: a verdict, or, of a start that is not ready, a fault or a passed limit.

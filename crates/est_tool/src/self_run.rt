@@ -1,31 +1,30 @@
 //! Traces that a specification makes of itself, explained.
 ghost use Rattle.std.specs.Prelude.{[]};
-ghost use Rattle.est_choices.specs.AllowedEvents.{IsAllowedTrace};
-ghost use Rattle.est_making.specs.declared.made.Made.TheVariants as made;
-ghost use Rattle.est_files.specs.Seen.{seen, shelved};
-ghost use Rattle.est_words.specs.Requests.{selfrun};
-ghost use Rattle.est_reports.specs.SelfRunReports.{limit_line};
+ghost use Rattle.est_meaning.specs.AllowedEvents.{IsAllowedTrace};
+ghost use Rattle.run_make.specs.declared.made.Made.TheVariants as made;
+ghost use Rattle.call_files.specs.Seen.{seen, shelved};
+ghost use Rattle.call_files.specs.Requests.{selfrun};
+ghost use Rattle.call_files.specs.SelfRunReports.{limit_line};
 ghost use Rattle.est_tool.specs.SelfRuns.{MadeEnds};
 ghost use Rattle.est_tool.specs.inside.SelfRunning.{EndsMaking, EndsWritten, IsReady};
 ghost use Rattle.est_tool.specs.inside.SelfRunning.{IsReadyFor, IsSearchedFor};
 ghost use Rattle.est_tool.specs.inside.Work.{Gives, IsMade, IsReport, IsWork};
 
 use crate::commands::{not_started, start_over};
+use crate::made::make;
 use crate::search::{Searched, search};
-use est_check::Checked;
-use est_choices::event::Trace;
-use est_edge::Shelf;
-use est_files::specification::specification_in;
-use est_files::trace::trace_of_text;
-use est_files::{Report, Stop};
-use est_make::checked::make;
-use est_making::made::Made;
-use est_reports::search_report::verdict_status;
-use est_reports::self_run_report::{Sizes, limit_report, self_run_report};
-use est_runs::run::Move;
-use est_words::status::Status;
-use est_words::words::USUAL;
-use est_written_traces::trace::write_trace;
+use call_files::est_check::Checked;
+use call_files::est_trace::written_trace::write_trace;
+use call_files::search_report::verdict_status;
+use call_files::self_run_report::{Sizes, limit_report, self_run_report};
+use call_files::specification::specification_in;
+use call_files::status::Status;
+use call_files::trace::trace_of_text;
+use call_files::words::USUAL;
+use call_files::{Report, Shelf, Stop};
+use est_meaning::event::Trace;
+use est_meaning::run::Move;
+use run_make::made::Made;
 use std::alloc::Global;
 
 /// Makes a trace of the specification in a file, and explains what was written of it.

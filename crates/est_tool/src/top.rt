@@ -1,16 +1,15 @@
 //! The top call.
-ghost use Rattle.est_files.specs.Seen.{seen, shelved, sent};
+ghost use Rattle.call_files.specs.Seen.{seen, shelved, sent};
 ghost use Rattle.est_tool.specs.Result.{IsResult};
-ghost use Rattle.est_words.specs.Requests.{IsCommand};
+ghost use Rattle.call_files.specs.Requests.{IsCommand};
 ghost use Rattle.est_tool.specs.inside.Work.{IsMade, IsObeyed};
 ghost use Rattle.est_tool.specs.inside.Written.{HasReport, IsReportable, Delivers, Sends};
 
 use crate::commands::{ExplainFiles, ReplayFiles, check_file, explain_files, replay_files};
 use crate::self_run::self_run_file;
-use est_edge::{Shelf, Sink, write_whole};
-use est_files::{Report, Stop};
-use est_words::status::Status;
-use est_words::words::{BadUsage, Command, read_words};
+use call_files::status::Status;
+use call_files::words::{BadUsage, Command, read_words};
+use call_files::{Report, Shelf, Sink, Stop, write_whole};
 use std::alloc::Global;
 
 /// Does what the words ask for: reads the files that they name, and writes one report. The report

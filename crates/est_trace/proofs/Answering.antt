@@ -4,21 +4,21 @@ use Rattle.std.specs.Result.{IsErr, IsErrAnd}
 use Rattle.est_lexer.specs.declared.tokens.Tokens.{Tokens}
 use Rattle.est_lexer.specs.Offsets.{text_of, tokens_of}
 use Rattle.est_syntax.specs.declared.ports.Port.{Port}
-use Rattle.est_choices.specs.declared.event.Event.{Event}
-use Rattle.est_choices.specs.AllowedEvents.{most_events}
-use Rattle.est_reader.specs.declared.reader.Reader.{Reader}
-use Rattle.est_reader.specs.declared.outcome.Outcome.TheVariants.{Well}
-use Rattle.est_reader.specs.declared.refusal.Refusal.{Refusal}
-use Rattle.est_reader.specs.declared.refusal.Refusal.TheVariants.{BadToken, TooDeep, Memory}
-use Rattle.est_reader.specs.Moving.{Does}
-use Rattle.est_reader.specs.Whole.{Starts, Finishes}
-use Rattle.est_reader.proofs.Whole.{whole_read, whole_refused, got_deep}
+use Rattle.est_meaning.specs.declared.event.Event.{Event}
+use Rattle.est_meaning.specs.AllowedEvents.{most_events}
+use Rattle.text_reader.specs.declared.reader.Reader.{Reader}
+use Rattle.text_reader.specs.declared.outcome.Outcome.TheVariants.{Well}
+use Rattle.text_reader.specs.declared.refusal.Refusal.{Refusal}
+use Rattle.text_reader.specs.declared.refusal.Refusal.TheVariants.{BadToken, TooDeep, Memory}
+use Rattle.text_reader.specs.Moving.{Does}
+use Rattle.text_reader.specs.Whole.{Starts, Finishes}
+use Rattle.text_reader.proofs.Whole.{whole_read, whole_refused, got_deep}
 use Rattle.est_trace.specs.declared.error.TraceError.{TraceError}
 use Rattle.est_trace.specs.TraceErrors.{of_refusal}
-use Rattle.est_value_texts.specs.TraceGrammar.{trace}
-use Rattle.est_value_texts.specs.ValueReading.{Reads}
-use Rattle.est_value_texts.proofs.Known.{known}
-use Rattle.est_port_names.specs.PortNames.{GoodPorts}
+use Rattle.text_values.specs.TraceGrammar.{trace}
+use Rattle.text_values.specs.ValueReading.{Reads}
+use Rattle.text_values.proofs.Known.{known}
+use Rattle.est_trace.specs.PortNames.{GoodPorts}
 use Rattle.est_trace.specs.TraceShapes.{ShowsTrace}
 use Rattle.est_trace.specs.inside.AtPorts.{AreAtPorts}
 use Rattle.est_trace.specs.inside.Counting.{CountsTrace}

@@ -3,11 +3,11 @@ use Rattle.std.proofs.Common.{◌≡◌, ◌≤◌, List, length, get_or, subst}
 use Rattle.std.specs.Prelude.{Result, Ok, Err, IfOk}
 use Rattle.est_syntax.specs.declared.ports.Port.{Port}
 use Rattle.est_syntax.specs.declared.specification.Spec.{Spec}
-use Rattle.est_declares.specs.PortList.{ports_of}
-use Rattle.est_choices.specs.declared.event.Event.{Event}
-use Rattle.est_choices.specs.declared.event.Event.TheVariants.{Arrives, Leaves, Passes}
-use Rattle.est_choices.specs.AllowedEvents.{IsReceivable, IsSendable, IsAllowed}
-use Rattle.est_choices.specs.AllowedEvents.{most_events, IsAllowedTrace}
+use Rattle.est_meaning.specs.rule_declares.PortList.{ports_of}
+use Rattle.est_meaning.specs.declared.event.Event.{Event}
+use Rattle.est_meaning.specs.declared.event.Event.TheVariants.{Arrives, Leaves, Passes}
+use Rattle.est_meaning.specs.AllowedEvents.{IsReceivable, IsSendable, IsAllowed}
+use Rattle.est_meaning.specs.AllowedEvents.{most_events, IsAllowedTrace}
 use Rattle.est_trace.specs.declared.error.TraceError.{TraceError}
 use Rattle.est_trace.specs.inside.AtPorts.{IsAtPorts, AreAtPorts}
 

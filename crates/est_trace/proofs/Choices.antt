@@ -3,12 +3,12 @@ use Rattle.std.proofs.Common.{inl, ◌≡◌, ℕ, Bool, true, List, sym, ◌∙
 use Rattle.std.proofs.lemmas.Slice.Eq.{bytes_eq-Decides}
 use Rattle.est_lexer.specs.declared.tokens.Tokens.{Tokens}
 use Rattle.est_lexer.specs.Offsets.{text_of, tokens_of}
-use Rattle.est_language.specs.Grammar.{word}
-use Rattle.est_language.proofs.Laws as laws
-use Rattle.est_language.proofs.Exits.{not_met}
-use Rattle.est_reader.specs.Tests.{named, holds, stands}
-use Rattle.est_reader.specs.Moving.{IsNamedAt}
-use Rattle.est_value_texts.specs.TraceGrammar.{Rule, marks}
+use Rattle.text_reader.specs.Grammar.{word}
+use Rattle.text_reader.proofs.GrammarLaws as laws
+use Rattle.text_reader.proofs.Exits.{not_met}
+use Rattle.text_reader.specs.Tests.{named, holds, stands}
+use Rattle.text_reader.specs.Moving.{IsNamedAt}
+use Rattle.text_values.specs.TraceGrammar.{Rule, marks}
 use Rattle.est_trace.specs.TraceText.{traces}
 use Rattle.est_trace.specs.inside.Lookups.{IsChosen}
 use Rattle.est_trace.proofs.Names.{named_item, item_begun}

@@ -7,33 +7,33 @@ use Rattle.std.specs.Option.{IsSomeAnd}
 use Rattle.est_lexer.specs.declared.kind.Token.{Token}
 use Rattle.est_lexer.specs.declared.tokens.Tokens.{Tokens}
 use Rattle.est_lexer.specs.Offsets.{text_of, tokens_of}
-use Rattle.est_language.specs.Grammar.{rule, seq, deeper, nothing}
-use Rattle.est_language.specs.Grammar.{some, both, Tree, t_rule, t_opt_in, t_opt_out, t_deeper}
-use Rattle.est_language.specs.Grammar.{t_seq, Partial, p_none, p_word, p_left, p_right, p_first}
-use Rattle.est_language.specs.Marks.{MeetsOne, Apart, can_begin, can_go_on}
-use Rattle.est_language.specs.Findings.{Found, Refused}
-use Rattle.est_language.proofs.Laws as laws
-use Rattle.est_language.proofs.Repeats as repeats
-use Rattle.est_language.proofs.Flat.{too_deep_any}
+use Rattle.text_reader.specs.Grammar.{rule, seq, deeper, nothing}
+use Rattle.text_reader.specs.Grammar.{some, both, Tree, t_rule, t_opt_in, t_opt_out, t_deeper}
+use Rattle.text_reader.specs.Grammar.{t_seq, Partial, p_none, p_word, p_left, p_right, p_first}
+use Rattle.text_reader.specs.Marks.{MeetsOne, Apart, can_begin, can_go_on}
+use Rattle.text_reader.specs.Findings.{Found, Refused}
+use Rattle.text_reader.proofs.GrammarLaws as laws
+use Rattle.text_reader.proofs.Repeats as repeats
+use Rattle.text_reader.proofs.Flat.{too_deep_any}
 use Rattle.est_syntax.specs.declared.ports.Port.{Port}
-use Rattle.est_choices.specs.declared.event.Event.{Event}
-use Rattle.est_choices.specs.declared.event.Event.TheVariants.{Passes}
-use Rattle.est_reader.specs.declared.reader.Reader.{Reader}
-use Rattle.est_reader.specs.declared.outcome.Outcome.{Outcome}
-use Rattle.est_reader.specs.declared.outcome.Outcome.TheVariants.{Well, Wrong, TooDeep, NoMemory}
-use Rattle.est_reader.specs.Tests.{Test, said, holds, stands}
-use Rattle.est_reader.specs.Moving.{bit, Does, Seen, Sees, NoneSeen, OneSeen}
-use Rattle.est_reader.specs.Moving.{Closes, Still, Kept, KeptSome, EntersAt, Enters}
-use Rattle.est_reader.specs.Going.{Shape, Fails}
-use Rattle.est_reader.proofs.Steps.{onto, after, stay, was_well, seen_among, sees_well}
-use Rattle.est_reader.proofs.Steps.{sees_it, none_meets, left_of, bit_small}
-use Rattle.est_reader.proofs.Going.{begins_it}
-use Rattle.est_reader.proofs.Turns.{lessens}
-use Rattle.est_value_texts.specs.TraceGrammar.{Rule, event, marks, event_starts, events_at}
-use Rattle.est_value_texts.specs.ValueReading.{plain, Reads}
-use Rattle.est_value_texts.proofs.Known.{known}
-use Rattle.est_value_texts.proofs.Closed.{event_closed, is_closed}
-use Rattle.est_value_texts.proofs.Level.{level_free, free_opens_none, event_free}
+use Rattle.est_meaning.specs.declared.event.Event.{Event}
+use Rattle.est_meaning.specs.declared.event.Event.TheVariants.{Passes}
+use Rattle.text_reader.specs.declared.reader.Reader.{Reader}
+use Rattle.text_reader.specs.declared.outcome.Outcome.{Outcome}
+use Rattle.text_reader.specs.declared.outcome.Outcome.TheVariants.{Well, Wrong, TooDeep, NoMemory}
+use Rattle.text_reader.specs.Tests.{Test, said, holds, stands}
+use Rattle.text_reader.specs.Moving.{bit, Does, Seen, Sees, NoneSeen, OneSeen}
+use Rattle.text_reader.specs.Moving.{Closes, Still, Kept, KeptSome, EntersAt, Enters}
+use Rattle.text_reader.specs.Going.{Shape, Fails}
+use Rattle.text_reader.proofs.Steps.{onto, after, stay, was_well, seen_among, sees_well}
+use Rattle.text_reader.proofs.Steps.{sees_it, none_meets, left_of, bit_small}
+use Rattle.text_reader.proofs.Going.{begins_it}
+use Rattle.text_reader.proofs.Turns.{lessens}
+use Rattle.text_values.specs.TraceGrammar.{Rule, event, marks, event_starts, events_at}
+use Rattle.text_values.specs.ValueReading.{plain, Reads}
+use Rattle.text_values.proofs.Known.{known}
+use Rattle.text_values.proofs.Closed.{event_closed, is_closed}
+use Rattle.text_values.proofs.Level.{level_free, free_opens_none, event_free}
 use Rattle.est_trace.specs.TraceShapes.{ShowsEvent, ShowsEvents}
 use Rattle.est_trace.specs.inside.Counting.{CountsEvents}
 use Rattle.est_trace.specs.TraceText.{traces, nested, IsFullAfter}

@@ -3,21 +3,21 @@ use Rattle.std.proofs.Common.{◌≡◌, ℕ, suc, ◌+◌, ◌<◌, ◌≤◌, 
 use Rattle.std.proofs.Common.{[], ◌∷◌, length, sym, ◌∙◌, subst, arith, add-one}
 use Rattle.est_lexer.specs.declared.tokens.Tokens.{Tokens}
 use Rattle.est_lexer.specs.Offsets.{text_of, tokens_of}
-use Rattle.est_language.specs.Grammar.{rule, nothing, Tree, t_rule, t_opt_in}
-use Rattle.est_language.specs.Grammar.{t_opt_out, t_deeper, t_seq, Partial, p_rule}
-use Rattle.est_language.specs.Grammar.{p_opt, p_deeper, p_first, p_second, p_word}
-use Rattle.est_language.specs.Sentences.{HasPartial}
-use Rattle.est_language.specs.Refusals.{SaysWhy, wrong_at}
-use Rattle.est_language.proofs.Laws as laws
-use Rattle.est_language.proofs.Trees as trees
+use Rattle.text_reader.specs.Grammar.{rule, nothing, Tree, t_rule, t_opt_in}
+use Rattle.text_reader.specs.Grammar.{t_opt_out, t_deeper, t_seq, Partial, p_rule}
+use Rattle.text_reader.specs.Grammar.{p_opt, p_deeper, p_first, p_second, p_word}
+use Rattle.text_reader.specs.Sentences.{HasPartial}
+use Rattle.text_reader.specs.Refusals.{SaysWhy, wrong_at}
+use Rattle.text_reader.proofs.GrammarLaws as laws
+use Rattle.text_reader.proofs.Trees as trees
 use Rattle.est_syntax.specs.declared.ports.Port.{Port}
-use Rattle.est_reader.specs.declared.reader.Reader.{Reader}
-use Rattle.est_reader.specs.Tests.{Test, said, number, stands}
-use Rattle.est_reader.specs.Moving.{Does, Taken, NotThere, Takes, Same}
-use Rattle.est_reader.specs.Going.{Shape}
-use Rattle.est_reader.proofs.Steps.{onto, after}
-use Rattle.est_value_texts.specs.TraceGrammar.{trace, event_starts, events_at}
-use Rattle.est_value_texts.proofs.Level.{tree_any, partial_any, event_free}
+use Rattle.text_reader.specs.declared.reader.Reader.{Reader}
+use Rattle.text_reader.specs.Tests.{Test, said, number, stands}
+use Rattle.text_reader.specs.Moving.{Does, Taken, NotThere, Takes, Same}
+use Rattle.text_reader.specs.Going.{Shape}
+use Rattle.text_reader.proofs.Steps.{onto, after}
+use Rattle.text_values.specs.TraceGrammar.{trace, event_starts, events_at}
+use Rattle.text_values.proofs.Level.{tree_any, partial_any, event_free}
 use Rattle.est_trace.specs.inside.Counting.{CountsEvents, CountsTrace}
 use Rattle.est_trace.specs.TraceText.{traces, nested, IsFullAfter, IsFull}
 use Rattle.est_trace.proofs.Events.{event_partial, BeginsEvent}

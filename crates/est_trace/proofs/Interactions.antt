@@ -6,29 +6,29 @@ use Rattle.std.specs.Option.{unwrap_or, option_map, IsSomeAnd}
 use Rattle.est_lexer.specs.declared.kind.TokenKind.TheVariants.{Symbol}
 use Rattle.est_lexer.specs.declared.kind.Symbol.TheVariants.{Period}
 use Rattle.est_lexer.specs.Offsets.{text_of, tokens_of}
-use Rattle.est_language.specs.Grammar.{one_of, seq, both, pick}
-use Rattle.est_language.proofs.Members.{and_left}
+use Rattle.text_reader.specs.Grammar.{one_of, seq, both, pick}
+use Rattle.text_reader.proofs.Members.{and_left}
 use Rattle.est_syntax.specs.declared.ports.Direction.{Direction}
 use Rattle.est_syntax.specs.declared.ports.Port.{Port}
 use Rattle.est_syntax.specs.declared.ports.Signal.{Signal}
 use Rattle.est_values.specs.declared.value.Value.{Value}
 use Rattle.est_values.specs.FittingValues.{IsOrdinalOf}
-use Rattle.est_declares.specs.Differing.{HaveDifferentNames}
-use Rattle.est_choices.specs.declared.event.Interaction.{Interaction}
-use Rattle.est_reader.specs.declared.reader.Reader.{Reader}
-use Rattle.est_reader.specs.declared.outcome.Outcome.TheVariants.{Well}
-use Rattle.est_reader.specs.Tests.{kind}
-use Rattle.est_reader.specs.Moving.{Takes}
-use Rattle.est_reader.specs.Going.{Shape}
-use Rattle.est_value_texts.specs.TraceGrammar.{subscripts, parameters, passes, some_pass}
-use Rattle.est_value_texts.specs.TraceGrammar.{signal, dot_signal}
-use Rattle.est_value_texts.specs.TraceGrammar.{is_head, port}
-use Rattle.est_value_texts.specs.ValueShapes.{AreBracketed, ShowsOrdinal, ShowsValue}
-use Rattle.est_value_texts.specs.ValueReading.{Reads}
-use Rattle.est_value_texts.proofs.Closed.{subscripts_closed}
-use Rattle.est_value_texts.proofs.FitsShown.{index_fits}
-use Rattle.est_port_names.specs.PortNames.{GoodPorts, IsElementOf, port_name, signal_name}
-use Rattle.est_port_names.specs.PortNames.{kinds_of, signals_of}
+use Rattle.est_meaning.specs.rule_declares.Differing.{HaveDifferentNames}
+use Rattle.est_meaning.specs.declared.event.Interaction.{Interaction}
+use Rattle.text_reader.specs.declared.reader.Reader.{Reader}
+use Rattle.text_reader.specs.declared.outcome.Outcome.TheVariants.{Well}
+use Rattle.text_reader.specs.Tests.{kind}
+use Rattle.text_reader.specs.Moving.{Takes}
+use Rattle.text_reader.specs.Going.{Shape}
+use Rattle.text_values.specs.TraceGrammar.{subscripts, parameters, passes, some_pass}
+use Rattle.text_values.specs.TraceGrammar.{signal, dot_signal}
+use Rattle.text_values.specs.TraceGrammar.{is_head, port}
+use Rattle.text_values.specs.ValueShapes.{AreBracketed, ShowsOrdinal, ShowsValue}
+use Rattle.text_values.specs.ValueReading.{Reads}
+use Rattle.text_values.proofs.Closed.{subscripts_closed}
+use Rattle.text_values.proofs.FitsShown.{index_fits}
+use Rattle.est_trace.specs.PortNames.{GoodPorts, IsElementOf, port_name, signal_name}
+use Rattle.est_trace.specs.PortNames.{kinds_of, signals_of}
 use Rattle.est_trace.specs.TraceShapes.{ShowsInteraction}
 use Rattle.est_trace.specs.inside.Parts.{IsPortAt, parameters_of, interaction_of, ShowsElement}
 use Rattle.est_trace.specs.inside.Parts.{ShowsSignal}

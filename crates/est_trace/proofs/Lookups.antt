@@ -3,21 +3,21 @@ use Rattle.std.proofs.Common.{◌≡◌, ℕ, Bool, true, false, ◌&&◌, List,
 use Rattle.std.proofs.Common.{Some, None, slice_get}
 use Rattle.std.specs.Option.{option_map_or}
 use Rattle.est_lexer.specs.declared.tokens.Tokens.{Tokens}
-use Rattle.est_language.specs.Grammar.{seq}
-use Rattle.est_language.proofs.Exits.{not_met}
-use Rattle.est_language.proofs.Members.{and_right}
+use Rattle.text_reader.specs.Grammar.{seq}
+use Rattle.text_reader.proofs.Exits.{not_met}
+use Rattle.text_reader.proofs.Members.{and_right}
 use Rattle.est_syntax.specs.declared.ports.Direction.{Direction}
 use Rattle.est_syntax.specs.declared.ports.Port.{Port}
 use Rattle.est_syntax.specs.declared.ports.Signal.{Signal}
-use Rattle.est_declares.specs.Differing.{HaveDifferentNames}
-use Rattle.est_reader.specs.Moving.{IsNamedAt}
-use Rattle.est_value_texts.specs.TraceGrammar.{Rule, subscripts, parameters, passes, some_pass}
-use Rattle.est_value_texts.specs.TraceGrammar.{signal, dot_signal, is_head, port}
-use Rattle.est_port_names.specs.PortNames as names
-use Rattle.est_port_names.specs.PortNames.{GoodPorts, IsHeadOf, IsNumberOf, port_name, signal_name}
-use Rattle.est_port_names.specs.PortNames.{signals_of}
+use Rattle.est_meaning.specs.rule_declares.Differing.{HaveDifferentNames}
+use Rattle.text_reader.specs.Moving.{IsNamedAt}
+use Rattle.text_values.specs.TraceGrammar.{Rule, subscripts, parameters, passes, some_pass}
+use Rattle.text_values.specs.TraceGrammar.{signal, dot_signal, is_head, port}
+use Rattle.est_trace.specs.PortNames as names
+use Rattle.est_trace.specs.PortNames.{GoodPorts, IsHeadOf, IsNumberOf, port_name, signal_name}
+use Rattle.est_trace.specs.PortNames.{signals_of}
 use Rattle.est_trace.specs.inside.Lookups.{IsChosen}
-use Rattle.est_port_names.proofs.Lists.{some_same, mapped_at, image_at}
+use Rattle.est_trace.proofs.Lists.{some_same, mapped_at, image_at}
 use Rattle.est_trace.proofs.SameTests.{same_passes, same_some, same_head}
 use Rattle.est_trace.proofs.Choices.{chosen, no_word, none_named}
 

@@ -3,12 +3,12 @@ use Rattle.std.proofs.Common.{◌≡◌, ℕ, Bool, true, false, List, [], ◌�
 use Rattle.std.proofs.Common.{slice_get, inl, inr}
 use Rattle.std.proofs.lemmas.Slice.Eq.{bytes_eq-Decides}
 use Rattle.est_lexer.specs.declared.kind.Token.{Token}
-use Rattle.est_language.specs.Grammar.{meets, when, word}
-use Rattle.est_language.specs.Marks.{MeetsOne, can_begin, can_be_empty}
-use Rattle.est_language.proofs.Laws.{IsDistinct, when_begins, when_solid}
-use Rattle.est_reader.specs.Tests.{Test, named, holds}
-use Rattle.est_reader.proofs.Apart.{one_name}
-use Rattle.est_value_texts.specs.TraceGrammar.{Rule, marks}
+use Rattle.text_reader.specs.Grammar.{meets, when, word}
+use Rattle.text_reader.specs.Marks.{MeetsOne, can_begin, can_be_empty}
+use Rattle.text_reader.proofs.GrammarLaws.{IsDistinct, when_begins, when_solid}
+use Rattle.text_reader.specs.Tests.{Test, named, holds}
+use Rattle.text_reader.proofs.Apart.{one_name}
+use Rattle.text_values.specs.TraceGrammar.{Rule, marks}
 use Rattle.est_trace.specs.TraceText.{traces}
 
 -- a token that meets one of a single test

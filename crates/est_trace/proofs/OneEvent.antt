@@ -1,23 +1,23 @@
 -- An event, by its first word.
 use Rattle.std.proofs.Common.{◌≡◌, ℕ, true, List, [], ◌∷◌, refl, sym, ap, subst, Option, Some, None}
 use Rattle.std.specs.Option.{option_map, IsSomeAnd}
-use Rattle.est_language.specs.Grammar.{one_of, leaf, left, right}
-use Rattle.est_language.specs.Shown.{Shows, kept, first, second, node, s_kept, s_first, s_second}
+use Rattle.text_reader.specs.Grammar.{one_of, leaf, left, right}
+use Rattle.text_reader.specs.Shown.{Shows, kept, first, second, node, s_kept, s_first, s_second}
 use Rattle.est_syntax.specs.declared.ports.Direction.TheVariants.{Receives, Sends}
 use Rattle.est_syntax.specs.declared.ports.Port.{Port}
 use Rattle.est_syntax.specs.Kinds.{maxint}
-use Rattle.est_choices.specs.declared.event.Event.{Event}
-use Rattle.est_choices.specs.declared.event.Event.TheVariants.{Arrives, Leaves, Passes}
-use Rattle.est_choices.specs.declared.event.Interaction.{Interaction}
-use Rattle.est_reader.specs.declared.reader.Reader.{Reader}
-use Rattle.est_reader.specs.Tests.{said, value}
-use Rattle.est_reader.specs.Moving.{Sees, NoneSeen, Takes, TakesNumber}
-use Rattle.est_reader.specs.Going.{Shape}
-use Rattle.est_reader.proofs.Going.{take, chosen, first_else}
-use Rattle.est_reader.proofs.Single.{number_goes}
-use Rattle.est_value_texts.specs.TraceGrammar.{port, event}
-use Rattle.est_value_texts.specs.ValueReading.{plain, Reads}
-use Rattle.est_value_texts.proofs.Known.{known}
+use Rattle.est_meaning.specs.declared.event.Event.{Event}
+use Rattle.est_meaning.specs.declared.event.Event.TheVariants.{Arrives, Leaves, Passes}
+use Rattle.est_meaning.specs.declared.event.Interaction.{Interaction}
+use Rattle.text_reader.specs.declared.reader.Reader.{Reader}
+use Rattle.text_reader.specs.Tests.{said, value}
+use Rattle.text_reader.specs.Moving.{Sees, NoneSeen, Takes, TakesNumber}
+use Rattle.text_reader.specs.Going.{Shape}
+use Rattle.text_reader.proofs.Going.{take, chosen, first_else}
+use Rattle.text_reader.proofs.Single.{number_goes}
+use Rattle.text_values.specs.TraceGrammar.{port, event}
+use Rattle.text_values.specs.ValueReading.{plain, Reads}
+use Rattle.text_values.proofs.Known.{known}
 use Rattle.est_trace.specs.TraceShapes.{ShowsInteraction, ShowsEvent}
 use Rattle.est_trace.proofs.Readings.{shows_only, as_shape}
 

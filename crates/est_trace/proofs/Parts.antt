@@ -4,17 +4,17 @@ use Rattle.std.proofs.Common.{sym, ◌∙◌, ap, subst, slice_get, Option, Some
 use Rattle.std.specs.Option.{unwrap_or}
 use Rattle.est_lexer.specs.declared.tokens.Tokens.{Tokens}
 use Rattle.est_lexer.specs.Offsets.{text_of, tokens_of}
-use Rattle.est_language.specs.Grammar.{one_of, pick}
-use Rattle.est_language.specs.Findings.{Found}
-use Rattle.est_language.proofs.Laws as laws
-use Rattle.est_reader.specs.declared.reader.Reader.{Reader}
-use Rattle.est_reader.specs.declared.outcome.Outcome.TheVariants.{Well}
-use Rattle.est_reader.specs.Moving.{Still, Steps}
-use Rattle.est_reader.specs.Going.{Shape, Fails}
-use Rattle.est_reader.proofs.Steps.{after, same_on}
-use Rattle.est_value_texts.specs.TraceGrammar.{Rule, marks}
-use Rattle.est_value_texts.specs.ValueReading.{plain, Reads}
-use Rattle.est_value_texts.proofs.Known.{known}
+use Rattle.text_reader.specs.Grammar.{one_of, pick}
+use Rattle.text_reader.specs.Findings.{Found}
+use Rattle.text_reader.proofs.GrammarLaws as laws
+use Rattle.text_reader.specs.declared.reader.Reader.{Reader}
+use Rattle.text_reader.specs.declared.outcome.Outcome.TheVariants.{Well}
+use Rattle.text_reader.specs.Moving.{Still, Steps}
+use Rattle.text_reader.specs.Going.{Shape, Fails}
+use Rattle.text_reader.proofs.Steps.{after, same_on}
+use Rattle.text_values.specs.TraceGrammar.{Rule, marks}
+use Rattle.text_values.specs.ValueReading.{plain, Reads}
+use Rattle.text_values.proofs.Known.{known}
 use Rattle.est_trace.specs.inside.Lookups.{Begins, IsChosen, Chooses}
 use Rattle.est_trace.specs.TraceText.{traces}
 use Rattle.est_trace.proofs.Names.{AreTold, named_item, item_begun, item_solid, items_distinct}

@@ -2,25 +2,25 @@
 use Rattle.std.proofs.Common.{◌≡◌, ℕ, Bool, true, [], ◌∷◌, refl, sym, ap, subst}
 use Rattle.est_lexer.specs.declared.tokens.Tokens.{Tokens}
 use Rattle.est_lexer.specs.Offsets.{text_of, tokens_of}
-use Rattle.est_language.specs.Grammar.{done, word, seq, nothing, leaf, placed, both, left}
-use Rattle.est_language.specs.Grammar.{right, some}
-use Rattle.est_language.specs.Marks.{can_begin, can_go_on, disjoint}
-use Rattle.est_language.specs.Findings.{Found}
-use Rattle.est_language.specs.Shown.{Shows, node, s_empty, s_kept, s_at, s_pair, s_first, s_second}
-use Rattle.est_language.specs.Shown.{s_given, s_node}
-use Rattle.est_language.proofs.Laws as laws
-use Rattle.est_reader.specs.declared.reader.Reader.{Reader}
-use Rattle.est_reader.specs.declared.outcome.Outcome.{Outcome}
-use Rattle.est_reader.specs.declared.outcome.Outcome.TheVariants.{Well, Wrong, TooDeep, NoMemory}
-use Rattle.est_reader.specs.Tests.{Test, apart}
-use Rattle.est_reader.specs.Moving.{Does, Same, Still, Taken, NotThere, Takes}
-use Rattle.est_reader.specs.Going.{Shape, View, Finds, Fails, Goes}
-use Rattle.est_reader.proofs.Steps.{onto, after, was_well, same_on}
-use Rattle.est_reader.proofs.Going.{goes_onto, part, take, then, last}
-use Rattle.est_value_texts.specs.TraceGrammar.{Rule, marks}
-use Rattle.est_value_texts.specs.ValueReading.{plain, Reads}
-use Rattle.est_value_texts.proofs.Closed.{is_closed}
-use Rattle.est_value_texts.proofs.Known.{known}
+use Rattle.text_reader.specs.Grammar.{done, word, seq, nothing, leaf, placed, both, left}
+use Rattle.text_reader.specs.Grammar.{right, some}
+use Rattle.text_reader.specs.Marks.{can_begin, can_go_on, disjoint}
+use Rattle.text_reader.specs.Findings.{Found}
+use Rattle.text_reader.specs.Shown.{Shows, node, s_empty, s_kept, s_at, s_pair, s_first, s_second}
+use Rattle.text_reader.specs.Shown.{s_given, s_node}
+use Rattle.text_reader.proofs.GrammarLaws as laws
+use Rattle.text_reader.specs.declared.reader.Reader.{Reader}
+use Rattle.text_reader.specs.declared.outcome.Outcome.{Outcome}
+use Rattle.text_reader.specs.declared.outcome.Outcome.TheVariants.{Well, Wrong, TooDeep, NoMemory}
+use Rattle.text_reader.specs.Tests.{Test, apart}
+use Rattle.text_reader.specs.Moving.{Does, Same, Still, Taken, NotThere, Takes}
+use Rattle.text_reader.specs.Going.{Shape, View, Finds, Fails, Goes}
+use Rattle.text_reader.proofs.Steps.{onto, after, was_well, same_on}
+use Rattle.text_reader.proofs.Going.{goes_onto, part, take, then, last}
+use Rattle.text_values.specs.TraceGrammar.{Rule, marks}
+use Rattle.text_values.specs.ValueReading.{plain, Reads}
+use Rattle.text_values.proofs.Closed.{is_closed}
+use Rattle.text_values.proofs.Known.{known}
 use Rattle.est_trace.specs.TraceText.{traces}
 
 -- a shape is shown by itself

@@ -7,8 +7,8 @@ use Rattle.est_syntax.specs.declared.ports.Direction.TheVariants.{Receives, Send
 use Rattle.est_syntax.specs.declared.ports.Port.{Port}
 use Rattle.est_syntax.specs.declared.ports.Signal.{Signal}
 use Rattle.est_values.specs.FittingValues.{first_ordinal}
-use Rattle.est_value_texts.specs.TraceGrammar as grammar
-use Rattle.est_port_names.specs.PortNames as names
+use Rattle.text_values.specs.TraceGrammar as grammar
+use Rattle.est_trace.specs.PortNames as names
 
 pub same_passes : (d : Direction) (x : Signal) → names.passes d x ≡ grammar.passes d x
 same_passes Receives x = refl

@@ -8,11 +8,11 @@ use Rattle.est_lexer.specs.declared.kind.Token.{Token}
 use Rattle.est_lexer.specs.declared.kind.TokenKind.TheVariants.{Number}
 use Rattle.est_lexer.specs.TokenKinds.{is_same}
 use Rattle.est_lexer.specs.Spans.{spelling}
-use Rattle.est_language.specs.Grammar.{one_of, when, word, seq, rule, meets, KeptOf, Tree}
-use Rattle.est_language.specs.Grammar.{nothing, leaf, both, left, right, some, pick}
-use Rattle.est_language.specs.Grammar.{t_word, t_token, t_seq, t_left, t_right}
-use Rattle.est_language.specs.Grammar.{t_opt_in, t_deeper, t_rule}
-use Rattle.est_language.proofs.Members.{and_left}
+use Rattle.text_reader.specs.Grammar.{one_of, when, word, seq, rule, meets, KeptOf, Tree}
+use Rattle.text_reader.specs.Grammar.{nothing, leaf, both, left, right, some, pick}
+use Rattle.text_reader.specs.Grammar.{t_word, t_token, t_seq, t_left, t_right}
+use Rattle.text_reader.specs.Grammar.{t_opt_in, t_deeper, t_rule}
+use Rattle.text_reader.proofs.Members.{and_left}
 use Rattle.est_syntax.specs.declared.ports.Direction.{Direction}
 use Rattle.est_syntax.specs.declared.ports.Direction.TheVariants.{Receives, Sends}
 use Rattle.est_syntax.specs.declared.ports.Port.{Port}
@@ -20,21 +20,21 @@ use Rattle.est_syntax.specs.declared.ports.Signal.{Signal}
 use Rattle.est_syntax.specs.Kinds.{maxint}
 use Rattle.est_values.specs.declared.value.Value.{Value}
 use Rattle.est_values.specs.FittingValues.{IsOrdinalOf}
-use Rattle.est_choices.specs.declared.event.Interaction.{Interaction}
-use Rattle.est_choices.specs.declared.event.Event.{Event}
-use Rattle.est_choices.specs.declared.event.Event.TheVariants.{Arrives, Leaves, Passes}
-use Rattle.est_reader.specs.Tests.{Test, named, number, value, value_in, holds}
-use Rattle.est_reader.specs.Going.{Shape}
-use Rattle.est_reader.proofs.Apart.{within}
-use Rattle.est_reader.proofs.Single.{kept_number}
-use Rattle.est_value_texts.specs.TraceGrammar.{Rule, events_at, passes, some_pass, is_head, signal}
-use Rattle.est_value_texts.specs.TraceGrammar.{dot_signal, subscripts, parameters}
-use Rattle.est_value_texts.specs.TraceGrammar.{port, event, trace}
-use Rattle.est_value_texts.specs.ValueShapes.{AreBracketed, ShowsOrdinal, ShowsValue}
-use Rattle.est_value_texts.proofs.OneValue.{one_index, one_values}
-use Rattle.est_value_texts.proofs.FitsShown.{index_fits, values_fit}
-use Rattle.est_port_names.specs.PortNames.{GoodPorts}
-use Rattle.est_port_names.proofs.Lists.{some_same}
+use Rattle.est_meaning.specs.declared.event.Interaction.{Interaction}
+use Rattle.est_meaning.specs.declared.event.Event.{Event}
+use Rattle.est_meaning.specs.declared.event.Event.TheVariants.{Arrives, Leaves, Passes}
+use Rattle.text_reader.specs.Tests.{Test, named, number, value, value_in, holds}
+use Rattle.text_reader.specs.Going.{Shape}
+use Rattle.text_reader.proofs.Apart.{within}
+use Rattle.text_reader.proofs.Single.{kept_number}
+use Rattle.text_values.specs.TraceGrammar.{Rule, events_at, passes, some_pass, is_head, signal}
+use Rattle.text_values.specs.TraceGrammar.{dot_signal, subscripts, parameters}
+use Rattle.text_values.specs.TraceGrammar.{port, event, trace}
+use Rattle.text_values.specs.ValueShapes.{AreBracketed, ShowsOrdinal, ShowsValue}
+use Rattle.text_values.proofs.OneValue.{one_index, one_values}
+use Rattle.text_values.proofs.FitsShown.{index_fits, values_fit}
+use Rattle.est_trace.specs.PortNames.{GoodPorts}
+use Rattle.est_trace.proofs.Lists.{some_same}
 use Rattle.est_trace.specs.TraceShapes.{ShowsInteraction, ShowsEvent, ShowsEvents, ShowsTrace}
 use Rattle.est_trace.specs.inside.AtPorts.{IsAtPort, IsAtPorts, AreAtPorts}
 use Rattle.est_trace.specs.TraceText.{traces, IsTraceOfAtMost}

@@ -1,4 +1,9 @@
+pub mod Directories
+pub mod PortNameLaws
+pub mod PortNames
 pub mod TraceErrors
 pub mod TraceShapes
 pub mod TraceText
+pub mod WrittenTraces
 pub mod inside
+pub use Rattle.est_check.specs as est_check

@@ -1,6 +1,6 @@
 -- What a refusal by the reader is as an error of traces.
-use Rattle.est_reader.specs.declared.refusal.Refusal.{Refusal}
-use Rattle.est_reader.specs.declared.refusal.Refusal.TheVariants as refusals
+use Rattle.text_reader.specs.declared.refusal.Refusal.{Refusal}
+use Rattle.text_reader.specs.declared.refusal.Refusal.TheVariants as refusals
 use Rattle.est_trace.specs.declared.error.TraceError.{TraceError}
 use Rattle.est_trace.specs.declared.error.TraceError.TheVariants as errors
 

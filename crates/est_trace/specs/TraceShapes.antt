@@ -1,14 +1,14 @@
 -- Which shapes traces have.
 use Rattle.std.specs.Prelude.{◌≡◌, ℕ, List, [], ◌∷◌, Some, slice_get}
-use Rattle.est_language.specs.Grammar.{nothing, leaf, both, left, right, some, pick}
+use Rattle.text_reader.specs.Grammar.{nothing, leaf, both, left, right, some, pick}
 use Rattle.est_syntax.specs.declared.ports.Port.{Port}
 use Rattle.est_syntax.specs.declared.ports.Signal.{Signal}
-use Rattle.est_choices.specs.declared.event.Interaction.{Interaction}
-use Rattle.est_choices.specs.declared.event.Event.{Event}
-use Rattle.est_choices.specs.declared.event.Event.TheVariants.{Arrives, Leaves, Passes}
-use Rattle.est_reader.specs.Tests.{value}
-use Rattle.est_reader.specs.Going.{Shape}
-use Rattle.est_value_texts.specs.ValueShapes.{AreBracketed, ShowsOrdinal, ShowsValue}
+use Rattle.est_meaning.specs.declared.event.Interaction.{Interaction}
+use Rattle.est_meaning.specs.declared.event.Event.{Event}
+use Rattle.est_meaning.specs.declared.event.Event.TheVariants.{Arrives, Leaves, Passes}
+use Rattle.text_reader.specs.Tests.{value}
+use Rattle.text_reader.specs.Going.{Shape}
+use Rattle.text_values.specs.ValueShapes.{AreBracketed, ShowsOrdinal, ShowsValue}
 
 -- An interaction has this shape: which head among the ports, the subscripts of its port, which
 -- signal of the head, and its values. The port has the name of the head.

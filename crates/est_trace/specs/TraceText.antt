@@ -1,16 +1,16 @@
 -- Which tokens are the text of a trace, and what its readers answer.
 use Rattle.std.specs.Prelude.{◌≡◌, ℕ, List, [], ◌∷◌, Result, Ok, Err, length, slice_get}
 use Rattle.est_lexer.specs.declared.kind.Token.{Token}
-use Rattle.est_language.specs.Grammar.{Language, Tree, At, rule, nothing, some, both}
-use Rattle.est_language.specs.Marks.{MeetsOne}
-use Rattle.est_language.specs.Sentences.{HasTree, IsFirstBadPlace}
+use Rattle.text_reader.specs.Grammar.{Language, Tree, At, rule, nothing, some, both}
+use Rattle.text_reader.specs.Marks.{MeetsOne}
+use Rattle.text_reader.specs.Sentences.{HasTree, IsFirstBadPlace}
 use Rattle.est_syntax.specs.declared.ports.Port.{Port}
-use Rattle.est_choices.specs.declared.event.Event.{Event}
-use Rattle.est_choices.specs.AllowedEvents.{most_events}
-use Rattle.est_reader.specs.Tests.{Test, Kept, said, number, holds, language}
-use Rattle.est_reader.specs.Going.{Shape}
-use Rattle.est_value_texts.specs.TraceGrammar.{Production, events_at, production, trace}
-use Rattle.est_value_texts.specs.TraceGrammar.{event_starts}
+use Rattle.est_meaning.specs.declared.event.Event.{Event}
+use Rattle.est_meaning.specs.AllowedEvents.{most_events}
+use Rattle.text_reader.specs.Tests.{Test, Kept, said, number, holds, language}
+use Rattle.text_reader.specs.Going.{Shape}
+use Rattle.text_values.specs.TraceGrammar.{Production, events_at, production, trace}
+use Rattle.text_values.specs.TraceGrammar.{event_starts}
 use Rattle.est_trace.specs.declared.error.TraceError.{TraceError}
 use Rattle.est_trace.specs.declared.error.TraceError.TheVariants.{BadToken, TooMany, Memory}
 use Rattle.est_trace.specs.TraceShapes.{ShowsTrace}

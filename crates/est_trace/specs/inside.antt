@@ -1,5 +1,7 @@
 -- What only the private functions say.
-pub mod Parts
-pub mod Lookups
-pub mod Counting
 pub mod AtPorts
+pub mod Counting
+pub mod Listing
+pub mod Lookups
+pub mod Parts
+pub mod Subscripts

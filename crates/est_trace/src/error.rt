@@ -3,8 +3,8 @@
 ghost use Rattle.std.specs.Prelude.{◌≡◌};
 ghost use Rattle.est_trace.specs.TraceErrors.{of_refusal};
 
-use est_reader::Refusal;
 use std::alloc::AllocError;
+use text_reader::Refusal;
 use thiserror::Error;
 
 /// Why no trace is read: the first bad token, counted from 0, the token that begins an event too

@@ -2,25 +2,25 @@
 
 ghost use Rattle.std.specs.Prelude.{◌≡◌, slice_get};
 ghost use Rattle.std.specs.Option.{IsSomeAnd};
-ghost use Rattle.est_language.specs.Grammar.{one_of};
-ghost use Rattle.est_declares.specs.Differing.{HaveDifferentNames};
-ghost use Rattle.est_reader.specs.declared.outcome.Outcome.TheVariants.{Well};
-ghost use Rattle.est_value_texts.specs.TraceGrammar as grammar;
-ghost use Rattle.est_value_texts.specs.ValueReading.{Reads};
-ghost use Rattle.est_port_names.specs.PortNames.{signal_name, kinds_of};
-ghost use Rattle.est_port_names.specs.Directories.{IsDirectory};
+ghost use Rattle.text_reader.specs.Grammar.{one_of};
+ghost use Rattle.est_meaning.specs.rule_declares.Differing.{HaveDifferentNames};
+ghost use Rattle.text_reader.specs.declared.outcome.Outcome.TheVariants.{Well};
+ghost use Rattle.text_values.specs.TraceGrammar as grammar;
+ghost use Rattle.text_values.specs.ValueReading.{Reads};
+ghost use Rattle.est_trace.specs.PortNames.{signal_name, kinds_of};
+ghost use Rattle.est_trace.specs.Directories.{IsDirectory};
 ghost use Rattle.est_trace.specs.TraceShapes.{ShowsInteraction};
 ghost use Rattle.est_trace.specs.inside.Parts.{IsPortAt, ShowsElement};
 ghost use Rattle.est_trace.specs.inside.Lookups.{Chooses};
 
+use crate::directory::Directory;
+use crate::hints::Hints;
 use crate::lookup::{find_head, find_signal, parameters_at};
-use est_choices::event::Interaction;
 use est_lexer::kind::Symbol;
-use est_port_names::directory::Directory;
-use est_port_names::hints::Hints;
-use est_reader::Reader;
+use est_meaning::event::Interaction;
 use est_syntax::ports::{Direction, Signal};
-use est_value_texts::values::{subscripts, values};
+use text_reader::Reader;
+use text_values::values::{subscripts, values};
 
 /// port "." signal . None where it is not there, or memory ran out.
 pub fn port_signal(

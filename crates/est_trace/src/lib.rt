@@ -1,7 +1,17 @@
-//! Traces: what happens at the outside ports of a specification.
+//! Traces: what happens at the outside ports of a specification, as it is read and as it is
+//! written; and ports and signals by their names (ISO 9074, interaction points and channels).
 #![tactic(auto)]
 
+pub mod directory;
+pub mod directory_laws;
 pub mod error;
+mod heads;
+pub mod hints;
 mod interaction;
 mod lookup;
 pub mod trace;
+mod written_ports;
+mod written_subscripts;
+pub mod written_trace;
+
+pub use est_check;

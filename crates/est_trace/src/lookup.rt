@@ -2,20 +2,20 @@
 
 ghost use Rattle.std.specs.Prelude.{◌≡◌, false, slice_get};
 ghost use Rattle.std.specs.Option.{option_map_or};
-ghost use Rattle.est_declares.specs.Differing.{HaveDifferentNames};
-ghost use Rattle.est_reader.specs.Moving.{Still};
-ghost use Rattle.est_value_texts.specs.TraceGrammar as grammar;
-ghost use Rattle.est_port_names.specs.PortNames.{signal_name};
-ghost use Rattle.est_port_names.specs.PortNames as names;
-ghost use Rattle.est_port_names.specs.Directories.{IsDirectory};
+ghost use Rattle.est_meaning.specs.rule_declares.Differing.{HaveDifferentNames};
+ghost use Rattle.text_reader.specs.Moving.{Still};
+ghost use Rattle.text_values.specs.TraceGrammar as grammar;
+ghost use Rattle.est_trace.specs.PortNames.{signal_name};
+ghost use Rattle.est_trace.specs.PortNames as names;
+ghost use Rattle.est_trace.specs.Directories.{IsDirectory};
 ghost use Rattle.est_trace.specs.inside.Parts.{parameters_of};
 ghost use Rattle.est_trace.specs.inside.Lookups.{Finds};
 
-use est_port_names::directory::Directory;
-use est_port_names::hints::{Hints, passes};
-use est_reader::Reader;
+use crate::directory::Directory;
+use crate::hints::{Hints, passes};
 use est_syntax::kind::Kind;
 use est_syntax::ports::{Direction, Signal};
+use text_reader::Reader;
 
 /// The kinds of the parameters of the signal of this number; none where there is no such signal.
 pub fn parameters_at(signals: &[Signal], signal: u32) -> &[Kind]

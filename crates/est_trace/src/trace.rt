@@ -3,33 +3,33 @@
 ghost use Rattle.std.specs.Prelude.{◌≡◌, ◌≤◌, [], length, IfOk};
 ghost use Rattle.std.specs.Option.{IsSomeAnd, option_map};
 ghost use Rattle.est_lexer.specs.Offsets.{text_of, tokens_of};
-ghost use Rattle.est_language.specs.Grammar.{rule};
-ghost use Rattle.est_declares.specs.PortList.{ports_of};
-ghost use Rattle.est_choices.specs.declared.event.Event.TheVariants as events;
-ghost use Rattle.est_choices.specs.AllowedEvents.{IsAllowedTrace, most_events};
-ghost use Rattle.est_reader.specs.Moving.{SeesOne};
-ghost use Rattle.est_value_texts.specs.TraceGrammar as grammar;
-ghost use Rattle.est_value_texts.specs.TraceGrammar.{events_at};
-ghost use Rattle.est_value_texts.specs.ValueReading.{Reads};
-ghost use Rattle.est_port_names.specs.PortNames.{GoodPorts};
-ghost use Rattle.est_port_names.specs.Directories.{IsDirectory};
+ghost use Rattle.text_reader.specs.Grammar.{rule};
+ghost use Rattle.est_meaning.specs.rule_declares.PortList.{ports_of};
+ghost use Rattle.est_meaning.specs.declared.event.Event.TheVariants as events;
+ghost use Rattle.est_meaning.specs.AllowedEvents.{IsAllowedTrace, most_events};
+ghost use Rattle.text_reader.specs.Moving.{SeesOne};
+ghost use Rattle.text_values.specs.TraceGrammar as grammar;
+ghost use Rattle.text_values.specs.TraceGrammar.{events_at};
+ghost use Rattle.text_values.specs.ValueReading.{Reads};
+ghost use Rattle.est_trace.specs.PortNames.{GoodPorts};
+ghost use Rattle.est_trace.specs.Directories.{IsDirectory};
 ghost use Rattle.est_trace.specs.TraceShapes.{ShowsEvent, ShowsEvents, ShowsTrace};
 ghost use Rattle.est_trace.specs.inside.AtPorts.{AreAtPorts};
 ghost use Rattle.est_trace.specs.inside.Counting.{CountsEvents, CountsTrace};
 ghost use Rattle.est_trace.specs.TraceText.{ReadsTrace};
 
+use crate::directory::{Directory, directory_of};
 use crate::error::TraceError;
+use crate::hints::Hints;
 use crate::interaction::port_signal;
 use est_check::Checked;
-use est_choices::event::{Event, Interaction, Trace};
 use est_lexer::tokens::Tokens;
-use est_port_names::directory::{Directory, directory_of};
-use est_port_names::hints::Hints;
-use est_ports::ports::Ports;
-use est_reader::Reader;
+use est_meaning::event::{Event, Interaction, Trace};
 use est_syntax::kind::MAXINT;
 use est_syntax::ports::Direction;
+use rule_ports::ports::Ports;
 use std::alloc::Global;
+use text_reader::Reader;
 
 /// A trace has at most so many events.
 pub const MOST_EVENTS: u32 = 200_000;

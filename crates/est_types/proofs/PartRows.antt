@@ -1,6 +1,6 @@
 -- What a part breaks by the lists that it is made of.
 use Rattle.std.specs.Option.{option_map_or}
-use Rattle.est_kinds.specs.TypeTexts.{type_faults}
+use Rattle.rule_declares.specs.rule_kinds.TypeTexts.{type_faults}
 use Rattle.std.specs.Prelude.{flat_map}
 use Rattle.std.proofs.Common.{◌≡◌, refl, sym, ap, ◌∙◌, ℕ, List, [], ◌++◌, Option, Some, None}
 use Rattle.est_syntax.specs.declared.body.Block.{Block}
@@ -21,16 +21,16 @@ use Rattle.est_syntax.specs.declared.transition.Group.{more_of-Transition, items
 use Rattle.est_syntax.specs.declared.transition.Group.{items_shown-the_row-Transition-2}
 use Rattle.est_syntax.specs.declared.transition.Transition.{Transition}
 use Rattle.est_syntax.specs.declared.routine.Routine.{Routine}
-use Rattle.est_scope.specs.Outline.{Outline}
-use Rattle.est_scope.specs.Uses.{twice_faults}
+use Rattle.rule_scope.specs.Outline.{Outline}
+use Rattle.rule_scope.specs.Uses.{twice_faults}
 use Rattle.est_types.specs.DeclarationFaults.{part_faults, row_faults}
 use Rattle.est_types.specs.DeclarationFaults.{first_faults, row_groups_faults}
 use Rattle.est_types.specs.DeclarationFaults.{row_transitions_faults, clause_faults}
 use Rattle.est_types.specs.DeclarationFaults.{row_has_states}
-use Rattle.est_sizes.specs.Scalars.{scalars_faults}
+use Rattle.est_types.specs.Scalars.{scalars_faults}
 use Rattle.est_types.specs.DeclarationFaults.{names_first, first_state_faults}
 use Rattle.est_types.specs.DeclarationFaults.{formal_faults}
-use Rattle.est_sizes.proofs.SizeRows.{scalars_hidden}
+use Rattle.est_types.proofs.SizeRows.{scalars_hidden}
 use Rattle.est_types.specs.inside.DeclarationParts.{have_states, has_first}
 use Rattle.est_types.specs.inside.DeclarationParts.{first_part_faults, transitions_faults}
 use Rattle.est_types.specs.inside.DeclarationParts.{groups_faults, body_faults, routine_faults}

@@ -31,19 +31,19 @@ use Rattle.est_syntax.specs.declared.rule.Fault.{Fault}
 use Rattle.est_syntax.specs.declared.rule.Rule.TheVariants.{UnknownName, WrongSort}
 use Rattle.est_syntax.specs.declared.rule.Rule.TheVariants.{NotInFunction}
 use Rattle.est_syntax.specs.declared.rule.Rule.TheVariants.{NoFirstState, WrongAttribute}
-use Rattle.est_scope.specs.declared.declaration.Sort.TheVariants as sort
-use Rattle.est_scope.specs.declared.declaration.Entry.{Entry}
-use Rattle.est_scope.specs.declared.declaration.Member.{Member}
-use Rattle.est_scope.specs.declared.declaration.Member.TheVariants as member
-use Rattle.est_scope.specs.Outline.{Outline, entry_at}
-use Rattle.est_scope.specs.Uses.{use_faults, uses_faults, declaration_of, twice_faults}
-use Rattle.est_scope.specs.Uses.{twices_faults, again_faults, agains_faults}
-use Rattle.est_kinds.specs.Constants.{constant_faults}
-use Rattle.est_kinds.specs.TypeTexts.{text_faults, type_faults}
-use Rattle.est_kinds.specs.Dims.{dims_faults}
-use Rattle.est_sizes.specs.Scalars.{row_scalars, scalars_faults}
-use Rattle.est_declares.specs.Declares.{member_named}
-use Rattle.est_declares.specs.Bodies.{outline_of}
+use Rattle.rule_scope.specs.declared.declaration.Sort.TheVariants as sort
+use Rattle.rule_scope.specs.declared.declaration.Entry.{Entry}
+use Rattle.rule_scope.specs.declared.declaration.Member.{Member}
+use Rattle.rule_scope.specs.declared.declaration.Member.TheVariants as member
+use Rattle.rule_scope.specs.Outline.{Outline, entry_at}
+use Rattle.rule_scope.specs.Uses.{use_faults, uses_faults, declaration_of, twice_faults}
+use Rattle.rule_scope.specs.Uses.{twices_faults, again_faults, agains_faults}
+use Rattle.rule_declares.specs.rule_kinds.Constants.{constant_faults}
+use Rattle.rule_declares.specs.rule_kinds.TypeTexts.{text_faults, type_faults}
+use Rattle.rule_declares.specs.rule_kinds.Dims.{dims_faults}
+use Rattle.est_types.specs.Scalars.{row_scalars, scalars_faults}
+use Rattle.rule_declares.specs.Declares.{member_named}
+use Rattle.rule_declares.specs.Bodies.{outline_of}
 use Rattle.est_types.specs.declared.modules.Owner.{Owner}
 use Rattle.est_types.specs.declared.modules.Owner.TheVariants as owners
 

@@ -1,3 +1,4 @@
 pub mod DeclarationFaults
+pub mod Scalars
 pub mod Table
 pub mod inside

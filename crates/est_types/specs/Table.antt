@@ -3,12 +3,12 @@ use Rattle.std.specs.Prelude.{ℕ, ℤ, List, Option}
 use Rattle.std.specs.Option.{option_map, option_and_then}
 use Rattle.est_syntax.specs.declared.kind.Kind.{Kind}
 use Rattle.est_syntax.specs.declared.rule.Fault.{Fault}
-use Rattle.est_scope.specs.declared.declaration.Declared.{Declared}
-use Rattle.est_scope.specs.declared.declaration.Entry.{Entry}
-use Rattle.est_scope.specs.declared.declaration.Measured.{Measured}
-use Rattle.est_scope.specs.Outline.{Outline, entry_at}
-use Rattle.est_kinds.specs.declared.value.Valued.{Valued}
-use Rattle.est_kinds.specs.Constants.{value_by}
+use Rattle.rule_scope.specs.declared.declaration.Declared.{Declared}
+use Rattle.rule_scope.specs.declared.declaration.Entry.{Entry}
+use Rattle.rule_scope.specs.declared.declaration.Measured.{Measured}
+use Rattle.rule_scope.specs.Outline.{Outline, entry_at}
+use Rattle.rule_declares.specs.rule_kinds.declared.value.Valued.{Valued}
+use Rattle.rule_declares.specs.rule_kinds.Constants.{value_by}
 
 -- The table of a specification.
 pub record Table : Type 0 where

@@ -1,9 +1,9 @@
 //! What channels, headers, interaction points and module variables break.
-#![tactic(auto, using(est_scope::proofs::LeastLaws::least_append))]
+#![tactic(auto, using(rule_scope::proofs::LeastLaws::least_append))]
 
 ghost use Rattle.std.specs.Prelude.{◌≡◌, OnOk, flat_map};
-ghost use Rattle.est_scope.specs.LeastSoFar.{least_with};
-ghost use Rattle.est_scope.specs.Outline.{entry_at};
+ghost use Rattle.rule_scope.specs.LeastSoFar.{least_with};
+ghost use Rattle.rule_scope.specs.Outline.{entry_at};
 ghost use Rattle.est_types.specs.DeclarationFaults.{role_faults, interaction_faults};
 ghost use Rattle.est_types.specs.DeclarationFaults.{by_part_faults};
 ghost use Rattle.est_types.specs.DeclarationFaults.{channel_faults, side_faults, point_faults};
@@ -13,15 +13,15 @@ ghost use Rattle.est_types.specs.DeclarationFaults.{attribute_faults};
 ghost use Rattle.est_types.specs.DeclarationFaults.{modvar_faults};
 
 use crate::sections::check_vardefs;
-use est_kinds::dims::check_dims;
-use est_outline::modules::member_named;
-use est_scope::declaration::{Member, Sort};
-use est_scope::least::Least;
-use est_scope::outline::Outline;
 use est_syntax::channel::{ByPart, Channel, InteractionDef};
 use est_syntax::header::{Header, ModvarDef, Point};
 use est_syntax::name::Used;
 use est_syntax::rule::Rule;
+use rule_declares::rule_kinds::dims::check_dims;
+use rule_outline::modules::member_named;
+use rule_scope::declaration::{Member, Sort};
+use rule_scope::least::Least;
+use rule_scope::outline::Outline;
 use std::alloc::{AllocError, Global};
 
 /// What has the parts that are checked: the specification, or else a body, a routine or a block.

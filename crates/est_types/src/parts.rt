@@ -1,8 +1,8 @@
 //! What the parts of a specification break.
-#![tactic(auto, using(est_scope::proofs::LeastLaws::least_append, crate::proofs::PartRows::rows))]
+#![tactic(auto, using(rule_scope::proofs::LeastLaws::least_append, crate::proofs::PartRows::rows))]
 
 ghost use Rattle.std.specs.Prelude.{◌≡◌, OnOk, flat_map};
-ghost use Rattle.est_scope.specs.LeastSoFar.{least_with};
+ghost use Rattle.rule_scope.specs.LeastSoFar.{least_with};
 ghost use Rattle.est_types.specs.DeclarationFaults.{first_state_faults};
 ghost use Rattle.est_types.specs.DeclarationFaults.{part_faults};
 ghost use Rattle.est_types.specs.inside.DeclarationParts.{block_faults, first_part_faults};
@@ -15,14 +15,14 @@ use crate::sections::{
     check_clauses, check_constdefs, check_formals, check_result, check_statesets, check_typedefs,
     check_vardefs,
 };
+use crate::sizes::{check_scalars, parts_scalars};
 use crate::states::{has_first, have_states};
-use est_scope::least::Least;
-use est_scope::outline::Outline;
-use est_sizes::sizes::{check_scalars, parts_scalars};
 use est_syntax::body::{Block, Body, FirstPart, Part};
 use est_syntax::routine::Routine;
 use est_syntax::rule::Rule;
 use est_syntax::transition::{Group, Transition};
+use rule_scope::least::Least;
+use rule_scope::outline::Outline;
 use std::alloc::{AllocError, Global};
 
 // A body that has states needs a first one.

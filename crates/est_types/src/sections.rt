@@ -1,10 +1,10 @@
 //! What sections of constants, types, variables, states and formals break.
-#![tactic(auto, using(est_scope::proofs::LeastLaws::least_append))]
+#![tactic(auto, using(rule_scope::proofs::LeastLaws::least_append))]
 
 ghost use Rattle.std.specs.Option.{option_map_or};
-ghost use Rattle.est_kinds.specs.TypeTexts.{type_faults};
+ghost use Rattle.rule_declares.specs.rule_kinds.TypeTexts.{type_faults};
 ghost use Rattle.std.specs.Prelude.{◌≡◌, [], OnOk, flat_map};
-ghost use Rattle.est_scope.specs.LeastSoFar.{least_with};
+ghost use Rattle.rule_scope.specs.LeastSoFar.{least_with};
 ghost use Rattle.est_types.specs.DeclarationFaults.{constdef_faults};
 ghost use Rattle.est_types.specs.DeclarationFaults.{typedef_faults};
 ghost use Rattle.est_types.specs.DeclarationFaults.{vardef_faults};
@@ -13,12 +13,6 @@ ghost use Rattle.est_types.specs.DeclarationFaults.{formal_faults};
 ghost use Rattle.est_types.specs.DeclarationFaults.{chosen_faults};
 ghost use Rattle.est_types.specs.DeclarationFaults.{clause_faults};
 
-use est_kinds::constants::check_constant;
-use est_kinds::names::check_type;
-use est_kinds::texts::check_text;
-use est_scope::declaration::Sort;
-use est_scope::least::Least;
-use est_scope::outline::Outline;
 use est_syntax::body::StateSet;
 use est_syntax::constant::ConstDef;
 use est_syntax::name::Used;
@@ -26,6 +20,12 @@ use est_syntax::routine::Formal;
 use est_syntax::rule::Rule;
 use est_syntax::transition::Clause;
 use est_syntax::type_text::{TypeDef, VarDef};
+use rule_declares::rule_kinds::constants::check_constant;
+use rule_declares::rule_kinds::names::check_type;
+use rule_declares::rule_kinds::texts::check_text;
+use rule_scope::declaration::Sort;
+use rule_scope::least::Least;
+use rule_scope::outline::Outline;
 use std::alloc::{AllocError, Global};
 
 // A constant.

@@ -3,25 +3,25 @@
 ghost use Rattle.std.specs.Prelude.{◌≡◌, IfOk, None, Some, flat_map};
 ghost use Rattle.std.specs.Option.{option_copied, option_map};
 ghost use Rattle.est_syntax.specs.Least.{IsIn, IsLeast};
-ghost use Rattle.est_scope.specs.Outline.{meant};
-ghost use Rattle.est_scope.specs.LeastSoFar.{least_with};
-ghost use Rattle.est_kinds.specs.Constants.{value_by};
-ghost use Rattle.est_declares.specs.Bodies.{outline_of};
+ghost use Rattle.rule_scope.specs.Outline.{meant};
+ghost use Rattle.rule_scope.specs.LeastSoFar.{least_with};
+ghost use Rattle.rule_declares.specs.rule_kinds.Constants.{value_by};
+ghost use Rattle.rule_declares.specs.Bodies.{outline_of};
 ghost use Rattle.est_types.specs.DeclarationFaults.{part_faults, declaration_faults};
 ghost use Rattle.est_types.specs.Table.{declaration, kind_of, constant_of, dims_at};
 ghost use Rattle.est_types.specs.declared.modules.Owner.TheVariants as owners;
 
 use crate::modules::Owner;
 use crate::parts::check_parts;
-use est_items::Boxed;
-use est_outline::bodies::outline_of;
-use est_scope::declaration::{Declared, Entry, Meant, Sort};
-use est_scope::least::Least;
-use est_scope::outline::Outline;
+use est_syntax::est_items::Boxed;
 use est_syntax::kind::{Kind, Kinds};
 use est_syntax::name::Name;
 use est_syntax::rule::Fault;
 use est_syntax::specification::Spec;
+use rule_outline::bodies::outline_of;
+use rule_scope::declaration::{Declared, Entry, Meant, Sort};
+use rule_scope::least::Least;
+use rule_scope::outline::Outline;
 use std::alloc::{AllocError, Global};
 use std::marker::Model;
 

@@ -1,7 +1,11 @@
 pub mod AscendingOn
 pub mod FitsByForm
 pub mod Gaps
+pub mod Itself
+pub mod LaidLaws
 pub mod NextTuples
+pub mod QueueLaws
+pub mod Rows
 pub mod SameValues
 pub mod TuplesInOrder
 pub mod UndefinedParts

@@ -1,5 +1,10 @@
+pub mod Alike
+pub mod AlikeLaws
 pub mod FittingValues
 pub mod Integers
+pub mod Laid
 pub mod OrdinalTuples
 pub mod PartsOfValues
+pub mod Types
+pub mod formers
 pub mod inside

@@ -5,7 +5,7 @@ ghost use Rattle.est_values.specs.inside.FittingLayers.{AreUndefined};
 
 use crate::ordinals::ordinal_count;
 use crate::value::{Value, Values};
-use est_items::Twin;
+use est_syntax::est_items::Twin;
 use est_syntax::kind::{FieldKinds, Kind};
 use std::alloc::{AllocError, Global};
 

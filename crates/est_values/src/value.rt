@@ -1,8 +1,8 @@
 //! Values, which share what they have in common.
 ghost use Rattle.std.specs.Prelude.{◌≡◌, ◌↔◌, IsTrue};
 
-use est_chunks::Chunks;
-use est_items::{Shared, Twin};
+use crate::Chunks;
+use est_syntax::est_items::{Shared, Twin};
 use est_syntax::kind::Ordinals;
 use std::alloc::{AllocError, Global};
 

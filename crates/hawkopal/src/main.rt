@@ -1,9 +1,9 @@
 //! The program: takes the words, makes the files and the output of the machine, and calls `run`.
 #![tactic(auto)]
 
-use est_edge::{FileShelf, OutSink};
+use est_tool::call_files::status::Status;
+use est_tool::call_files::{FileShelf, OutSink};
 use est_tool::top::run;
-use est_words::status::Status;
 use std::process::ExitCode;
 use std::rt::{Env, Files};
 use std::{env, io};

@@ -1,10 +1,10 @@
 -- What is kept of a specification that breaks no rule.
 use Rattle.std.specs.Prelude.{◌≡◌}
 use Rattle.est_syntax.specs.declared.specification.Spec.{Spec}
-use Rattle.est_declares.specs.Bodies.{outline_of}
+use Rattle.rule_declares.specs.Bodies.{outline_of}
 use Rattle.est_check.specs.LeastFault.{IsGood}
-use Rattle.est_counts.specs.Counts.{counts_of}
-use Rattle.est_declares.specs.PortList.{ports_of}
+use Rattle.rule_ports.specs.Counts.{counts_of}
+use Rattle.rule_declares.specs.PortList.{ports_of}
 use Rattle.est_check.specs.declared.judging.Kept.{Kept}
 
 -- what is kept is that of this specification, which breaks no rule

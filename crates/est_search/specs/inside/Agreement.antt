@@ -1,6 +1,6 @@
 -- How far events agree with a trace.
 use Rattle.std.specs.Prelude.{◌≡◌, ℕ, ◌+◌, ◌<◌, ◌≤◌, List, ◌++◌, length, take, slice_get}
-use Rattle.est_choices.specs.declared.event.Event.{Event}
+use Rattle.est_meaning.specs.declared.event.Event.{Event}
 
 -- the first k of these events are those of the trace from a place on, and the next one, if there is
 -- one there and here, differs

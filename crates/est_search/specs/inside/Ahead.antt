@@ -1,6 +1,6 @@
 -- What is still ahead of a search, in the order of marks.
 use Rattle.std.specs.Prelude.{◌⊎◌, List, ◌∷◌, Option, Some, None}
-use Rattle.est_runs.specs.Order.{Mark, MarkBefore, StartsWith}
+use Rattle.est_meaning.specs.Order.{Mark, MarkBefore, StartsWith}
 
 -- both go on from the same marks, and the second by a later mark
 pub record IsLater (x y : List Mark) : Type 0 where

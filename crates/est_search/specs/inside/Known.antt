@@ -1,10 +1,10 @@
 -- What a search knows, where the lists of marks in a set are still ahead.
 use Rattle.std.specs.Prelude.{◌≡◌, ℕ, ◌<◌, ◌⊎◌, List, Option, Some, None, length}
 use Rattle.est_syntax.specs.Least.{IsIn}
-use Rattle.est_runs.specs.declared.run.Move.{Move}
-use Rattle.est_runs.specs.Order.{Mark, marks_of, Before, NotAfter, IsEarliest}
-use Rattle.est_runs.specs.Run.{Setup, Explains, YieldsFirst}
-use Rattle.est_runs.specs.Trials.{IsTrial, AreDistinct, PassesLimit, Faults}
+use Rattle.est_meaning.specs.declared.run.Move.{Move}
+use Rattle.est_meaning.specs.Order.{Mark, marks_of, Before, NotAfter, IsEarliest}
+use Rattle.est_meaning.specs.Run.{Setup, Explains, YieldsFirst}
+use Rattle.est_meaning.specs.Trials.{IsTrial, AreDistinct, PassesLimit, Faults}
 
 -- so many trials were tried, all others are ahead
 pub record KnowsTrials (c : Setup) (P : List Mark → Type 0) (tried : ℕ) : Type 0 where

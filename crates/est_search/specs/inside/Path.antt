@@ -2,16 +2,16 @@
 use Rattle.std.specs.Prelude.{◌≡◌, ℕ, ◌+◌, ◌<◌, ◌≤◌, List, [], ◌∷◌, ◌++◌}
 use Rattle.std.specs.Prelude.{Option, Some, None, length, take, reverse}
 use Rattle.est_syntax.specs.Least.{IsIn}
-use Rattle.est_semantics.specs.GlobalSituation.{Situation}
-use Rattle.est_semantics.specs.TextByPlace.{text_of}
-use Rattle.est_choices.specs.declared.firing.Firing.{Firing}
-use Rattle.est_choices.specs.TransitionSelection.{IsPossible}
-use Rattle.est_worlds.specs.FiringOrder.{IsAscending}
-use Rattle.est_worlds.specs.SituationStacks.{Stack}
-use Rattle.est_runs.specs.declared.run.Move.{Move}
-use Rattle.est_runs.specs.declared.run.Move.TheVariants.{Take, Fire}
-use Rattle.est_runs.specs.Order.{Mark, Taking, Trying, MarkBefore, StartsWith}
-use Rattle.est_runs.specs.Run.{Setup, Place, IsBoundedRun}
+use Rattle.est_meaning.specs.mean_blocks.GlobalSituation.{Situation}
+use Rattle.est_meaning.specs.mean_blocks.TextByPlace.{text_of}
+use Rattle.est_meaning.specs.declared.firing.Firing.{Firing}
+use Rattle.est_meaning.specs.TransitionSelection.{IsPossible}
+use Rattle.est_meaning.specs.FiringOrder.{IsAscending}
+use Rattle.est_meaning.specs.SituationStacks.{Stack}
+use Rattle.est_meaning.specs.declared.run.Move.{Move}
+use Rattle.est_meaning.specs.declared.run.Move.TheVariants.{Take, Fire}
+use Rattle.est_meaning.specs.Order.{Mark, Taking, Trying, MarkBefore, StartsWith}
+use Rattle.est_meaning.specs.Run.{Setup, Place, IsBoundedRun}
 use Rattle.est_search.specs.declared.path.Stage.{Stage}
 use Rattle.est_search.specs.declared.path.Stage.TheVariants.{Fresh, Taken, Listed}
 use Rattle.est_search.specs.declared.path.Level.{Level}

@@ -2,17 +2,18 @@
 use Rattle.std.specs.Prelude.{◌≡◌, ℕ, ◌+◌, ◌-◌, ◌*◌, ◌<◌, ◌≤◌, ◌⊎◌, Bool, true, false}
 use Rattle.std.specs.Prelude.{List, [], ◌∷◌, Option, Some, None, length, reverse}
 use Rattle.est_syntax.specs.declared.specification.Spec.{Spec}
-use Rattle.est_semantics.specs.GlobalSituation.{Situation}
-use Rattle.est_semantics.specs.Outcome.{Fault}
-use Rattle.est_choices.specs.declared.event.Event.{Event}
-use Rattle.est_choices.specs.declared.firing.Firing.{Firing}
-use Rattle.est_worlds.specs.SituationStacks.{Stack}
-use Rattle.est_runs.specs.declared.run.Move.{Move}
-use Rattle.est_runs.specs.declared.run.Move.TheVariants.{Fire}
-use Rattle.est_runs.specs.Order.{Mark, Trying, marks_of, IsFirst}
-use Rattle.est_runs.specs.Task.{Suits, IsSetup}
-use Rattle.est_runs.specs.Run.{Setup, Explains, silent_after}
-use Rattle.est_runs.specs.Trials.{IsTrial, IsTrialUpTo, HasMany, HasExactly, ComesTo, mark_passed}
+use Rattle.est_meaning.specs.mean_blocks.GlobalSituation.{Situation}
+use Rattle.est_meaning.specs.mean_blocks.Outcome.{Fault}
+use Rattle.est_meaning.specs.declared.event.Event.{Event}
+use Rattle.est_meaning.specs.declared.firing.Firing.{Firing}
+use Rattle.est_meaning.specs.SituationStacks.{Stack}
+use Rattle.est_meaning.specs.declared.run.Move.{Move}
+use Rattle.est_meaning.specs.declared.run.Move.TheVariants.{Fire}
+use Rattle.est_meaning.specs.Order.{Mark, Trying, marks_of, IsFirst}
+use Rattle.est_meaning.specs.Task.{Suits, IsSetup}
+use Rattle.est_meaning.specs.Run.{Setup, Explains, silent_after}
+use Rattle.est_meaning.specs.Trials.{IsTrial, IsTrialUpTo, HasMany, HasExactly, ComesTo}
+use Rattle.est_meaning.specs.Trials.{mark_passed}
 use Rattle.est_search.specs.declared.verdict.Faulted.{Faulted}
 use Rattle.est_search.specs.Verdict.{HasEvents}
 use Rattle.est_search.specs.declared.verdict.Verdict.{Verdict}

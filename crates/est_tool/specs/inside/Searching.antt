@@ -1,16 +1,16 @@
 -- What came of a search from the start of a specification.
 use Rattle.std.specs.Prelude.{◌≡◌, List}
 use Rattle.est_syntax.specs.declared.specification.Spec.{Spec}
-use Rattle.est_semantics.specs.GlobalSituation.{Situation}
-use Rattle.est_semantics.specs.Outcome.{Done, Fault, Limit}
-use Rattle.est_semantics.specs.TextByPlace.{text_of}
-use Rattle.est_choices.specs.declared.event.Event.{Event}
-use Rattle.est_choices.specs.FiringSteps.{start_of}
-use Rattle.est_runs.specs.declared.run.Limits.{Limits}
+use Rattle.est_meaning.specs.mean_blocks.GlobalSituation.{Situation}
+use Rattle.est_meaning.specs.mean_blocks.Outcome.{Done, Fault, Limit}
+use Rattle.est_meaning.specs.mean_blocks.TextByPlace.{text_of}
+use Rattle.est_meaning.specs.declared.event.Event.{Event}
+use Rattle.est_meaning.specs.FiringSteps.{start_of}
+use Rattle.est_meaning.specs.declared.run.Limits.{Limits}
 use Rattle.est_search.specs.Verdict.{IsVerdict}
 use Rattle.est_tool.specs.declared.search.Searched.{Searched}
 use Rattle.est_tool.specs.declared.search.Searched.TheVariants as searched
-use Rattle.est_runs.specs.Task.{setup_from}
+use Rattle.est_meaning.specs.Task.{setup_from}
 
 -- the verdict, where the start is ready, and else what comes of the start
 abbrev pub IsSearched : Limits → Spec → List Event → Searched → Type 0

@@ -1,25 +1,25 @@
 -- What functions answer that make a trace and explain it.
 use Rattle.std.specs.Prelude.{◌≡◌, ℕ, List, ◌++◌, length}
 use Rattle.est_syntax.specs.declared.specification.Spec.{Spec}
-use Rattle.est_semantics.specs.GlobalSituation.{Situation}
-use Rattle.est_semantics.specs.Outcome.{Done}
-use Rattle.est_semantics.specs.TextByPlace.{text_of}
-use Rattle.est_choices.specs.declared.event.Event.{Event}
-use Rattle.est_choices.specs.FiringSteps.{start_of}
+use Rattle.est_meaning.specs.mean_blocks.GlobalSituation.{Situation}
+use Rattle.est_meaning.specs.mean_blocks.Outcome.{Done}
+use Rattle.est_meaning.specs.mean_blocks.TextByPlace.{text_of}
+use Rattle.est_meaning.specs.declared.event.Event.{Event}
+use Rattle.est_meaning.specs.FiringSteps.{start_of}
 use Rattle.est_search.specs.Verdict.{IsVerdict}
 use Rattle.est_search.specs.declared.verdict.Verdict.{Verdict}
-use Rattle.est_making.specs.declared.made.Made.{Made}
-use Rattle.est_making.specs.declared.made.Made.TheVariants.{Trace, NoStart, StartLimit, Limit}
-use Rattle.est_words.specs.declared.status.Status.{Status}
-use Rattle.est_words.specs.Requests.{usual_silent, usual_budget, usual_statements}
-use Rattle.est_reports.specs.declared.self_run_report.Sizes.{Sizes}
-use Rattle.est_reports.specs.SearchReports.{verdict_status}
-use Rattle.est_reports.specs.SelfRunReports.{made_line, search_line}
-use Rattle.est_files.specs.FileEnds.{End, reported, EndsAtText}
-use Rattle.est_files.specs.FileTexts.{IsText, OfTrace, RefusesTrace}
-use Rattle.est_files.specs.declared.file.File.TheVariants as file
+use Rattle.run_make.specs.declared.made.Made.{Made}
+use Rattle.run_make.specs.declared.made.Made.TheVariants.{Trace, NoStart, StartLimit, Limit}
+use Rattle.call_files.specs.declared.status.Status.{Status}
+use Rattle.call_files.specs.Requests.{usual_silent, usual_budget, usual_statements}
+use Rattle.call_files.specs.declared.self_run_report.Sizes.{Sizes}
+use Rattle.call_files.specs.SearchReports.{verdict_status}
+use Rattle.call_files.specs.SelfRunReports.{made_line, search_line}
+use Rattle.call_files.specs.FileEnds.{End, reported, EndsAtText}
+use Rattle.call_files.specs.FileTexts.{IsText, OfTrace, RefusesTrace}
+use Rattle.call_files.specs.declared.file.File.TheVariants as file
 use Rattle.est_tool.specs.SelfRuns.{IsMadeOf, MadeEnds}
-use Rattle.est_runs.specs.Task.{setup_from}
+use Rattle.est_meaning.specs.Task.{setup_from}
 
 -- the specification starts
 abbrev pub IsReady : Spec → Type 0

@@ -1,33 +1,33 @@
 -- What a function answers that does what the words ask for, or what is left of it.
 use Rattle.std.specs.Prelude.{◌≡◌, ℕ, List, [], ◌++◌, length, Result, Ok, Err, String}
 use Rattle.std.specs.Global.{Global}
-use Rattle.est_edge.specs.Pieces.{SameTold}
-use Rattle.est_files.specs.declared.report.Report.{Report}
-use Rattle.est_files.specs.declared.stop.Stop.{Stop}
-use Rattle.est_files.specs.declared.stop.Stop.TheVariants.{OutOfMemory}
-use Rattle.est_words.specs.declared.status.Status.{Status}
-use Rattle.est_words.specs.declared.status.Status.TheVariants.{Fine, OverBudget, NoStart}
+use Rattle.call_files.specs.Pieces.{SameTold}
+use Rattle.call_files.specs.declared.report.Report.{Report}
+use Rattle.call_files.specs.declared.stop.Stop.{Stop}
+use Rattle.call_files.specs.declared.stop.Stop.TheVariants.{OutOfMemory}
+use Rattle.call_files.specs.declared.status.Status.{Status}
+use Rattle.call_files.specs.declared.status.Status.TheVariants.{Fine, OverBudget, NoStart}
 use Rattle.est_syntax.specs.declared.specification.Spec.{Spec}
-use Rattle.est_counts.specs.Counts.{counts_of}
-use Rattle.est_choices.specs.declared.event.Event.{Event}
-use Rattle.est_replaying.specs.Replay.{IsReplay}
-use Rattle.est_explanation.specs.declared.explanation.Explanation.{Explanation}
-use Rattle.est_replaying.specs.declared.verdict.Replayed.{Replayed}
-use Rattle.est_reports.specs.Reports.{ok_line}
-use Rattle.est_reports.specs.ReadableReports.{IsReadable}
+use Rattle.rule_ports.specs.Counts.{counts_of}
+use Rattle.est_meaning.specs.declared.event.Event.{Event}
+use Rattle.call_files.specs.est_explanation.Replay.{IsReplay}
+use Rattle.call_files.specs.est_explanation.declared.explanation.Explanation.{Explanation}
+use Rattle.call_files.specs.est_explanation.declared.verdict.Replayed.{Replayed}
+use Rattle.call_files.specs.Reports.{ok_line}
+use Rattle.call_files.specs.ReadableReports.{IsReadable}
 use Rattle.est_tool.specs.ReplayReports.{replay_line}
-use Rattle.est_reports.specs.SearchReports.{no_start_line, over_start_line, verdict_report}
+use Rattle.call_files.specs.SearchReports.{no_start_line, over_start_line, verdict_report}
 use Rattle.est_tool.specs.ReplayReports.{replay_status}
-use Rattle.est_reports.specs.SearchReports.{verdict_status}
-use Rattle.est_files.specs.Seen.{Seen}
-use Rattle.est_files.specs.FileEnds.{End, reported}
+use Rattle.call_files.specs.SearchReports.{verdict_status}
+use Rattle.call_files.specs.Seen.{Seen}
+use Rattle.call_files.specs.FileEnds.{End, reported}
 use Rattle.est_tool.specs.Ends.{Ends}
 use Rattle.est_tool.specs.Started.{Starts}
-use Rattle.est_words.specs.Requests.{Request, Asks, bytes_of}
-use Rattle.est_runs.specs.declared.run.Limits.{Limits}
+use Rattle.call_files.specs.Requests.{Request, Asks, bytes_of}
+use Rattle.est_meaning.specs.declared.run.Limits.{Limits}
 use Rattle.est_tool.specs.declared.search.Searched.{Searched}
 use Rattle.est_tool.specs.declared.search.Searched.TheVariants as searched
-use Rattle.est_files.specs.Reads.{IsStop, IsQuiet}
+use Rattle.call_files.specs.Reads.{IsStop, IsQuiet}
 use Rattle.est_tool.specs.inside.Searching.{IsSearched}
 
 -- a command ends with a report, or stops before

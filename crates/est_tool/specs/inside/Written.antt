@@ -1,15 +1,15 @@
 -- What a function writes.
 use Rattle.std.specs.Prelude.{◌≡◌, ◌≢◌, ℕ, List, Option, Result, Ok, Err}
-use Rattle.est_edge.specs.FaultCounts.{Rose}
-use Rattle.est_edge.specs.Pieces.{appended, IsPrefix}
-use Rattle.est_files.specs.declared.report.Report.{Report}
-use Rattle.est_files.specs.declared.stop.Stop.{Stop}
-use Rattle.est_files.specs.declared.stop.Stop.TheVariants as stop
-use Rattle.est_words.specs.declared.status.Status.{Status}
-use Rattle.est_words.specs.declared.status.Status.TheVariants.{Usage, ReadFault}
-use Rattle.est_words.specs.declared.status.Status.TheVariants.{WriteFault, OutOfMemory}
-use Rattle.est_files.specs.Seen.{Sent}
-use Rattle.est_files.specs.FileEnds.{End, reported, unread}
+use Rattle.call_files.specs.FaultCounts.{Rose}
+use Rattle.call_files.specs.Pieces.{appended, IsPrefix}
+use Rattle.call_files.specs.declared.report.Report.{Report}
+use Rattle.call_files.specs.declared.stop.Stop.{Stop}
+use Rattle.call_files.specs.declared.stop.Stop.TheVariants as stop
+use Rattle.call_files.specs.declared.status.Status.{Status}
+use Rattle.call_files.specs.declared.status.Status.TheVariants.{Usage, ReadFault}
+use Rattle.call_files.specs.declared.status.Status.TheVariants.{WriteFault, OutOfMemory}
+use Rattle.call_files.specs.Seen.{Sent}
+use Rattle.call_files.specs.FileEnds.{End, reported, unread}
 
 -- the statuses with which a report is written
 abbrev pub HasReport : Status → Type 0

@@ -4,13 +4,13 @@ use Rattle.std.specs.Prelude.{◌≡◌, ◌≤◌, true, List, All, Some, slice
 use Rattle.est_syntax.specs.declared.ports.Signal.{Signal}
 use Rattle.est_syntax.specs.declared.ports.Port.{Port}
 use Rattle.est_syntax.specs.Kinds.{maxint}
-use Rattle.est_choices.specs.declared.event.Interaction.{Interaction}
-use Rattle.est_choices.specs.declared.event.Event.{Event}
-use Rattle.est_choices.specs.declared.event.Event.TheVariants.{Arrives, Leaves, Passes}
+use Rattle.est_meaning.specs.declared.event.Interaction.{Interaction}
+use Rattle.est_meaning.specs.declared.event.Event.{Event}
+use Rattle.est_meaning.specs.declared.event.Event.TheVariants.{Arrives, Leaves, Passes}
 use Rattle.est_syntax.specs.declared.ports.Direction.{Direction}
 use Rattle.est_syntax.specs.declared.ports.Direction.TheVariants.{Receives, Sends}
 use Rattle.est_values.specs.FittingValues.{Fits}
-use Rattle.est_value_texts.specs.TraceGrammar.{passes}
+use Rattle.text_values.specs.TraceGrammar.{passes}
 
 -- the interaction is of one of the ports and of one of its signals, which passes it in this
 -- direction, and its values fit

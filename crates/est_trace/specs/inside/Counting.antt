@@ -2,8 +2,8 @@
 use Rattle.std.specs.Prelude.{◌≡◌, true, List}
 use Rattle.est_lexer.specs.Offsets.{text_of, tokens_of}
 use Rattle.est_syntax.specs.declared.ports.Port.{Port}
-use Rattle.est_reader.specs.declared.reader.Reader.{Reader}
-use Rattle.est_reader.specs.Moving.{Does}
+use Rattle.text_reader.specs.declared.reader.Reader.{Reader}
+use Rattle.text_reader.specs.Moving.{Does}
 use Rattle.est_trace.specs.TraceText.{IsFullAfter, IsFull}
 
 -- where a reader of events finds one too many, as many as there were levels are complete before it

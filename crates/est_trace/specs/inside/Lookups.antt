@@ -2,13 +2,13 @@
 use Rattle.std.specs.Prelude.{◌≡◌, ℕ, ◌+◌, false, Option, Some, None, List, slice_get}
 use Rattle.est_lexer.specs.declared.tokens.Tokens.{Tokens}
 use Rattle.est_lexer.specs.Offsets.{text_of, tokens_of}
-use Rattle.est_language.specs.Grammar.{one_of}
-use Rattle.est_language.specs.Marks.{MeetsOne, can_begin}
-use Rattle.est_reader.specs.declared.reader.Reader.{Reader}
-use Rattle.est_reader.specs.declared.outcome.Outcome.TheVariants.{Well}
-use Rattle.est_reader.specs.Tests.{holds}
-use Rattle.est_reader.specs.Moving.{Does, Same}
-use Rattle.est_value_texts.specs.TraceGrammar.{Rule, marks}
+use Rattle.text_reader.specs.Grammar.{one_of}
+use Rattle.text_reader.specs.Marks.{MeetsOne, can_begin}
+use Rattle.text_reader.specs.declared.reader.Reader.{Reader}
+use Rattle.text_reader.specs.declared.outcome.Outcome.TheVariants.{Well}
+use Rattle.text_reader.specs.Tests.{holds}
+use Rattle.text_reader.specs.Moving.{Does, Same}
+use Rattle.text_values.specs.TraceGrammar.{Rule, marks}
 
 -- the token at the place begins g
 abbrev pub Begins : Tokens → ℕ → Rule → Type 0

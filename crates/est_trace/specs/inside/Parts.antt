@@ -1,13 +1,13 @@
 -- What is read of an interaction, a part at a time.
 use Rattle.std.specs.Prelude.{◌≡◌, ℕ, Option, Some, None, List, [], slice_get}
-use Rattle.est_language.specs.Grammar.{pick}
+use Rattle.text_reader.specs.Grammar.{pick}
 use Rattle.est_syntax.specs.declared.kind.Kind.{Kind}
 use Rattle.est_syntax.specs.declared.ports.Port.{Port}
 use Rattle.est_syntax.specs.declared.ports.Signal.{Signal}
 use Rattle.est_values.specs.declared.value.Value.{Value}
-use Rattle.est_choices.specs.declared.event.Interaction.{Interaction}
-use Rattle.est_reader.specs.Going.{Shape}
-use Rattle.est_value_texts.specs.ValueShapes.{AreBracketed, ShowsOrdinal, ShowsValue}
+use Rattle.est_meaning.specs.declared.event.Interaction.{Interaction}
+use Rattle.text_reader.specs.Going.{Shape}
+use Rattle.text_values.specs.ValueShapes.{AreBracketed, ShowsOrdinal, ShowsValue}
 
 -- there is a port of this number
 abbrev pub IsPortAt : List Port → ℕ → Type 0

@@ -1,6 +1,6 @@
 -- What the parts of a body break, over lists.
 use Rattle.std.specs.Option.{option_map_or}
-use Rattle.est_kinds.specs.TypeTexts.{type_faults}
+use Rattle.rule_declares.specs.rule_kinds.TypeTexts.{type_faults}
 use Rattle.std.specs.Prelude.{ℕ, Bool, true, false, List, [], ◌∷◌, ◌++◌, Option, Some, None}
 use Rattle.std.specs.Prelude.{is_some, flat_map}
 use Rattle.est_syntax.specs.declared.rule.Fault.{Fault}
@@ -12,10 +12,10 @@ use Rattle.est_syntax.specs.declared.body.Part.TheVariants as part
 use Rattle.est_syntax.specs.declared.routine.Routine.{Routine, out-Routine}
 use Rattle.est_syntax.specs.declared.transition.Group.{Group, out-Group}
 use Rattle.est_syntax.specs.declared.transition.Transition.{Transition}
-use Rattle.est_scope.specs.Outline.{Outline}
-use Rattle.est_scope.specs.Uses.{twice_faults}
+use Rattle.rule_scope.specs.Outline.{Outline}
+use Rattle.rule_scope.specs.Uses.{twice_faults}
 use Rattle.est_types.specs.DeclarationFaults.{part_faults, clause_faults, formal_faults}
-use Rattle.est_sizes.specs.Scalars.{parts_scalars, scalars_faults}
+use Rattle.est_types.specs.Scalars.{parts_scalars, scalars_faults}
 use Rattle.est_types.specs.DeclarationFaults.{first_state_faults}
 use Rattle.est_types.specs.declared.modules.Owner.TheVariants as owners
 

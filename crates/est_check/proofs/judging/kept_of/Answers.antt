@@ -1,5 +1,5 @@
 use Rattle.std.proofs.Common.{ap, ◌∙◌}
-use Rattle.est_counts.specs.Counts.{counts_by, counts_of}
+use Rattle.rule_ports.specs.Counts.{counts_by, counts_of}
 use Rattle.est_check.proofs.judging.kept_of.Goals as goal
 
 pub returns-in-Ok-clause-good : goal.returns-in-Ok-clause-good

@@ -1,6 +1,6 @@
 use Rattle.std.proofs.Common.{sym, subst}
 use Rattle.est_syntax.specs.Least.{IsIn, IsLeast}
-use Rattle.est_scope.proofs.LeastLaws.{least_is}
+use Rattle.rule_scope.proofs.LeastLaws.{least_is}
 use Rattle.est_check.specs.LeastFault.{specification_faults}
 use Rattle.est_check.specs.LeastFault.{IsLeastFault}
 use Rattle.est_check.proofs.rules.judge.Goals as goal

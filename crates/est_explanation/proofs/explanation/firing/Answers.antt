@@ -1,6 +1,6 @@
 use Rattle.std.proofs.Common.{refl}
-use Rattle.est_reader.proofs.Going.{then}
-use Rattle.est_reader.proofs.Single.{number_goes}
+use Rattle.text_reader.proofs.Going.{then}
+use Rattle.text_reader.proofs.Single.{number_goes}
 use Rattle.est_explanation.proofs.Explaining.{known}
 use Rattle.est_explanation.proofs.explanation.firing.Goals as goal
 

@@ -1,7 +1,7 @@
 use Rattle.std.proofs.Common.{refl, map}
 use Rattle.std.proofs.lemmas.List.{map-append}
-use Rattle.est_reader.proofs.Steps.{seen_among}
-use Rattle.est_reader.proofs.Turns.{no_part, more_parts, all_parts, lessens}
+use Rattle.text_reader.proofs.Steps.{seen_among}
+use Rattle.text_reader.proofs.Turns.{no_part, more_parts, all_parts, lessens}
 use Rattle.est_explanation.specs.ExplanationGrammar.{move_starts}
 use Rattle.est_explanation.specs.ExplanationNodes.{a_move}
 use Rattle.est_explanation.proofs.Explaining.{known}

@@ -1,7 +1,7 @@
 use Rattle.std.proofs.Common.{map}
-use Rattle.est_language.specs.Grammar.{rep}
-use Rattle.est_reader.proofs.Steps.{left_of}
-use Rattle.est_reader.proofs.Turns.{Turning, Each}
+use Rattle.text_reader.specs.Grammar.{rep}
+use Rattle.text_reader.proofs.Steps.{left_of}
+use Rattle.text_reader.proofs.Turns.{Turning, Each}
 use Rattle.est_explanation.specs.ExplanationGrammar.{move}
 use Rattle.est_explanation.specs.ExplanationNodes.{a_move}
 use Rattle.est_explanation.proofs.Explaining.{known}

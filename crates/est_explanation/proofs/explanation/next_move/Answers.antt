@@ -1,6 +1,6 @@
 use Rattle.std.proofs.Common.{refl, [], ◌∷◌}
-use Rattle.est_reader.specs.Tests.{said}
-use Rattle.est_reader.proofs.Going.{part, take, last, first_else, chosen}
+use Rattle.text_reader.specs.Tests.{said}
+use Rattle.text_reader.proofs.Going.{part, take, last, first_else, chosen}
 use Rattle.est_explanation.proofs.Explaining.{known}
 use Rattle.est_explanation.proofs.explanation.next_move.Goals as goal
 

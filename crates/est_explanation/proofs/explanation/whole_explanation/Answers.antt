@@ -1,6 +1,6 @@
 use Rattle.std.proofs.Common.{refl}
-use Rattle.est_reader.proofs.Going.{part, take, then}
-use Rattle.est_reader.proofs.Single.{number_goes, number_takes}
+use Rattle.text_reader.proofs.Going.{part, take, then}
+use Rattle.text_reader.proofs.Single.{number_goes, number_takes}
 use Rattle.est_explanation.proofs.Explaining.{known}
 use Rattle.est_explanation.proofs.explanation.whole_explanation.Goals as goal
 

@@ -1,6 +1,6 @@
 use Rattle.std.proofs.Common.{refl}
-use Rattle.est_reader.proofs.Going.{take, then, last, rule_goes, here_goes, part}
-use Rattle.est_productions.proofs.Fits.{K}
+use Rattle.text_reader.proofs.Going.{take, then, last, rule_goes, here_goes, part}
+use Rattle.text_productions.proofs.Fits.{K}
 use Rattle.est_grammar.proofs.Made as made
 use Rattle.est_grammar.proofs.block.block.Goals as goal
 

@@ -2,14 +2,14 @@ use Rattle.std.proofs.Common.{refl, sym, ◌∷◌}
 use Rattle.std.proofs.lemmas.List.{map-append}
 use Rattle.est_lexer.specs.declared.kind.ReservedWord.TheVariants as words
 use Rattle.est_lexer.specs.declared.kind.TokenKind.TheVariants.{Reserved}
-use Rattle.est_reader.specs.Tests.{kind}
-use Rattle.est_reader.proofs.Going.{take, then, last, rule_goes, part, chosen, first_else, deep}
-use Rattle.est_reader.proofs.Turns.{no_part, all_parts}
-use Rattle.est_reader.proofs.Single.{name_goes}
-use Rattle.est_reader.proofs.Seen.{goes_as, goes_is, chosen_by, more_parts_by, lessens_by}
-use Rattle.est_productions.specs.Nodes as node
-use Rattle.est_productions.specs.Tokens as tokens
-use Rattle.est_productions.proofs.Fits.{K}
+use Rattle.text_reader.specs.Tests.{kind}
+use Rattle.text_reader.proofs.Going.{take, then, last, rule_goes, part, chosen, first_else, deep}
+use Rattle.text_reader.proofs.Turns.{no_part, all_parts}
+use Rattle.text_reader.proofs.Single.{name_goes}
+use Rattle.text_reader.proofs.Seen.{goes_as, goes_is, chosen_by, more_parts_by, lessens_by}
+use Rattle.text_productions.specs.Nodes as node
+use Rattle.text_productions.specs.Tokens as tokens
+use Rattle.text_productions.proofs.Fits.{K}
 use Rattle.est_grammar.proofs.Made as made
 use Rattle.est_grammar.proofs.body.+body.Goals as goal
 

@@ -1,6 +1,6 @@
-use Rattle.est_productions.specs.Tokens as tokens
+use Rattle.text_productions.specs.Tokens as tokens
 use Rattle.est_grammar.proofs.Made as made
-use Rattle.est_reader.proofs.Seen.{seen_first}
+use Rattle.text_reader.proofs.Seen.{seen_first}
 use Rattle.est_grammar.proofs.body.begins_body_part.Goals as goal
 
 pub returns-then-begins_own : goal.returns-then-begins_own

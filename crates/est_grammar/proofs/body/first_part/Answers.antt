@@ -1,10 +1,10 @@
 use Rattle.std.proofs.Common.{refl, sym, [], ◌∷◌}
 use Rattle.est_lexer.specs.declared.kind.ReservedWord.TheVariants as words
 use Rattle.est_lexer.specs.declared.kind.TokenKind.TheVariants.{Reserved}
-use Rattle.est_reader.specs.Tests.{kind}
-use Rattle.est_reader.proofs.Going.{take, then, last, opt_in, opt_out}
-use Rattle.est_reader.proofs.Seen.{goes_is}
-use Rattle.est_productions.proofs.Fits.{K}
+use Rattle.text_reader.specs.Tests.{kind}
+use Rattle.text_reader.proofs.Going.{take, then, last, opt_in, opt_out}
+use Rattle.text_reader.proofs.Seen.{goes_is}
+use Rattle.text_productions.proofs.Fits.{K}
 use Rattle.est_grammar.proofs.Made as made
 use Rattle.est_grammar.proofs.body.first_part.Goals as goal
 

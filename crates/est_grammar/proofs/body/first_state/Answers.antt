@@ -1,10 +1,10 @@
 use Rattle.std.proofs.Common.{refl, [], ◌∷◌}
 use Rattle.est_lexer.specs.declared.kind.ReservedWord.TheVariants as words
 use Rattle.est_lexer.specs.declared.kind.TokenKind.TheVariants.{Reserved}
-use Rattle.est_reader.specs.Tests.{kind}
-use Rattle.est_reader.proofs.Going.{take, opt_in, opt_out}
-use Rattle.est_reader.proofs.Single.{name_goes}
-use Rattle.est_productions.proofs.Fits.{K}
+use Rattle.text_reader.specs.Tests.{kind}
+use Rattle.text_reader.proofs.Going.{take, opt_in, opt_out}
+use Rattle.text_reader.proofs.Single.{name_goes}
+use Rattle.text_productions.proofs.Fits.{K}
 use Rattle.est_grammar.proofs.body.first_state.Goals as goal
 
 pub returns-then-not-sees : goal.returns-then-not-sees

@@ -2,9 +2,9 @@ use Rattle.std.proofs.Common.{refl, [], ◌∷◌}
 use Rattle.std.proofs.lemmas.List.{map-append}
 use Rattle.est_lexer.specs.declared.kind.ReservedWord.TheVariants as words
 use Rattle.est_lexer.specs.declared.kind.TokenKind.TheVariants.{Reserved}
-use Rattle.est_reader.specs.Tests.{kind}
-use Rattle.est_reader.proofs.Turns.{no_part, more_parts, all_parts, lessens}
-use Rattle.est_productions.proofs.Fits.{K}
+use Rattle.text_reader.specs.Tests.{kind}
+use Rattle.text_reader.proofs.Turns.{no_part, more_parts, all_parts, lessens}
+use Rattle.text_productions.proofs.Fits.{K}
 use Rattle.est_grammar.proofs.body.transparts.Goals as goal
 
 pub loop-reader-init : goal.loop-reader-init

@@ -1,7 +1,7 @@
 use Rattle.std.proofs.Common.{refl}
-use Rattle.est_reader.proofs.Going.{take, then, rule_goes, part}
-use Rattle.est_reader.proofs.Single.{name_goes}
-use Rattle.est_productions.proofs.Fits.{K}
+use Rattle.text_reader.proofs.Going.{take, then, rule_goes, part}
+use Rattle.text_reader.proofs.Single.{name_goes}
+use Rattle.text_productions.proofs.Fits.{K}
 use Rattle.est_grammar.proofs.estelle_statement.sending.Goals as goal
 
 pub returns : goal.returns

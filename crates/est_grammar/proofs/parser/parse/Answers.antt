@@ -1,9 +1,9 @@
 use Rattle.std.proofs.Common.{subst}
 use Rattle.est_lexer.specs.Offsets.{text_of, tokens_of}
-use Rattle.est_reader.specs.Whole.{Finishes}
-use Rattle.est_reader.proofs.Whole.{whole_refused}
+use Rattle.text_reader.specs.Whole.{Finishes}
+use Rattle.text_reader.proofs.Whole.{whole_refused}
 use Rattle.est_grammar.proofs.Top.{accepted, owned}
-use Rattle.est_productions.proofs.Fits.{K}
+use Rattle.text_productions.proofs.Fits.{K}
 use Rattle.est_grammar.proofs.parser.parse.Goals as goal
 
 pub returns-in-Ok-clause-tree : goal.returns-in-Ok-clause-tree

@@ -1,11 +1,11 @@
 use Rattle.std.proofs.Common.{refl, [], ◌∷◌}
 use Rattle.est_lexer.specs.declared.kind.Symbol.TheVariants as symbols
 use Rattle.est_lexer.specs.declared.kind.TokenKind.TheVariants.{Symbol}
-use Rattle.est_reader.specs.Tests.{kind}
-use Rattle.est_reader.proofs.Going.{take, then, last, goes_still, opt_in, opt_out, filled}
-use Rattle.est_reader.proofs.Steps.{still_here, taken_well}
-use Rattle.est_productions.specs.Nodes as node
-use Rattle.est_productions.proofs.Fits.{K}
+use Rattle.text_reader.specs.Tests.{kind}
+use Rattle.text_reader.proofs.Going.{take, then, last, goes_still, opt_in, opt_out, filled}
+use Rattle.text_reader.proofs.Steps.{still_here, taken_well}
+use Rattle.text_productions.specs.Nodes as node
+use Rattle.text_productions.proofs.Fits.{K}
 use Rattle.est_grammar.proofs.routine.formal_part.Goals as goal
 
 pub returns-then-not-sees : goal.returns-then-not-sees

@@ -1,11 +1,11 @@
 use Rattle.std.proofs.Common.{map}
 use Rattle.est_lexer.specs.declared.kind.Symbol.TheVariants as symbols
-use Rattle.est_language.specs.Grammar.{rule, rep}
-use Rattle.est_reader.proofs.Steps.{left_of}
-use Rattle.est_reader.proofs.Turns.{Turning, Each}
-use Rattle.est_productions.specs.Productions as grammar
-use Rattle.est_productions.specs.Nodes as node
-use Rattle.est_productions.proofs.Fits.{K}
+use Rattle.text_reader.specs.Grammar.{rule, rep}
+use Rattle.text_reader.proofs.Steps.{left_of}
+use Rattle.text_reader.proofs.Turns.{Turning, Each}
+use Rattle.text_productions.specs.Productions as grammar
+use Rattle.text_productions.specs.Nodes as node
+use Rattle.text_productions.proofs.Fits.{K}
 use Rattle.est_grammar.proofs.routine.formals.Given as goal
 
 abbrev pub invariant-loop-reader : goal.invariant-loop-reader

@@ -1,9 +1,9 @@
 use Rattle.std.proofs.Common.{refl}
-use Rattle.est_reader.proofs.Going.{take, then, last, rule_goes, part}
-use Rattle.est_reader.proofs.Single.{name_goes}
-use Rattle.est_reader.proofs.Seen.{chosen_by}
-use Rattle.est_productions.specs.Tokens as tokens
-use Rattle.est_productions.proofs.Fits.{K}
+use Rattle.text_reader.proofs.Going.{take, then, last, rule_goes, part}
+use Rattle.text_reader.proofs.Single.{name_goes}
+use Rattle.text_reader.proofs.Seen.{chosen_by}
+use Rattle.text_productions.specs.Tokens as tokens
+use Rattle.text_productions.proofs.Fits.{K}
 use Rattle.est_grammar.proofs.Made as made
 use Rattle.est_grammar.proofs.routine.function.Goals as goal
 

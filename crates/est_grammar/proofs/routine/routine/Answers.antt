@@ -1,8 +1,8 @@
 use Rattle.std.proofs.Common.{refl, inl}
-use Rattle.est_reader.proofs.Going.{take, then, last, rule_goes, part, first_else}
-use Rattle.est_reader.proofs.Single.{name_goes}
-use Rattle.est_productions.specs.Tokens as tokens
-use Rattle.est_productions.proofs.Fits.{K}
+use Rattle.text_reader.proofs.Going.{take, then, last, rule_goes, part, first_else}
+use Rattle.text_reader.proofs.Single.{name_goes}
+use Rattle.text_productions.specs.Tokens as tokens
+use Rattle.text_productions.proofs.Fits.{K}
 use Rattle.est_grammar.proofs.Made as made
 use Rattle.est_grammar.proofs.routine.routine.Goals as goal
 

@@ -1,9 +1,9 @@
 use Rattle.std.proofs.Common.{refl, [], ◌∷◌}
 use Rattle.est_lexer.specs.declared.kind.Symbol.TheVariants as symbols
 use Rattle.est_lexer.specs.declared.kind.TokenKind.TheVariants.{Symbol}
-use Rattle.est_reader.specs.Tests.{kind}
-use Rattle.est_reader.proofs.Going.{last, skip_goes, opt_in, opt_out}
-use Rattle.est_productions.proofs.Fits.{K}
+use Rattle.text_reader.specs.Tests.{kind}
+use Rattle.text_reader.proofs.Going.{last, skip_goes, opt_in, opt_out}
+use Rattle.text_productions.proofs.Fits.{K}
 use Rattle.est_grammar.proofs.specification.after_semicolon.Goals as goal
 
 pub returns-then-sees : goal.returns-then-sees

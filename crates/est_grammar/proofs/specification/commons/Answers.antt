@@ -1,9 +1,9 @@
 use Rattle.std.proofs.Common.{refl}
 use Rattle.std.proofs.lemmas.List.{map-append}
-use Rattle.est_reader.proofs.Turns.{no_part, all_parts}
-use Rattle.est_reader.proofs.Seen.{more_parts_by, lessens_by}
-use Rattle.est_productions.specs.Tokens as tokens
-use Rattle.est_productions.proofs.Fits.{K}
+use Rattle.text_reader.proofs.Turns.{no_part, all_parts}
+use Rattle.text_reader.proofs.Seen.{more_parts_by, lessens_by}
+use Rattle.text_productions.specs.Tokens as tokens
+use Rattle.text_productions.proofs.Fits.{K}
 use Rattle.est_grammar.proofs.Made as made
 use Rattle.est_grammar.proofs.specification.commons.Goals as goal
 

@@ -1,7 +1,7 @@
 use Rattle.std.proofs.Common.{refl}
-use Rattle.est_reader.proofs.Going.{take, then, last, here_goes}
-use Rattle.est_reader.proofs.Seen.{goes_is}
-use Rattle.est_productions.proofs.Fits.{K}
+use Rattle.text_reader.proofs.Going.{take, then, last, here_goes}
+use Rattle.text_reader.proofs.Seen.{goes_is}
+use Rattle.text_productions.proofs.Fits.{K}
 use Rattle.est_grammar.proofs.Made as made
 use Rattle.est_grammar.proofs.specification.initialization.Goals as goal
 

@@ -3,18 +3,19 @@ use Rattle.std.proofs.lemmas.List.{map-append}
 use Rattle.est_lexer.specs.declared.kind.ReservedWord.TheVariants as words
 use Rattle.est_lexer.specs.declared.kind.Symbol.TheVariants as symbols
 use Rattle.est_lexer.specs.declared.kind.TokenKind.TheVariants.{Reserved, Symbol}
-use Rattle.est_reader.specs.Tests.{kind}
-use Rattle.est_reader.proofs.Going.{take, then, last, rule_goes, here_goes, part, part_still}
-use Rattle.est_reader.proofs.Going.{goes_still, opt_in, chosen, deep, nearest_in, nearest_out}
-use Rattle.est_reader.proofs.Turns.{one_part, more_parts, all_parts, lessens, last_ended, all_ended}
-use Rattle.est_reader.proofs.Steps.{still_on, still_well}
-use Rattle.est_reader.proofs.Single.{name_goes}
-use Rattle.est_reader.proofs.Seen.{box_holds, no_box}
-use Rattle.est_productions.specs.Tokens as tokens
-use Rattle.est_productions.proofs.Fits.{K}
+use Rattle.text_reader.specs.Tests.{kind}
+use Rattle.text_reader.proofs.Going.{take, then, last, rule_goes, here_goes, part, part_still}
+use Rattle.text_reader.proofs.Going.{goes_still, opt_in, chosen, deep, nearest_in, nearest_out}
+use Rattle.text_reader.proofs.Turns.{one_part, more_parts, all_parts, lessens, last_ended}
+use Rattle.text_reader.proofs.Turns.{all_ended}
+use Rattle.text_reader.proofs.Steps.{still_on, still_well}
+use Rattle.text_reader.proofs.Single.{name_goes}
+use Rattle.text_reader.proofs.Seen.{box_holds, no_box}
+use Rattle.text_productions.specs.Tokens as tokens
+use Rattle.text_productions.proofs.Fits.{K}
 use Rattle.est_grammar.proofs.Made as made
-use Rattle.est_productions.proofs.Made as expressions
-use Rattle.est_reader.proofs.Seen.{more_ended_by}
+use Rattle.text_productions.proofs.Made as expressions
+use Rattle.text_reader.proofs.Seen.{more_ended_by}
 use Rattle.est_grammar.proofs.statement.+statement.Goals as goal
 
 pub statements-loop-reader-init : goal.statements-loop-reader-init

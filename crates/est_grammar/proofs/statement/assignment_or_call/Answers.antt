@@ -1,16 +1,16 @@
 use Rattle.std.proofs.Common.{refl, ◌∷◌}
 use Rattle.est_lexer.specs.declared.kind.Symbol.TheVariants as symbols
 use Rattle.est_lexer.specs.declared.kind.TokenKind.TheVariants.{Identifier, Symbol}
-use Rattle.est_reader.specs.Tests.{kind}
-use Rattle.est_reader.proofs.Going.{take, then, rule_goes, here_goes, part}
-use Rattle.est_reader.proofs.Going.{part_still, opt_in, opt_out, chosen}
-use Rattle.est_reader.proofs.Steps.{still_here}
-use Rattle.est_reader.proofs.Single.{name_goes}
-use Rattle.est_reader.proofs.Seen.{chosen_by, opt_in_by, box_holds, no_box}
-use Rattle.est_productions.specs.Tokens as tokens
-use Rattle.est_productions.proofs.Fits.{K}
+use Rattle.text_reader.specs.Tests.{kind}
+use Rattle.text_reader.proofs.Going.{take, then, rule_goes, here_goes, part}
+use Rattle.text_reader.proofs.Going.{part_still, opt_in, opt_out, chosen}
+use Rattle.text_reader.proofs.Steps.{still_here}
+use Rattle.text_reader.proofs.Single.{name_goes}
+use Rattle.text_reader.proofs.Seen.{chosen_by, opt_in_by, box_holds, no_box}
+use Rattle.text_productions.specs.Tokens as tokens
+use Rattle.text_productions.proofs.Fits.{K}
 use Rattle.est_grammar.proofs.Made as made
-use Rattle.est_productions.proofs.Made as expressions
+use Rattle.text_productions.proofs.Made as expressions
 use Rattle.est_grammar.proofs.statement.assignment_or_call.Goals as goal
 
 pub returns-then-sees : goal.returns-then-sees

@@ -2,10 +2,10 @@ use Rattle.std.proofs.Common.{refl, [], ◌∷◌}
 use Rattle.std.proofs.lemmas.List.{map-append}
 use Rattle.est_lexer.specs.declared.kind.Symbol.TheVariants as symbols
 use Rattle.est_lexer.specs.declared.kind.TokenKind.TheVariants.{Symbol}
-use Rattle.est_reader.specs.Tests.{kind}
-use Rattle.est_reader.proofs.Going.{take}
-use Rattle.est_reader.proofs.Turns.{one_part, more_parts, all_parts, lessens}
-use Rattle.est_productions.proofs.Fits.{K}
+use Rattle.text_reader.specs.Tests.{kind}
+use Rattle.text_reader.proofs.Going.{take}
+use Rattle.text_reader.proofs.Turns.{one_part, more_parts, all_parts, lessens}
+use Rattle.text_productions.proofs.Fits.{K}
 use Rattle.est_grammar.proofs.statement.constants.Goals as goal
 
 pub loop-reader-init : goal.loop-reader-init

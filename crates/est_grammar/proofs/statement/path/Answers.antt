@@ -1,10 +1,10 @@
 use Rattle.std.proofs.Common.{refl}
-use Rattle.est_reader.proofs.Going.{goes_still, opt_out, filled}
-use Rattle.est_reader.proofs.Steps.{still_here}
-use Rattle.est_reader.proofs.Seen.{opt_in_by}
-use Rattle.est_productions.specs.Nodes as node
-use Rattle.est_productions.specs.Tokens as tokens
-use Rattle.est_productions.proofs.Fits.{K}
+use Rattle.text_reader.proofs.Going.{goes_still, opt_out, filled}
+use Rattle.text_reader.proofs.Steps.{still_here}
+use Rattle.text_reader.proofs.Seen.{opt_in_by}
+use Rattle.text_productions.specs.Nodes as node
+use Rattle.text_productions.specs.Tokens as tokens
+use Rattle.text_productions.proofs.Fits.{K}
 use Rattle.est_grammar.proofs.statement.path.Goals as goal
 
 pub returns-then-sees_selector : goal.returns-then-sees_selector

@@ -1,10 +1,10 @@
 use Rattle.std.proofs.Common.{refl, [], ◌∷◌}
 use Rattle.est_lexer.specs.declared.kind.Symbol.TheVariants as symbols
 use Rattle.est_lexer.specs.declared.kind.TokenKind.TheVariants.{Symbol}
-use Rattle.est_reader.specs.Tests.{kind}
-use Rattle.est_reader.proofs.Going.{take, last, goes_still, opt_in, opt_out, chosen, first_else}
-use Rattle.est_reader.proofs.Seen.{box_holds, no_box}
-use Rattle.est_productions.proofs.Fits.{K}
+use Rattle.text_reader.specs.Tests.{kind}
+use Rattle.text_reader.proofs.Going.{take, last, goes_still, opt_in, opt_out, chosen, first_else}
+use Rattle.text_reader.proofs.Seen.{box_holds, no_box}
+use Rattle.text_productions.proofs.Fits.{K}
 use Rattle.est_grammar.proofs.transition.later_bound.Goals as goal
 
 pub returns-then-not-sees : goal.returns-then-not-sees

@@ -1,11 +1,11 @@
 use Rattle.std.proofs.Common.{refl, [], ◌∷◌}
 use Rattle.est_lexer.specs.declared.kind.ReservedWord.TheVariants as words
 use Rattle.est_lexer.specs.declared.kind.TokenKind.TheVariants.{Reserved}
-use Rattle.est_reader.specs.Tests.{kind}
-use Rattle.est_reader.proofs.Going.{take, last, rule_goes, here_goes}
-use Rattle.est_reader.proofs.Going.{part, part_still, chosen, first_else}
-use Rattle.est_reader.proofs.Seen.{box_holds, no_box}
-use Rattle.est_productions.proofs.Fits.{K}
+use Rattle.text_reader.specs.Tests.{kind}
+use Rattle.text_reader.proofs.Going.{take, last, rule_goes, here_goes}
+use Rattle.text_reader.proofs.Going.{part, part_still, chosen, first_else}
+use Rattle.text_reader.proofs.Seen.{box_holds, no_box}
+use Rattle.text_productions.proofs.Fits.{K}
 use Rattle.est_grammar.proofs.transition.provided_clause.Goals as goal
 
 pub returns-then-sees : goal.returns-then-sees

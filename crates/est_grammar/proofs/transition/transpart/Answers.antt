@@ -1,5 +1,5 @@
-use Rattle.est_reader.proofs.Going.{take, rule_goes, part}
-use Rattle.est_productions.proofs.Fits.{K}
+use Rattle.text_reader.proofs.Going.{take, rule_goes, part}
+use Rattle.text_productions.proofs.Fits.{K}
 use Rattle.est_grammar.proofs.Made as made
 use Rattle.est_grammar.proofs.transition.transpart.Goals as goal
 

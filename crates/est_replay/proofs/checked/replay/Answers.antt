@@ -1,8 +1,8 @@
 use Rattle.std.proofs.Common.{◌≤◌, length, ap, subst, sym, ◌∙◌, arith}
-use Rattle.est_semantics.specs.TextByPlace.{Text}
-use Rattle.est_choices.specs.AllowedEvents.{IsAllowedTrace}
-use Rattle.est_replaying.specs.Replay.{IsReplay, most_moves}
-use Rattle.est_replaying.proofs.FromStart.{starts_so, answers_from, if_ok_alike}
+use Rattle.est_meaning.specs.mean_blocks.TextByPlace.{Text}
+use Rattle.est_meaning.specs.AllowedEvents.{IsAllowedTrace}
+use Rattle.est_explanation.specs.Replay.{IsReplay, most_moves}
+use Rattle.est_explanation.proofs.FromStart.{starts_so, answers_from, if_ok_alike}
 use Rattle.est_replay.proofs.checked.replay.Goals as goal
 
 pub replay_in-requires : goal.replay_in-requires

@@ -1,10 +1,10 @@
 use Rattle.std.proofs.Common.{◌≡◌, ◌≤◌, length, refl, sym, subst}
 use Rattle.std.proofs.Math.Logic.{∥∥₁_elim}
 use Rattle.std.specs.Coded.{le_prop}
-use Rattle.est_semantics.specs.Outcome.{Done}
-use Rattle.est_semantics.specs.TextByPlace.{text_of}
-use Rattle.est_choices.specs.AllowedEvents.{IsAllowedTrace, most_events}
-use Rattle.est_choices.specs.FiringSteps.{start_of}
+use Rattle.est_meaning.specs.mean_blocks.Outcome.{Done}
+use Rattle.est_meaning.specs.mean_blocks.TextByPlace.{text_of}
+use Rattle.est_meaning.specs.AllowedEvents.{IsAllowedTrace, most_events}
+use Rattle.est_meaning.specs.FiringSteps.{start_of}
 use Rattle.est_search.proofs.explain.explain.Goals as goal
 
 pub search-requires : goal.search-requires

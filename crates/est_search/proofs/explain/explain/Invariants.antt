@@ -1,4 +1,4 @@
-use Rattle.est_runs.specs.Task.{setup_of}
+use Rattle.est_meaning.specs.Task.{setup_of}
 use Rattle.est_search.proofs.explain.explain.Given as goal
 
 abbrev pub ghost-search : goal.ghost-search

@@ -1,6 +1,6 @@
 use Rattle.std.proofs.Common.{◌≡◌, ◌+◌, length}
 use Rattle.est_syntax.specs.declared.specification.Spec.{Spec}
-use Rattle.est_worlds.specs.SituationStacks.{Keeps}
+use Rattle.est_meaning.specs.SituationStacks.{Keeps}
 use Rattle.est_search.specs.inside.Walk.{SameBottom}
 use Rattle.est_search.proofs.explain.rewind.Given as goal
 

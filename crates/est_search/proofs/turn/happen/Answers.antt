@@ -1,8 +1,8 @@
 use Rattle.std.proofs.Common.{◌≡◌, sym, ap, ◌∙◌}
-use Rattle.est_semantics.specs.TextByPlace.{text_of}
-use Rattle.est_choices.specs.OutsideEvents.{after_event, later}
-use Rattle.est_worlds.specs.SituationStacks.{pushed}
-use Rattle.est_runs.proofs.ClockLaws.{after_passing}
+use Rattle.est_meaning.specs.mean_blocks.TextByPlace.{text_of}
+use Rattle.est_meaning.specs.OutsideEvents.{after_event, later}
+use Rattle.est_meaning.specs.SituationStacks.{pushed}
+use Rattle.est_meaning.proofs.ClockLaws.{after_passing}
 use Rattle.est_search.proofs.turn.happen.Goals as goal
 
 pub returns-in_ok-pass-in-Passes-clause-happened :

@@ -1,5 +1,5 @@
 use Rattle.std.proofs.Common.{◌≡◌, ◌+◌, get_or, length, refl, sym, ap, subst, arith}
-use Rattle.est_runs.specs.declared.run.Move.TheVariants.{Take}
+use Rattle.est_meaning.specs.declared.run.Move.TheVariants.{Take}
 use Rattle.est_search.specs.declared.path.Stage.TheVariants.{Taken}
 use Rattle.est_search.specs.inside.Path.{HasReached}
 use Rattle.est_search.proofs.CallLaws.{time_fits, skip_call, take_call}

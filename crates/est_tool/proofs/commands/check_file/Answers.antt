@@ -1,4 +1,4 @@
-use Rattle.est_files.specs.FileTexts.{OfSpecification, RefusesSpecification}
+use Rattle.call_files.specs.FileTexts.{OfSpecification, RefusesSpecification}
 use Rattle.std.proofs.Common.{refl, []}
 use Rattle.est_tool.specs.Ends.{at_its_file}
 use Rattle.est_tool.proofs.WorkLaws.{stops_at, ends_work, check_reports}

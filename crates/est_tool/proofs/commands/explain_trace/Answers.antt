@@ -1,4 +1,4 @@
-use Rattle.est_files.specs.FileTexts.{OfTrace, RefusesTrace}
+use Rattle.call_files.specs.FileTexts.{OfTrace, RefusesTrace}
 use Rattle.std.proofs.Common.{[], ◌∷◌}
 use Rattle.est_tool.specs.Ends.{ends_at_trace}
 use Rattle.est_tool.specs.Started.{both}

@@ -1,4 +1,4 @@
-use Rattle.est_files.specs.FileTexts.{OfExplanation, RefusesExplanation}
+use Rattle.call_files.specs.FileTexts.{OfExplanation, RefusesExplanation}
 use Rattle.std.proofs.Common.{[], ◌∷◌}
 use Rattle.est_tool.specs.Ends.{at_explanation}
 use Rattle.est_tool.specs.Started.{three}

@@ -1,5 +1,5 @@
-use Rattle.est_files.specs.declared.file.File.TheVariants as file
-use Rattle.est_files.specs.FileTexts.{OfSpecification, RefusesSpecification}
+use Rattle.call_files.specs.declared.file.File.TheVariants as file
+use Rattle.call_files.specs.FileTexts.{OfSpecification, RefusesSpecification}
 use Rattle.std.proofs.Common.{[]}
 use Rattle.est_tool.specs.Ends.{at_specification}
 use Rattle.est_tool.specs.Started.{one}

@@ -1,6 +1,6 @@
 use Rattle.std.proofs.Common.{ap, subst, sym, ◌∙◌}
-use Rattle.est_semantics.specs.TextByPlace.{Text}
-use Rattle.est_choices.specs.AllowedEvents.{IsAllowedTrace}
+use Rattle.est_meaning.specs.mean_blocks.TextByPlace.{Text}
+use Rattle.est_meaning.specs.AllowedEvents.{IsAllowedTrace}
 use Rattle.est_tool.proofs.SearchLaws.{found_searched}
 use Rattle.est_tool.proofs.search.search.Goals as goal
 

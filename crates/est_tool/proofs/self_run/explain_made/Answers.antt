@@ -1,5 +1,5 @@
 use Rattle.std.proofs.Common.{◌∙◌, ap, refl, sym}
-use Rattle.est_written_traces.specs.WrittenTraces.{trace_text}
+use Rattle.call_files.specs.est_trace.WrittenTraces.{trace_text}
 use Rattle.est_tool.proofs.SelfRunLaws.{written_ends}
 use Rattle.est_tool.proofs.WorkLaws.{made_then}
 use Rattle.est_tool.proofs.self_run.explain_made.Goals as goal

@@ -1,4 +1,4 @@
-use Rattle.est_files.proofs.ReadLaws.{stop_then, stops_for}
+use Rattle.call_files.proofs.ReadLaws.{stop_then, stops_for}
 use Rattle.est_tool.specs.inside.Work.{IsMade}
 use Rattle.est_tool.specs.inside.SelfRunning.{EndsWritten, IsSearchedFor, at_text, at_trace}
 use Rattle.est_tool.proofs.WorkLaws.{given}

@@ -1,5 +1,5 @@
 use Rattle.std.proofs.Common.{◌∙◌, ap, sym, subst}
-use Rattle.est_making.specs.declared.made.Made.TheVariants as made
+use Rattle.run_make.specs.declared.made.Made.TheVariants as made
 use Rattle.est_tool.specs.inside.Work.{IsMade}
 use Rattle.est_tool.specs.SelfRuns.{MadeEnds, faults, start_passes, passes}
 use Rattle.est_tool.proofs.WorkLaws.{given_one}

@@ -1,4 +1,4 @@
-use Rattle.est_files.specs.FileTexts.{OfSpecification, RefusesSpecification}
+use Rattle.call_files.specs.FileTexts.{OfSpecification, RefusesSpecification}
 use Rattle.std.proofs.Common.{refl, []}
 use Rattle.est_tool.specs.SelfRuns.{stops_at_its_file, makes}
 use Rattle.est_tool.specs.inside.SelfRunning.{EndsMaking}

@@ -1,8 +1,8 @@
 use Rattle.std.proofs.Common.{subst}
-use Rattle.est_value_texts.specs.TraceGrammar as grammar
-use Rattle.est_value_texts.specs.ValueReading.{Reads}
-use Rattle.est_value_texts.specs.ValueShapes.{AreBracketed, ShowsOrdinal}
-use Rattle.est_port_names.specs.PortNames.{IsElementOf}
+use Rattle.text_values.specs.TraceGrammar as grammar
+use Rattle.text_values.specs.ValueReading.{Reads}
+use Rattle.text_values.specs.ValueShapes.{AreBracketed, ShowsOrdinal}
+use Rattle.est_trace.specs.PortNames.{IsElementOf}
 use Rattle.est_trace.proofs.Interactions.{element_reads}
 use Rattle.est_trace.proofs.interaction.element.Goals as goal
 

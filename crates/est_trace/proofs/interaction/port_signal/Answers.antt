@@ -1,8 +1,8 @@
 use Rattle.std.proofs.Common.{sym, ap, subst, Some, None}
 use Rattle.std.specs.Option.{option_map, IsSomeAnd}
-use Rattle.est_value_texts.specs.TraceGrammar as grammar
-use Rattle.est_value_texts.specs.ValueReading.{Reads}
-use Rattle.est_value_texts.specs.ValueShapes.{AreBracketed, ShowsValue}
+use Rattle.text_values.specs.TraceGrammar as grammar
+use Rattle.text_values.specs.ValueReading.{Reads}
+use Rattle.text_values.specs.ValueShapes.{AreBracketed, ShowsValue}
 use Rattle.est_trace.specs.inside.Parts.{interaction_of}
 use Rattle.est_trace.proofs.Interactions.{interaction_reads_of}
 use Rattle.est_trace.proofs.interaction.port_signal.Goals as goal

@@ -1,8 +1,8 @@
 use Rattle.std.proofs.Common.{subst, ap, ◌∙◌, Some, None}
 use Rattle.std.specs.Option.{option_map}
-use Rattle.est_reader.specs.Moving.{IsNamedAt}
-use Rattle.est_port_names.specs.PortNames.{IsHeadOf, signals_of}
-use Rattle.est_port_names.specs.PortNames as names
+use Rattle.text_reader.specs.Moving.{IsNamedAt}
+use Rattle.est_trace.specs.PortNames.{IsHeadOf, signals_of}
+use Rattle.est_trace.specs.PortNames as names
 use Rattle.est_trace.proofs.Lookups.{no_port_word, no_head, head_open, head_closed}
 use Rattle.est_trace.proofs.lookup.find_head.Goals as goal
 

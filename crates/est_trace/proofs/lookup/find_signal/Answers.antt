@@ -1,7 +1,7 @@
 use Rattle.std.proofs.Common.{map, subst, Some, None}
 use Rattle.std.specs.Option.{option_map}
-use Rattle.est_reader.specs.Moving.{IsNamedAt}
-use Rattle.est_port_names.specs.PortNames.{IsNumberOf, signal_name}
+use Rattle.text_reader.specs.Moving.{IsNamedAt}
+use Rattle.est_trace.specs.PortNames.{IsNumberOf, signal_name}
 use Rattle.est_trace.proofs.Lookups.{no_signal_word, no_signal, signal_open, signal_closed}
 use Rattle.est_trace.proofs.lookup.find_signal.Goals as goal
 

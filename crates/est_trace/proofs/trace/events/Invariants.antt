@@ -1,4 +1,4 @@
-use Rattle.est_reader.proofs.Steps.{left_of}
+use Rattle.text_reader.proofs.Steps.{left_of}
 use Rattle.est_trace.proofs.Events.{Counting}
 use Rattle.est_trace.proofs.trace.events.Given as goal
 

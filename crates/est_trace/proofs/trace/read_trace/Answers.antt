@@ -1,6 +1,6 @@
 use Rattle.std.proofs.Common.{sym, subst}
-use Rattle.est_port_names.specs.PortNames.{GoodPorts}
-use Rattle.est_port_names.proofs.GoodPorts.{good_ports}
+use Rattle.est_trace.specs.PortNames.{GoodPorts}
+use Rattle.est_trace.proofs.GoodPorts.{good_ports}
 use Rattle.est_trace.proofs.AtPorts.{allowed_trace}
 use Rattle.est_trace.proofs.trace.read_trace.Goals as goal
 

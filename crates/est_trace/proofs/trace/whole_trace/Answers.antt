@@ -1,5 +1,5 @@
 use Rattle.std.proofs.Common.{refl}
-use Rattle.est_reader.proofs.Single.{number_takes}
+use Rattle.text_reader.proofs.Single.{number_takes}
 use Rattle.est_trace.proofs.Readings.{word_reads, last_reads}
 use Rattle.est_trace.proofs.Fullness.{trace_counted}
 use Rattle.est_trace.proofs.trace.whole_trace.Goals as goal

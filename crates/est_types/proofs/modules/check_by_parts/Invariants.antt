@@ -1,6 +1,6 @@
 use Rattle.std.specs.Prelude.{flat_map}
 use Rattle.std.proofs.Common.{◌≡◌, drop}
-use Rattle.est_scope.specs.LeastSoFar.{least_with}
+use Rattle.rule_scope.specs.LeastSoFar.{least_with}
 use Rattle.est_types.specs.DeclarationFaults.{by_part_faults}
 use Rattle.est_types.proofs.modules.check_by_parts.Given as goal
 

@@ -1,6 +1,6 @@
 use Rattle.std.specs.Prelude.{flat_map}
 use Rattle.std.proofs.Common.{refl}
-use Rattle.est_scope.proofs.LeastLaws.{least_loop}
+use Rattle.rule_scope.proofs.LeastLaws.{least_loop}
 use Rattle.est_types.specs.DeclarationFaults.{chosen_faults}
 use Rattle.est_types.proofs.sections.check_any.Goals as goal
 

@@ -1,6 +1,6 @@
 use Rattle.std.specs.Prelude.{flat_map}
 use Rattle.std.proofs.Common.{◌≡◌, drop}
-use Rattle.est_scope.specs.LeastSoFar.{least_with}
+use Rattle.rule_scope.specs.LeastSoFar.{least_with}
 use Rattle.est_types.specs.DeclarationFaults.{stateset_faults}
 use Rattle.est_types.proofs.sections.check_statesets.Given as goal
 

@@ -1,8 +1,8 @@
 use Rattle.std.specs.Prelude.{flat_map}
 use Rattle.std.proofs.Common.{sym, ap, subst, ◌∙◌, None}
 use Rattle.est_syntax.specs.Least.{IsIn, IsLeast}
-use Rattle.est_scope.specs.LeastSoFar.{least_with}
-use Rattle.est_scope.proofs.LeastLaws.{least_is}
+use Rattle.rule_scope.specs.LeastSoFar.{least_with}
+use Rattle.rule_scope.proofs.LeastLaws.{least_is}
 use Rattle.est_types.specs.DeclarationFaults.{part_faults, declaration_faults}
 use Rattle.est_types.specs.declared.modules.Owner.TheVariants as owners
 use Rattle.est_types.specs.declared.table.Whole.{Whole}

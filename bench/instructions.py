@@ -1,0 +1,74 @@
+#!/usr/bin/env python3
+"""Counts the instructions that an event takes in explain and in replay, along protocols of examples/, and prints a table.
+
+callgrind (the command valgrind) runs the program of these sources on a trace and on one that is six times as long; the
+difference, by events, leaves out what a start takes. The same program and traces give the same counts on any machine and
+under any load. SPIN's counts are those that its verifiers took on the same events, in models written by hand
+(bench/alternating_bit.pml is one of them); they are no part of a run. With --record the rows go to
+bench/results/instructions.tsv.
+"""
+
+import pathlib
+import re
+import subprocess
+import sys
+import tempfile
+
+import recording
+from runs import PROGRAM, PROTOCOLS, TOP
+
+SHORT, LONG = 500, 3_000
+STORES = """in app.start / in app.enlist(1) / in app.enlist(2) / in app.enlist(3) / in app.commit / out store[1].prepare
+/ out store[2].prepare / out store[3].prepare / in store[3].vote(readonly) / in store[1].vote(yes) / in store[2].vote(yes)
+/ out app.decided(committed) / out store[1].commit / out store[2].commit / in store[2].done / in store[1].done"""
+EVENTS = PROTOCOLS | {"two_phase_commit": [line.strip() for line in STORES.split("/")]}
+SPIN = {"alternating_bit": 6_108, "connection": 14_458, "ring_election": 24_872, "sessions": 13_590}
+
+
+def counted(folder, *words):
+    """The instructions of a run, and what it told."""
+    command = ["valgrind", "--tool=callgrind", "--callgrind-out-file=/dev/null", PROGRAM, *words]
+    told = subprocess.run(command, cwd=folder, capture_output=True, text=True)
+    count = re.search(r"Collected : (\d+)", told.stderr)
+    if not count:
+        sys.exit(f"{' '.join(words)}: {told.stdout[:200]}{told.stderr[-400:]}")
+    return int(count.group(1)), told.stdout
+
+
+def along(folder, protocol, turns):
+    """The instructions of explain and of replay along the events of a protocol, so many times over, and their number."""
+    events = EVENTS[protocol] * turns
+    (folder / "a.trace").write_text("trace 1\n" + "\n".join(events) + "\nend\n")
+    specification = str(TOP / "examples" / f"{protocol}.est")
+    explained, told = counted(folder, "explain", specification, "a.trace", "30", "4000000", "10000")
+    first, _, explanation = told.partition("\n")
+    if "accepted" not in first:
+        sys.exit(f"{protocol}: {first}")
+    (folder / "a.explanation").write_text(explanation)
+    replayed, _ = counted(folder, "replay", specification, "a.trace", "a.explanation", "30", "10000")
+    return explained, replayed, len(events)
+
+
+def row(folder, protocol):
+    """The instructions of an event in explain and in replay."""
+    turns = len(EVENTS[protocol])
+    less = along(folder, protocol, SHORT // turns)
+    more = along(folder, protocol, LONG // turns)
+    events = more[2] - less[2]
+    return [round((more[i] - less[i]) / events) for i in (0, 1)]
+
+
+def main():
+    chosen = recording.words() or ["alternating_bit", "connection", "ring_election", "sessions", "two_phase_commit"]
+    print("| Protocol | `explain` | `replay` | SPIN |\n|---|---|---|---|")
+    with tempfile.TemporaryDirectory() as name:
+        for protocol in chosen:
+            explained, replayed = row(pathlib.Path(name), protocol)
+            spin = SPIN.get(protocol)
+            cells = [f"`{protocol}`", f"{explained:,}", f"{replayed:,}", f"{spin:,}" if spin else ""]
+            print(f"| {' | '.join(cells)} |", flush=True)
+            recording.record("instructions", *cells)
+
+
+if __name__ == "__main__":
+    main()

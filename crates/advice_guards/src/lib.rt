@@ -1,0 +1,20 @@
+//! What a person is told of the guard of a choice in the situation before it: what it awaits, which
+//! part of it fails or passes the limit of statements, and what goes before it; and interactions, as
+//! they are told.
+#![tactic(auto)]
+
+mod ahead;
+mod awaited;
+pub mod cause;
+mod guard;
+mod heads;
+pub mod items;
+pub mod limit;
+mod names;
+mod parts;
+mod passing;
+mod points;
+mod scan;
+pub mod scene;
+mod seen;
+pub mod states;

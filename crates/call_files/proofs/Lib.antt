@@ -1,0 +1,6 @@
+pub mod CountLaws
+pub mod PieceLaws
+pub mod PlaceLaws
+pub mod ReadLaws
+pub mod SetLaws
+pub mod WordLaws

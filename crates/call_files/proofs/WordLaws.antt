@@ -1,0 +1,379 @@
+-- What words ask for, by the words at their places.
+use Rattle.std.proofs.Common.{◌≡◌, ◌≢◌, ℕ, ◌-◌, ◌<◌, ◌≤◌, Bool, true, false, ◌==◌}
+use Rattle.std.proofs.Common.{Option, Some, None, MatchOption, List, [], ◌∷◌, length, get_or}
+use Rattle.std.proofs.Common.{take, drop, codes, String}
+use Rattle.std.proofs.Common.{string_bytes, string_len, sym, refl, ap, subst, arith, ◌∙◌}
+use Rattle.std.proofs.lemmas.Bool.Decides.{nat_tests}
+use Rattle.std.proofs.lemmas.List.{nil_from_length, take_all}
+use Rattle.std.specs.Global.{Global}
+use Rattle.est_meaning.specs.declared.run.Limits.{Limits}
+use Rattle.call_files.specs.declared.words.Command.{Command}
+use Rattle.call_files.specs.declared.words.Command.TheVariants.{Check, Explain, Replay, SelfRun}
+use Rattle.call_files.specs.Requests.{Request, Asks, AreLimits, AreSearchLimits, AreRecipe}
+use Rattle.call_files.specs.Requests.{AsksNothing, AsksToCheck, AsksToExplain, AsksToReplay}
+use Rattle.call_files.specs.Requests.{AsksToSelfRun, IsCommand, bytes_of}
+use Rattle.call_files.specs.Requests.{to_check, to_explain, to_replay, to_self_run}
+use Rattle.call_files.specs.Requests.{usual, told, left_out, given}
+use Rattle.call_files.specs.Requests.{IsNumber, usual_budget, most_silent, most_budget}
+use Rattle.call_files.specs.Requests.{most_statements}
+use Rattle.call_files.specs.inside.CommandWords.{BeginWith}
+
+-- a word that is not empty, by its length
+pub named : (word : String Global) (empty : Bool) → empty ≡ (string_len word == 0) → empty ≡ false
+    → string_bytes word ≢ []
+named word empty is not = λ nil. let long : length (string_bytes word) ≡ 0 = ap length nil in absurd
+    (grind (arith, nat_tests, word.bytes.ok.0))
+
+-- a word that is empty, by its length
+pub unnamed : (word : String Global) (empty : Bool) → empty ≡ (string_len word == 0) → empty ≡ true
+    → string_bytes word ≡ []
+unnamed word empty is holds = nil_from_length _ (grind (arith, nat_tests, word.bytes.ok.0))
+
+-- words that begin with `explain` do not begin with `selfrun`
+pub explain_or_self_run : (word : List ℕ) → word ≡ codes "explain" → word ≡ codes "selfrun" → ⊥
+explain_or_self_run word one other =
+    let first : 101 ≡ 115 = ap (λ w. get_or w 0 0) (sym one ∙ other) in
+    absurd (omega (arith, first))
+
+-- two words are those at their places
+pub two_words : {A : Type 0} (words : List A) (a b : A) → 2 ≤ length words → length words < 3
+    → a ≡ get_or words 0 a → b ≡ get_or words 1 b → words ≡ a ∷ b ∷ []
+two_words [] a b long short at_a at_b = absurd (omega arith)
+two_words (x ∷ []) a b long short at_a at_b = absurd (omega arith)
+two_words (x ∷ y ∷ []) a b long short at_a at_b = cc
+two_words (x ∷ y ∷ z ∷ words) a b long short at_a at_b = absurd (omega arith)
+
+-- three words are those at their places
+pub three_words : {A : Type 0} (words : List A) (a b c : A) → 3 ≤ length words → length words < 4
+    → a ≡ get_or words 0 a → b ≡ get_or words 1 b → c ≡ get_or words 2 c
+    → words ≡ a ∷ b ∷ c ∷ []
+three_words [] a b c long short at_a at_b at_c = absurd (omega arith)
+three_words (x ∷ []) a b c long short at_a at_b at_c = absurd (omega arith)
+three_words (x ∷ y ∷ []) a b c long short at_a at_b at_c = absurd (omega arith)
+three_words (x ∷ y ∷ z ∷ []) a b c long short at_a at_b at_c = cc
+three_words (x ∷ y ∷ z ∷ w ∷ words) a b c long short at_a at_b at_c = absurd (omega arith)
+
+-- CHECK
+
+-- words that begin so ask for a check
+pub is_check : (words : List (String Global)) (specification : String Global)
+    → BeginWith (codes "check") words → 2 ≤ length words → length words < 3
+    → specification ≡ get_or words 1 specification → string_bytes specification ≢ []
+    → AsksToCheck words
+is_check [] specification begin long short at named = absurd begin
+is_check (a ∷ []) specification begin long short at named = absurd (omega arith)
+is_check (a ∷ b ∷ []) specification begin long short at named =
+    to_check (string_bytes b) (ap (λ c. c ∷ string_bytes b ∷ []) begin)
+    (subst (λ w. string_bytes w ≢ []) at named)
+is_check (a ∷ b ∷ c ∷ words) specification begin long short at named = absurd (omega arith)
+
+-- words of a check are two, and the second one is a name
+pub record IsCheckOf (words : List (String Global)) : Type 0 where
+  pub two : length words ≡ 2
+  pub named : (word : String Global) → word ≡ get_or words 1 word → string_bytes word ≢ []
+
+-- what words that begin so ask for
+pub is_check_of : (words : List (String Global)) → BeginWith (codes "check") words
+    → (request : Request) → Asks (bytes_of words) request → IsCheckOf words
+is_check_of [] begin request asked = absurd begin
+is_check_of (a ∷ []) begin _ (to_check name are named) = absurd cc
+is_check_of (a ∷ b ∷ []) begin _ (to_check name are named) = record {
+  two = refl;
+  named = λ word at. subst (λ w. w ≢ []) (let e : name ≡ string_bytes word = cc in e) named;
+}
+is_check_of (a ∷ b ∷ c ∷ words) begin _ (to_check name are named) = absurd cc
+is_check_of (a ∷ words) begin _ (to_explain s t limits n b m are s_named t_named is) = absurd cc
+is_check_of (a ∷ words) begin _ (to_replay s t e limits n m are s_named t_named e_named is) =
+    absurd cc
+is_check_of (a ∷ words) begin _ (to_self_run name x y n m are named is) = absurd cc
+
+-- SEARCH
+
+-- words that begin so ask for a search
+pub is_explain : (words : List (String Global)) (specification trace : String Global)
+    (limits : Limits)
+    → BeginWith (codes "explain") words → 3 ≤ length words
+    → specification ≡ get_or words 1 specification → trace ≡ get_or words 2 trace
+    → string_bytes specification ≢ [] → string_bytes trace ≢ []
+    → AreSearchLimits (bytes_of (take (length words - 3) (drop 3 words)))
+    limits.silent limits.budget limits.statements
+    → AsksToExplain limits words
+is_explain [] s t limits begin long at_s at_t s_named t_named are = absurd begin
+is_explain (a ∷ []) s t limits begin long at_s at_t s_named t_named are = absurd (omega arith)
+is_explain (a ∷ b ∷ []) s t limits begin long at_s at_t s_named t_named are = absurd (omega arith)
+is_explain (a ∷ b ∷ c ∷ rest) s t limits begin long at_s at_t s_named t_named are =
+    let all : take (length (a ∷ b ∷ c ∷ rest) - 3) rest ≡ rest = take_all _ rest (omega arith) in
+    to_explain (string_bytes b) (string_bytes c) (bytes_of rest) limits.silent limits.budget
+    limits.statements (ap (λ w. w ∷ string_bytes b ∷ string_bytes c ∷ bytes_of rest) begin)
+    (subst (λ w. string_bytes w ≢ []) at_s s_named)
+    (subst (λ w. string_bytes w ≢ []) at_t t_named)
+    (subst (λ ws. AreSearchLimits (bytes_of ws) limits.silent limits.budget limits.statements) all
+    are)
+
+-- words of a search are three or more: the second and the third one are names, and those after
+-- them are its limits
+pub record IsExplainOf (words : List (String Global)) : Type 0 where
+  pub three : 3 ≤ length words
+  pub named : (word : String Global) → word ≡ get_or words 1 word → string_bytes word ≢ []
+  pub traced : (word : String Global) → word ≡ get_or words 2 word → string_bytes word ≢ []
+  pub silent : ℕ
+  pub budget : ℕ
+  pub statements : ℕ
+  pub limits : AreSearchLimits (bytes_of (take (length words - 3) (drop 3 words)))
+      silent budget statements
+
+-- what words that begin so ask for
+pub is_explain_of : (words : List (String Global)) → BeginWith (codes "explain") words
+    → (request : Request) → Asks (bytes_of words) request → IsExplainOf words
+is_explain_of [] begin request asked = absurd begin
+is_explain_of (a ∷ words) begin _ (to_check name are named) = absurd cc
+is_explain_of (a ∷ []) begin _ (to_explain s t limits n b m are s_named t_named is) = absurd cc
+is_explain_of (a ∷ x ∷ []) begin _ (to_explain s t limits n b m are s_named t_named is) = absurd cc
+is_explain_of (a ∷ x ∷ y ∷ rest) begin _ (to_explain s t limits n b m are s_named t_named is) =
+    let all : take (length (a ∷ x ∷ y ∷ rest) - 3) rest ≡ rest = take_all _ rest (omega arith) in
+    let same : limits ≡ bytes_of rest = cc in
+    record {
+      three = omega arith;
+      named = λ word at. subst (λ w. w ≢ []) (let e : s ≡ string_bytes word = cc in e) s_named;
+      traced = λ word at. subst (λ w. w ≢ []) (let e : t ≡ string_bytes word = cc in e) t_named;
+      silent = n;
+      budget = b;
+      statements = m;
+      limits = subst (λ ws. AreSearchLimits ws n b m) (same ∙ ap bytes_of (sym all)) is;
+    }
+is_explain_of (a ∷ words) begin _ (to_replay s t e limits n m are s_named t_named e_named is) =
+    absurd cc
+is_explain_of (a ∷ words) begin _ (to_self_run name x y n m are named is) =
+    absurd (explain_or_self_run (string_bytes a) begin (ap (λ ws. get_or ws 0 []) are))
+
+-- limits of a search that are left out
+pub none_told : (words : List (String Global)) → length words < 1
+    → AreSearchLimits (bytes_of words) 8 usual_budget 10000
+none_told [] none = usual refl
+none_told (x ∷ words) none = absurd (omega arith)
+
+-- limits of a search that are given
+pub all_told : (words : List (String Global)) (a b c : String Global) (silent budget statements : ℕ)
+    → words ≡ a ∷ b ∷ c ∷ [] → IsNumber 0 most_silent (string_bytes a) silent
+    → IsNumber 0 most_budget (string_bytes b) budget
+    → IsNumber 1 most_statements (string_bytes c) statements
+    → AreSearchLimits (bytes_of words) silent budget statements
+all_told words a b c silent budget statements are is_silent is_budget is_statements =
+    told _ _ _ silent budget statements (ap bytes_of are) is_silent is_budget is_statements
+
+-- the numbers that three words give as limits
+pub record AreTold (a b c : List ℕ) : Type 0 where
+  pub silent : ℕ
+  pub budget : ℕ
+  pub statements : ℕ
+  pub first : IsNumber 0 most_silent a silent
+  pub second : IsNumber 0 most_budget b budget
+  pub third : IsNumber 1 most_statements c statements
+
+-- words of limits that are three are a number each
+told_words : (words : List (List ℕ)) (a b c : List ℕ) (n m k : ℕ) → words ≡ a ∷ b ∷ c ∷ []
+    → AreSearchLimits words n m k → AreTold a b c
+told_words words a b c _ _ _ are (usual none) = absurd cc
+told_words words a b c n m k are (told x y z _ _ _ is p q r) = record {
+  silent = n;
+  budget = m;
+  statements = k;
+  first = subst (λ w. IsNumber 0 most_silent w n) (let e : x ≡ a = cc in e) p;
+  second = subst (λ w. IsNumber 0 most_budget w m) (let e : y ≡ b = cc in e) q;
+  third = subst (λ w. IsNumber 1 most_statements w k) (let e : z ≡ c = cc in e) r;
+}
+
+-- three words that are no numbers each give no limits
+pub not_told : (words : List (String Global)) (a b c : String Global) (r : Option Limits)
+    → words ≡ a ∷ b ∷ c ∷ [] → r ≡ None
+    → (AreTold (string_bytes a) (string_bytes b) (string_bytes c) → ⊥)
+    → MatchOption r
+    ((silent budget statements : ℕ) → AreSearchLimits (bytes_of words) silent budget statements → ⊥)
+    (λ limits. AreSearchLimits (bytes_of words) limits.silent limits.budget limits.statements)
+not_told words a b c None are is never = λ n m k limits.
+    never (told_words (bytes_of words) _ _ _ n m k (ap bytes_of are) limits)
+not_told words a b c (Some x) are is never = absurd cc
+
+-- REPLAY
+
+-- words that begin so ask for a replay
+pub is_replay : (words : List (String Global)) (specification trace explanation : String Global)
+    (limits : Limits)
+    → BeginWith (codes "replay") words → 4 ≤ length words
+    → specification ≡ get_or words 1 specification → trace ≡ get_or words 2 trace
+    → explanation ≡ get_or words 3 explanation
+    → string_bytes specification ≢ [] → string_bytes trace ≢ [] → string_bytes explanation ≢ []
+    → AreLimits (bytes_of (take (length words - 4) (drop 4 words))) limits.silent limits.statements
+    → AsksToReplay limits words
+is_replay [] s t e limits begin long at_s at_t at_e s_named t_named e_named are = absurd begin
+is_replay (a ∷ []) s t e limits begin long at_s at_t at_e s_named t_named e_named are =
+    absurd (omega arith)
+is_replay (a ∷ b ∷ []) s t e limits begin long at_s at_t at_e s_named t_named e_named are =
+    absurd (omega arith)
+is_replay (a ∷ b ∷ c ∷ []) s t e limits begin long at_s at_t at_e s_named t_named e_named are =
+    absurd (omega arith)
+is_replay (a ∷ b ∷ c ∷ d ∷ rest) s t e limits begin long at_s at_t at_e s_named t_named e_named
+    are =
+    let all : take (length (a ∷ b ∷ c ∷ d ∷ rest) - 4) rest ≡ rest = take_all _ rest (omega arith)
+    in
+    to_replay (string_bytes b) (string_bytes c) (string_bytes d) (bytes_of rest) limits.silent
+    limits.statements
+    (ap (λ w. w ∷ string_bytes b ∷ string_bytes c ∷ string_bytes d ∷ bytes_of rest) begin)
+    (subst (λ w. string_bytes w ≢ []) at_s s_named)
+    (subst (λ w. string_bytes w ≢ []) at_t t_named)
+    (subst (λ w. string_bytes w ≢ []) at_e e_named)
+    (subst (λ ws. AreLimits (bytes_of ws) limits.silent limits.statements) all are)
+
+-- words of a replay are four or more: the second, the third and the fourth one are names, and
+-- those after them are its limits
+pub record IsReplayOf (words : List (String Global)) : Type 0 where
+  pub four : 4 ≤ length words
+  pub named : (word : String Global) → word ≡ get_or words 1 word → string_bytes word ≢ []
+  pub traced : (word : String Global) → word ≡ get_or words 2 word → string_bytes word ≢ []
+  pub explained : (word : String Global) → word ≡ get_or words 3 word → string_bytes word ≢ []
+  pub silent : ℕ
+  pub statements : ℕ
+  pub limits : AreLimits (bytes_of (take (length words - 4) (drop 4 words))) silent statements
+
+-- what words that begin so ask for
+pub is_replay_of : (words : List (String Global)) → BeginWith (codes "replay") words
+    → (request : Request) → Asks (bytes_of words) request → IsReplayOf words
+is_replay_of [] begin request asked = absurd begin
+is_replay_of (a ∷ words) begin _ (to_check name are named) = absurd cc
+is_replay_of (a ∷ words) begin _ (to_explain s t limits n b m are s_named t_named is) = absurd cc
+is_replay_of (a ∷ words) begin _ (to_self_run name x y n m are named is) = absurd cc
+is_replay_of (a ∷ []) begin _ (to_replay s t e limits n m are s_named t_named e_named is) =
+    absurd cc
+is_replay_of (a ∷ x ∷ []) begin _ (to_replay s t e limits n m are s_named t_named e_named is) =
+    absurd cc
+is_replay_of (a ∷ x ∷ y ∷ []) begin _ (to_replay s t e limits n m are s_named t_named e_named is) =
+    absurd cc
+is_replay_of (a ∷ x ∷ y ∷ z ∷ rest) begin _
+    (to_replay s t e limits n m are s_named t_named e_named is) =
+    let all : take (length (a ∷ x ∷ y ∷ z ∷ rest) - 4) rest ≡ rest = take_all _ rest (omega arith)
+    in
+    let same : limits ≡ bytes_of rest = cc in
+    record {
+      four = omega arith;
+      named = λ word at. subst (λ w. w ≢ []) (let q : s ≡ string_bytes word = cc in q) s_named;
+      traced = λ word at. subst (λ w. w ≢ []) (let q : t ≡ string_bytes word = cc in q) t_named;
+      explained = λ word at. subst (λ w. w ≢ []) (let q : e ≡ string_bytes word = cc in q) e_named;
+      silent = n;
+      statements = m;
+      limits = subst (λ ws. AreLimits ws n m) (same ∙ ap bytes_of (sym all)) is;
+    }
+
+-- limits of a replay that are left out
+pub none_given : (words : List (String Global)) → length words < 1
+    → AreLimits (bytes_of words) 8 10000
+none_given [] none = left_out refl
+none_given (x ∷ words) none = absurd (omega arith)
+
+-- limits of a replay that are given
+pub both_given : (words : List (String Global)) (a b : String Global) (silent statements : ℕ)
+    → words ≡ a ∷ b ∷ [] → IsNumber 0 most_silent (string_bytes a) silent
+    → IsNumber 1 most_statements (string_bytes b) statements
+    → AreLimits (bytes_of words) silent statements
+both_given words a b silent statements are is_silent is_statements = given _ _ silent statements
+    (ap bytes_of are) is_silent is_statements
+
+-- TRACES THAT ARE MADE
+
+-- words that begin so ask for a trace to be made
+pub is_self_run : (words : List (String Global)) (specification first second : String Global)
+    (seed count : ℕ)
+    → BeginWith (codes "selfrun") words → 4 ≤ length words → length words < 5
+    → specification ≡ get_or words 1 specification → first ≡ get_or words 2 first
+    → second ≡ get_or words 3 second → string_bytes specification ≢ []
+    → AreRecipe (string_bytes first) (string_bytes second) seed count
+    → AsksToSelfRun seed count words
+is_self_run [] s x y n m begin long short at_s at_x at_y named are = absurd begin
+is_self_run (a ∷ []) s x y n m begin long short at_s at_x at_y named are = absurd (omega arith)
+is_self_run (a ∷ b ∷ []) s x y n m begin long short at_s at_x at_y named are =
+    absurd (omega arith)
+is_self_run (a ∷ b ∷ c ∷ []) s x y n m begin long short at_s at_x at_y named are =
+    absurd (omega arith)
+is_self_run (a ∷ b ∷ c ∷ d ∷ []) s x y n m begin long short at_s at_x at_y named are =
+    to_self_run (string_bytes b) (string_bytes c) (string_bytes d) n m
+    (ap (λ w. w ∷ string_bytes b ∷ string_bytes c ∷ string_bytes d ∷ []) begin)
+    (subst (λ w. string_bytes w ≢ []) at_s named)
+    (subst (λ w. AreRecipe (string_bytes w) (string_bytes d) n m) at_x
+    (subst (λ w. AreRecipe (string_bytes x) (string_bytes w) n m) at_y are))
+is_self_run (a ∷ b ∷ c ∷ d ∷ e ∷ words) s x y n m begin long short at_s at_x at_y named are =
+    absurd (omega arith)
+
+-- words of a trace that is made are four: the second one is a name, and the others its numbers
+pub record IsSelfRunOf (words : List (String Global)) : Type 0 where
+  pub four : length words ≡ 4
+  pub named : (word : String Global) → word ≡ get_or words 1 word → string_bytes word ≢ []
+  pub seed : ℕ
+  pub count : ℕ
+  pub recipe : (x y : String Global) → x ≡ get_or words 2 x → y ≡ get_or words 3 y
+      → AreRecipe (string_bytes x) (string_bytes y) seed count
+
+-- what words that begin so ask for
+pub is_self_run_of : (words : List (String Global)) → BeginWith (codes "selfrun") words
+    → (request : Request) → Asks (bytes_of words) request → IsSelfRunOf words
+is_self_run_of [] begin request asked = absurd begin
+is_self_run_of (a ∷ words) begin _ (to_check name are named) = absurd cc
+is_self_run_of (a ∷ words) begin _ (to_explain s t limits n b m are s_named t_named is) =
+    absurd (explain_or_self_run (string_bytes a) (ap (λ ws. get_or ws 0 []) are) begin)
+is_self_run_of (a ∷ words) begin _ (to_replay s t e limits n m are s_named t_named e_named is) =
+    absurd cc
+is_self_run_of (a ∷ []) begin _ (to_self_run s x y n m are named is) = absurd cc
+is_self_run_of (a ∷ b ∷ []) begin _ (to_self_run s x y n m are named is) = absurd cc
+is_self_run_of (a ∷ b ∷ c ∷ []) begin _ (to_self_run s x y n m are named is) = absurd cc
+is_self_run_of (a ∷ b ∷ c ∷ d ∷ []) begin _ (to_self_run s x y n m are named is) = record {
+  four = refl;
+  named = λ word at. subst (λ w. w ≢ []) (let q : s ≡ string_bytes word = cc in q) named;
+  seed = n;
+  count = m;
+  recipe = λ v w at_v at_w.
+      subst (λ z. AreRecipe z (string_bytes w) n m) (let q : x ≡ string_bytes v = cc in q)
+      (subst (λ z. AreRecipe x z n m) (let q : y ≡ string_bytes w = cc in q) is);
+}
+is_self_run_of (a ∷ b ∷ c ∷ d ∷ e ∷ words) begin _ (to_self_run s x y n m are named is) = absurd cc
+
+-- COMMANDS
+
+-- words that ask to check a file ask for something
+check_asks : (words : List (String Global)) → AsksToCheck words → AsksNothing words → ⊥
+check_asks [] asked nothing = asked
+check_asks (a ∷ []) asked nothing = asked
+check_asks (a ∷ b ∷ []) asked nothing = nothing _ asked
+check_asks (a ∷ b ∷ c ∷ words) asked nothing = asked
+
+-- words that ask for a search ask for something
+explain_asks : (words : List (String Global)) (limits : Limits) → AsksToExplain limits words
+    → AsksNothing words → ⊥
+explain_asks [] limits asked nothing = asked
+explain_asks (a ∷ []) limits asked nothing = asked
+explain_asks (a ∷ b ∷ []) limits asked nothing = asked
+explain_asks (a ∷ b ∷ c ∷ words) limits asked nothing = nothing _ asked
+
+-- words that ask for a replay ask for something
+replay_asks : (words : List (String Global)) (limits : Limits) → AsksToReplay limits words
+    → AsksNothing words → ⊥
+replay_asks [] limits asked nothing = asked
+replay_asks (a ∷ []) limits asked nothing = asked
+replay_asks (a ∷ b ∷ []) limits asked nothing = asked
+replay_asks (a ∷ b ∷ c ∷ []) limits asked nothing = asked
+replay_asks (a ∷ b ∷ c ∷ d ∷ words) limits asked nothing = nothing _ asked
+
+-- words that ask for a trace to be made ask for something
+self_run_asks : (words : List (String Global)) (seed count : ℕ) → AsksToSelfRun seed count words
+    → AsksNothing words → ⊥
+self_run_asks [] n m asked nothing = asked
+self_run_asks (a ∷ []) n m asked nothing = asked
+self_run_asks (a ∷ b ∷ []) n m asked nothing = asked
+self_run_asks (a ∷ b ∷ c ∷ []) n m asked nothing = asked
+self_run_asks (a ∷ b ∷ c ∷ d ∷ []) n m asked nothing = nothing _ asked
+self_run_asks (a ∷ b ∷ c ∷ d ∷ e ∷ words) n m asked nothing = asked
+
+-- words that ask for a command ask for something
+pub command_asks : (words : List (String Global)) (command : Command) → IsCommand words command
+    → AsksNothing words → ⊥
+command_asks words Check asked nothing = check_asks words asked nothing
+command_asks words (Explain limits) asked nothing = explain_asks words limits asked nothing
+command_asks words (Replay limits) asked nothing = replay_asks words limits asked.0 nothing
+command_asks words (SelfRun seed count) asked nothing = self_run_asks words seed count asked nothing

@@ -1,0 +1,3 @@
+-- What only the private functions say.
+pub mod CommandWords
+pub mod OutOfMemory

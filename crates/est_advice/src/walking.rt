@@ -1,0 +1,136 @@
+//! The moves before the one that is rejected.
+
+use crate::firing::append_firing;
+use crate::place::{append_move, append_start};
+use crate::rejected::Rejected;
+use advice_guards::scene::Scene;
+use call_files::est_check::Checked;
+use est_meaning::answers::Started;
+use est_meaning::event::Event;
+use est_meaning::firing::Firing;
+use est_meaning::run::Move;
+use plain_walk::walk::Walk;
+use std::alloc::{AllocError, Global};
+
+// Lets the first of these events happen, if it may be taken, and answers how many happened.
+fn take(alloc: Global, walk: &mut Walk, rest: &[Event]) -> Result<Option<usize>, AllocError> {
+    match rest.first() {
+        None => Ok(None),
+        Some(Event::Leaves(_)) => Ok(None),
+        Some(event) => {
+            walk.happen(alloc, event)?;
+            Ok(Some(1))
+        }
+    }
+}
+
+// Fires a transition, if it can be fired, and answers how many events it sends.
+fn fire(alloc: Global, walk: &mut Walk, firing: &Firing) -> Result<Option<usize>, AllocError> {
+    let Some(made) = walk.fire(alloc, firing)? else {
+        return Ok(None);
+    };
+    let count = made.sent.outs.len();
+    drop(made);
+    Ok(Some(count))
+}
+
+// Makes a move, if it can be made, where these events are left of the trace, and answers how many
+// of them happen.
+fn make(
+    alloc: Global,
+    walk: &mut Walk,
+    rest: &[Event],
+    next: &Move,
+) -> Result<Option<usize>, AllocError> {
+    match next {
+        Move::Take => take(alloc, walk, rest),
+        Move::Fire(firing) => fire(alloc, walk, firing),
+    }
+}
+
+/// Makes moves along a trace of which so many events have happened, and answers how many have
+/// happened then.
+pub(crate) fn make_all(
+    alloc: Global,
+    walk: &mut Walk,
+    trace: &[Event],
+    happened: usize,
+    moves: &[Move],
+) -> Result<usize, AllocError> {
+    let mut at = happened;
+    for next in moves {
+        let rest = &trace[at.min(trace.len())..];
+        match make(alloc, walk, rest, next)? {
+            None => return Ok(at),
+            Some(count) => at = at.saturating_add(count),
+        }
+    }
+    Ok(at)
+}
+
+// Where the guards are looked at before the move that is rejected.
+fn scene_of<'s, 'c>(walk: &'s Walk<'c>, rejected: &Rejected<'s>) -> Scene<'s, 'c> {
+    Scene {
+        behaviour: &walk.behaviour,
+        system: &walk.system,
+        limit: walk.limit,
+        tokens: rejected.texts.specification,
+    }
+}
+
+// Adds what is known of a firing in the situation before it, if that is what is rejected.
+fn append_next(
+    alloc: Global,
+    walk: &Walk,
+    rejected: &Rejected,
+    notes: &mut String,
+) -> Result<(), AllocError> {
+    let Some(index) = (rejected.at as usize).checked_sub(1) else {
+        return Ok(());
+    };
+    match rejected.moves.get(index) {
+        Some(Move::Fire(firing)) => {
+            let scene = scene_of(walk, rejected);
+            append_firing(alloc, &scene, rejected, firing, notes)
+        }
+        _ => Ok(()),
+    }
+}
+
+// Adds what is known of a rejection after a start with so many events.
+fn append_begun(
+    alloc: Global,
+    walk: &mut Walk,
+    rejected: &Rejected,
+    begun: usize,
+    notes: &mut String,
+) -> Result<(), AllocError> {
+    let count = (rejected.at as usize)
+        .saturating_sub(1)
+        .min(rejected.moves.len());
+    let happened = make_all(alloc, walk, rejected.trace, begun, &rejected.moves[..count])?;
+    append_move(alloc, rejected, happened, notes)?;
+    append_next(alloc, walk, rejected, notes)
+}
+
+/// Adds what is known of a rejection under a limit of statements.
+pub(crate) fn append_rejection(
+    alloc: Global,
+    checked: &Checked,
+    rejected: &Rejected,
+    statements: u32,
+    notes: &mut String,
+) -> Result<(), AllocError> {
+    match Walk::start(alloc, checked, statements)? {
+        Started::Fault(_) => append_start(alloc, rejected, notes),
+        Started::Limit => append_start(alloc, rejected, notes),
+        Started::Ready { world, outs } => {
+            let mut walk = world;
+            let begun = outs.len();
+            drop(outs);
+            let done = append_begun(alloc, &mut walk, rejected, begun, notes);
+            drop(walk);
+            done
+        }
+    }
+}

@@ -1,8 +1,0 @@
--- What being alike keeps.
-use Rattle.std.specs.Prelude.{◌≡◌, true}
-use Rattle.est_syntax.specs.declared.kind.Kind.{Kind}
-use Rattle.est_alike.specs.Alike.{is_alike}
-
--- each kind is alike to itself
-abbrev pub KindsAreAlikeToThemselves : Type 0
-KindsAreAlikeToThemselves = (k : Kind) → is_alike k k ≡ true

@@ -1,4 +1,0 @@
-pub mod OwnFrames
-pub mod YoungerBlocks
-pub mod YoungerLinks
-pub mod YoungerRuns

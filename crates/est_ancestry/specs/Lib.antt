@@ -1,3 +1,0 @@
-pub mod InsideTargets
-pub mod NamesOfAlls
-pub mod YoungerLaws

@@ -1,4 +1,0 @@
-//! Attachments lead from older instances to younger ones.
-#![tactic(auto)]
-
-pub mod laws;

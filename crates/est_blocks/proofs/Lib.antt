@@ -1,2 +1,0 @@
-pub mod PartRows
-pub mod Turns

@@ -1,3 +1,0 @@
-pub mod BlockFaults
-pub mod Clauses
-pub mod inside

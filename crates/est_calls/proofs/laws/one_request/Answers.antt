@@ -1,5 +1,0 @@
-use Rattle.est_calls.proofs.OneRequest.{request_one}
-use Rattle.est_calls.proofs.laws.one_request.Goals as goal
-
-pub returns : goal.returns
-returns c = request_one

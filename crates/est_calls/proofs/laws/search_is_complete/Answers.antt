@@ -1,5 +1,0 @@
-use Rattle.est_calls.proofs.Complete.{search_complete}
-use Rattle.est_calls.proofs.laws.search_is_complete.Goals as goal
-
-pub returns : goal.returns
-returns c = search_complete

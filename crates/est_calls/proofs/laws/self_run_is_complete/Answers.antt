@@ -1,5 +1,0 @@
-use Rattle.est_calls.proofs.SelfRunComplete.{self_run_complete}
-use Rattle.est_calls.proofs.laws.self_run_is_complete.Goals as goal
-
-pub returns : goal.returns
-returns c = self_run_complete

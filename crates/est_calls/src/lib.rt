@@ -1,4 +1,0 @@
-//! Laws of calls: what words ask for, what is reported, and what a search decides.
-#![tactic(auto)]
-
-pub mod laws;

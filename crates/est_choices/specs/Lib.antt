@@ -1,9 +1,0 @@
-pub mod AllowedEvents
-pub mod ClauseContexts
-pub mod DelayStamps
-pub mod FiringSteps
-pub mod GuardParts
-pub mod OutsideEvents
-pub mod SelectionLaws
-pub mod TransitionChoices
-pub mod TransitionSelection

@@ -1,4 +1,0 @@
-//! What `explain` reports, `replay` confirms.
-#![tactic(auto)]
-
-pub mod laws;

@@ -1,2 +1,0 @@
-pub mod CountRows
-pub mod NameSteps

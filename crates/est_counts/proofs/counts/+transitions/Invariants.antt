@@ -1,6 +1,0 @@
-use Rattle.std.proofs.Common.{◌≡◌, drop}
-use Rattle.est_counts.specs.Counts.{transitions}
-use Rattle.est_counts.proofs.counts.+transitions.Given as goal
-
-abbrev pub invariant-transitions-loop-i : goal.invariant-transitions-loop-i
-invariant-transitions-loop-i l = l.sum ≡ transitions (drop l.i l.parts)

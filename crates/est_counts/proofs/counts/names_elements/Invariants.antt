@@ -1,6 +1,0 @@
-use Rattle.std.proofs.Common.{◌≡◌, drop}
-use Rattle.est_counts.specs.Counts.{names_elements}
-use Rattle.est_counts.proofs.counts.names_elements.Given as goal
-
-abbrev pub invariant-loop-i : goal.invariant-loop-i
-invariant-loop-i l = l.sum ≡ names_elements l.outline (drop l.i l.names)

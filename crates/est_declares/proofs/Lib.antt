@@ -1,5 +1,0 @@
-pub mod Elements
-pub mod Growing
-pub mod Grown
-pub mod Names
-pub mod Regions

@@ -1,7 +1,0 @@
-use Rattle.std.proofs.Common.{◌≡◌, drop}
-use Rattle.est_declares.specs.Contexts.{region_of}
-use Rattle.est_declares.proofs.context.ClauseKind.region.Given as goal
-
-abbrev pub invariant-loop-given : goal.invariant-loop-given
-invariant-loop-given l = region_of l.self (drop l.given-index l.context) ≡ region_of l.self
-    l.context

@@ -1,9 +1,0 @@
-pub mod AllowedDepartures
-pub mod Climbs
-pub mod FaultlessBlocks
-pub mod JoinedLinks
-pub mod NamedEnds
-pub mod PortSignals
-pub mod SendingBlocks
-pub mod SendingRuns
-pub mod TakenArguments

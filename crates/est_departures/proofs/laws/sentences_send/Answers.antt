@@ -1,8 +1,0 @@
-use Rattle.est_departures.proofs.SendingRuns.{sentences_are_sound, sentences_send}
-use Rattle.est_departures.proofs.laws.sentences_send.Goals as goal
-
-pub returns-clause-sound : goal.returns-clause-sound
-returns-clause-sound c = sentences_are_sound
-
-pub returns-clause-events : goal.returns-clause-events
-returns-clause-events c = sentences_send

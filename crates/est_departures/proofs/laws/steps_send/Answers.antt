@@ -1,8 +1,0 @@
-use Rattle.est_departures.proofs.SendingRuns.{starts_send, firings_send}
-use Rattle.est_departures.proofs.laws.steps_send.Goals as goal
-
-pub returns-clause-starts : goal.returns-clause-starts
-returns-clause-starts c = starts_send
-
-pub returns-clause-firings : goal.returns-clause-firings
-returns-clause-firings c = firings_send

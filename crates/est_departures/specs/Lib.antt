@@ -1,2 +1,0 @@
-pub mod DepartureLaws
-pub mod SentInteractions

@@ -1,4 +1,0 @@
-//! What leaves a system was sent there.
-#![tactic(auto)]
-
-pub mod laws;

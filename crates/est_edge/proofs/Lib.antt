@@ -1,4 +1,0 @@
-pub mod CountLaws
-pub mod PieceLaws
-pub mod PlaceLaws
-pub mod SetLaws

@@ -1,8 +1,0 @@
-use Rattle.std.proofs.Common.{rules, refl}
-use Rattle.est_edge.proofs.SetLaws.{ReplacesAt-set}
-use Rattle.est_edge.proofs.places.replace_at.Goals as goal
-
-pub returns : goal.returns
-returns c =
-    ReplacesAt-set c.args.files.now.items c.args.place c.index_mut.result.now _ (search rules)
-    c.index_mut.ensures.value refl refl

@@ -1,0 +1,90 @@
+use Rattle.std.proofs.Common.{◌≡◌, ◌+◌, ap, subst, sym, arith, ◌∙◌}
+use Rattle.std.proofs.Math.Logic.{∥∥₁_elim}
+use Rattle.std.specs.Coded.{le_prop}
+use Rattle.est_meaning.specs.SituationStacks.{Stack}
+use Rattle.est_meaning.specs.Task.{Suits}
+use Rattle.est_explanation.specs.inside.Standing.{IsStanding}
+use Rattle.est_explanation.proofs.Replaying.{within_call, ready_call, stands_call}
+use Rattle.est_explanation.proofs.Replaying.{rejects_call, keeps_both, ends_call}
+use Rattle.est_explanation.proofs.replay.replay_moves.Goals as goal
+
+pub make-requires : goal.make-requires
+make-requires g c κs within =
+    let w = g.W.World in
+    let moves = c.args.replaying.now.moves.now in
+    let world = c.loop-index.world in
+    let i = c.loop-index.invariant.standing in (
+      within,
+      (
+        ∥∥₁_elim (g.met.W.World.spoken world) le_prop (λ s.
+            within_call (g.setup s.0) c.args.replaying.now.claim moves c.loop-index.index
+            c.loop-index.at s.0 (w.limit world) c.args.replaying.now.silent
+            c.args.replaying.now.trace.now (w.stack world s.0) (i s.0 s.1).0 (i s.0 s.1).1
+            c.loop-index-test.true),
+        (
+          (let fired = c.loop-index.invariant.fired in let room = c.requires.1.0 in let few =
+              c.requires.1.1.0 in omega arith),
+          λ spec speaks. ready_call (g.setup spec) c.args.replaying.now.claim moves
+              c.loop-index.index c.loop-index.at spec (w.limit world) c.args.replaying.now.silent
+              c.args.replaying.now.trace.now (w.stack world spec) (i spec speaks).0
+              (i spec speaks).1 c.loop-index-test.true,
+        ),
+      ),
+    )
+
+pub returns-in-Failed-clause-answer : goal.returns-in-Failed-clause-answer
+returns-in-Failed-clause-answer g c spec speaks =
+    let w = g.W.World in
+    let world = c.loop-index.world in
+    let here = c.loop-index.invariant.keeps.forward spec speaks in
+    let i = c.loop-index.invariant.standing spec here in
+    rejects_call (g.setup spec) c.args.replaying.now.claim c.args.replaying.now.moves.now
+    c.loop-index.index c.loop-index.at spec (w.limit world) c.args.replaying.now.silent
+    c.args.replaying.now.trace.now (w.stack world spec) i.0 i.1 c.loop-index-test.true
+    c.asked-compared.result c.asked-compared.ensures (w.stack c.make.new.world spec).now
+    c.in-Failed.why (rw c.in-Failed.is at (c.in_ok-next.ensures.moved spec here))
+
+pub loop-index-preserved : goal.loop-index-preserved
+loop-index-preserved g c =
+    let w = g.W.World in
+    let world = c.loop-index.world in
+    let made = c.in_ok-next.ensures.keeps in
+    let forgot = c.forget.ensures.keeps in
+    record {
+      keeps = keeps_both w.speaks w.limit c.args.world.now world c.forget.new.self
+          c.loop-index.invariant.keeps (keeps_both w.speaks w.limit world c.make.new.world
+          c.forget.new.self made forgot);
+      fired = (let a = c.loop-index.invariant.fired in let b = c.in_ok-next.ensures.fired in let d =
+          c.forget.ensures.fired in omega arith);
+      standing = λ spec speaks.
+          (let there = forgot.backward spec speaks in
+          let here = made.backward spec there in
+          let i = c.loop-index.invariant.standing spec here in
+          let limit : w.limit world ≡ w.limit c.forget.new.self = sym (forgot.limit_is
+          ∙ made.limit_is) in
+          let now : (w.stack c.make.new.world spec).now ≡ (w.stack c.forget.new.self spec).now =
+          sym (ap (λ (x : Stack). x.now) (c.forget.ensures.stack spec there)) in (
+            subst (λ n. Suits (g.setup spec) spec n c.args.replaying.now.silent
+                c.args.replaying.now.trace.now) limit i.0,
+            subst (λ s. IsStanding (g.setup spec) c.args.replaying.now.claim
+                c.args.replaying.now.moves.now (c.loop-index.index + 1) s c.in-Passed.next) now
+                (stands_call (g.setup spec) c.args.replaying.now.claim
+                c.args.replaying.now.moves.now c.loop-index.index c.loop-index.at spec
+                (w.limit world) c.args.replaying.now.silent c.args.replaying.now.trace.now
+                (w.stack world spec) i.0 i.1 c.loop-index-test.true
+                c.asked-compared.result c.asked-compared.ensures (w.stack c.make.new.world spec).now
+                c.in-Passed.next (rw c.in-Passed.is at (c.in_ok-next.ensures.moved spec here))),
+          ));
+    }
+
+pub returns-clause-answer : goal.returns-clause-answer
+returns-clause-answer g c spec speaks =
+    let w = g.W.World in
+    let world = c.loop-index.world in
+    let i = c.loop-index.invariant.standing spec (c.loop-index.invariant.keeps.forward spec speaks)
+    in
+    ends_call (g.setup spec) c.args.replaying.now.claim c.args.replaying.now.moves.now
+    c.loop-index.index (w.stack world spec).now c.loop-index.at spec (w.limit world)
+    c.args.replaying.now.silent c.args.replaying.now.trace.now i.0 i.1
+    (let f = c.loop-index-test.false in let e = c.loop-index.auto.index-end in omega arith)
+    c.end.result c.end.ensures

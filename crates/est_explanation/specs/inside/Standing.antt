@@ -1,0 +1,88 @@
+-- Where a replay stands on its way, and what its moves answer.
+use Rattle.std.specs.Prelude.{◌≡◌, ℕ, ◌+◌, ◌<◌, ◌≤◌, ◌⊎◌, List, []}
+use Rattle.std.specs.Prelude.{◌∷◌, ◌++◌, length, take, drop, reverse}
+use Rattle.est_syntax.specs.declared.specification.Spec.{Spec}
+use Rattle.est_meaning.specs.mean_blocks.GlobalSituation.{Situation}
+use Rattle.est_meaning.specs.declared.event.Event.{Event}
+use Rattle.est_meaning.specs.SituationStacks.{Stack}
+use Rattle.est_meaning.specs.declared.run.Move.{Move}
+use Rattle.est_meaning.specs.Task.{Suits}
+use Rattle.est_meaning.specs.Run.{AgreeFirst, Setup, Place}
+use Rattle.est_meaning.specs.Run.{Moves, IsBoundedRun, silent_after}
+use Rattle.est_explanation.specs.declared.verdict.Why.TheVariants as why
+use Rattle.est_explanation.specs.declared.verdict.Replayed.{Replayed}
+use Rattle.est_explanation.specs.declared.verdict.Replayed.TheVariants.{Confirmed, Rejected}
+use Rattle.est_explanation.specs.declared.replay.Standing.{Standing}
+use Rattle.est_explanation.specs.declared.replay.Moved.{Moved}
+use Rattle.est_explanation.specs.declared.replay.Moved.TheVariants.{Passed, Failed}
+use Rattle.est_explanation.specs.Replay.{MoveFails, IsPassed}
+
+-- the place where the events so far are the first of the trace
+abbrev pub place_of : Stack → List Event → Standing → Place
+place_of stack trace at = record
+    { situation = stack.now; events = take at.events trace; silent_in_row = at.silent_in_row }
+
+-- a bounded run leads there
+pub record IsReady (c : Setup) (spec : Spec) (limit silent : ℕ) (trace : List Event) (stack : Stack)
+    (at : Standing) : Type 0 where
+  pub suits : Suits c spec limit silent trace
+  pub run : List Move
+  pub is_run : IsBoundedRun c run (place_of stack trace at)
+
+-- the replay stands at this place
+pub record StandsAt (s : Situation) (at : Standing) (p : Place) : Type 0 where
+  pub situation_is : p.situation ≡ s
+  pub many : length p.events ≡ at.events
+  pub silent_in_row_is : p.silent_in_row ≡ at.silent_in_row
+
+-- how many events are compared at most where these moves are left: one more than the trace has
+-- stands for all
+abbrev pub asked_of : ℕ → ℕ → List Move → ℕ
+asked_of many claim [] = claim
+asked_of many claim (m ∷ left) = many + 1
+
+-- the events up to so many agree with the first of the trace
+abbrev pub AgreesUpTo : Setup → ℕ → Place → Type 0
+AgreesUpTo c asked p = AgreeFirst c.trace (take asked p.events)
+
+-- what came of a move: a place at which the replay then stands, or the first check that fails
+abbrev pub HasMoved : Setup → ℕ → Place → Move → Situation → Moved → Type 0
+HasMoved c asked p m s (Passed at) = (q : Place) × Moves c p m q × (q.silent_in_row ≤ c.silent)
+    × AgreesUpTo c asked q × StandsAt s at q
+HasMoved c asked p m s (Failed w) = MoveFails c (AgreesUpTo c asked) p m w
+
+-- what comes of the events of a firing
+abbrev pub HasLanded : List Event → ℕ → ℕ → Standing → List Event → Moved → Type 0
+HasLanded trace silent asked at outs (Passed next) =
+    AgreeFirst trace (take asked (take at.events trace ++ outs))
+    × (next.events ≡ at.events + length outs)
+    × (next.silent_in_row ≡ silent_after at.silent_in_row outs) × (next.silent_in_row ≤ silent)
+HasLanded trace silent asked at outs (Failed why.WrongOutput) =
+    AgreeFirst trace (take asked (take at.events trace ++ outs)) → ⊥
+HasLanded trace silent asked at outs (Failed why.TooSilent) =
+    AgreeFirst trace (take asked (take at.events trace ++ outs))
+    × (silent < silent_after at.silent_in_row outs)
+HasLanded trace silent asked at outs (Failed (why.NoStart fault)) = ⊥
+HasLanded trace silent asked at outs (Failed why.Limit) = ⊥
+HasLanded trace silent asked at outs (Failed why.NoEvent) = ⊥
+HasLanded trace silent asked at outs (Failed why.NotOffered) = ⊥
+HasLanded trace silent asked at outs (Failed (why.Fault fault)) = ⊥
+HasLanded trace silent asked at outs (Failed why.NotAll) = ⊥
+
+-- after so many of the moves the replay stands at the place of a run that passes every check
+abbrev pub IsStanding : Setup → ℕ → List Move → ℕ → Situation → Standing → Type 0
+IsStanding c claim moves made s at =
+    (p : Place) × IsPassed c claim (reverse (take made moves)) (drop made moves) p × StandsAt s at p
+
+-- so many events meet the claim, where those up to the claim agree with a trace of so many: there
+-- are as many, or the claim is one more than the trace has and there are just these
+abbrev pub IsMet : ℕ → ℕ → ℕ → Type 0
+IsMet claim many events =
+    ((claim ≤ many) × (claim ≤ events)) ⊎ ((claim ≡ many + 1) × (events ≡ many))
+
+-- what is answered after so many moves with so many events: the claim where it is met, else that
+-- the moves do not yield it
+abbrev pub IsEnding : ℕ → ℕ → ℕ → ℕ → Replayed → Type 0
+IsEnding claim many moves events (Confirmed k) = (k ≡ claim) × IsMet claim many events
+IsEnding claim many moves events (Rejected at w) =
+    (at ≡ moves + 1) × (w ≡ why.NotAll) × (IsMet claim many events → ⊥)

@@ -1,9 +1,0 @@
-pub mod Accesses
-pub mod Calls
-pub mod Expressions
-pub mod CleanExpressions
-pub mod Selections
-pub mod Operators
-pub mod ExpressionPlaces
-pub mod Receivers
-pub mod Variables

@@ -1,6 +1,0 @@
--- The lemma is the law.
-use Rattle.est_fullness.proofs.Declarations.{short_type_full}
-use Rattle.est_fullness.proofs.laws.short_types_are_full.Goals as goal
-
-pub returns : goal.returns
-returns c = short_type_full

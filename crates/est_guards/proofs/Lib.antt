@@ -1,4 +1,0 @@
-pub mod PartLaws
-pub mod ConditionLaws
-pub mod ArrivalLaws
-pub mod JudgedLaws

@@ -1,2 +1,0 @@
-pub mod JudgedGuards
-pub mod inside

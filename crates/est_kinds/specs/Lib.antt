@@ -1,4 +1,0 @@
-pub mod Constants
-pub mod Dims
-pub mod TypeTexts
-pub mod CleanConstants

@@ -1,8 +1,0 @@
-use Rattle.est_language.proofs.Fronts.{fronts_of_tree, fronts_of_partial}
-use Rattle.est_language.proofs.beginnings.Goals as goal
-
-pub returns-clause-of_tree : goal.returns-clause-of_tree
-returns-clause-of_tree g c = fronts_of_tree
-
-pub returns-clause-of_partial : goal.returns-clause-of_partial
-returns-clause-of_partial g c = fronts_of_partial

@@ -1,4 +1,0 @@
-pub mod TraceEnds
-pub mod TraceResult
-pub mod TraceWords
-pub mod inside

@@ -1,2 +1,0 @@
--- What only the private functions say.
-pub mod TraceWork

@@ -1,4 +1,0 @@
-//! Traces that checked specifications make of themselves.
-#![tactic(auto)]
-
-pub mod checked;

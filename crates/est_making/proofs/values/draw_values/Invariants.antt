@@ -1,9 +1,0 @@
-use Rattle.std.proofs.Common.{take}
-use Rattle.est_making.specs.Words.{stream_at}
-use Rattle.est_making.specs.DrawnValues.{DrawsValues}
-use Rattle.est_making.proofs.values.draw_values.Given as goal
-
--- so many values are drawn
-abbrev pub invariant-loop-kind : goal.invariant-loop-kind
-invariant-loop-kind l =
-    DrawsValues (take l.kind-index l.kinds) (stream_at l.fn.rng) l.values (stream_at l.rng)

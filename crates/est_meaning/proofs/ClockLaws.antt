@@ -1,0 +1,125 @@
+-- The clock of a run.
+use Rattle.std.proofs.Common.{◌≡◌, ◌≤◌, ◌+◌, ◌*◌, ◌^◌, ℕ, suc, List, []}
+use Rattle.std.proofs.Common.{◌∷◌, ◌++◌, All, length, refl, ap, ◌∙◌, arith}
+use Rattle.est_syntax.specs.declared.specification.Spec.{Spec}
+use Rattle.est_syntax.specs.Kinds.{maxint}
+use Rattle.mean_blocks.specs.GlobalSituation.{Situation}
+use Rattle.mean_blocks.specs.TextByPlace.{Text, text_of}
+use Rattle.est_meaning.specs.declared.event.Event.{Event}
+use Rattle.est_meaning.specs.declared.event.Event.TheVariants as event
+use Rattle.est_meaning.specs.AllowedEvents.{IsAllowed, IsAllowedTrace}
+use Rattle.est_meaning.specs.OutsideEvents.{after_event, later, units_of}
+use Rattle.est_meaning.proofs.Outside.{events_are_outside}
+use Rattle.est_meaning.proofs.Steps.{firings_are_orderly, starts_begin_in_order}
+use Rattle.est_meaning.specs.declared.run.Move.{Move}
+use Rattle.est_meaning.specs.declared.run.Move.TheVariants.{Take, Fire}
+use Rattle.est_meaning.specs.Run.{Setup, Place, IsRun, Takes}
+use Rattle.est_meaning.specs.RunLaws.{ClockStaysBounded}
+
+-- passing time is the event of that name
+pub after_passing : (t : Text) (s : Situation) (units : ℕ)
+    → after_event t s (event.Passes units) ≡ later s units
+unfolding after_event
+after_passing t s units = refl
+
+-- the time that passes in these events
+abbrev pub time_of : List Event → ℕ
+time_of [] = 0
+time_of (e ∷ es) = units_of e + time_of es
+
+pub time_of-append : (xs ys : List Event) → time_of (xs ++ ys) ≡ time_of xs + time_of ys
+time_of-append [] ys = omega arith
+time_of-append (x ∷ xs) ys = (let e = time_of-append xs ys in omega arith)
+
+pub units_first : (e : Event) (es : List Event) → units_of e ≤ time_of (e ∷ es)
+units_first e es = omega arith
+
+-- the clock of a run is at most the start's and the time of its events
+pub clock_of_run : (c : Setup) (h : List Move) (p : Place) → IsRun c h p
+    → p.situation.clock ≤ c.start.clock + time_of p.events
+clock_of_run c [] p r = (let a : p.situation.clock ≡ c.start.clock =
+    ap (λ (w : Place). w.situation.clock) r in omega arith)
+clock_of_run c (Take ∷ h) p r =
+    let q = r.0 in
+    let t = r.2 in
+    let before = clock_of_run c h q r.1 in
+    let now : p.situation.clock ≡ q.situation.clock + units_of t.event =
+    ap (λ (w : Place). w.situation.clock) t.leads
+    ∙ events_are_outside.clock (text_of c.spec) q.situation t.event
+    in
+    let events : time_of p.events ≡ time_of q.events + time_of (t.event ∷ []) =
+    ap (λ (w : Place). time_of w.events) t.leads ∙ time_of-append q.events (t.event ∷ []) in
+    omega arith
+clock_of_run c (Fire f ∷ h) p r =
+    let q = r.0 in
+    let t = r.2 in
+    let before = clock_of_run c h q r.1 in
+    let over = firings_are_orderly.goes_over c.limit (text_of c.spec) q.situation t.situation f
+    t.outs t.step.done in
+    let now : p.situation.clock ≡ q.situation.clock =
+    ap (λ (w : Place). w.situation.clock) t.leads ∙ over.clock in
+    let events : time_of p.events ≡ time_of q.events + time_of t.outs =
+    ap (λ (w : Place). time_of w.events) t.leads ∙ time_of-append q.events t.outs in
+    omega arith
+
+-- where the next event is taken, its time fits in that of the trace
+pub clock_to_come : (c : Setup) (h : List Move) (p q : Place) → IsRun c h p → (t : Takes c p q)
+    → p.situation.clock + units_of t.event ≤ c.start.clock + time_of c.trace
+clock_to_come c h p q r t =
+    let now = clock_of_run c h p r in
+    let whole : time_of c.trace ≡ time_of p.events + time_of (t.event ∷ t.rest) = ap time_of t.next
+    ∙ time_of-append p.events (t.event ∷ t.rest) in
+    omega arith
+
+-- no run along a trace brings the clock further than the trace's time
+pub clock_within : (c : Setup) (h : List Move) (p : Place) → IsRun c h p
+    → p.situation.clock ≤ c.start.clock + time_of c.trace
+clock_within c [] p r = (let a : p.situation.clock ≡ c.start.clock =
+    ap (λ (w : Place). w.situation.clock) r in omega arith)
+clock_within c (Take ∷ h) p r =
+    let q = r.0 in
+    let t = r.2 in
+    let now : p.situation.clock ≡ q.situation.clock + units_of t.event =
+    ap (λ (w : Place). w.situation.clock) t.leads
+    ∙ events_are_outside.clock (text_of c.spec) q.situation t.event
+    in
+    let fits = clock_to_come c h q p r.1 t in
+    omega arith
+clock_within c (Fire f ∷ h) p r =
+    let q = r.0 in
+    let t = r.2 in
+    let before = clock_within c h q r.1 in
+    let over = firings_are_orderly.goes_over c.limit (text_of c.spec) q.situation t.situation f
+    t.outs t.step.done in
+    let now : p.situation.clock ≡ q.situation.clock =
+    ap (λ (w : Place). w.situation.clock) t.leads ∙ over.clock in
+    omega arith
+
+units_allowed : (spec : Spec) (e : Event) → IsAllowed spec e → units_of e ≤ maxint
+units_allowed spec (event.Arrives i) a = omega arith
+units_allowed spec (event.Leaves i) a = omega arith
+units_allowed spec (event.Passes units) a = a
+
+time_allowed : (spec : Spec) (es : List Event) → All (IsAllowed spec) es
+    → time_of es ≤ maxint * length es
+time_allowed spec [] a = omega arith
+time_allowed spec (e ∷ es) a =
+    let first = units_allowed spec e (a 0 e (omega arith)) in
+    let rest = time_allowed spec es (λ k d lt. a (suc k) d (omega arith)) in
+    omega arith
+
+-- the time of a trace within its limits
+pub time_of_trace : (spec : Spec) (trace : List Event) → IsAllowedTrace spec trace
+    → time_of trace ≤ 10 ^ 15
+time_of_trace spec trace a =
+    let few = a.few in
+    let time = time_allowed spec trace a.each in
+    omega arith
+
+pub clock_bounded : ClockStaysBounded
+clock_bounded c run p begun allowed r =
+    let zero_start =
+    (starts_begin_in_order c.limit (text_of c.spec) c.start c.start_outs begun).clock in
+    let time = time_of_trace c.spec c.trace allowed in
+    let within = clock_within c run p r in
+    (omega arith, λ q t. (let fits = clock_to_come c run p q r t in omega arith))

@@ -1,0 +1,22 @@
+pub mod AgreementLaws
+pub mod ClockLaws
+pub mod Contexts
+pub mod Examples
+pub mod GuardExamples
+pub mod Guards
+pub mod Options
+pub mod OrderLaws
+pub mod Outside
+pub mod RunLaws
+pub mod RunRows
+pub mod SilenceLaws
+pub mod StackLaws
+pub mod StampTimes
+pub mod Stamps
+pub mod Steps
+pub mod Taken
+pub mod TreeLaws
+pub mod Unsettled
+pub use Rattle.mean_blocks.proofs.of_rule_scope
+pub use Rattle.mean_blocks.proofs.of_rule_declares
+pub use Rattle.mean_blocks.proofs as of_mean_blocks

@@ -1,0 +1,21 @@
+pub mod AllowedEvents
+pub mod ClauseContexts
+pub mod DelayStamps
+pub mod FiringOrder
+pub mod FiringSteps
+pub mod GuardParts
+pub mod Order
+pub mod OutsideEvents
+pub mod PossibleFirings
+pub mod Run
+pub mod RunLaws
+pub mod SelectionLaws
+pub mod SituationStacks
+pub mod Task
+pub mod TransitionChoices
+pub mod TransitionSelection
+pub mod Trials
+pub use Rattle.mean_blocks.specs.rule_scope
+pub use Rattle.mean_blocks.specs.rule_kinds
+pub use Rattle.mean_blocks.specs.rule_declares
+pub use Rattle.mean_blocks.specs as mean_blocks

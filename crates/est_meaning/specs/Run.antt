@@ -1,0 +1,155 @@
+-- Runs of a specification along a trace.
+--
+-- These definitions read a run from its last move back to its first, so that `m ∷ earlier` is the
+-- run `earlier` with one more move m.
+use Rattle.std.specs.Prelude.{◌≡◌, ℕ, ◌+◌, ◌≤◌, ◌⊎◌, List, [], ◌∷◌, ◌++◌, length, take}
+use Rattle.est_syntax.specs.declared.specification.Spec.{Spec}
+use Rattle.mean_blocks.specs.GlobalSituation.{Situation}
+use Rattle.mean_blocks.specs.Outcome.{Done}
+use Rattle.mean_blocks.specs.TextByPlace.{text_of}
+use Rattle.est_meaning.specs.declared.event.Event.{Event}
+use Rattle.est_meaning.specs.declared.event.Event.TheVariants as event
+use Rattle.est_meaning.specs.declared.firing.Firing.{Firing}
+use Rattle.est_meaning.specs.FiringSteps.{IsStep, start_of}
+use Rattle.est_meaning.specs.OutsideEvents.{after_event}
+use Rattle.est_meaning.specs.declared.run.Move.{Move}
+use Rattle.est_meaning.specs.declared.run.Move.TheVariants.{Take, Fire}
+
+-- what a run is a run of; it is one of the specification where the setup is begun (`IsBegun`)
+pub record Setup : Type 0 where
+  pub spec : Spec
+  -- the limit of statements
+  pub limit : ℕ
+  -- how many silent firings may stand in a row
+  pub silent : ℕ
+  pub trace : List Event
+  -- the situation and the events after the start
+  pub start : Situation
+  pub start_outs : List Event
+
+-- the start is that of the specification, and it is ready
+abbrev pub IsBegun : Setup → Type 0
+IsBegun c = start_of c.limit (text_of c.spec) ≡ Done c.start_outs c.start
+
+-- where a run stands
+pub record Place : Type 0 where
+  pub situation : Situation
+  -- of the start and of the moves so far, in order
+  pub events : List Event
+  -- how many silent firings stand last, in a row
+  pub silent_in_row : ℕ
+
+-- where the run without moves stands
+abbrev pub first_place : Setup → Place
+first_place c = record { situation = c.start; events = c.start_outs; silent_in_row = 0 }
+
+-- MOVES
+
+-- an arrival or a passing of time
+abbrev pub IsFromOutside : Event → Type 0
+IsFromOutside (event.Arrives i) = Unit {0}
+IsFromOutside (event.Leaves i) = ⊥
+IsFromOutside (event.Passes units) = Unit {0}
+
+-- where a run stands after a taken event
+abbrev pub after_taking : Setup → Place → Event → Place
+after_taking c p e = record {
+  situation = after_event (text_of c.spec) p.situation e;
+  events = p.events ++ e ∷ [];
+  silent_in_row = 0;
+}
+
+-- the trace goes on after the events so far with an arrival or a passing of time, and this event
+-- happens
+pub record Takes (c : Setup) (p q : Place) : Type 0 where
+  pub event : Event
+  pub rest : List Event
+  pub outside : IsFromOutside event
+  pub next : c.trace ≡ p.events ++ event ∷ rest
+  pub leads : q ≡ after_taking c p event
+
+-- how many silent firings stand last after one more firing: a silent one adds one, and one with an
+-- outside event leaves none
+abbrev pub silent_after : ℕ → List Event → ℕ
+silent_after many [] = many + 1
+silent_after many (e ∷ es) = 0
+
+-- where a run stands after a step
+abbrev pub after_firing : Place → Situation → List Event → Place
+after_firing p s outs = record
+    { situation = s; events = p.events ++ outs; silent_in_row = silent_after p.silent_in_row outs }
+
+-- the firing is a step
+pub record Fires (c : Setup) (p : Place) (f : Firing) (q : Place) : Type 0 where
+  pub situation : Situation
+  pub outs : List Event
+  pub step : IsStep c.limit (text_of c.spec) p.situation f situation outs
+  pub leads : q ≡ after_firing p situation outs
+
+-- a move leads from one place to another
+abbrev pub Moves : Setup → Place → Move → Place → Type 0
+Moves c p Take q = Takes c p q
+Moves c p (Fire f) q = Fires c p f q
+
+-- RUNS
+
+-- the moves lead from the start to the place (ISO 9074, 5, computations)
+abbrev pub IsRun : Setup → List Move → Place → Type 0
+IsRun c [] p = p ≡ first_place c
+IsRun c (m ∷ earlier) p = (q : Place) × IsRun c earlier q × Moves c q m p
+
+-- a run in which nowhere too many silent firings stand in a row
+abbrev pub IsBoundedRun : Setup → List Move → Place → Type 0
+IsBoundedRun c [] p = p ≡ first_place c
+IsBoundedRun c (m ∷ earlier) p =
+    (q : Place) × IsBoundedRun c earlier q × Moves c q m p × (p.silent_in_row ≤ c.silent)
+
+-- a list begins with these items
+abbrev pub IsPrefix : {X : Type 0} → List X → List X → Type 0
+IsPrefix {X} part whole = (rest : List X) × (whole ≡ part ++ rest)
+
+-- AGREEMENT
+--
+-- What a trace says of the events of a run. What a run follows, explains and yields is told by
+-- these alone.
+
+-- an event is the one that is expected
+abbrev pub Agrees : Event → Event → Type 0
+Agrees expected e = e ≡ expected
+
+-- events are those that are expected, one by one and as many (`AgreementIsOneByOne`)
+abbrev pub AgreeAll : List Event → List Event → Type 0
+AgreeAll expected es = es ≡ expected
+
+-- events are the first of those that are expected
+abbrev pub AgreeFirst : List Event → List Event → Type 0
+AgreeFirst expected es = IsPrefix es expected
+
+-- the trace begins with the events so far
+abbrev pub Follows : Setup → Place → Type 0
+Follows c p = AgreeFirst c.trace p.events
+
+-- the events are exactly the trace
+pub record Explains (c : Setup) (run : List Move) : Type 0 where
+  pub place : Place
+  pub is_run : IsBoundedRun c run place
+  pub whole : AgreeAll c.trace place.events
+
+-- the run without its last move follows the trace
+abbrev pub FollowsBefore : Setup → List Move → Type 0
+FollowsBefore c [] = Unit {0}
+FollowsBefore c (m ∷ earlier) = (p : Place) × IsBoundedRun c earlier p × Follows c p
+
+-- the first k events are those of the trace
+pub record YieldsFirst (c : Setup) (run : List Move) (k : ℕ) : Type 0 where
+  pub place : Place
+  pub is_run : IsBoundedRun c run place
+  pub before : FollowsBefore c run
+  pub many : k ≤ length place.events
+  pub within : k ≤ length c.trace
+  pub agree : AgreeAll (take k c.trace) (take k place.events)
+
+-- a bounded run yields the first k events of the trace, or one more than it has where it explains
+-- the trace
+abbrev pub Yields : Setup → List Move → ℕ → Type 0
+Yields c run k = YieldsFirst c run k ⊎ ((k ≡ length c.trace + 1) × Explains c run)

@@ -1,4 +1,0 @@
-pub mod MadeMoves
-pub mod SentItems
-pub mod TakenItems
-pub mod inside

@@ -1,4 +1,0 @@
-pub mod ConstantHeads
-pub mod IndexLaws
-pub mod PartLaws
-pub mod Places

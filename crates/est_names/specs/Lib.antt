@@ -1,3 +1,0 @@
-pub mod KnownNames
-pub mod PartIndices
-pub mod ShownNames

@@ -1,8 +1,0 @@
-use Rattle.std.proofs.Common.{◌≡◌, ◌++◌, take, drop}
-use Rattle.est_semantics.specs.SetOperators.{with_member}
-use Rattle.est_operators.proofs.sets.room.Given as goal
-
--- the ordinal is put after the members so far
-abbrev pub invariant-loop-i : goal.invariant-loop-i
-invariant-loop-i l = with_member l.z l.members
-    ≡ take l.i l.members ++ with_member l.z (drop l.i l.members)

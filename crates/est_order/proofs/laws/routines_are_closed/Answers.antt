@@ -1,6 +1,0 @@
--- A routine is closed where the whole outline says so.
-use Rattle.est_order.proofs.ClosedWholes.{routines_closed}
-use Rattle.est_order.proofs.laws.routines_are_closed.Goals as goal
-
-pub returns : goal.returns
-returns c = routines_closed

@@ -1,7 +1,0 @@
-use Rattle.std.proofs.Common.{◌≡◌, drop}
-use Rattle.est_declares.specs.Declares.{consts_declare}
-use Rattle.est_outline.proofs.declares.consts.Given as goal
-
-abbrev pub invariant-loop-item : goal.invariant-loop-item
-invariant-loop-item l = consts_declare l.within (drop l.item-index l.items) l.outline
-    ≡ consts_declare l.within l.items l.fn.outline

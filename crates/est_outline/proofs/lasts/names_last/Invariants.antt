@@ -1,6 +1,0 @@
-use Rattle.std.proofs.Common.{◌≡◌, drop}
-use Rattle.est_declares.specs.Lasts.{names_last}
-use Rattle.est_outline.proofs.lasts.names_last.Given as goal
-
-abbrev pub invariant-loop-used : goal.invariant-loop-used
-invariant-loop-used l = names_last (drop l.used-index l.names) l.last ≡ names_last l.names l.fn.last

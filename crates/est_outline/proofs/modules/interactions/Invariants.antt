@@ -1,7 +1,0 @@
-use Rattle.std.proofs.Common.{◌≡◌, drop}
-use Rattle.est_declares.specs.Declares.{interactions_declare}
-use Rattle.est_outline.proofs.modules.interactions.Given as goal
-
-abbrev pub invariant-loop-item : goal.invariant-loop-item
-invariant-loop-item l = interactions_declare l.within l.region l.senders (drop l.item-index l.items)
-    l.outline ≡ interactions_declare l.within l.region l.senders l.items l.fn.outline

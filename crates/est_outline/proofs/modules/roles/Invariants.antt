@@ -1,7 +1,0 @@
-use Rattle.std.proofs.Common.{◌≡◌, drop}
-use Rattle.est_declares.specs.Declares.{roles_put}
-use Rattle.est_outline.proofs.modules.roles.Given as goal
-
-abbrev pub invariant-loop-used : goal.invariant-loop-used
-invariant-loop-used l = roles_put l.region (drop l.used-index l.names) l.role l.outline
-    ≡ roles_put l.region l.names l.fn.role l.fn.outline

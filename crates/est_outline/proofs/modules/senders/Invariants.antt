@@ -1,7 +1,0 @@
-use Rattle.std.proofs.Common.{◌≡◌, drop}
-use Rattle.est_declares.specs.Declares.{with_senders, senders}
-use Rattle.est_outline.proofs.modules.senders.Given as goal
-
-abbrev pub invariant-loop-used : goal.invariant-loop-used
-invariant-loop-used l = with_senders l.outline l.region (drop l.used-index l.roles) l.found
-    ≡ senders l.outline l.region l.roles

@@ -1,7 +1,0 @@
-use Rattle.std.proofs.Common.{◌≡◌, drop}
-use Rattle.est_declares.specs.Declares.{names_put}
-use Rattle.est_outline.proofs.texts.names_put.Given as goal
-
-abbrev pub invariant-loop-used : goal.invariant-loop-used
-invariant-loop-used l = names_put l.region (drop l.used-index l.names) l.member l.outline
-    ≡ names_put l.region l.names l.member l.fn.outline

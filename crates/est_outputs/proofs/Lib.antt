@@ -1,2 +1,0 @@
-pub mod DeliveryLaws
-pub mod OutsideLaws

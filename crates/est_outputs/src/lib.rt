@@ -1,4 +1,0 @@
-//! What outputs do.
-#![tactic(auto)]
-
-pub mod outputs;

@@ -1,4 +1,0 @@
-pub mod DeclaredLaws
-pub mod FirstPlaces
-pub mod SamePoints
-pub mod TupleLaws

@@ -1,6 +1,0 @@
-//! Interaction points that headers declare, and their subscripts.
-#![tactic(auto)]
-
-pub mod declared;
-pub mod points;
-pub mod subscripts;

@@ -1,9 +1,0 @@
-pub mod Blocks
-pub mod Elements
-pub mod Firsts
-pub mod GoodPorts
-pub mod Listed
-pub mod Lists
-pub mod Lookups
-pub mod Ordinals
-pub mod Tuples

@@ -1,4 +1,0 @@
-pub mod PortNames
-pub mod PortNameLaws
-pub mod Directories
-pub mod inside

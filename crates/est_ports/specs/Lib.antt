@@ -1,3 +1,0 @@
-pub mod PortListLaws
-pub mod PortTable
-pub mod inside

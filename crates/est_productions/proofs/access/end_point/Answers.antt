@@ -1,8 +1,0 @@
-use Rattle.std.proofs.Common.{refl}
-use Rattle.est_reader.proofs.Going.{then, rule_goes, part}
-use Rattle.est_productions.proofs.Fits.{K}
-use Rattle.est_productions.proofs.access.end_point.Goals as goal
-
-pub returns : goal.returns
-returns c =
-    part refl (rule_goes K (then K refl c.access-first.ensures c.access_given-second.ensures))

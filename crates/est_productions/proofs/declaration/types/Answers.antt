@@ -1,6 +1,0 @@
-use Rattle.est_reader.proofs.Going.{take, rule_goes}
-use Rattle.est_productions.proofs.Fits.{K}
-use Rattle.est_productions.proofs.declaration.types.Goals as goal
-
-pub returns : goal.returns
-returns c = rule_goes K (take K c.word.ensures c.typedefs.ensures)

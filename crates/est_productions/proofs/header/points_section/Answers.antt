@@ -1,7 +1,0 @@
-use Rattle.est_reader.proofs.Going.{take}
-use Rattle.est_reader.proofs.Turns.{adds_within}
-use Rattle.est_productions.proofs.Fits.{K}
-use Rattle.est_productions.proofs.header.points_section.Goals as goal
-
-pub returns : goal.returns
-returns c = adds_within K c.more_points.ensures (λ w. w) (λ ns x. take K c.word.ensures x)

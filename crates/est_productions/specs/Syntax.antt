@@ -1,9 +1,0 @@
--- The syntax of specifications.
-use Rattle.est_reader.specs.Going.{Syntax}
-use Rattle.est_productions.specs.Productions.{Production, production}
-use Rattle.est_productions.specs.FirstTokens.{marks}
-use Rattle.est_productions.specs.Nodes.{Node, layer}
-
--- the productions, what is known of each, and what the parts of a tree show
-abbrev pub estelle : Syntax Production Node
-estelle = record { production = production; marks = marks; layer = layer }

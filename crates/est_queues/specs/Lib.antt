@@ -1,2 +1,0 @@
-pub mod ChangedQueues
-pub mod LostQueues

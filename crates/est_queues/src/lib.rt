@@ -1,7 +1,0 @@
-//! Queues of interaction points, and the items that wait in them.
-#![tactic(auto)]
-
-pub mod heads;
-pub mod keys;
-pub mod losses;
-pub mod queues;

@@ -1,9 +1,0 @@
-pub mod Wholes
-pub mod Writing
-pub mod Marks
-pub mod Scalars
-pub mod Lists
-pub mod Values
-pub mod Events
-pub mod Traces
-pub mod ReadBack

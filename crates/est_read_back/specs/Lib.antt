@@ -1,4 +1,0 @@
-pub mod PlainNames
-pub mod ReadableKinds
-pub mod ReadablePorts
-pub mod ReadBackLaws

@@ -1,4 +1,0 @@
-//! What is written of a trace is read as what it was written of.
-#![tactic(auto)]
-
-pub mod laws;

@@ -1,5 +1,0 @@
-pub mod Tests
-pub mod Moving
-pub mod SameTokens
-pub mod Going
-pub mod Whole

@@ -1,5 +1,0 @@
-use Rattle.est_replaying.proofs.Replaying.{beyond_asks_all}
-use Rattle.est_replaying.proofs.laws.claims_beyond_ask_all.Goals as goal
-
-pub returns : goal.returns
-returns c = beyond_asks_all

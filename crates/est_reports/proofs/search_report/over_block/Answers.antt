@@ -1,6 +1,0 @@
--- The pieces of the format, regrouped.
-use Rattle.std.proofs.Common.{rules, append_assoc}
-use Rattle.est_reports.proofs.search_report.over_block.Goals as goal
-
-pub returns : goal.returns
-returns c = search (rules, append_assoc)

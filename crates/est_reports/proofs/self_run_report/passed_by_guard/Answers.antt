@@ -1,6 +1,0 @@
--- The pieces of the format, regrouped.
-use Rattle.std.proofs.Common.{rules, append_assoc}
-use Rattle.est_reports.proofs.self_run_report.passed_by_guard.Goals as goal
-
-pub returns : goal.returns
-returns c = search (rules, append_assoc)

@@ -1,4 +1,0 @@
-pub mod ReadableReports
-pub mod Reports
-pub mod SearchReports
-pub mod SelfRunReports

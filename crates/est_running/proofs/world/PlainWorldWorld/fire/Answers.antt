@@ -1,8 +1,0 @@
-use Rattle.est_frames.specs.HeldSystems.{situation_of}
-use Rattle.est_running.proofs.WorldLaws.{next_numbered}
-use Rattle.est_running.proofs.world.PlainWorldWorld.fire.Goals as goal
-
-pub step-requires : goal.step-requires
-step-requires c = next_numbered c.args.self.now.limit _ (situation_of c.in_ok-system.system)
-    (situation_of c.in-Ok.stepped.system) c.args.firing.now c.in-Ok.stepped.outs c.in-Ok.ensures
-    c.in_ok-system.ensures.numbered

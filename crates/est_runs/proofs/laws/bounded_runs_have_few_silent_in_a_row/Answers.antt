@@ -1,5 +1,0 @@
-use Rattle.est_runs.proofs.SilenceLaws.{few_in_a_row}
-use Rattle.est_runs.proofs.laws.bounded_runs_have_few_silent_in_a_row.Goals as goal
-
-pub returns : goal.returns
-returns c = few_in_a_row

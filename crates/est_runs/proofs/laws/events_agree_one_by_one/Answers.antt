@@ -1,5 +1,0 @@
-use Rattle.est_runs.proofs.AgreementLaws.{one_by_one}
-use Rattle.est_runs.proofs.laws.events_agree_one_by_one.Goals as goal
-
-pub returns : goal.returns
-returns c = one_by_one

@@ -1,5 +1,0 @@
-use Rattle.est_runs.proofs.OrderLaws.{run_order}
-use Rattle.est_runs.proofs.laws.run_order_is_strict_total.Goals as goal
-
-pub returns : goal.returns
-returns c = run_order

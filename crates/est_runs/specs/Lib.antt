@@ -1,5 +1,0 @@
-pub mod Order
-pub mod Run
-pub mod Task
-pub mod Trials
-pub mod RunLaws

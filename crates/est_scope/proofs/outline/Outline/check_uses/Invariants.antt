@@ -1,9 +1,0 @@
-use Rattle.std.proofs.Common.{◌≡◌, drop}
-use Rattle.est_scope.specs.LeastSoFar.{least_with}
-use Rattle.est_scope.specs.Uses.{uses_faults}
-use Rattle.est_scope.proofs.outline.Outline.check_uses.Given as goal
-
-abbrev pub invariant-loop-used : goal.invariant-loop-used
-invariant-loop-used l = least_with l.least.at
-    (uses_faults l.self l.sort (drop l.used-index l.names)) ≡ least_with l.fn.least.at
-    (uses_faults l.self l.sort l.names)

@@ -1,9 +1,0 @@
-pub mod Members
-pub mod Surveys
-pub mod Candidates
-pub mod Ranks
-pub mod Findings
-pub mod Rows
-pub mod Possible
-pub mod Climbs
-pub mod Keeping

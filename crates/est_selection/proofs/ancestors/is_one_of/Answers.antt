@@ -1,8 +1,0 @@
-use Rattle.std.proofs.lemmas.List.Sorted.{searched}
-use Rattle.est_selection.proofs.Findings.{one_of_sorted}
-use Rattle.est_selection.proofs.ancestors.is_one_of.Goals as goal
-
-pub returns : goal.returns
-returns c = one_of_sorted c.args.dues.now c.args.number c.binary_search.result c.is_ok.result
-    (searched c.args.dues.now c.args.number c.binary_search.result
-    c.binary_search.ensures.position c.requires) c.is_ok.ensures.value

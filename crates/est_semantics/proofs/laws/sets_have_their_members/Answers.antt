@@ -1,9 +1,0 @@
--- An intersection has the members of both sets, a difference those of the first alone.
-use Rattle.est_semantics.proofs.SetMembers.{common_members, other_members}
-use Rattle.est_semantics.proofs.laws.sets_have_their_members.Goals as goal
-
-pub returns-clause-both : goal.returns-clause-both
-returns-clause-both c = common_members
-
-pub returns-clause-first : goal.returns-clause-first
-returns-clause-first c = other_members

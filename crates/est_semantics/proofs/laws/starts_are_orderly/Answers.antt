@@ -1,6 +1,0 @@
--- A system begins at the clock 0; its instances ascend in number, and connections lead both ways.
-use Rattle.est_semantics.proofs.OrderlyStarts.{starts_are_orderly}
-use Rattle.est_semantics.proofs.laws.starts_are_orderly.Goals as goal
-
-pub returns : goal.returns
-returns c = starts_are_orderly

@@ -1,8 +1,0 @@
-use Rattle.est_sound_traces.proofs.SoundTraces.{made_traces_are_texts, made_traces_are_read}
-use Rattle.est_sound_traces.proofs.laws.made_traces_are_read.Goals as goal
-
-pub returns-clause-texts : goal.returns-clause-texts
-returns-clause-texts c = made_traces_are_texts
-
-pub returns-clause-answers : goal.returns-clause-answers
-returns-clause-answers c = made_traces_are_read

@@ -1,4 +1,0 @@
-//! Made traces are allowed, and what is written of them is read.
-#![tactic(auto)]
-
-pub mod laws;

@@ -1,5 +1,0 @@
-pub mod Sizes
-pub mod Small
-pub mod Unique
-pub mod Refused
-pub mod SameAnswer

@@ -1,8 +1,0 @@
-use Rattle.est_specification.proofs.SameAnswer.{layout_means_nothing, stays}
-use Rattle.est_specification.proofs.laws.layout_means_nothing.Goals as goal
-
-pub returns-clause-layout : goal.returns-clause-layout
-returns-clause-layout c = layout_means_nothing
-
-pub returns-clause-rest : goal.returns-clause-rest
-returns-clause-rest c = stays

@@ -1,5 +1,0 @@
-pub mod KnownKinds
-pub mod KnownParts
-pub mod KnownTexts
-pub mod ShortParts
-pub mod SteadySentences

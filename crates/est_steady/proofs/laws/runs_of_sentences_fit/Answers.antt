@@ -1,9 +1,0 @@
-use Rattle.est_steady.proofs.SteadySentences.{runs_of_sentences_fit}
-use Rattle.est_steady.proofs.SteadySentences.{traces_of_sentences_are_allowed}
-use Rattle.est_steady.proofs.laws.runs_of_sentences_fit.Goals as goal
-
-pub returns-clause-situations : goal.returns-clause-situations
-returns-clause-situations c = runs_of_sentences_fit
-
-pub returns-clause-traces : goal.returns-clause-traces
-returns-clause-traces c = traces_of_sentences_are_allowed

@@ -1,4 +1,0 @@
-//! Sentences that break no rule are typed.
-#![tactic(auto)]
-
-pub mod laws;

@@ -1,0 +1,56 @@
+-- What is told of ports.
+use Rattle.std.proofs.Common.{◌≡◌, ◌∙◌, refl, sym, ap, subst, ℕ, ℤ, List, [], length, Option, Some}
+use Rattle.std.proofs.Common.{None, slice_get, arith, codes}
+use Rattle.std.specs.Option.{option_map}
+use Rattle.std.proofs.lemmas.Option.{same_Some}
+use Rattle.est_syntax.specs.declared.kind.Kind.{Kind}
+use Rattle.est_syntax.specs.declared.ports.Port.{Port}
+use Rattle.rule_ports.specs.PortTable.{IsPortNumber}
+use Rattle.text_values.specs.WrittenLists.{bracketed}
+use Rattle.text_values.specs.WrittenOrdinals.{ordinal_text}
+use Rattle.text_values.proofs.Listed.{none_left}
+use Rattle.est_trace.specs.WrittenTraces.{name_at, index_at, kinds_at, ordinal_texts}
+use Rattle.est_trace.specs.inside.Subscripts.{AreSubscripts}
+
+abbrev name_of : Port → List ℕ
+name_of p = p.name.bytes
+
+-- the name of a port that is there,
+pub name_there : (o : Option Port) (name : List ℕ) → Some name ≡ option_map name_of o
+    → name ≡ name_at o
+name_there None name e = cc
+name_there (Some p) name e = same_Some name p.name.bytes e
+
+-- and of one that is not
+pub name_none : (o : Option Port) → None ≡ option_map name_of o → [] ≡ name_at o
+name_none None e = refl
+name_none (Some p) e = cc
+
+-- a port without kinds of subscripts has none
+pub index_none : (o : Option Port) (kinds : List Kind) → kinds ≡ kinds_at o → length kinds ≡ 0
+    → [] ≡ index_at o
+index_none None kinds e h = refl
+index_none (Some p) kinds e h =
+    none_left (codes "[") (codes "]") ordinal_text p.index_kinds p.index (ap length (sym e) ∙ h)
+
+-- the subscripts of a port that has these
+pub index_there : (ports : List Port) (n : ℕ) (kinds : List Kind) (index : List ℤ)
+    → kinds ≡ kinds_at (slice_get ports n) → AreSubscripts ports n index
+    → bracketed (codes "[") (codes "]") (ordinal_texts kinds index) ≡ index_at (slice_get ports n)
+index_there ports n kinds index e are = by (slice_get ports n) refl e
+  where
+    by : (o : Option Port) → slice_get ports n ≡ o → kinds ≡ kinds_at o
+        → bracketed (codes "[") (codes "]") (ordinal_texts kinds index) ≡ index_at o
+    by None is ks =
+        ap (λ js. bracketed (codes "[") (codes "]") (ordinal_texts js index)) ks
+    by (Some p) is ks =
+        ap (λ js. bracketed (codes "[") (codes "]") (ordinal_texts js index)) ks
+        ∙ ap (λ t. bracketed (codes "[") (codes "]") (ordinal_texts p.index_kinds t))
+        (sym (are p is))
+
+-- the subscripts by which a port is found are its own
+pub found : (ports : List Port) (name : List ℕ) (index : List ℤ) (n m : ℕ) → n ≡ m
+    → IsPortNumber name index ports (Some n) → AreSubscripts ports m index
+found ports name index n m same f = λ p e.
+    let q : slice_get ports n ≡ Some p = ap (slice_get ports) same ∙ e in
+    ap (λ (r : Port). r.index) (same_Some p f.0 (sym q ∙ f.1)) ∙ f.3

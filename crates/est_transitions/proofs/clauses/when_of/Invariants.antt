@@ -1,9 +1,0 @@
-use Rattle.std.proofs.Common.{◌≡◌, drop}
-use Rattle.est_choices.specs.ClauseContexts.{given_by, awaited_in}
-use Rattle.est_transitions.specs.inside.HeldClauses.{held}
-use Rattle.est_transitions.proofs.clauses.when_of.Given as goal
-
-abbrev pub invariant-loop-clause : goal.invariant-loop-clause
-invariant-loop-clause l =
-    given_by awaited_in (held (drop l.clause-index l.context))
-    ≡ given_by awaited_in (held l.context)

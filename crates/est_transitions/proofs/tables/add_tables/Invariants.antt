@@ -1,7 +1,0 @@
-use Rattle.std.proofs.Common.{take}
-use Rattle.est_transitions.specs.inside.BodyTables.{AreTabled, bodies_held}
-use Rattle.est_transitions.proofs.tables.add_tables.Given as goal
-
-abbrev pub invariant-loop-body : goal.invariant-loop-body
-invariant-loop-body l = AreTabled l.text (bodies_held (take l.body-index l.bodies))
-    l.fn.tables.entries l.tables.entries

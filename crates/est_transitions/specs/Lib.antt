@@ -1,3 +1,0 @@
-pub mod WrittenTransitions
-pub mod FittingTransitions
-pub mod inside

@@ -1,8 +1,0 @@
-use Rattle.est_upkeep.proofs.Ancestors.{ancestors_older, none_its_ancestor}
-use Rattle.est_upkeep.proofs.laws.ancestors_are_older.Goals as goal
-
-pub returns-clause-older : goal.returns-clause-older
-returns-clause-older c = ancestors_older
-
-pub returns-clause-other : goal.returns-clause-other
-returns-clause-other c = none_its_ancestor

@@ -1,8 +1,0 @@
-use Rattle.est_value_texts.specs.TraceGrammar.{bytes_of}
-use Rattle.est_value_texts.proofs.Chosen.{found}
-use Rattle.est_value_texts.proofs.constants.constant_here.Goals as goal
-
-pub returns : goal.returns
-returns c = found (bytes_of c.args.names.now) c.args.kind.now c.args.reader.now.tokens.now
-    c.args.reader.now.at c.position_of.result c.constant_of.result c.position_of.ensures
-    c.constant_of.ensures

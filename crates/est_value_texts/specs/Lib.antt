@@ -1,4 +1,0 @@
-pub mod TraceGrammar
-pub mod ValueReading
-pub mod ValueShapes
-pub mod inside

@@ -1,2 +1,0 @@
-pub mod CountedItems
-pub mod CountedSteps

@@ -1,8 +1,0 @@
-use Rattle.est_waiting.proofs.CountedSteps.{starts_counted, counts_go_on}
-use Rattle.est_waiting.proofs.laws.items_are_counted.Goals as goal
-
-pub returns-clause-starts : goal.returns-clause-starts
-returns-clause-starts c = starts_counted
-
-pub returns-clause-steps : goal.returns-clause-steps
-returns-clause-steps c = counts_go_on

@@ -1,2 +1,0 @@
-pub mod ItemCounts
-pub mod StepItems

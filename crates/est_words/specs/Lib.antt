@@ -1,4 +1,0 @@
-pub mod Requests
-pub mod ReportLines
-pub mod Statuses
-pub mod inside

@@ -1,3 +1,0 @@
-pub mod FiringOrder
-pub mod PossibleFirings
-pub mod SituationStacks

@@ -1,4 +1,0 @@
-//! The numbers of runs and verdicts are those that an explanation may have.
-#![tactic(auto)]
-
-pub mod laws;

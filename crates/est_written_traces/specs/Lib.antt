@@ -1,2 +1,0 @@
-pub mod WrittenTraces
-pub mod inside

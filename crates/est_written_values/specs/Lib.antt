@@ -1,3 +1,0 @@
-pub mod WrittenLists
-pub mod WrittenOrdinals
-pub mod WrittenValues

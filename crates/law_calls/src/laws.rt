@@ -1,0 +1,25 @@
+//! Laws of calls. Each function does nothing; its clause is the law.
+ghost use Rattle.law_calls.specs.CallLaws.{OneRequest, OneResult};
+ghost use Rattle.law_calls.specs.Completeness.{SearchIsComplete, SelfRunIsComplete};
+
+/// Words ask for one thing at most.
+pub fn one_request()
+    ensures { OneRequest }
+{}
+
+/// What a call reports, and with which status, is determined by its words and the bytes that it is
+/// told of its files. It says nothing of a call that ends without a report.
+pub fn one_result()
+    ensures { OneResult }
+{}
+
+/// Of good texts whose start is ready a search tells a verdict, unless memory runs out; and where
+/// its limits suffice, this is whether a run explains the trace.
+pub fn search_is_complete()
+    ensures { SearchIsComplete }
+{}
+
+/// Of a good specification the call that makes a trace tells what is made, unless memory runs out.
+pub fn self_run_is_complete()
+    ensures { SelfRunIsComplete }
+{}

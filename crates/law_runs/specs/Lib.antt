@@ -1,0 +1,12 @@
+pub mod AncestorLaws
+pub mod AttachTargets
+pub mod ClimbLaws
+pub mod InsideLaws
+pub mod InsideTargets
+pub mod ItemCounts
+pub mod NamesOfAlls
+pub mod OrderLaws
+pub mod RunOrder
+pub mod StepItems
+pub mod UpkeepLaws
+pub mod YoungerLaws

@@ -1,0 +1,13 @@
+pub mod Full
+pub mod FullDeclarations
+pub mod FullExpressions
+pub mod FullOutlines
+pub mod FullProcedures
+pub mod FullSentences
+pub mod FullStatements
+pub mod ParameterOrder
+pub mod WholeBodies
+pub mod WholeSentences
+pub mod WholeStatements
+pub mod WrittenExpressions
+pub mod WrittenParts

@@ -1,0 +1,124 @@
+-- What is written of a trace is read as what it was written of.
+use Rattle.std.proofs.Common.{◌≡◌, ℕ, ◌≤◌, List, [], ◌∷◌, length, drop, get_or, refl, sym, subst}
+use Rattle.std.proofs.Common.{arith, length-drop}
+use Rattle.std.specs.Prelude.{Result, Ok, Err}
+use Rattle.std.proofs.lemmas.List.{append-nil}
+use Rattle.est_lexer.specs.declared.kind.Token.{Token}
+use Rattle.est_lexer.specs.Between.{nothing}
+use Rattle.est_lexer.specs.TokenList.{IsTokenList}
+use Rattle.est_lexer.proofs.Unique.{tokens_unique}
+use Rattle.text_reader.specs.Grammar.{Tree}
+use Rattle.text_reader.proofs.Trees.{tree_inside}
+use Rattle.est_syntax.specs.declared.ports.Port.{Port}
+use Rattle.est_syntax.specs.declared.specification.Spec.{Spec}
+use Rattle.rule_declares.specs.PortList.{ports_of}
+use Rattle.est_trace.proofs.GoodPorts.{good_ports}
+use Rattle.est_meaning.specs.declared.event.Event.{Event}
+use Rattle.est_meaning.specs.declared.event.Event.TheVariants.{Arrives, Leaves, Passes}
+use Rattle.est_meaning.specs.AllowedEvents.{IsReceivable, IsSendable, IsAllowed, most_events}
+use Rattle.est_meaning.specs.AllowedEvents.{IsAllowedTrace}
+use Rattle.text_values.specs.TraceGrammar.{trace}
+use Rattle.est_trace.specs.declared.error.TraceError.{TraceError}
+use Rattle.est_trace.specs.declared.error.TraceError.TheVariants.{BadToken, TooMany, Memory}
+use Rattle.est_trace.specs.inside.AtPorts.{IsAtPorts, AreAtPorts}
+use Rattle.est_trace.specs.TraceShapes.{ShowsTrace}
+use Rattle.est_trace.specs.TraceText.{traces, IsTraceText, ReadsTrace}
+use Rattle.est_trace.specs.WrittenTraces.{trace_text}
+use Rattle.law_texts.specs.ReadablePorts.{AreReadablePorts}
+use Rattle.law_texts.specs.ReadBackLaws.{AreReadBack}
+use Rattle.est_explanation.proofs.Words.{tokens_at, text_of, are_tokens, are_written, AreWritten}
+use Rattle.law_texts.proofs.Wholes.{all_whole}
+use Rattle.law_texts.proofs.Writing.{Parsed, Writes}
+use Rattle.law_texts.proofs.Marks.{NoStar}
+use Rattle.law_texts.proofs.Traces.{trace_written}
+
+-- no token is left where no word is
+none_left : (text : List ℕ) (ts : List Token) → AreWritten text ts [] → length ts ≡ 0
+none_left text [] h = refl
+none_left text (t ∷ ts) h = elim h [ ]
+
+all_read : (ports : List Port) (text : List ℕ) (s : List Token) (events : List Event)
+    → Parsed text s (trace ports) most_events (λ t. ShowsTrace ports events t) 0 []
+    → IsTraceText ports text s events
+all_read ports text s events r =
+    let left = none_left text (drop r.last s) r.rest in
+    let within = tree_inside (traces text) s (length s) r.tree (omega arith) in
+    let end : r.last ≡ length s = omega (arith, length-drop r.last s) in (
+      r.shape,
+      subst (λ n. Tree (traces text) s (length s) (trace ports) most_events 0 n r.shape) end r.tree,
+      r.is,
+    )
+
+module _ (ports : List Port) (events : List Event)
+    (w : Writes NoStar (length events) (trace ports) (λ t. ShowsTrace ports events t)
+    (trace_text ports events)) (few : length events ≤ most_events) where
+  -- the tokens of the words are a text of the trace
+  words_are_text : IsTraceText ports (text_of w.words) (tokens_at 0 w.words) events
+  words_are_text =
+      let text = text_of w.words in
+      let s = tokens_at 0 w.words in
+      let h = are_written text 0 w.words refl in
+      all_read ports text s events (w.read text s most_events 0 [] few
+      (subst (λ ws. AreWritten text s ws) (sym (append-nil w.words)) h))
+
+  pub written_text : (tokens : List Token) → IsTokenList (trace_text ports events) tokens
+      → IsTraceText ports (trace_text ports events) tokens events
+  written_text tokens h =
+      let text = text_of w.words in
+      let list = are_tokens text 0 0 w.words (nothing 0) (omega arith) refl
+      (all_whole w.words (w.whole [] refl)) in
+      let mine = subst (λ bytes. IsTokenList bytes tokens) (sym w.spelled) h in
+      subst (λ bytes. IsTraceText ports bytes tokens events) w.spelled
+      (subst (λ ts. IsTraceText ports text ts events)
+      (tokens_unique text 0 (tokens_at 0 w.words) tokens list mine) words_are_text)
+
+-- an event that may stand in a trace stands at a port
+at_ports : (spec : Spec) (e : Event) → IsAllowed spec e → IsAtPorts (ports_of spec) e
+unfolding IsReceivable IsSendable
+at_ports spec (Arrives i) (port, signal, is, receives) = record {
+  port = port;
+  signal = signal;
+  port_is = is.port_is;
+  signal_is = is.signal_is;
+  direction_is = receives;
+  fits = is.fits;
+}
+at_ports spec (Leaves i) (port, signal, is, sends) = record {
+  port = port;
+  signal = signal;
+  port_is = is.port_is;
+  signal_is = is.signal_is;
+  direction_is = sends;
+  fits = is.fits;
+}
+at_ports spec (Passes units) h = h
+
+pub texts : (spec : Spec) (events : List Event) (tokens : List Token)
+    → AreReadablePorts (ports_of spec) → IsAllowedTrace spec events
+    → IsTokenList (trace_text (ports_of spec) events) tokens
+    → IsTraceText (ports_of spec) (trace_text (ports_of spec) events) tokens events
+texts spec events tokens readable allowed h =
+    let ports = ports_of spec in
+    let at : AreAtPorts ports events = λ i d l. at_ports spec (get_or events i d)
+    (allowed.each i d l) in
+    let w = trace_written ports (good_ports spec) readable events at in
+    written_text ports events w allowed.few tokens h
+
+-- the answer to a text of the trace
+answered : (ports : List Port) (text : List ℕ) (tokens : List Token) (events : List Event)
+    (answer : Result (List Event) TraceError) → IsTraceText ports text tokens events
+    → ReadsTrace ports text tokens answer → AreReadBack events answer
+answered ports text tokens events (Ok other) h r = sym (r.1 events h)
+answered ports text tokens events (Err (BadToken place)) h r = r.0.no_tree h.0 h.1
+answered ports text tokens events (Err (TooMany place)) h r = r.0.no_tree h.0 h.1
+answered ports text tokens events (Err (Memory error)) h r = tt
+
+pub read_back : (spec : Spec) (events : List Event) (tokens : List Token)
+    (answer : Result (List Event) TraceError)
+    → AreReadablePorts (ports_of spec) → IsAllowedTrace spec events
+    → IsTokenList (trace_text (ports_of spec) events) tokens
+    → ReadsTrace (ports_of spec) (trace_text (ports_of spec) events) tokens answer
+    → AreReadBack events answer
+read_back spec events tokens answer readable allowed h r =
+    answered (ports_of spec) (trace_text (ports_of spec) events) tokens events answer
+    (texts spec events tokens readable allowed h) r

@@ -1,0 +1,11 @@
+pub mod DepartureLaws
+pub mod FittingStates
+pub mod HostsOfForms
+pub mod KindsOfPlaces
+pub mod SameKinds
+pub mod SentInteractions
+pub mod SetMembers
+pub mod SoundnessLaws
+pub mod SteadyLaws
+pub mod SteadyOutlines
+pub mod ValuesOfTypes

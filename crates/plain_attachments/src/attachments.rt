@@ -1,0 +1,151 @@
+//! Attachments of interaction points of parents to those of children.
+ghost use Rattle.std.specs.Prelude.{◌≡◌, find, option_copied, IfOk};
+ghost use Rattle.std.specs.List.{list_any};
+ghost use Rattle.plain_points.specs.mean_blocks.GlobalSituation.{is_point};
+ghost use Rattle.plain_points.specs.mean_blocks.Attachments.{leads_to, above, follow, up, bottom};
+ghost use Rattle.plain_frames.specs.HeldSystems.{linked, situation_of};
+ghost use Rattle.plain_attachments.specs.LinksOfPoints.{above_in};
+
+use crate::instances::external_of;
+use crate::links::linked;
+use est_syntax::est_items::Twin;
+use plain_frames::rows::row_of;
+use plain_frames::system::{Links, System};
+use plain_points::mean_blocks::situation::InteractionPoint;
+use plain_points::plain_names::text::Text;
+use plain_points::points::is_point;
+use std::alloc::{AllocError, Global};
+
+// Whether a link leads to an interaction point.
+fn is_reached(links: &Links, to: &InteractionPoint) -> bool
+    ensures { result ≡ list_any (λ link. is_point to.now link.to) links.now }
+{
+    links.as_slice().iter().any(|link| is_point(to, &link.to))
+}
+
+// Whether links lead from one interaction point to another.
+fn leads_to(links: &Links, from: &InteractionPoint, to: &InteractionPoint) -> bool
+    ensures { result ≡ leads_to to.now (linked links.now from.now) }
+{
+    match linked(links, from) {
+        None => false,
+        Some(end) => is_point(to, end),
+    }
+}
+
+// The first of some interaction points from which links lead to another.
+fn first_leading<'p>(
+    links: &Links,
+    points: &'p [InteractionPoint],
+    to: &InteractionPoint,
+) -> Option<&'p InteractionPoint>
+    ensures { option_copied result ≡ find (λ from. leads_to to.now (linked links.now from))
+        points.now }
+{
+    points.iter().find(|from| leads_to(links, from, to))
+}
+
+// The same, as one of its own.
+fn leading(
+    alloc: Global,
+    links: &Links,
+    points: &[InteractionPoint],
+    to: &InteractionPoint,
+) -> Result<Option<InteractionPoint>, AllocError>
+    ensures { IfOk result (λ outer. outer
+        ≡ find (λ from. leads_to to.now (linked links.now from)) points.now) }
+{
+    match first_leading(links, points, to) {
+        None => Ok(None),
+        Some(outer) => {
+            let outer = outer.twin(alloc)?;
+            Ok(Some(outer))
+        }
+    }
+}
+
+// The external interaction point of an instance that is attached to one of a child.
+fn above_in(
+    alloc: Global,
+    text: &Text,
+    system: &System,
+    parent: u32,
+    point: &InteractionPoint,
+) -> Result<Option<InteractionPoint>, AllocError>
+    ensures { IfOk result (λ outer. outer
+        ≡ above_in text.now (situation_of system.now) parent point.now) }
+{
+    let points = external_of(alloc, text.outline(), system, parent)?;
+    let outer = leading(alloc, system.downs.get(), points.as_slice(), point);
+    drop(points);
+    outer
+}
+
+/// The interaction point of the parent that is attached to one of a child, if there is one. Errs
+/// where memory runs out.
+pub fn above(
+    alloc: Global,
+    text: &Text,
+    system: &System,
+    point: &InteractionPoint,
+) -> Result<Option<InteractionPoint>, AllocError>
+    ensures { IfOk result (λ outer. outer
+        ≡ above text.now (situation_of system.now) point.now) }
+{
+    // Most interaction points are attached to none, and then no list of them is made.
+    if !is_reached(system.downs.get(), point) {
+        return Ok(None);
+    }
+    match row_of(system, point.instance) {
+        None => Ok(None),
+        Some(row) => above_in(alloc, text, system, row.parent, point),
+    }
+}
+
+/// Up from an interaction point as long as it can. Errs where memory runs out.
+pub fn up(
+    alloc: Global,
+    text: &Text,
+    system: &System,
+    point: &InteractionPoint,
+) -> Result<InteractionPoint, AllocError>
+    ensures { IfOk result (λ top. top ≡ up text.now (situation_of system.now) point.now) }
+{
+    let mut at = point.twin(alloc)?;
+    let mut left = system.rows.get().len();
+    while 0 < left {
+        left -= 1;
+        match above(alloc, text, system, &at)? {
+            None => return Ok(at),
+            Some(outer) => at = outer,
+        }
+    }
+    Ok(at)
+}
+
+// Along links from an interaction point, at most so many steps.
+fn followed<'l>(links: &'l Links, steps: usize, point: &'l InteractionPoint) -> &'l InteractionPoint
+    ensures { result.now ≡ follow (linked links.now) steps point.now }
+{
+    let mut at = point;
+    let mut left = steps;
+    while 0 < left {
+        left -= 1;
+        match linked(links, at) {
+            None => return at,
+            Some(next) => at = next,
+        }
+    }
+    at
+}
+
+/// Down from an interaction point to the innermost one. Errs where memory runs out.
+pub fn bottom(
+    alloc: Global,
+    system: &System,
+    point: &InteractionPoint,
+) -> Result<InteractionPoint, AllocError>
+    ensures { IfOk result (λ inner. inner ≡ bottom (situation_of system.now) point.now) }
+{
+    followed(system.downs.get(), system.rows.get().len(), point).twin(alloc)
+}

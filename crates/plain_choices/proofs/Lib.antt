@@ -1,0 +1,9 @@
+pub mod Candidates
+pub mod Climbs
+pub mod Findings
+pub mod Keeping
+pub mod Members
+pub mod Possible
+pub mod Ranks
+pub mod Rows
+pub mod Surveys

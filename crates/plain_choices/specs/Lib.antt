@@ -1,0 +1,2 @@
+pub mod inside
+pub use Rattle.plain_guards.specs as plain_guards

@@ -1,0 +1,15 @@
+use Rattle.std.proofs.Common.{◌≡◌, sym, subst, Option, Some}
+use Rattle.std.specs.Option.{option_map}
+use Rattle.plain_queues.specs.plain_frames.HeldSystems.{situation_of}
+use Rattle.plain_transitions.specs.WrittenTransitions.{awaited_of}
+use Rattle.plain_transitions.specs.declared.written.Awaits.{Awaits}
+use Rattle.plain_guards.specs.inside.JudgedClauses.{IsArrival}
+use Rattle.plain_guards.proofs.sight.await_one.Goals as goal
+
+pub returns-clause-sight : goal.returns-clause-sight
+returns-clause-sight c = λ ch b.
+    let e : c.args.awaits ≡ Some c.in-Some.awaits = cc in
+    subst (λ (w : Option Awaits). IsArrival c.args.limit c.args.text.now
+    (situation_of c.args.working.now.system) ch (option_map awaited_of w)
+    c.await_at.new.working.frames c.in_ok-sight.sight) (sym e)
+    (c.in_ok-sight.ensures.sight ch b (sym c.in-Some-declared_at.ensures))

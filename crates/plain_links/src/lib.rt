@@ -1,0 +1,8 @@
+//! Connections and attachments that statements make and undo, and releases of instances.
+#![tactic(auto)]
+
+pub mod connections;
+pub mod releases;
+
+pub use plain_attachments;
+pub use plain_births;

@@ -1,0 +1,5 @@
+pub mod KnownNames
+pub mod PartIndices
+pub mod ShownNames
+pub use Rattle.mean_blocks.specs.rule_scope
+pub use Rattle.mean_blocks.specs as mean_blocks

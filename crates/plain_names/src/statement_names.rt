@@ -1,0 +1,165 @@
+//! Keeps the names of statements.
+
+ghost use Rattle.std.specs.Prelude.{◌≡◌, OnOk};
+
+use crate::expression_names::{access, expr, exprs, selectors};
+use crate::known::KnownNames;
+use est_syntax::est_items::Boxed;
+use est_syntax::expression::Expr;
+use est_syntax::statement::{Arm, Sending, Statement};
+use std::alloc::AllocError;
+
+// Keeps the names of sendings.
+fn sendings<'t>(list: &'t [Sending], known: &mut KnownNames<'t>) -> Result<(), AllocError>
+    ensures { OnOk result (known.new ≡ known.old) }
+{
+    for one in list {
+        access(&one.at, known)?;
+        known.note_interaction(&one.at.name, &one.signal)?;
+        exprs(one.arguments.as_slice(), known)?;
+    }
+    Ok(())
+}
+
+// Keeps the names of a statement that has no statement in it: all of assignments, calls and
+// outputs, the module variable and the arguments of `init` and `release`, and none of links, whose
+// names are looked up at each use.
+fn plain<'t>(one: &'t Statement, known: &mut KnownNames<'t>) -> Result<(), AllocError>
+    ensures { OnOk result (known.new ≡ known.old) }
+{
+    match one {
+        Statement::Assign {
+            target,
+            path,
+            value,
+            ..
+        } => {
+            known.note(target)?;
+            selectors(path.as_slice(), known)?;
+            expr(value.get(), known)
+        }
+        Statement::Call {
+            name,
+            arguments,
+            ..
+        } => {
+            known.note(name)?;
+            exprs(arguments.as_slice(), known)
+        }
+        Statement::Output { sendings: list, .. } => sendings(list.as_slice(), known),
+        Statement::Init {
+            target,
+            arguments,
+            ..
+        } => {
+            access(target, known)?;
+            exprs(arguments.as_slice(), known)
+        }
+        Statement::Release { target, .. } => access(target, known),
+        _ => Ok(()),
+    }
+}
+
+/// Keeps the names of a statement.
+#[cycle(statement)]
+pub(crate) fn statement<'t>(
+    one: &'t Statement,
+    known: &mut KnownNames<'t>,
+) -> Result<(), AllocError>
+    ensures { OnOk result (known.new ≡ known.old) }
+{
+    match one {
+        Statement::Compound { turn, .. } => statements(turn.as_slice(), known),
+        Statement::If {
+            condition,
+            first,
+            second,
+            ..
+        } => {
+            guarded(first.get(), condition.get(), known)?;
+            else_part(second, known)
+        }
+        Statement::Case {
+            value,
+            arms: list,
+            ..
+        } => {
+            expr(value.get(), known)?;
+            arms(list.as_slice(), known)
+        }
+        Statement::While {
+            condition,
+            turn,
+            ..
+        } => guarded(turn.get(), condition.get(), known),
+        Statement::Repeat { turn, until, .. } => {
+            statements(turn.as_slice(), known)?;
+            expr(until.get(), known)
+        }
+        Statement::For {
+            name,
+            first,
+            last,
+            turn,
+            ..
+        } => {
+            known.note(name)?;
+            expr(first.get(), known)?;
+            guarded(turn.get(), last.get(), known)
+        }
+        Statement::All { turn, .. } => statement(turn.get(), known),
+        _ => plain(one, known),
+    }
+}
+
+// Keeps the names of a statement and of the expression before it.
+#[cycle(statement)]
+fn guarded<'t>(
+    turn: &'t Statement,
+    condition: &'t Expr,
+    known: &mut KnownNames<'t>,
+) -> Result<(), AllocError>
+    ensures { OnOk result (known.new ≡ known.old) }
+{
+    expr(condition, known)?;
+    statement(turn, known)
+}
+
+// Keeps the names of the other statement of an `if`, where there is one.
+#[cycle(statement)]
+fn else_part<'t>(
+    turn: &'t Option<Boxed<Statement>>,
+    known: &mut KnownNames<'t>,
+) -> Result<(), AllocError>
+    ensures { OnOk result (known.new ≡ known.old) }
+{
+    match turn {
+        None => Ok(()),
+        Some(turn) => statement(turn.get(), known),
+    }
+}
+
+/// Keeps the names of statements.
+#[cycle(statement)]
+pub(crate) fn statements<'t>(
+    list: &'t [Statement],
+    known: &mut KnownNames<'t>,
+) -> Result<(), AllocError>
+    ensures { OnOk result (known.new ≡ known.old) }
+{
+    for one in list {
+        statement(one, known)?;
+    }
+    Ok(())
+}
+
+// Keeps the names in the statements of a `case`, but not those of its constants.
+#[cycle(statement)]
+fn arms<'t>(list: &'t [Arm], known: &mut KnownNames<'t>) -> Result<(), AllocError>
+    ensures { OnOk result (known.new ≡ known.old) }
+{
+    for one in list {
+        statement(&one.turn, known)?;
+    }
+    Ok(())
+}

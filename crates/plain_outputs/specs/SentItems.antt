@@ -1,0 +1,8 @@
+-- What a block works on, with what it sent.
+use Rattle.plain_points.specs.mean_blocks.OutputEffects.{Sent}
+use Rattle.plain_queues.specs.plain_frames.declared.system.Working.{Working}
+use Rattle.plain_queues.specs.plain_frames.HeldSystems.{situation_of}
+
+-- what a block works on, with what was sent out of the system
+abbrev pub sent_of : Working → Sent
+sent_of w = record { situation = situation_of w.system; outs = w.outs }

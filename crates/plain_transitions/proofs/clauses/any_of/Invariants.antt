@@ -1,0 +1,9 @@
+use Rattle.std.proofs.Common.{◌≡◌, drop}
+use Rattle.est_meaning.specs.ClauseContexts.{given_by, variables_in}
+use Rattle.plain_transitions.specs.inside.HeldClauses.{held}
+use Rattle.plain_transitions.proofs.clauses.any_of.Given as goal
+
+abbrev pub invariant-loop-clause : goal.invariant-loop-clause
+invariant-loop-clause l =
+    given_by variables_in (held (drop l.clause-index l.context))
+    ≡ given_by variables_in (held l.context)

@@ -1,0 +1,3 @@
+pub mod FittingTransitions
+pub mod WrittenTransitions
+pub mod inside

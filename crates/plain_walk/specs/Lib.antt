@@ -1,0 +1,5 @@
+pub mod MadeMoves
+pub mod Refusals
+pub mod SentItems
+pub mod TakenItems
+pub mod inside

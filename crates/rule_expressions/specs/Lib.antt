@@ -1,0 +1,9 @@
+pub mod Accesses
+pub mod Calls
+pub mod CleanExpressions
+pub mod ExpressionPlaces
+pub mod Expressions
+pub mod Operators
+pub mod Receivers
+pub mod Selections
+pub mod Variables

@@ -1,0 +1,7 @@
+use Rattle.std.proofs.Common.{◌≡◌, drop}
+use Rattle.rule_declares.specs.Declares.{statesets_declare}
+use Rattle.rule_outline.proofs.declares.statesets.Given as goal
+
+abbrev pub invariant-loop-item : goal.invariant-loop-item
+invariant-loop-item l = statesets_declare l.within (drop l.item-index l.items) l.outline
+    ≡ statesets_declare l.within l.items l.fn.outline

@@ -1,0 +1,15 @@
+pub mod Capped
+pub mod CountRows
+pub mod CountSteps
+pub mod Counted
+pub mod Different
+pub mod KnownLaws
+pub mod Listing
+pub mod NameSteps
+pub mod Numbered
+pub mod Once
+pub mod Ranks
+pub mod Splits
+pub mod TableSteps
+pub mod Tables
+pub mod Tuples

@@ -1,0 +1,20 @@
+use Rattle.std.specs.Map.{lookup}
+use Rattle.std.proofs.Common.{◌≡◌, ap, ◌∙◌, sym, ◌++◌, ◌∷◌, [], List, ℕ}
+use Rattle.std.specs.Prelude.{map}
+use Rattle.est_syntax.specs.Names.{is_name}
+use Rattle.rule_scope.specs.declared.declaration.Standing.{Standing}
+use Rattle.rule_scope.proofs.Keys.{lookup-map, map-push}
+use Rattle.indexmap.proofs.CallerLemmas.{insert_entry-new}
+use Rattle.rule_scope.proofs.names.Names.add.Goals as goal
+
+pub returns : goal.returns
+returns c =
+    let key_is : c.in_ok-key.key.items ≡ c.args.name.now.bytes = c.in_ok-key.ensures.items
+    ∙ c.as_slice.ensures
+    in ap (map {B = List ℕ × Standing} (λ e. (e.0.items, e.1))) (c.in_ok-insert.ensures.entries
+    ∙ insert_entry-new _ c.self.inside.under c.in_ok-key.key c.args.standing
+    (sym (lookup-map (λ k. k.items) (is_name c.in_ok-key.key.items) c.self.inside.under.entries)
+    ∙ ap (λ l. lookup (is_name c.in_ok-key.key.items) l) c.self.view_is
+    ∙ ap (λ n. lookup (is_name n) c.args.self.now) key_is ∙ c.requires))
+    ∙ map-push (λ k. k.items) c.self.inside.under.entries c.in_ok-key.key c.args.standing
+    ∙ (λ i. c.self.view_is i ++ (key_is i, c.args.standing) ∷ [])

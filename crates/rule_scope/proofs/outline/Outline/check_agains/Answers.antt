@@ -1,0 +1,9 @@
+use Rattle.std.proofs.Common.{refl}
+use Rattle.rule_scope.specs.Uses.{agains_faults, again_faults}
+use Rattle.rule_scope.proofs.LeastLaws.{least_loop}
+use Rattle.rule_scope.proofs.outline.Outline.check_agains.Goals as goal
+
+pub loop-used-preserved : goal.loop-used-preserved
+loop-used-preserved c = least_loop (agains_faults c.args.self.now) (again_faults c.args.self.now) _
+    _ _ _ _ _ (λ y ys. refl) c.loop-used-test.true c.used-item.is c.check_again.ensures
+    c.loop-used.invariant

@@ -1,0 +1,9 @@
+use Rattle.std.proofs.Common.{◌≡◌, drop}
+use Rattle.rule_scope.specs.LeastSoFar.{least_with}
+use Rattle.rule_scope.specs.Uses.{uses_faults}
+use Rattle.rule_scope.proofs.outline.Outline.check_uses.Given as goal
+
+abbrev pub invariant-loop-used : goal.invariant-loop-used
+invariant-loop-used l = least_with l.least.at
+    (uses_faults l.self l.sort (drop l.used-index l.names)) ≡ least_with l.fn.least.at
+    (uses_faults l.self l.sort l.names)

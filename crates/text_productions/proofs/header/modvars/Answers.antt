@@ -1,0 +1,6 @@
+use Rattle.text_reader.proofs.Going.{take}
+use Rattle.text_productions.proofs.Fits.{K}
+use Rattle.text_productions.proofs.header.modvars.Goals as goal
+
+pub returns : goal.returns
+returns c = take K c.word.ensures c.several_modvars.ensures

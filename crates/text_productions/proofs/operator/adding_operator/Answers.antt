@@ -1,0 +1,20 @@
+use Rattle.std.proofs.Common.{refl, [], ◌∷◌}
+use Rattle.est_lexer.specs.declared.kind.ReservedWord.TheVariants as words
+use Rattle.est_lexer.specs.declared.kind.Symbol.TheVariants as symbols
+use Rattle.est_lexer.specs.declared.kind.TokenKind.TheVariants.{Reserved, Symbol}
+use Rattle.text_reader.specs.Tests.{kind}
+use Rattle.text_reader.proofs.Going.{last, chosen, first_else}
+use Rattle.text_productions.proofs.Fits.{K}
+use Rattle.text_productions.proofs.operator.adding_operator.Goals as goal
+
+pub returns-then-sees : goal.returns-then-sees
+returns-then-sees c = chosen K 1 (kind (Symbol symbols.Minus)) refl c.if-sees.ensures
+    (last K c.symbol.ensures)
+
+pub returns-then-sees-2 : goal.returns-then-sees-2
+returns-then-sees-2 c = chosen K 2 (kind (Reserved words.Or)) refl c.if-sees-2.ensures
+    (last K c.word.ensures)
+
+pub returns : goal.returns
+returns c = first_else K (kind (Symbol symbols.Minus) ∷ kind (Reserved words.Or) ∷ []) refl refl
+    refl refl (c.if-sees.ensures, (c.if-sees-2.ensures, tt)) (last K c.symbol-2.ensures)

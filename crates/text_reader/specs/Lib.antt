@@ -1,0 +1,16 @@
+pub mod Extents
+pub mod Findings
+pub mod Going
+pub mod Grammar
+pub mod Lookahead
+pub mod Marks
+pub mod Moving
+pub mod Opening
+pub mod Refusals
+pub mod SameTokens
+pub mod SeenAlike
+pub mod Sentences
+pub mod Shown
+pub mod Tests
+pub mod TreeLaws
+pub mod Whole

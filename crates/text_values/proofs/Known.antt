@@ -1,0 +1,123 @@
+-- The table of the grammar of traces says enough.
+use Rattle.std.proofs.Common.{◌≡◌, ℕ, ℤ, pos, negsuc, Bool, true, false, not, ◌||◌, List, []}
+use Rattle.std.proofs.Common.{◌∷◌, ◌++◌, take, refl, ap, ap₂, subst, inl, inr, Option, Some, None}
+use Rattle.std.proofs.Common.{slice_get, bytes_eq}
+use Rattle.std.specs.List.{list_any}
+use Rattle.text_reader.specs.Grammar.{done, word, when, one_of}
+use Rattle.text_reader.specs.Marks.{MeetsOne, Fits, Within, can_begin, can_go_on, can_be_empty}
+use Rattle.text_reader.proofs.Members
+use Rattle.est_syntax.specs.declared.kind.Kind.{Kind, out-Kind}
+use Rattle.est_syntax.specs.declared.kind.Kind.TheOpen as kinds
+use Rattle.est_syntax.specs.declared.ports.Port.{Port}
+use Rattle.est_values.specs.FittingValues.{first_ordinal, last_ordinal, KindLayer}
+use Rattle.est_values.specs.OrdinalTuples.{ordinals_of}
+use Rattle.text_reader.specs.Tests.{named, holds, language}
+use Rattle.text_reader.specs.Going.{Shape}
+use Rattle.text_reader.proofs.Going.{Known}
+use Rattle.text_values.specs.TraceGrammar.{Production, events_at, value_of, Rule, integers}
+use Rattle.text_values.specs.TraceGrammar.{characters, constant, numbered_constant, constants}
+use Rattle.text_values.specs.TraceGrammar.{boolean_names, bytes_of, host_by, ordinal_by}
+use Rattle.text_values.specs.TraceGrammar.{ordinal, scalar, value_by, value, event, events}
+use Rattle.text_values.specs.TraceGrammar.{event_starts, production, no_marks, starts}
+use Rattle.text_values.specs.TraceGrammar.{goes_on, is_empty, marks}
+use Rattle.text_values.specs.ValueReading.{plain}
+use Rattle.text_values.proofs.Closed.{is_closed, value_closed, event_closed}
+use Rattle.text_values.proofs.Solid.{value_solid}
+
+-- what begins a value is told without the table
+abbrev IsSame : Rule → Type 0
+IsSame g = can_begin marks g ≡ can_begin no_marks g
+
+when_same : (b : Bool) (g : Rule) → IsSame g → IsSame (when b g)
+when_same true g e = e
+when_same false g e = refl
+
+one_of_same : {A : Type 0} (f : A → Rule) (xs : List A) → ((x : A) → IsSame (f x))
+    → IsSame (one_of f xs)
+one_of_same f [] h = refl
+one_of_same f (x ∷ xs) h = ap₂ (λ a b. a ++ b) (h x) (one_of_same f xs h)
+
+numbered_same : (names : List (List ℕ)) (n : ℕ) (o : Option (List ℕ))
+    → IsSame (numbered_constant names n o)
+numbered_same names n None = refl
+numbered_same names n (Some name) =
+    when_same (not (list_any (bytes_eq name) (take n names))) (word (named name) done) refl
+
+constant_same : (names : List (List ℕ)) (z : ℤ) → IsSame (constant names z)
+constant_same names (pos n) = numbered_same names n (slice_get names n)
+constant_same names (negsuc n) = refl
+
+constants_same : (names : List (List ℕ)) (k : Kind) → IsSame (constants names k)
+constants_same names k = one_of_same (constant names) (ordinals_of k) (constant_same names)
+
+integers_same : (low high : ℤ) → IsSame (integers low high)
+integers_same (pos a) (pos b) = refl
+integers_same (pos a) (negsuc b) = refl
+integers_same (negsuc a) (pos b) = refl
+integers_same (negsuc a) (negsuc b) = refl
+
+characters_same : (low high : ℤ) → IsSame (characters low high)
+characters_same low (pos b) = refl
+characters_same low (negsuc b) = refl
+
+ordinal_by_same : (l : KindLayer) (k : Kind) → IsSame (ordinal_by l k)
+ordinal_by_same kinds.Integer k = integers_same (first_ordinal k) (last_ordinal k)
+ordinal_by_same kinds.Boolean k = constants_same boolean_names k
+ordinal_by_same kinds.Char k = characters_same (first_ordinal k) (last_ordinal k)
+ordinal_by_same (kinds.Enumeration declared names) k = constants_same (bytes_of names) k
+ordinal_by_same (kinds.Part host low high) k = refl
+ordinal_by_same (kinds.SetOf base) k = refl
+ordinal_by_same (kinds.ArrayOf index of) k = refl
+ordinal_by_same (kinds.Fields fields) k = refl
+
+ordinal_same : (k : Kind) → IsSame (ordinal k)
+ordinal_same k = ordinal_by_same (out-Kind (host_by (out-Kind k) k)) k
+
+scalar_same : (g : Rule) → IsSame g → IsSame (scalar g)
+scalar_same g e = ap₂ (λ a b. a ++ b) e refl
+
+value_by_same : (l : KindLayer) (k : Kind) → IsSame (value_by l k)
+value_by_same kinds.Integer k = scalar_same (ordinal k) (ordinal_same k)
+value_by_same kinds.Boolean k = scalar_same (ordinal k) (ordinal_same k)
+value_by_same kinds.Char k = scalar_same (ordinal k) (ordinal_same k)
+value_by_same (kinds.Enumeration declared names) k = scalar_same (ordinal k) (ordinal_same k)
+value_by_same (kinds.Part host low high) k = scalar_same (ordinal k) (ordinal_same k)
+value_by_same (kinds.SetOf base) k = refl
+value_by_same (kinds.ArrayOf index of) k = refl
+value_by_same (kinds.Fields fields) k = refl
+
+module _ (text : List ℕ) where
+  starts_fit : (p : Production)
+      → Within (language production text) (can_begin marks (production p)) (starts p)
+  starts_fit (events_at ports) o m = m
+  starts_fit (value_of k) o m = subst (MeetsOne (holds text) o) (value_by_same (out-Kind k) k) m
+
+  events_fit : (ports : List Port)
+      → Within (language production text) (can_go_on marks (events ports)) (event_starts ports)
+  events_fit ports o m = elim (Members.In-split (holds text) o
+      (can_begin marks (event ports) ++ []) (event_starts ports ++ can_go_on marks (event ports))
+      m) [
+        | inl q ↦ q
+        | inr q ↦ elim (Members.In-split (holds text) o (event_starts ports)
+            (can_go_on marks (event ports)) q) [
+              | inl r ↦ r
+              | inr r ↦ absurd (is_closed text (event ports) (event_closed ports) o r)
+            ]
+      ]
+
+  goes_on_fits : (p : Production)
+      → Within (language production text) (can_go_on marks (production p)) (goes_on p)
+  goes_on_fits (events_at ports) o m = events_fit ports o m
+  goes_on_fits (value_of k) o m = is_closed text (value k) (value_closed k) o m
+
+  empty_fits : (p : Production)
+      → (not (can_be_empty marks (production p)) || is_empty p) ≡ true
+  empty_fits (events_at ports) = refl
+  empty_fits (value_of k) = ap (λ b. not b || false) (value_solid k)
+
+  pub fits : Fits (language production text) marks
+  fits = record { starts = starts_fit; goes_on = goes_on_fits; is_empty = empty_fits }
+
+-- the syntax, and that its table fits
+abbrev pub known : Known Production Shape
+known = record { syntax = plain; fits = fits }

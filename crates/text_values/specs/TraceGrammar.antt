@@ -1,0 +1,254 @@
+-- The grammar of traces, for the ports of one specification.
+use Rattle.std.specs.Prelude.{ℕ, max, ℤ, pos, negsuc, neg_ℤ, Bool, true, false, not, ◌&&◌, codes}
+use Rattle.std.specs.Prelude.{List, [], ◌∷◌, map, take, replicate, Option, Some, None, bytes_eq}
+use Rattle.std.specs.Prelude.{slice_get}
+use Rattle.std.specs.List.{list_any}
+use Rattle.std.specs.Ordering.{int_eq}
+use Rattle.est_lexer.specs.declared.kind.TokenKind.TheVariants as token_kind
+use Rattle.est_lexer.specs.declared.kind.Symbol.{Symbol}
+use Rattle.est_lexer.specs.declared.kind.Symbol.TheVariants as symbols
+use Rattle.text_reader.specs.Grammar.{done, none, word, token, seq, alt, opt, rep, deeper, rule}
+use Rattle.text_reader.specs.Grammar.{when, one_of}
+use Rattle.text_reader.specs.Marks.{Marks, can_begin}
+use Rattle.est_syntax.specs.declared.kind.Kind.{Kind, out-Kind}
+use Rattle.est_syntax.specs.declared.kind.Kind.TheOpen as kinds
+use Rattle.est_syntax.specs.declared.name.Name.{Name}
+use Rattle.est_syntax.specs.declared.ports.Direction.{Direction}
+use Rattle.est_syntax.specs.declared.ports.Direction.TheVariants.{Receives, Sends}
+use Rattle.est_syntax.specs.declared.ports.Port.{Port}
+use Rattle.est_syntax.specs.declared.ports.Signal.{Signal}
+use Rattle.est_syntax.specs.Kinds.{maxint}
+use Rattle.est_values.specs.FittingValues.{first_ordinal, last_ordinal, ordinal_count, KindLayer}
+use Rattle.est_values.specs.OrdinalTuples.{ordinals_of}
+pub use Rattle.text_values.specs.WrittenOrdinals.{host_by, to_natural}
+pub use Rattle.text_values.specs.WrittenValues.{field_kinds}
+use Rattle.text_reader.specs.Tests.{Test, kind, said, named, number, character}
+use Rattle.text_reader.specs.Going as going
+
+-- The productions: events at these ports, and a value of a kind.
+pub data Production : Type 0 where
+  events_at : List Port → Production
+  value_of : Kind → Production
+
+abbrev pub Rule : Type 0
+Rule = going.Rule Production
+
+-- a symbol, and the rest
+abbrev pub symbol : Symbol → Rule → Rule
+symbol s g = word (kind (token_kind.Symbol s)) g
+
+-- LISTS
+
+-- those of a list that stand after another, each after a comma
+abbrev pub more : {A : Type 0} → (A → Rule) → List A → Rule
+more f [] = done
+more f (x ∷ xs) = seq (symbol symbols.Comma (f x)) (more f xs)
+
+-- one for each item of a list, with commas between them
+abbrev pub listed : {A : Type 0} → (A → Rule) → List A → Rule
+listed f [] = done
+listed f (x ∷ xs) = seq (f x) (more f xs)
+
+-- such a list in brackets
+abbrev pub enclosed : {A : Type 0} → Symbol → Symbol → (A → Rule) → List A → Rule
+enclosed opening closing f xs = symbol opening (seq (listed f xs) (symbol closing done))
+
+-- the same where there are items, else nothing
+abbrev pub bracketed : {A : Type 0} → Symbol → Symbol → (A → Rule) → List A → Rule
+bracketed opening closing f [] = done
+bracketed opening closing f (x ∷ xs) = enclosed opening closing f (x ∷ xs)
+
+-- ORDINALS
+
+-- whether an integer is not negative
+abbrev pub is_natural : ℤ → Bool
+is_natural (pos n) = true
+is_natural (negsuc n) = false
+
+-- an integer within bounds that is not negative: a number
+abbrev pub numbers : ℤ → ℤ → Rule
+numbers low high = when (is_natural high) (token (number (to_natural low) (to_natural high)))
+
+-- an integer within bounds: a number, or "-" and a number above 0
+abbrev pub integers : ℤ → ℤ → Rule
+integers low high = alt (numbers low high)
+    (when (not (is_natural low)) (symbol symbols.Minus
+    (token (number (max (to_natural (neg_ℤ high)) 1) (to_natural (neg_ℤ low))))))
+
+-- `chr`, and the code of a character within bounds in parentheses
+abbrev pub coded : ℕ → ℕ → Rule
+coded low high = word (named (codes "chr")) (symbol symbols.LeftParenthesis
+    (seq (token (number low high)) (symbol symbols.RightParenthesis done)))
+
+-- a character within bounds: a character constant, or its code
+abbrev pub characters : ℤ → ℤ → Rule
+characters low high = when (is_natural high) (alt
+    (token (character (to_natural low) (to_natural high)))
+    (coded (to_natural low) (to_natural high)))
+
+-- a constant with this number, where it has this name. Of two constants with one name, which no
+-- good specification has, the name is that of the first.
+abbrev pub numbered_constant : List (List ℕ) → ℕ → Option (List ℕ) → Rule
+numbered_constant names n None = none
+numbered_constant names n (Some name) =
+    when (not (list_any (bytes_eq name) (take n names))) (word (named name) done)
+
+-- the constant that has this ordinal, by its name
+abbrev pub constant : List (List ℕ) → ℤ → Rule
+constant names (pos n) = numbered_constant names n (slice_get names n)
+constant names (negsuc n) = none
+
+-- the constants of the values of a kind
+abbrev pub constants : List (List ℕ) → Kind → Rule
+constants names k = one_of (constant names) (ordinals_of k)
+
+-- the names of the constants of the type boolean (ISO 7185, 6.4.2.2)
+abbrev pub boolean_names : List (List ℕ)
+boolean_names = codes "false" ∷ codes "true" ∷ []
+
+-- the names of constants, as bytes
+abbrev pub bytes_of : List Name → List (List ℕ)
+bytes_of names = map (λ (n : Name). n.bytes) names
+
+-- an ordinal of a kind whose host is this; a kind without ordinals has none
+abbrev pub ordinal_by : KindLayer → Kind → Rule
+ordinal_by kinds.Integer k = integers (first_ordinal k) (last_ordinal k)
+ordinal_by kinds.Boolean k = constants boolean_names k
+ordinal_by kinds.Char k = characters (first_ordinal k) (last_ordinal k)
+ordinal_by (kinds.Enumeration declared names) k = constants (bytes_of names) k
+ordinal_by _ k = none
+
+-- a value of an ordinal kind (ISO 7185, 6.4.2)
+abbrev pub ordinal : Kind → Rule
+ordinal k = ordinal_by (out-Kind (host_by (out-Kind k) k)) k
+
+-- VALUES
+
+-- the members of a set over a base, in any order
+abbrev pub members : Kind → Rule
+members base = seq (ordinal base) (rep (symbol symbols.Comma (ordinal base)))
+
+-- a set over a base: nothing, or its members in any order, repeats allowed, in brackets
+abbrev pub set : Kind → Rule
+set base = symbol symbols.LeftBracket
+    (alt (symbol symbols.RightBracket done) (seq (members base) (symbol symbols.RightBracket done)))
+
+-- g, or `_` for an undefined scalar
+abbrev pub scalar : Rule → Rule
+scalar g = alt g (symbol symbols.Underscore done)
+
+-- a value of a kind, as a production
+abbrev pub a_value : Kind → Rule
+a_value k = rule (value_of k)
+
+-- the values of these kinds in order, in parentheses
+abbrev pub group : List Kind → Rule
+group ks = enclosed symbols.LeftParenthesis symbols.RightParenthesis a_value ks
+
+-- a value of a kind of this form
+abbrev pub value_by : KindLayer → Kind → Rule
+value_by (kinds.SetOf base) k = scalar (set base)
+value_by (kinds.ArrayOf index of) k = group (replicate (ordinal_count index) of)
+value_by (kinds.Fields fields) k = group (field_kinds fields)
+value_by _ k = scalar (ordinal k)
+
+abbrev pub value : Kind → Rule
+value k = value_by (out-Kind k) k
+
+-- EVENTS
+
+-- whether a signal passes its port in this direction: the port receives it, or sends it
+abbrev pub passes : Direction → Signal → Bool
+passes Receives signal = signal.receives
+passes Sends signal = signal.sends
+
+-- whether some signal passes its port in this direction
+abbrev pub some_pass : Direction → List Signal → Bool
+some_pass direction signals = list_any (passes direction) signals
+
+-- the values of parameters of these kinds in parentheses
+abbrev pub parameters : List Kind → Rule
+parameters ks = bracketed symbols.LeftParenthesis symbols.RightParenthesis a_value ks
+
+-- the subscripts of an element of an array in brackets
+abbrev pub subscripts : List Kind → Rule
+subscripts ks = bracketed symbols.LeftBracket symbols.RightBracket ordinal ks
+
+-- a signal that passes in this direction: its name, and the values of its parameters
+abbrev pub signal : Direction → Signal → Rule
+signal direction x =
+    when (passes direction x) (word (named x.name.bytes) (parameters x.kinds))
+
+-- "." and one of these signals
+abbrev pub dot_signal : Direction → List Signal → Rule
+dot_signal direction signals = symbol symbols.Period (one_of (signal direction) signals)
+
+-- whether each of these is the first ordinal of its kind
+abbrev pub are_first : List Kind → List ℤ → Bool
+are_first [] [] = true
+are_first (k ∷ ks) (z ∷ zs) = int_eq z (first_ordinal k) && are_first ks zs
+are_first _ _ = false
+
+-- whether a port stands for its name: alone, or as the first element of an array
+abbrev pub is_head : Port → Bool
+is_head p = are_first p.index_kinds p.index
+
+-- a port that some signal passes in this direction: its name with its subscripts, where it is an
+-- element of an array, "." and such a signal. An array has one alternative, that of its first
+-- element.
+abbrev pub port : Direction → Port → Rule
+port direction p = when (is_head p && some_pass direction p.signals)
+    (word (named p.name.bytes)
+    (seq (subscripts p.index_kinds) (dot_signal direction p.signals)))
+
+-- "time" number
+abbrev pub time : Rule
+time = word (said "time") (token (number 0 maxint))
+
+-- event = "time" number | "in" port "." signal | "out" port "." signal .
+abbrev pub event : List Port → Rule
+event ports =
+    alt time
+    (alt (word (said "in") (one_of (port Receives) ports))
+    (word (said "out") (one_of (port Sends) ports)))
+
+-- { event }, each event within a level of its own: the levels count the events.
+abbrev pub events : List Port → Rule
+events ports = opt (deeper (seq (event ports) (rule (events_at ports))))
+
+-- trace = "trace" "1" { event } "end" .
+abbrev pub trace : List Port → Rule
+trace ports = word (said "trace") (word (number 1 1)
+    (seq (rule (events_at ports)) (word (said "end") done)))
+
+-- the words that an event begins with
+abbrev pub event_starts : List Port → List Test
+event_starts ports = said "time" ∷ said "in" ∷ said "out" ∷ []
+
+-- THE LANGUAGE
+
+-- the right side of each production
+abbrev pub production : Production → Rule
+production (events_at ports) = events ports
+production (value_of k) = value k
+
+-- Marks that say nothing of productions. They do for values, none of which begins with a
+-- production.
+abbrev pub no_marks : Marks Test Production
+no_marks = record { starts = λ p. []; goes_on = λ p. []; is_empty = λ p. false }
+
+abbrev pub starts : Production → List Test
+starts (events_at ports) = event_starts ports
+starts (value_of k) = can_begin no_marks (value k)
+
+-- only an event goes on after events, and nothing after a value
+abbrev pub goes_on : Production → List Test
+goes_on (events_at ports) = event_starts ports
+goes_on (value_of k) = []
+
+abbrev pub is_empty : Production → Bool
+is_empty (events_at ports) = true
+is_empty (value_of k) = false
+
+abbrev pub marks : Marks Test Production
+marks = record { starts = starts; goes_on = goes_on; is_empty = is_empty }
