@@ -40,14 +40,23 @@ end_attended() {
     kill "-$1" "$BASHPID"
 }
 
-# tick: says from the second second on how long the command has run, until it ends or begins to write. What is written next
-# goes over it.
+# probe, end_probe: what else is told of a command that lasts, as `found`, and the end of what finds it. A script may have
+# functions of its own for them.
+probe() { :; }
+end_probe() { :; }
+
+# tick: says from the second second on how long the command has run, and what `probe` has found meanwhile, until it ends or
+# begins to write. What is written next goes over it.
 tick() {
-    local never
+    local never found=''
     { exec {never}<> <(:); } 2>/dev/null || return
+    trap 'end_probe; exit' TERM HUP
     while read -r -t 1 -u "$never"; [ $? -gt 128 ] && kill -0 "$attended" 2>/dev/null && ! has_written; do
-        [ $((SECONDS - begun)) -lt 2 ] || printf '%s: %d s\r' "$waits_for" $((SECONDS - begun)) >&2
+        [ $((SECONDS - begun)) -ge 2 ] || continue
+        probe
+        printf '%s: %d s%s\r' "$waits_for" $((SECONDS - begun)) "$found" >&2
     done
+    end_probe
 }
 
 # has_written: whether it is known that the command has written anything.
