@@ -8,13 +8,15 @@ use Rattle.est_meaning.specs.mean_blocks.Outcome.{Done, Fault, Limit}
 use Rattle.est_meaning.specs.mean_blocks.TextByPlace.{text_of}
 use Rattle.est_meaning.specs.declared.event.Event.{Event}
 use Rattle.est_meaning.specs.declared.firing.Firing.{Firing}
+use Rattle.est_meaning.specs.Agreement.{AgreeFirst}
 use Rattle.est_meaning.specs.TransitionSelection.{IsSettled, IsPossible}
 use Rattle.est_meaning.specs.FiringSteps.{outcome, start_of}
 use Rattle.est_meaning.proofs.Steps.{possible_settled}
 use Rattle.est_meaning.specs.declared.run.Move.{Move}
 use Rattle.est_meaning.specs.declared.run.Move.TheVariants.{Take, Fire}
-use Rattle.est_meaning.specs.Run.{AgreeFirst, Setup, Place, first_place, after_firing, Fires}
+use Rattle.est_meaning.specs.Run.{Setup, Place, first_place, after_firing, Fires}
 use Rattle.est_meaning.specs.Run.{Moves, IsBoundedRun, Follows, FollowsBefore, Yields}
+use Rattle.est_meaning.proofs.AgreementLaws.{so_many_first, first_shorter}
 use Rattle.est_meaning.proofs.StackLaws.{FiringOutcome, done, limit_done, fault_done}
 use Rattle.est_meaning.proofs.RunLaws.{Grows, follows_grows, moves_one, one_place, explains_follows}
 use Rattle.est_explanation.specs.declared.verdict.Why.{Why}
@@ -26,18 +28,12 @@ use Rattle.est_explanation.specs.Replay.{IsPassed, IsAnswer, AnswersFrom, OneAns
 
 -- AGREEING
 
--- what begins with a prefix of the trace and is no longer is one too
-pub prefix_before : (trace more less : List Event) → AgreeFirst trace (less ++ more)
-    → AgreeFirst trace less
-prefix_before trace more less p = (more ++ p.0, p.1 ∙ append_assoc less more p.0)
-
 -- a place that follows the trace agrees with it, whatever moves are left
 pub follows_agrees : (c : Setup) (claim : ℕ) (left : List Move) (p : Place) → Follows c p
     → AgreesSoFar c claim left p
 follows_agrees c claim [] p f =
-    let e : c.trace ≡ (take claim p.events ++ drop claim p.events) ++ f.0 = f.1
-    ∙ ap (λ w. w ++ f.0) (sym (take-append-drop claim p.events)) in
-    prefix_before c.trace (drop claim p.events) (take claim p.events) (f.0, e)
+    first_shorter c.trace (take claim p.events) (drop claim p.events)
+    (subst (λ w. AgreeFirst c.trace w) (sym (take-append-drop claim p.events)) f)
 follows_agrees c claim (m ∷ left) p f = f
 
 -- FAILING AND PASSING
@@ -223,11 +219,7 @@ yields_passed c run claim y =
         record {
           is_run = a.is_run;
           before = a.before;
-          agrees = (
-            drop claim c.trace,
-            sym (take-append-drop claim c.trace)
-                ∙ ap (λ w. w ++ drop claim c.trace) (sym a.agree),
-          );
+          agrees = so_many_first claim c.trace (take claim a.place.events) a.agree;
         },
       )
       | inr a ↦ (let e = a.1 in (

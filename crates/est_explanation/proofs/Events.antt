@@ -6,94 +6,93 @@ use Rattle.std.proofs.Math.Seq.{take-append-add}
 use Rattle.std.proofs.lemmas.Bool.{cases_lt}
 use Rattle.std.proofs.lemmas.Bool.Decides.{Decides-eqb}
 use Rattle.std.proofs.lemmas.List.{take-append-drop, take_all, take-take}
-use Rattle.std.proofs.lemmas.List.{take-append-le, length-append, length-take-le}
-use Rattle.std.proofs.lemmas.List.{append_cancel_left, get_or_append_left, drop_more}
+use Rattle.std.proofs.lemmas.List.{take-append-le, length-take-le, get_or_append_left}
 use Rattle.est_syntax.specs.Least.{IsIn}
 use Rattle.est_meaning.specs.declared.event.Event.{Event}
 use Rattle.est_meaning.specs.declared.firing.Firing.{Firing}
-use Rattle.est_meaning.specs.Run.{AgreeFirst}
+use Rattle.est_meaning.specs.Agreement.{Agrees, AgreeAll, AgreeFirst}
+use Rattle.est_meaning.proofs.AgreementLaws.{agree_length, agree_take, agree_joined}
+use Rattle.est_meaning.proofs.AgreementLaws.{so_many_first, first_taken, first_behind}
 
 -- BEGINNINGS
 
 pub begins_whole : (trace events : List Event) (n : ℕ) → length events ≤ n
-    → take n events ≡ take n trace → AgreeFirst trace events
-begins_whole trace events n le same = (
-  drop n trace,
-  sym (take-append-drop n trace)
-      ∙ ap (λ w. w ++ drop n trace) (sym same ∙ take_all n events le),
-)
+    → AgreeAll (take n trace) (take n events) → AgreeFirst trace events
+begins_whole trace events n le a = so_many_first n trace events
+    (subst (λ w. AgreeAll (take n trace) w) (take_all n events le) a)
 
 pub no_longer : (trace events : List Event) → length trace < length events → AgreeFirst trace events
     → ⊥
-no_longer trace events lt p =
-    let e : length trace ≡ length events + length p.0 = ap length p.1 ∙ length-append events p.0 in
-    absurd (omega arith)
+no_longer trace events lt p = (let n = (first_taken trace events p).0 in omega arith)
 
-pub no_difference : (trace events : List Event) (k : ℕ) (d : Event) → k < length events
-    → (get_or events k d ≡ get_or trace k d → ⊥) → AgreeFirst trace events → ⊥
-no_difference trace events k d lt differs p = differs (sym (ap (λ w. get_or w k d) p.1
-    ∙ get_or_append_left events p.0 d k lt))
+-- what agrees, agrees at each place
+agree_there : (xs es : List Event) (k : ℕ) (x e : Event) → AgreeAll xs es → k < length es
+    → Agrees (get_or xs k x) (get_or es k e)
+agree_there [] [] k x e a lt = (let never : ⊥ = omega arith in absurd never)
+agree_there [] (f ∷ es) k x e a lt = absurd a
+agree_there (y ∷ xs) [] k x e a lt = absurd a
+agree_there (y ∷ xs) (f ∷ es) zero x e a lt = a.0
+agree_there (y ∷ xs) (f ∷ es) (suc k) x e a lt = agree_there xs es k x e a.1 (omega arith)
+
+pub no_difference : (trace events : List Event) (k : ℕ) (x e : Event) → k < length events
+    → get_or trace k x ≡ x → get_or events k e ≡ e → (Agrees x e → ⊥) → AgreeFirst trace events → ⊥
+no_difference trace events k x e lt there here differs p =
+    let n = agree_length p.front events p.agree in
+    let first : get_or p.front k x ≡ x =
+    sym (ap (λ w. get_or w k x) p.split ∙ get_or_append_left p.front p.rest x k (omega arith))
+    ∙ there in
+    differs (subst (λ w. Agrees x w) here (subst (λ w. Agrees w (get_or events k e)) first
+    (agree_there p.front events k x e p.agree lt)))
 
 -- FROM A PLACE ON
 
-many_taken : (trace : List Event) (so asked : ℕ) → so ≤ length trace → so ≤ asked
-    → asked ≡ length (take so trace) + (asked - so)
-many_taken trace so asked within le = (let e = length-take-le so trace within in omega arith)
+taken_over : (events outs : List Event) (so asked : ℕ) → length events ≡ so → so ≤ asked
+    → take asked (events ++ outs) ≡ events ++ take (asked - so) outs
+taken_over events outs so asked many le =
+    let n : asked ≡ length events + (asked - so) = omega arith in
+    ap (λ k. take k (events ++ outs)) n ∙ take-append-add events outs (asked - so)
 
-taken_over : (trace outs : List Event) (so asked : ℕ) → so ≤ length trace → so ≤ asked
-    → take asked (take so trace ++ outs) ≡ take so trace ++ take (asked - so) outs
-taken_over trace outs so asked within le =
-    ap (λ n. take n (take so trace ++ outs)) (many_taken trace so asked within le)
-    ∙ take-append-add (take so trace) outs (asked - so)
-
-taken_short : (trace outs : List Event) (so asked : ℕ) → so ≤ length trace → asked < so
-    → take asked (take so trace ++ outs) ≡ take asked trace
-taken_short trace outs so asked within lt =
-    let e = length-take-le so trace within in
-    let le : asked ≤ length (take so trace) = omega arith in
-    take-append-le asked (take so trace) outs le ∙ take-take asked so trace (omega arith)
-
--- the events from there on begin the rest of the trace, just where all events up to so many begin
--- the trace
-pub agrees_on : (trace outs : List Event) (so asked : ℕ) → so ≤ length trace
-    → AgreeFirst (drop so trace) (take (asked - so) outs)
-    → AgreeFirst trace (take asked (take so trace ++ outs))
-agrees_on trace outs so asked within p =
+-- behind events that agree with so many of the trace, others agree with the first of the rest, just
+-- where all events up to a number agree with the first of the trace
+pub agrees_on : (trace events outs : List Event) (so asked : ℕ) → so ≤ length trace
+    → AgreeAll (take so trace) events → AgreeFirst (drop so trace) (take (asked - so) outs)
+    → AgreeFirst trace (take asked (events ++ outs))
+agrees_on trace events outs so asked within a p =
+    let n : length events ≡ so = agree_length (take so trace) events a
+    ∙ length-take-le so trace within in
     elim (cases_lt asked so) [
-      | inl lt ↦ (
-        drop asked trace,
-        sym (take-append-drop asked trace)
-            ∙ ap (λ w. w ++ drop asked trace) (sym (taken_short trace outs so asked within lt)),
-      )
-      | inr le ↦ (
-        p.0,
-        sym (take-append-drop so trace) ∙ ap (λ w. take so trace ++ w) p.1
-            ∙ sym (append_assoc (take so trace) (take (asked - so) outs) p.0)
-            ∙ ap (λ w. w ++ p.0) (sym (taken_over trace outs so asked within le)),
-      )
+      | inl lt ↦
+          (let short : take asked (events ++ outs) ≡ take asked events =
+          take-append-le asked events outs (omega arith) in
+          let fewer : AgreeAll (take asked trace) (take asked events) =
+          subst (λ w. AgreeAll w (take asked events)) (take-take asked so trace (omega arith))
+          (agree_take asked (take so trace) events a) in
+          so_many_first asked trace (take asked (events ++ outs))
+          (subst (λ w. AgreeAll (take asked trace) w) (sym short) fewer))
+      | inr le ↦ record {
+        front = take so trace ++ p.front;
+        rest = p.rest;
+        split = sym (take-append-drop so trace) ∙ ap (λ w. take so trace ++ w) p.split
+            ∙ sym (append_assoc (take so trace) p.front p.rest);
+        agree = subst (λ w. AgreeAll (take so trace ++ p.front) w)
+            (sym (taken_over events outs so asked n le))
+            (agree_joined (take so trace) p.front events (take (asked - so) outs) a p.agree);
+      }
     ]
 
-pub agrees_back : (trace outs : List Event) (so asked : ℕ) → so ≤ length trace
-    → AgreeFirst trace (take asked (take so trace ++ outs))
+pub agrees_back : (trace events outs : List Event) (so asked : ℕ) → so ≤ length trace
+    → AgreeAll (take so trace) events → AgreeFirst trace (take asked (events ++ outs))
     → AgreeFirst (drop so trace) (take (asked - so) outs)
-agrees_back trace outs so asked within p =
+agrees_back trace events outs so asked within a p =
+    let n : length events ≡ so = agree_length (take so trace) events a
+    ∙ length-take-le so trace within in
     elim (cases_lt asked so) [
       | inl lt ↦ (let none : 0 ≡ asked - so = omega arith in subst (λ n. AgreeFirst (drop so trace)
-          (take n outs)) none (drop so trace, refl))
-      | inr le ↦ (
-        p.0,
-        append_cancel_left (take so trace) (drop so trace) (take (asked - so) outs ++ p.0)
-            (take-append-drop so trace ∙ p.1
-            ∙ ap (λ w. w ++ p.0) (taken_over trace outs so asked within le)
-            ∙ append_assoc (take so trace) (take (asked - so) outs) p.0),
-      )
+          (take n outs)) none
+          (record { front = []; rest = drop so trace; split = refl; agree = tt }))
+      | inr le ↦ first_behind trace events (take (asked - so) outs) so within a
+          (subst (λ w. AgreeFirst trace w) (taken_over events outs so asked n le) p)
     ]
-
--- the trace at a place
-pub next_of : (trace : List Event) (n : ℕ) (e : Event) → n < length trace → get_or trace n e ≡ e
-    → trace ≡ take n trace ++ e ∷ drop (n + 1) trace
-next_of trace n e lt at = sym (take-append-drop n trace)
-    ∙ ap (λ w. take n trace ++ w) (drop_more trace n e lt ∙ ap (λ w. w ∷ drop (n + 1) trace) at)
 
 -- AMONG
 

@@ -1,9 +1,8 @@
 -- What a world's calls say of a move.
-use Rattle.std.proofs.Common.{◌≡◌, ◌≤◌, ◌<◌, ◌+◌, ◌^◌, ℕ, List, [], ◌∷◌, ◌++◌}
+use Rattle.std.proofs.Common.{◌≡◌, ◌≤◌, ◌<◌, ◌+◌, ◌-◌, ◌^◌, ℕ, List, [], ◌++◌}
 use Rattle.std.proofs.Common.{length, take, drop, get_or, refl, sym, ap, subst}
-use Rattle.std.proofs.Common.{◌∙◌, inl, inr, append_assoc, zero-le, arith}
-use Rattle.std.proofs.lemmas.List.{take_all, length-append, length-take-le}
-use Rattle.std.proofs.lemmas.List.{length_push, append_cancel_left}
+use Rattle.std.proofs.Common.{◌∙◌, inl, inr, zero-le, arith}
+use Rattle.std.proofs.lemmas.List.{take_all, length-append, length-take-le, length_push}
 use Rattle.est_syntax.specs.declared.specification.Spec.{Spec}
 use Rattle.est_syntax.specs.Least.{IsIn}
 use Rattle.est_meaning.specs.mean_blocks.declared.fault.BlockFault.{BlockFault}
@@ -14,6 +13,7 @@ use Rattle.est_meaning.specs.declared.event.Interaction.{Interaction}
 use Rattle.est_meaning.specs.declared.event.Event.{Event}
 use Rattle.est_meaning.specs.declared.event.Event.TheVariants.{Arrives, Passes}
 use Rattle.est_meaning.specs.declared.firing.Firing.{Firing}
+use Rattle.est_meaning.specs.Agreement.{AgreeAll, AgreeFirst}
 use Rattle.est_meaning.specs.TransitionSelection.{IsPossible}
 use Rattle.est_meaning.specs.FiringSteps.{outcome}
 use Rattle.est_meaning.specs.OutsideEvents.{after_event, units_of}
@@ -24,11 +24,12 @@ use Rattle.est_meaning.specs.declared.answers.Offers.TheVariants.{Settled, Unset
 use Rattle.est_meaning.specs.SituationStacks.{Stack, pushed, FiredAs}
 use Rattle.est_meaning.specs.PossibleFirings.{OffersAre}
 use Rattle.est_meaning.specs.declared.run.Move.TheVariants.{Take, Fire}
-use Rattle.est_meaning.specs.Run.{AgreeFirst, Setup, IsFromOutside}
-use Rattle.est_meaning.specs.Run.{after_taking, after_firing, Takes, Follows}
+use Rattle.est_meaning.specs.Run.{Setup, IsFromOutside, after_taking, after_firing, Takes}
+use Rattle.est_meaning.proofs.AgreementLaws.{agree_length}
 use Rattle.est_meaning.proofs.StackLaws.{FiringOutcome, fired_done, fired_fault, fired_limit}
 use Rattle.est_meaning.proofs.RunLaws.{bounded_is_run}
 use Rattle.est_meaning.proofs.ClockLaws.{clock_bounded}
+use Rattle.est_meaning.proofs.Takings.{none_taken, taken_follows, takes_at, inside_stays}
 use Rattle.est_explanation.specs.declared.verdict.Why.TheVariants as why
 use Rattle.est_explanation.specs.declared.replay.Standing.{Standing}
 use Rattle.est_explanation.specs.declared.replay.Moved.{Moved}
@@ -37,67 +38,68 @@ use Rattle.est_explanation.specs.Replay.{HasNoEvent, MoveFails}
 use Rattle.est_explanation.specs.inside.Standing.{IsReady, AgreesUpTo, HasMoved, HasLanded}
 use Rattle.est_explanation.specs.inside.Standing.{place_of}
 use Rattle.est_explanation.proofs.Checks.{follows_agrees}
-use Rattle.est_explanation.proofs.Events.{next_of}
+use Rattle.est_explanation.proofs.Events.{agrees_on, agrees_back}
 
 pub pushed_now : (new old : Stack) (s : Situation) → new ≡ pushed s old → new.now ≡ s
 pushed_now new old s e = ap (λ (x : Stack). x.now) e
 
 module _ (c : Setup) (spec : Spec) (limit silent : ℕ) (trace : List Event) (stack : Stack)
-    (at : Standing) (r : IsReady c spec limit silent trace stack at) where
+    (at : Standing) (events : List Event)
+    (r : IsReady c spec limit silent trace stack at events) where
+  many_events : at.events ≤ length trace → length events ≡ at.events
+  many_events within = agree_length (take at.events trace) events r.agree
+      ∙ length-take-le at.events trace within
+
   -- TAKING
 
-  pub none_left : length trace ≤ at.events → HasNoEvent c (place_of stack trace at)
+  pub none_left : length trace ≤ at.events → HasNoEvent c (place_of stack events at)
   none_left past q t =
-      let e : trace ≡ take at.events trace ++ t.event ∷ t.rest = sym r.suits.trace_is ∙ t.next in
-      let n : length trace ≡ length (take at.events trace) + length (t.event ∷ t.rest) = ap length e
-      ∙ length-append (take at.events trace) (t.event ∷ t.rest) in
+      let n : length c.trace ≡ length trace = ap length r.suits.trace_is in
+      let k = agree_length (take at.events trace) events r.agree in
       let w : length (take at.events trace) ≡ length trace =
       ap length (take_all at.events trace past) in
-      omega arith
+      none_taken c (place_of stack events at) q (omega arith) t
+
+  module _ (e : Event) (lt : at.events < length trace) (is : get_or trace at.events e ≡ e) where
+    within_there : at.events < length c.trace
+    within_there = subst (λ w. at.events < length w) (sym r.suits.trace_is) lt
+
+    is_there : get_or c.trace at.events e ≡ e
+    is_there = ap (λ w. get_or w at.events e) r.suits.trace_is ∙ is
+
+    agree_there : AgreeAll (take at.events c.trace) events
+    agree_there = subst (λ w. AgreeAll (take at.events w) events) (sym r.suits.trace_is) r.agree
 
   pub next_inside : (e : Event) → at.events < length trace → get_or trace at.events e ≡ e
-      → (IsFromOutside e → ⊥) → HasNoEvent c (place_of stack trace at)
+      → (IsFromOutside e → ⊥) → HasNoEvent c (place_of stack events at)
   next_inside e lt is inside q t =
-      let rest = drop (at.events + 1) trace in
-      let a : take at.events trace ++ t.event ∷ t.rest ≡ take at.events trace ++ e ∷ rest =
-      sym t.next ∙ r.suits.trace_is ∙ next_of trace at.events e lt is in
-      let b : t.event ∷ t.rest ≡ e ∷ rest = append_cancel_left (take at.events trace)
-      (t.event ∷ t.rest) (e ∷ rest) a in
-      let f : t.event ≡ e = cc in
-      inside (subst IsFromOutside f t.outside)
+      inside_stays c (place_of stack events at) at.events e (within_there e lt is)
+      (is_there e lt is) (agree_there e lt is) inside q t
 
   pub next_takes : (e : Event) → at.events < length trace → get_or trace at.events e ≡ e
-      → IsFromOutside e → Takes c (place_of stack trace at)
-      (after_taking c (place_of stack trace at) e)
-  next_takes e lt is outside = record {
-    event = e;
-    rest = drop (at.events + 1) trace;
-    outside = outside;
-    next = r.suits.trace_is ∙ next_of trace at.events e lt is;
-    leads = refl;
-  }
+      → IsFromOutside e → Takes c (place_of stack events at)
+      (after_taking c (place_of stack events at) e)
+  next_takes e lt is outside =
+      takes_at c (place_of stack events at) at.events e (within_there e lt is) (is_there e lt is)
+      (agree_there e lt is) outside
 
   pub next_taken : (asked : ℕ) (e : Event) (s : Situation) → at.events < length trace
       → get_or trace at.events e ≡ e → IsFromOutside e
       → after_event (text_of spec) stack.now e ≡ s
-      → HasMoved c asked (place_of stack trace at) Take s
+      → HasMoved c asked (place_of stack events at) Take s
       (Passed (record { events = at.events + 1; silent_in_row = 0 }))
-  unfolding next_takes
   next_taken asked e s lt is outside after =
-      let p = place_of stack trace at in
+      let p = place_of stack events at in
       let q = after_taking c p e in
-      let rest = drop (at.events + 1) trace in
       let t = next_takes e lt is outside in
-      let follows : Follows c q =
-      (rest, t.next ∙ sym (append_assoc (take at.events trace) (e ∷ []) rest)) in
-      let many = length-take-le at.events trace (omega arith) in (
+      let many = many_events (omega arith) in (
         q,
         t,
         zero-le,
-        follows_agrees c asked [] q follows,
+        follows_agrees c asked [] q (taken_follows c p q t),
         record {
           situation_is = ap (λ x. after_event (text_of x) stack.now e) r.suits.spec_is ∙ after;
-          many = length_push (take at.events trace) e ∙ ap (λ n. n + 1) many;
+          many = length_push events e ∙ ap (λ n. n + 1) many;
           silent_in_row_is = refl;
         },
       )
@@ -105,13 +107,10 @@ module _ (c : Setup) (spec : Spec) (limit silent : ℕ) (trace : List Event) (st
   pub next_allowed : (e : Event) → at.events < length trace → get_or trace at.events e ≡ e
       → IsAllowed spec e
   next_allowed e lt is =
-      let lt' : at.events < length c.trace = subst (λ w. at.events < length w)
-      (sym r.suits.trace_is) lt in
-      let a : IsAllowed c.spec (get_or c.trace at.events e) = r.suits.allowed.each at.events e lt'
-      in
-      let b : get_or c.trace at.events e ≡ e = ap (λ w. get_or w at.events e) r.suits.trace_is
-      ∙ is in
-      subst (λ x. IsAllowed x e) r.suits.spec_is (subst (IsAllowed c.spec) b a)
+      let a : IsAllowed c.spec (get_or c.trace at.events e) =
+      r.suits.allowed.each at.events e (within_there e lt is) in
+      subst (λ x. IsAllowed x e) r.suits.spec_is
+      (subst (IsAllowed c.spec) (is_there e lt is) a)
 
   pub next_arrives : (e : Event) (i : Interaction) → at.events < length trace
       → get_or trace at.events e ≡ e → e ≡ Arrives i → IsArrival spec e
@@ -122,7 +121,7 @@ module _ (c : Setup) (spec : Spec) (limit silent : ℕ) (trace : List Event) (st
       → e ≡ Passes units → stack.now.clock + units ≤ 10 ^ 15
   unfolding next_takes
   time_fits e units lt is e_is =
-      let p = place_of stack trace at in
+      let p = place_of stack events at in
       let outside : IsFromOutside e = subst IsFromOutside (sym e_is) tt in
       let b = clock_bounded c r.run p r.suits.begun r.suits.allowed
       (bounded_is_run c r.run p r.is_run) in
@@ -139,11 +138,11 @@ module _ (c : Setup) (spec : Spec) (limit silent : ℕ) (trace : List Event) (st
 
   module _ (asked : ℕ) (f : Firing) (fs : List Firing) where
     pub fails_unsettled : OffersAre limit (text_of spec) stack.now Unsettled fs
-        → MoveFails c (AgreesUpTo c asked) (place_of stack trace at) (Fire f) why.Limit
+        → MoveFails c (AgreesUpTo c asked) (place_of stack events at) (Fire f) why.Limit
     fails_unsettled h = inl (offered Unsettled fs h).0
 
     pub fails_not_offered : OffersAre limit (text_of spec) stack.now Settled fs → (IsIn f fs → ⊥)
-        → MoveFails c (AgreesUpTo c asked) (place_of stack trace at) (Fire f) why.NotOffered
+        → MoveFails c (AgreesUpTo c asked) (place_of stack events at) (Fire f) why.NotOffered
     fails_not_offered h away =
         (let o = offered Settled fs h in (o.0, λ possible. away (o.1.complete f possible)))
 
@@ -164,7 +163,7 @@ module _ (c : Setup) (spec : Spec) (limit silent : ℕ) (trace : List Event) (st
         (among : IsIn f fs) where
       pub fails_fault : (g : BlockFault)
           → FiredAs (outcome limit' (text_of spec) mid.now f) (fired.Fault g) outs mid new
-          → MoveFails c (AgreesUpTo c asked) (place_of stack trace at) (Fire f)
+          → MoveFails c (AgreesUpTo c asked) (place_of stack events at) (Fire f)
           (why.Fault g)
       fails_fault g a = (
         possible_of h among,
@@ -173,7 +172,7 @@ module _ (c : Setup) (spec : Spec) (limit silent : ℕ) (trace : List Event) (st
       )
 
       pub fails_limit : FiredAs (outcome limit' (text_of spec) mid.now f) fired.Limit outs mid new
-          → MoveFails c (AgreesUpTo c asked) (place_of stack trace at) (Fire f) why.Limit
+          → MoveFails c (AgreesUpTo c asked) (place_of stack events at) (Fire f) why.Limit
       fails_limit a =
           inr (
             possible_of h among,
@@ -181,14 +180,28 @@ module _ (c : Setup) (spec : Spec) (limit silent : ℕ) (trace : List Event) (st
                 (fired_limit (outcome limit' (text_of spec) mid.now f) outs mid new a).0,
           )
 
+      -- all events agree with the trace just where the last ones agree with the rest of it
+      all_agree : at.events ≤ length trace
+          → AgreeFirst (drop at.events trace) (take (asked - at.events) outs)
+          → AgreeFirst c.trace (take asked (events ++ outs))
+      all_agree within a =
+          subst (λ w. AgreeFirst w (take asked (events ++ outs))) (sym r.suits.trace_is)
+          (agrees_on trace events outs at.events asked within r.agree a)
+
+      rest_agrees : at.events ≤ length trace → AgreeFirst c.trace (take asked (events ++ outs))
+          → AgreeFirst (drop at.events trace) (take (asked - at.events) outs)
+      rest_agrees within a =
+          agrees_back trace events outs at.events asked within r.agree
+          (subst (λ w. AgreeFirst w (take asked (events ++ outs))) r.suits.trace_is a)
+
       landed : (s : Situation) → outcome limit' (text_of spec) mid.now f ≡ Done outs s
           → new ≡ pushed s mid → at.events ≤ length trace → (moved : Moved)
           → HasLanded trace silent asked at outs moved
-          → HasMoved c asked (place_of stack trace at) (Fire f) new.now moved
+          → HasMoved c asked (place_of stack events at) (Fire f) new.now moved
       landed s done new_is within (Passed next) l =
-          let p = place_of stack trace at in
+          let p = place_of stack events at in
           let q = after_firing p s outs in
-          let many = length-take-le at.events trace within in
+          let many = many_events within in
           let row : q.silent_in_row ≡ next.silent_in_row = sym l.2 in
           let few : next.silent_in_row ≤ silent = l.3 in (
             q,
@@ -203,16 +216,15 @@ module _ (c : Setup) (spec : Spec) (limit silent : ℕ) (trace : List Event) (st
             },
             subst (λ n. q.silent_in_row ≤ n) (sym r.suits.silent_is)
                 (subst (λ n. n ≤ silent) (sym row) few),
-            subst (λ w. AgreeFirst w (take asked q.events)) (sym r.suits.trace_is) l.0,
+            all_agree within l.0,
             record {
               situation_is = ap (λ (x : Stack). x.now) (sym new_is);
-              many = length-append (take at.events trace) outs ∙ ap (λ n. n + length outs) many
-                  ∙ sym l.1;
+              many = length-append events outs ∙ ap (λ n. n + length outs) many ∙ sym l.1;
               silent_in_row_is = row;
             },
           )
       landed s done new_is within (Failed why.WrongOutput) l =
-          let q = after_firing (place_of stack trace at) s outs in (
+          let q = after_firing (place_of stack events at) s outs in (
             q,
             record {
               situation = s;
@@ -223,10 +235,10 @@ module _ (c : Setup) (spec : Spec) (limit silent : ℕ) (trace : List Event) (st
               };
               leads = refl;
             },
-            λ a. l (subst (λ w. AgreeFirst w (take asked q.events)) r.suits.trace_is a),
+            λ a. l (rest_agrees within a),
           )
       landed s done new_is within (Failed why.TooSilent) l =
-          let q = after_firing (place_of stack trace at) s outs in (
+          let q = after_firing (place_of stack events at) s outs in (
             q,
             record {
               situation = s;
@@ -237,7 +249,7 @@ module _ (c : Setup) (spec : Spec) (limit silent : ℕ) (trace : List Event) (st
               };
               leads = refl;
             },
-            subst (λ w. AgreeFirst w (take asked q.events)) (sym r.suits.trace_is) l.0,
+            all_agree within l.0,
             subst (λ n. n < q.silent_in_row) (sym r.suits.silent_is) l.1,
           )
       landed s done new_is within (Failed (why.NoStart g)) l = absurd l
@@ -249,7 +261,7 @@ module _ (c : Setup) (spec : Spec) (limit silent : ℕ) (trace : List Event) (st
 
       pub fired_lands : FiredAs (outcome limit' (text_of spec) mid.now f) fired.Done outs mid new
           → at.events ≤ length trace → (moved : Moved) → HasLanded trace silent asked at outs moved
-          → HasMoved c asked (place_of stack trace at) (Fire f) new.now moved
+          → HasMoved c asked (place_of stack events at) (Fire f) new.now moved
       fired_lands a within moved l =
           let d = fired_done (outcome limit' (text_of spec) mid.now f) outs mid new a in
           landed d.0 d.1 d.2 within moved l

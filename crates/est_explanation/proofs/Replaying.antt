@@ -1,26 +1,27 @@
 -- A replay from its start over its moves to its end.
 use Rattle.std.proofs.Common.{◌≡◌, ◌≤◌, ◌<◌, ◌+◌, ◌-◌, ℕ, List, [], ◌∷◌, ◌++◌, length, take, drop}
 use Rattle.std.proofs.Common.{reverse, get_or, min, refl, sym, ap, subst, ◌∙◌, inl, inr, arith}
-use Rattle.std.proofs.lemmas.List.{take_all, take_at, take_rest, get_or_default, take_at}
-use Rattle.std.proofs.lemmas.List.{take_more, take-append-drop, drop_more, drop_all}
-use Rattle.std.proofs.lemmas.List.{length-append, length-take, length-take-le, reverse-append}
+use Rattle.std.proofs.lemmas.List.{take_all, take_rest, get_or_default, take_more, drop_more}
+use Rattle.std.proofs.lemmas.List.{take-append-drop, drop_all, length-take, length-take-le}
+use Rattle.std.proofs.lemmas.List.{reverse-append}
 use Rattle.est_syntax.specs.declared.specification.Spec.{Spec}
 use Rattle.est_meaning.specs.mean_blocks.GlobalSituation.{Situation}
 use Rattle.est_meaning.specs.declared.event.Event.{Event}
 use Rattle.est_meaning.specs.declared.firing.Firing.{Firing}
+use Rattle.est_meaning.specs.Agreement.{AgreeAll, AgreeFirst}
 use Rattle.est_meaning.specs.SituationStacks.{Stack, Keeps}
 use Rattle.est_meaning.specs.declared.run.Move.{Move}
 use Rattle.est_meaning.specs.declared.run.Move.TheVariants.{Take, Fire}
 use Rattle.est_meaning.specs.Task.{IsSetup, Suits}
-use Rattle.est_meaning.specs.Run.{AgreeFirst, Setup, Place, first_place}
+use Rattle.est_meaning.specs.Run.{Setup, Place, first_place}
 use Rattle.est_meaning.specs.Run.{IsBoundedRun, Follows, Yields}
+use Rattle.est_meaning.proofs.AgreementLaws.{agree_length, first_taken}
 use Rattle.est_meaning.proofs.RunLaws.{one_place}
 use Rattle.est_explanation.specs.declared.verdict.Why.{Why}
 use Rattle.est_explanation.specs.declared.verdict.Why.TheVariants as why
 use Rattle.est_explanation.specs.declared.verdict.Replayed.{Replayed}
 use Rattle.est_explanation.specs.declared.verdict.Replayed.TheVariants.{Confirmed, Rejected}
 use Rattle.est_explanation.specs.declared.replay.Standing.{Standing}
-use Rattle.est_explanation.specs.declared.replay.Moved.{Moved}
 use Rattle.est_explanation.specs.declared.replay.Moved.TheVariants.{Passed, Failed}
 use Rattle.est_explanation.specs.Replay.{AgreesSoFar, FiringFails, MoveFails, IsPassed}
 use Rattle.est_explanation.specs.Replay.{IsRejected, IsAnswer, ClaimsBeyondAskAll}
@@ -34,11 +35,10 @@ use Rattle.est_explanation.proofs.Checks.{Passes, follows_agrees, one_on}
 prefix_of_all : (trace events : List Event) (claim : ℕ) → length trace < claim
     → AgreeFirst trace (take claim events) → AgreeFirst trace events
 prefix_of_all trace events claim lt p =
-    let taken = take claim events in
-    let a : length trace ≡ length taken + length p.0 = ap length p.1 ∙ length-append taken p.0 in
-    let b : length taken ≡ min claim (length events) = length-take claim events in
+    let a = (first_taken trace (take claim events) p).0 in
+    let b : length (take claim events) ≡ min claim (length events) = length-take claim events in
     let few : length events ≤ claim = omega arith in
-    (p.0, p.1 ∙ ap (λ w. w ++ p.0) (take_all claim events few))
+    subst (λ w. AgreeFirst trace w) (take_all claim events few) p
 
 whole_prefix : (trace events : List Event) → AgreeFirst trace (take (length trace + 1) events)
     → AgreeFirst trace events
@@ -124,20 +124,18 @@ module _ (c : Setup) (claim : ℕ) (moves : List Move) (made : ℕ) (s : Situati
   follows_there = (let a : AgreesSoFar c claim (m ∷ drop (made + 1) moves) standing.0 =
       subst (λ l. AgreesSoFar c claim l standing.0) left_is standing.1.agrees in a)
 
-  events_are : standing.0.events ≡ take at.events c.trace
-  events_are =
-      let f = follows_there in
-      sym (ap (take at.events) f.1 ∙ take_at standing.0.events f.0 at.events standing.2.many)
+  first_there : (length standing.0.events ≤ length c.trace)
+      × AgreeAll (take (length standing.0.events) c.trace) standing.0.events
+  first_there = first_taken c.trace standing.0.events follows_there
+
+  agree_there : AgreeAll (take at.events c.trace) standing.0.events
+  agree_there = subst (λ n. AgreeAll (take n c.trace) standing.0.events) standing.2.many
+      first_there.1
 
   within_there : at.events ≤ length c.trace
-  within_there =
-      let f = follows_there in
-      let n : length c.trace ≡ length standing.0.events + length f.0 = ap length f.1
-      ∙ length-append standing.0.events f.0 in
-      let k = standing.2.many in
-      omega arith
+  within_there = (let n = first_there.0 in let k = standing.2.many in omega arith)
 
-  there_is : (stack : Stack) → stack.now ≡ s → standing.0 ≡ place_of stack c.trace at
+  there_is : (stack : Stack) → stack.now ≡ s → standing.0 ≡ place_of stack standing.0.events at
   there_is stack e =
       let p = standing.0 in
       ap (λ x. let r : Place = record {
@@ -147,30 +145,26 @@ module _ (c : Setup) (claim : ℕ) (moves : List Move) (made : ℕ) (s : Situati
       } in r) (standing.2.situation_is ∙ sym e)
       ∙ ap (λ x. let r : Place = record {
         situation = stack.now;
-        events = x;
-        silent_in_row = p.silent_in_row;
-      } in r) events_are
-      ∙ ap (λ x. let r : Place = record {
-        situation = stack.now;
-        events = take at.events c.trace;
+        events = p.events;
         silent_in_row = x;
       } in r) standing.2.silent_in_row_is
 
   ready_there : (spec : Spec) (limit silent : ℕ) (trace : List Event) (stack : Stack)
-      → stack.now ≡ s → Suits c spec limit silent trace → IsReady c spec limit silent trace stack at
+      → stack.now ≡ s → Suits c spec limit silent trace
+      → IsReady c spec limit silent trace stack at standing.0.events
   ready_there spec limit silent trace stack e suits =
       record {
         suits = suits;
         run = reverse (take made moves);
-        is_run = subst (λ w. IsBoundedRun c (reverse (take made moves)) (place_of stack w at))
-            suits.trace_is
-            (subst (IsBoundedRun c (reverse (take made moves))) (there_is stack e)
-            standing.1.is_run);
+        is_run = subst (IsBoundedRun c (reverse (take made moves))) (there_is stack e)
+            standing.1.is_run;
+        agree = subst (λ w. AgreeAll (take at.events w) standing.0.events) suits.trace_is
+            agree_there;
       }
 
   passed_there : (stack : Stack) → stack.now ≡ s
       → IsPassed c claim (reverse (take made moves)) (m ∷ drop (made + 1) moves)
-      (place_of stack c.trace at)
+      (place_of stack standing.0.events at)
   passed_there stack e = subst (IsPassed c claim (reverse (take made moves))
       (m ∷ drop (made + 1) moves)) (there_is stack e)
       (subst (λ l. IsPassed c claim (reverse (take made moves)) l standing.0) left_is standing.1)
@@ -181,11 +175,11 @@ module _ (c : Setup) (claim : ℕ) (moves : List Move) (made : ℕ) (s : Situati
 
   stands_on : (stack : Stack) (asked : ℕ) (t : Situation) (next : Standing) → stack.now ≡ s
       → asked ≡ asked_of (length c.trace) claim (drop (made + 1) moves)
-      → HasMoved c asked (place_of stack c.trace at) m t (Passed next)
+      → HasMoved c asked (place_of stack standing.0.events at) m t (Passed next)
       → IsStanding c claim moves (made + 1) t next
   stands_on stack asked t next e a h =
       let left = drop (made + 1) moves in
-      let pass : Passes c (AgreesSoFar c claim left) (place_of stack c.trace at) m h.0 =
+      let pass : Passes c (AgreesSoFar c claim left) (place_of stack standing.0.events at) m h.0 =
       record {
         moves = h.1;
         bounded = h.2;
@@ -193,14 +187,14 @@ module _ (c : Setup) (claim : ℕ) (moves : List Move) (made : ℕ) (s : Situati
       } in (
         h.0,
         subst (λ r. IsPassed c claim r left h.0) (sym run_is)
-            (one_on c claim m (reverse (take made moves)) left (place_of stack c.trace at) h.0
-            (passed_there stack e) pass),
+            (one_on c claim m (reverse (take made moves)) left
+            (place_of stack standing.0.events at) h.0 (passed_there stack e) pass),
         h.4,
       )
 
   rejects_move : (stack : Stack) (asked : ℕ) (t : Situation) (w : Why) → stack.now ≡ s
       → asked ≡ asked_of (length c.trace) claim (drop (made + 1) moves)
-      → HasMoved c asked (place_of stack c.trace at) m t (Failed w)
+      → HasMoved c asked (place_of stack standing.0.events at) m t (Failed w)
       → IsRejected c moves claim (made + 1) w
   rejects_move stack asked t w e a h =
       let left = drop (made + 1) moves in
@@ -211,12 +205,12 @@ module _ (c : Setup) (claim : ℕ) (moves : List Move) (made : ℕ) (s : Situati
         left = left;
         moves_are = sym (take-append-drop made moves) ∙ ap (λ l. take made moves ++ l) left_is;
         at_is = ap (λ n. n + 1) (sym many);
-        place = place_of stack c.trace at;
+        place = place_of stack standing.0.events at;
         passed = passed_there stack e;
         fails = fails_alike c (AgreesUpTo c asked) (AgreesSoFar c claim left)
             (λ q x. agrees_left c claim left q (subst (λ n. AgreesUpTo c n q) a x))
             (λ q x. subst (λ n. AgreesUpTo c n q) (sym a) (agrees_asked c claim left q x))
-            (place_of stack c.trace at) m w h;
+            (place_of stack standing.0.events at) m w h;
       }))
 
 -- the same, in the words of the calls
@@ -234,7 +228,7 @@ module _ (c : Setup) (claim : ℕ) (moves : List Move) (made : ℕ) (at : Standi
   within_call = subst (λ w. at.events ≤ length w) suits.trace_is (within_there c claim moves made
       stack.now at standing next_move lt next_is)
 
-  pub ready_call : IsReady c spec limit silent trace stack at
+  pub ready_call : IsReady c spec limit silent trace stack at standing.0.events
   ready_call = ready_there c claim moves made stack.now at standing next_move lt next_is spec limit
       silent trace stack refl suits
 
@@ -244,21 +238,17 @@ module _ (c : Setup) (claim : ℕ) (moves : List Move) (made : ℕ) (at : Standi
     asked_is = a ∙ ap (asked_of (length trace) claim) (take_rest moves (made + 1))
         ∙ ap (λ w. asked_of (length w) claim (drop (made + 1) moves)) (sym suits.trace_is)
 
-    moved_there : (o : Moved) → HasMoved c asked (place_of stack trace at) next_move t o
-        → HasMoved c asked (place_of stack c.trace at) next_move t o
-    moved_there o h = subst (λ w. HasMoved c asked (place_of stack w at) next_move t o)
-        (sym suits.trace_is) h
-
     pub stands_call : (next : Standing)
-        → HasMoved c asked (place_of stack trace at) next_move t (Passed next)
+        → HasMoved c asked (place_of stack standing.0.events at) next_move t (Passed next)
         → IsStanding c claim moves (made + 1) t next
     stands_call next h = stands_on c claim moves made stack.now at standing next_move lt next_is
-        stack asked t next refl asked_is (moved_there (Passed next) h)
+        stack asked t next refl asked_is h
 
-    pub rejects_call : (w : Why) → HasMoved c asked (place_of stack trace at) next_move t (Failed w)
+    pub rejects_call : (w : Why)
+        → HasMoved c asked (place_of stack standing.0.events at) next_move t (Failed w)
         → IsRejected c moves claim (made + 1) w
     rejects_call w h = rejects_move c claim moves made stack.now at standing next_move lt next_is
-        stack asked t w refl asked_is (moved_there (Failed w) h)
+        stack asked t w refl asked_is h
 
 -- calls one after the other keep what each of them keeps
 pub keeps_both : {W : Type 0} (speaks : W → Spec → Type 0) (limit : W → ℕ) (a b d : W)
@@ -294,8 +284,9 @@ module _ (c : Setup) (claim : ℕ) (moves : List Move) (s : Situation) (at : Sta
         before = a.before;
         many = enough;
         within = within;
-        agree = sym (ap (take claim) a.agrees.1 ∙ take_at (take claim p.events) a.agrees.0 claim
-            (length-take-le claim p.events enough));
+        agree = subst (λ n. AgreeAll (take n c.trace) (take claim p.events))
+            (length-take-le claim p.events enough)
+            (first_taken c.trace (take claim p.events) a.agrees).1;
       })
 
   -- where the claim is above the number of the trace's events, all events are a prefix of it
@@ -308,17 +299,17 @@ module _ (c : Setup) (claim : ℕ) (moves : List Move) (s : Situation) (at : Sta
   yields_all e many =
       let p = standing.0 in
       let f = all_agree e in
-      let n : length c.trace ≡ length p.events + length f.0 = ap length f.1
-      ∙ length-append p.events f.0 in
       let k = standing.2.many in
-      let t : take (length p.events) c.trace ≡ p.events = ap (take (length p.events)) f.1
-      ∙ take_at p.events f.0 (length p.events) refl in
       inr (
         e,
         record {
           place = p;
           is_run = passed_whole.is_run;
-          whole = sym t ∙ take_all (length p.events) c.trace (omega arith);
+          whole = record {
+            events = subst (λ w. AgreeAll w p.events)
+                (take_all (length p.events) c.trace (omega arith))
+                (first_taken c.trace p.events f).1;
+          };
         },
       )
 
@@ -338,7 +329,7 @@ module _ (c : Setup) (claim : ℕ) (moves : List Move) (s : Situation) (at : Sta
             let e : length x.place.events ≡ length standing.0.events =
             ap (λ (p : Place). length p.events) (one_place c (reverse moves) x.place standing.0
             x.is_run passed_whole.is_run) in
-            let w : length x.place.events ≡ length c.trace = ap length x.whole in
+            let w = agree_length c.trace x.place.events x.whole.events in
             inr (a.0, omega arith))
       ]
 

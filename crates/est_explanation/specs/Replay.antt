@@ -10,12 +10,13 @@ use Rattle.est_meaning.specs.mean_blocks.Outcome.{Outcome, Done, Fault, Limit}
 use Rattle.est_meaning.specs.mean_blocks.TextByPlace.{text_of}
 use Rattle.est_meaning.specs.declared.event.Event.{Event}
 use Rattle.est_meaning.specs.declared.firing.Firing.{Firing}
+use Rattle.est_meaning.specs.Agreement.{AgreeFirst}
 use Rattle.est_meaning.specs.TransitionSelection.{IsSettled, IsPossible}
 use Rattle.est_meaning.specs.FiringSteps.{outcome, start_of}
 use Rattle.est_meaning.specs.declared.run.Move.{Move}
 use Rattle.est_meaning.specs.declared.run.Move.TheVariants.{Take, Fire}
 use Rattle.est_meaning.specs.Task.{setup_from}
-use Rattle.est_meaning.specs.Run.{AgreeFirst, Setup, Place, first_place, Takes, Fires}
+use Rattle.est_meaning.specs.Run.{Setup, Place, first_place, Takes, Fires}
 use Rattle.est_meaning.specs.Run.{IsBoundedRun, Follows, FollowsBefore, Yields}
 use Rattle.est_explanation.specs.declared.verdict.Why.{Why}
 use Rattle.est_explanation.specs.declared.verdict.Why.TheVariants as why

@@ -1,15 +1,16 @@
 //! Replays of explanations.
 ghost use Rattle.std.specs.Prelude.{◌≡◌, ℕ, ◌+◌, ◌-◌, ◌<◌, ◌≤◌, ◌^◌, ◌↔◌, ◌⊎◌};
-ghost use Rattle.std.specs.Prelude.{◌++◌, List, length, take, IsTrue, IfOk};
+ghost use Rattle.std.specs.Prelude.{List, length, take, drop, IsTrue, IfOk};
 ghost use Rattle.est_syntax.specs.declared.specification.Spec.{Spec};
 ghost use Rattle.est_syntax.specs.Least.{IsIn};
 ghost use Rattle.est_meaning.specs.mean_blocks.Outcome.{Done};
 ghost use Rattle.est_meaning.specs.mean_blocks.TextByPlace.{text_of};
 ghost use Rattle.est_meaning.specs.AllowedEvents.{IsAllowedTrace, most_events};
+ghost use Rattle.est_meaning.specs.Agreement.{AgreeFirst};
 ghost use Rattle.est_meaning.specs.FiringSteps.{start_of};
 ghost use Rattle.est_meaning.specs.SituationStacks.{Keeps};
 ghost use Rattle.est_meaning.specs.Task.{IsSetup, setup_of};
-ghost use Rattle.est_meaning.specs.Run.{AgreeFirst, Setup};
+ghost use Rattle.est_meaning.specs.Run.{Setup};
 ghost use Rattle.est_explanation.specs.Replay.{IsAnswer, most_moves};
 ghost use Rattle.est_explanation.specs.inside.Standing.{IsReady, HasMoved, HasLanded};
 ghost use Rattle.est_explanation.specs.inside.Standing.{IsMet, IsEnding, asked_of, place_of};
@@ -70,11 +71,12 @@ fn begins_with(trace: &[Event], events: &[Event]) -> bool
     true
 }
 
-// Whether the events up to a number of them agree with the trace, of which the first do.
+// Whether these events, of which so many happened before, agree with the rest of the trace up to a
+// number of all events.
 fn agree(trace: &[Event], so_far: usize, outs: &[Event], asked: usize) -> bool
     requires { so_far ≤ length trace.now }
     ensures { IsTrue result
-        ↔ AgreeFirst trace.now (take asked (take so_far trace.now ++ outs.now)) }
+        ↔ AgreeFirst (drop so_far trace.now) (take (asked - so_far) outs.now) }
 {
     let compared = outs.len().min(asked.saturating_sub(so_far));
     begins_with(&trace[so_far..], &outs[..compared])
@@ -112,14 +114,16 @@ fn take_next<W: World>(
     ghost setup: { Spec → Setup }
     requires within { at.events ≤ length expected.now.trace.now }
     requires ready { (spec : Spec) → W.speaks world.old spec
-        → IsReady (setup spec) spec (W.limit world.old) expected.now.silent expected.now.trace.now
-        (W.stack world.old spec) at }
+        → (events : List Event) × IsReady (setup spec) spec (W.limit world.old)
+        expected.now.silent expected.now.trace.now (W.stack world.old spec) at events }
     ensures keeps { Keeps W.speaks W.limit world.old world.new }
     ensures fired { W.fired world.new ≡ W.fired world.old }
     ensures moved { IfOk result
-        (λ moved. (spec : Spec) → W.speaks world.old spec
+        (λ moved. (spec : Spec) → W.speaks world.old spec → (events : List Event)
+        → IsReady (setup spec) spec (W.limit world.old) expected.now.silent
+        expected.now.trace.now (W.stack world.old spec) at events
         → HasMoved (setup spec) expected.now.asked
-        (place_of (W.stack world.old spec) expected.now.trace.now at) Move.Take
+        (place_of (W.stack world.old spec) events at) Move.Take
         (W.stack world.new spec).now moved) }
 {
     let trace = expected.trace;
@@ -178,14 +182,16 @@ fn fire<W: World>(
     requires within { at.events ≤ length expected.now.trace.now }
     requires room { W.fired world.old < 2 ^ 64 - 1 }
     requires ready { (spec : Spec) → W.speaks world.old spec
-        → IsReady (setup spec) spec (W.limit world.old) expected.now.silent expected.now.trace.now
-        (W.stack world.old spec) at }
+        → (events : List Event) × IsReady (setup spec) spec (W.limit world.old)
+        expected.now.silent expected.now.trace.now (W.stack world.old spec) at events }
     ensures keeps { Keeps W.speaks W.limit world.old world.new }
     ensures fired { W.fired world.new ≤ W.fired world.old + 1 }
     ensures moved { IfOk result
-        (λ moved. (spec : Spec) → W.speaks world.old spec
+        (λ moved. (spec : Spec) → W.speaks world.old spec → (events : List Event)
+        → IsReady (setup spec) spec (W.limit world.old) expected.now.silent
+        expected.now.trace.now (W.stack world.old spec) at events
         → HasMoved (setup spec) expected.now.asked
-        (place_of (W.stack world.old spec) expected.now.trace.now at) (Move.Fire firing.now)
+        (place_of (W.stack world.old spec) events at) (Move.Fire firing.now)
         (W.stack world.new spec).now moved) }
 {
     let mut firings = Vec::new(alloc);
@@ -216,14 +222,16 @@ fn make<W: World>(
     requires within { at.events ≤ length expected.now.trace.now }
     requires room { W.fired world.old < 2 ^ 64 - 1 }
     requires ready { (spec : Spec) → W.speaks world.old spec
-        → IsReady (setup spec) spec (W.limit world.old) expected.now.silent expected.now.trace.now
-        (W.stack world.old spec) at }
+        → (events : List Event) × IsReady (setup spec) spec (W.limit world.old)
+        expected.now.silent expected.now.trace.now (W.stack world.old spec) at events }
     ensures keeps { Keeps W.speaks W.limit world.old world.new }
     ensures fired { W.fired world.new ≤ W.fired world.old + 1 }
     ensures moved { IfOk result
-        (λ moved. (spec : Spec) → W.speaks world.old spec
+        (λ moved. (spec : Spec) → W.speaks world.old spec → (events : List Event)
+        → IsReady (setup spec) spec (W.limit world.old) expected.now.silent
+        expected.now.trace.now (W.stack world.old spec) at events
         → HasMoved (setup spec) expected.now.asked
-        (place_of (W.stack world.old spec) expected.now.trace.now at) next.now
+        (place_of (W.stack world.old spec) events at) next.now
         (W.stack world.new spec).now moved) }
 {
     match next {

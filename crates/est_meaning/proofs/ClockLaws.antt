@@ -7,6 +7,7 @@ use Rattle.mean_blocks.specs.GlobalSituation.{Situation}
 use Rattle.mean_blocks.specs.TextByPlace.{Text, text_of}
 use Rattle.est_meaning.specs.declared.event.Event.{Event}
 use Rattle.est_meaning.specs.declared.event.Event.TheVariants as event
+use Rattle.est_meaning.specs.Agreement.{AgreeAll}
 use Rattle.est_meaning.specs.AllowedEvents.{IsAllowed, IsAllowedTrace}
 use Rattle.est_meaning.specs.OutsideEvents.{after_event, later, units_of}
 use Rattle.est_meaning.proofs.Outside.{events_are_outside}
@@ -33,6 +34,16 @@ time_of-append (x ∷ xs) ys = (let e = time_of-append xs ys in omega arith)
 
 pub units_first : (e : Event) (es : List Event) → units_of e ≤ time_of (e ∷ es)
 units_first e es = omega arith
+
+-- in events that agree as much time passes as is expected
+time_agrees : (xs es : List Event) → AgreeAll xs es → time_of es ≡ time_of xs
+time_agrees [] [] a = refl
+time_agrees [] (e ∷ es) a = absurd a
+time_agrees (x ∷ xs) [] a = absurd a
+time_agrees (x ∷ xs) (e ∷ es) a =
+    let first : units_of e ≡ units_of x = ap units_of a.0 in
+    let rest = time_agrees xs es a.1 in
+    omega arith
 
 -- the clock of a run is at most the start's and the time of its events
 pub clock_of_run : (c : Setup) (h : List Move) (p : Place) → IsRun c h p
@@ -67,8 +78,9 @@ pub clock_to_come : (c : Setup) (h : List Move) (p q : Place) → IsRun c h p �
     → p.situation.clock + units_of t.event ≤ c.start.clock + time_of c.trace
 clock_to_come c h p q r t =
     let now = clock_of_run c h p r in
-    let whole : time_of c.trace ≡ time_of p.events + time_of (t.event ∷ t.rest) = ap time_of t.next
-    ∙ time_of-append p.events (t.event ∷ t.rest) in
+    let same = time_agrees t.front p.events t.agree in
+    let whole : time_of c.trace ≡ time_of t.front + time_of (t.event ∷ t.rest) = ap time_of t.next
+    ∙ time_of-append t.front (t.event ∷ t.rest) in
     omega arith
 
 -- no run along a trace brings the clock further than the trace's time

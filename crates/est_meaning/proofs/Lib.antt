@@ -15,6 +15,7 @@ pub mod StampTimes
 pub mod Stamps
 pub mod Steps
 pub mod Taken
+pub mod Takings
 pub mod TreeLaws
 pub mod Unsettled
 pub use Rattle.mean_blocks.proofs.of_rule_scope

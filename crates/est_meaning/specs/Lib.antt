@@ -1,3 +1,4 @@
+pub mod Agreement
 pub mod AllowedEvents
 pub mod ClauseContexts
 pub mod DelayStamps

@@ -10,6 +10,7 @@ use Rattle.mean_blocks.specs.TextByPlace.{text_of}
 use Rattle.est_meaning.specs.declared.event.Event.{Event}
 use Rattle.est_meaning.specs.declared.event.Event.TheVariants as event
 use Rattle.est_meaning.specs.declared.firing.Firing.{Firing}
+use Rattle.est_meaning.specs.Agreement.{AgreeAll, AgreeFirst}
 use Rattle.est_meaning.specs.FiringSteps.{IsStep, start_of}
 use Rattle.est_meaning.specs.OutsideEvents.{after_event}
 use Rattle.est_meaning.specs.declared.run.Move.{Move}
@@ -59,13 +60,15 @@ after_taking c p e = record {
   silent_in_row = 0;
 }
 
--- the trace goes on after the events so far with an arrival or a passing of time, and this event
--- happens
+-- behind a front that the events so far agree with, the trace goes on with an arrival or a passing
+-- of time, and this event happens
 pub record Takes (c : Setup) (p q : Place) : Type 0 where
   pub event : Event
+  pub front : List Event
   pub rest : List Event
   pub outside : IsFromOutside event
-  pub next : c.trace ≡ p.events ++ event ∷ rest
+  pub agree : AgreeAll front p.events
+  pub next : c.trace ≡ front ++ event ∷ rest
   pub leads : q ≡ after_taking c p event
 
 -- how many silent firings stand last after one more firing: a silent one adds one, and one with an
@@ -104,36 +107,19 @@ IsBoundedRun c [] p = p ≡ first_place c
 IsBoundedRun c (m ∷ earlier) p =
     (q : Place) × IsBoundedRun c earlier q × Moves c q m p × (p.silent_in_row ≤ c.silent)
 
--- a list begins with these items
-abbrev pub IsPrefix : {X : Type 0} → List X → List X → Type 0
-IsPrefix {X} part whole = (rest : List X) × (whole ≡ part ++ rest)
-
--- AGREEMENT
---
--- What a trace says of the events of a run. What a run follows, explains and yields is told by
--- these alone.
-
--- an event is the one that is expected
-abbrev pub Agrees : Event → Event → Type 0
-Agrees expected e = e ≡ expected
-
--- events are those that are expected, one by one and as many (`AgreementIsOneByOne`)
-abbrev pub AgreeAll : List Event → List Event → Type 0
-AgreeAll expected es = es ≡ expected
-
--- events are the first of those that are expected
-abbrev pub AgreeFirst : List Event → List Event → Type 0
-AgreeFirst expected es = IsPrefix es expected
-
 -- the trace begins with the events so far
 abbrev pub Follows : Setup → Place → Type 0
 Follows c p = AgreeFirst c.trace p.events
 
--- the events are exactly the trace
+-- the events so far are the whole trace
+pub record IsWhole (c : Setup) (p : Place) : Type 0 where
+  pub events : AgreeAll c.trace p.events
+
+-- a bounded run that is whole
 pub record Explains (c : Setup) (run : List Move) : Type 0 where
   pub place : Place
   pub is_run : IsBoundedRun c run place
-  pub whole : AgreeAll c.trace place.events
+  pub whole : IsWhole c place
 
 -- the run without its last move follows the trace
 abbrev pub FollowsBefore : Setup → List Move → Type 0

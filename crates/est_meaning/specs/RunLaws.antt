@@ -1,19 +1,19 @@
 -- What holds of runs and their order.
 use Rattle.std.specs.Prelude.{◌≡◌, ◌≤◌, ◌+◌, ◌^◌, ◌↔◌, ◌⊎◌, ℕ, List, [], ◌∷◌, ◌++◌, length}
+use Rattle.std.specs.Prelude.{take}
 use Rattle.mean_blocks.specs.GlobalSituation.{Situation}
 use Rattle.mean_blocks.specs.KeepingLaws.{AreNumbered, AreMutual}
 use Rattle.mean_blocks.specs.TextByPlace.{text_of}
 use Rattle.est_meaning.specs.declared.event.Event.{Event}
 use Rattle.est_meaning.specs.declared.firing.Firing.{Firing}
+use Rattle.est_meaning.specs.Agreement.{AgreeAll, AgreeFirst}
 use Rattle.est_meaning.specs.FiringSteps.{IsStep}
 use Rattle.est_meaning.specs.AllowedEvents.{IsAllowedTrace}
 use Rattle.est_meaning.specs.OutsideEvents.{units_of}
 use Rattle.est_meaning.specs.declared.run.Move.{Move}
 use Rattle.est_meaning.specs.declared.run.Move.TheVariants.{Take, Fire}
 use Rattle.est_meaning.specs.Order.{RunBefore}
-use Rattle.est_meaning.specs.Run.{Setup, Place, IsBegun, IsRun, IsBoundedRun, Takes, Agrees}
-use Rattle.est_meaning.specs.Run.{AgreeAll}
-use Rattle.est_meaning.specs.Run.{AgreeFirst, Yields}
+use Rattle.est_meaning.specs.Run.{Setup, Place, IsBegun, IsRun, IsBoundedRun, Takes, Yields}
 
 -- a run leads to one situation and one list of events
 abbrev pub RunsAreUnique : Type 0
@@ -51,20 +51,15 @@ abbrev pub BoundedMeansFewInARow : Type 0
 BoundedMeansFewInARow = (c : Setup) (run : List Move) (p : Place)
     → IsBoundedRun c run p ↔ (IsRun c run p × HasFewInARow c run)
 
--- each event agrees with the one that is expected in its place, and there are as many
-abbrev pub EachAgrees : List Event → List Event → Type 0
-EachAgrees [] [] = Unit {0}
-EachAgrees (x ∷ expected) (e ∷ es) = Agrees x e × EachAgrees expected es
-EachAgrees _ _ = ⊥
-
--- lists of events agree where their events do one by one; those that agree with the first
--- of a list agree with a front of it
+-- events agree with themselves and with no others; those that agree with the first of a list agree
+-- with as many of its front; and what is added leaves the agreement of what was there
 pub record AgreementIsOneByOne : Type 0 where
-  pub all : (expected es : List Event) → AgreeAll expected es ↔ EachAgrees expected es
+  pub known : (es fs : List Event) → AgreeAll es fs ↔ (fs ≡ es)
   pub first : (expected es : List Event)
       → AgreeFirst expected es
-      ↔ ((front : List Event) × (rest : List Event)
-      × (expected ≡ front ++ rest) × AgreeAll front es)
+      ↔ ((length es ≤ length expected) × AgreeAll (take (length es) expected) es)
+  pub joined : (front back es fs : List Event) → length front ≡ length es
+      → AgreeAll (front ++ back) (es ++ fs) ↔ (AgreeAll front es × AgreeAll back fs)
 
 -- what a run yields has no gaps below it, and a run without moves yields at least 0
 pub record YieldsAllBelow : Type 0 where

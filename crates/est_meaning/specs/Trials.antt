@@ -12,13 +12,13 @@ use Rattle.est_meaning.specs.FiringSteps.{outcome}
 use Rattle.est_meaning.specs.declared.run.Move.{Move}
 use Rattle.est_meaning.specs.declared.run.Move.TheVariants.{Take, Fire}
 use Rattle.est_meaning.specs.Order.{Mark, Guarding, Trying, marks_of, NotAfter, IsEarliest}
-use Rattle.est_meaning.specs.Run.{Setup, Place, IsBoundedRun, AgreeAll, Follows}
+use Rattle.est_meaning.specs.Run.{Setup, Place, IsBoundedRun, Follows, IsWhole}
 
 -- a bounded run that follows the trace and does not explain it
 pub record IsInner (c : Setup) (run : List Move) (p : Place) : Type 0 where
   pub is_run : IsBoundedRun c run p
   pub follows : Follows c p
-  pub unfinished : AgreeAll c.trace p.events → ⊥
+  pub unfinished : IsWhole c p → ⊥
 
 -- a trial: a possible firing after an inner run, whatever comes of its block
 abbrev pub IsTrial : Setup → List Move → Type 0

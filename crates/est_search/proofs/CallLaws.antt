@@ -1,12 +1,12 @@
 -- The steps of a search, as the code asks for them.
 use Rattle.std.proofs.Common.{◌≡◌, ℕ, suc, ◌+◌, ◌*◌, ◌-◌, ◌^◌, ◌<◌, ◌≤◌, ◌⊎◌, Bool, true, false}
 use Rattle.std.proofs.Common.{nat_eq}
-use Rattle.std.proofs.Common.{List, [], ◌∷◌, Some, None, length, reverse, take, drop}
+use Rattle.std.proofs.Common.{List, [], ◌∷◌, Some, None, length, reverse}
 use Rattle.std.proofs.Common.{Result, Ok, Err, OnErr, get_or, refl, sym, ap, subst, ◌∙◌, inl}
 use Rattle.std.proofs.Common.{inr, arith}
 use Rattle.std.specs.Option.{option_or}
 use Rattle.std.proofs.lemmas.Bool.Decides.{nat_tests}
-use Rattle.std.proofs.lemmas.List.{length-reverse, reverse-reverse, append_cancel_left}
+use Rattle.std.proofs.lemmas.List.{length-reverse, reverse-reverse}
 use Rattle.est_syntax.specs.declared.specification.Spec.{Spec}
 use Rattle.est_meaning.specs.mean_blocks.declared.fault.BlockFault.{BlockFault}
 use Rattle.est_meaning.specs.mean_blocks.GlobalSituation.{Situation}
@@ -28,6 +28,7 @@ use Rattle.est_meaning.specs.Run.{Setup, Place, Takes, IsFromOutside, after_taki
 use Rattle.est_meaning.specs.Trials.{IsTrial, HasMany}
 use Rattle.est_meaning.proofs.ClockLaws.{clock_bounded}
 use Rattle.est_meaning.proofs.RunLaws.{bounded_is_run}
+use Rattle.est_meaning.proofs.Takings.{takes_at, inside_stays}
 use Rattle.est_meaning.proofs.StackLaws.{fired_done, fired_fault, fired_limit}
 use Rattle.est_search.specs.declared.path.Stage.TheVariants.{Fresh, Taken, Listed}
 use Rattle.est_search.specs.declared.path.Path.{Path}
@@ -43,7 +44,6 @@ use Rattle.est_search.proofs.WalkLaws.{skipped, taken_found, taken_on, settled_o
 use Rattle.est_search.proofs.FiringLaws.{fire_possible, over, fault_on, limit_on, silent_on}
 use Rattle.est_search.proofs.FiringLaws.{departed_on, led_found, led_on, back_depth, back_on}
 use Rattle.est_search.proofs.FiringLaws.{all_done}
-use Rattle.est_search.proofs.EventLaws.{next_event}
 
 pub made_many : (p : Path) → length p.moves.items ≡ length (view_of p).moves
 made_many p = sym (length-reverse p.moves.items)
@@ -79,29 +79,20 @@ module _ (c : Setup) (spec : Spec) (limit silent : ℕ) (trace : List Event) (st
       (is : get_or trace w.path.top.matched e ≡ e) where
     pub time_fits : IsFromOutside e → stack.now.clock + units_of e ≤ 10 ^ 15
     time_fits outside =
-        let way = r.on_way in
+        let node = r.on_way.at.node in
         let h = (view_of w.path).moves in
-        let p = place_at c stack.now w.path.top in
+        let p = place_at stack.now w.path.top node.events in
         let b = clock_bounded c h p r.suits.begun r.suits.allowed
-        (bounded_is_run c h p way.at.node.is_run) in
-        let t : Takes c p (after_taking c p e) = record {
-          event = e;
-          rest = drop (w.path.top.matched + 1) c.trace;
-          outside = outside;
-          next = next_event c.trace w.path.top.matched e way.at.node.unfinished (next_there e is);
-          leads = refl;
-        } in
-        b.1 (after_taking c p e) t
+        (bounded_is_run c h p node.is_run) in
+        b.1 (after_taking c p e)
+        (takes_at c p w.path.top.matched e node.unfinished (next_there e is) node.agree outside)
 
     no_take : (IsFromOutside e → ⊥) → (q : Place)
-        → Takes c (place_at c stack.now w.path.top) q → ⊥
+        → Takes c (place_at stack.now w.path.top r.on_way.at.node.events) q → ⊥
     no_take inside q t =
-        let m = w.path.top.matched in
-        let both : t.event ∷ t.rest ≡ e ∷ drop (m + 1) c.trace =
-        append_cancel_left (take m c.trace) (t.event ∷ t.rest) (e ∷ drop (m + 1) c.trace)
-        (sym t.next ∙ next_event c.trace m e r.on_way.at.node.unfinished (next_there e is)) in
-        let same : t.event ≡ e = cc in
-        inside (subst IsFromOutside same t.outside)
+        let node = r.on_way.at.node in
+        inside_stays c (place_at stack.now w.path.top node.events) w.path.top.matched e
+        node.unfinished (next_there e is) node.agree inside q t
 
     -- the event does not come from outside
     pub skip_call : (stack' : Stack) (new : Walk) → (IsFromOutside e → ⊥) → stack' ≡ stack

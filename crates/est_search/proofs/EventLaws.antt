@@ -1,77 +1,45 @@
 -- What the agreement of the last events says of a run.
-use Rattle.std.proofs.Common.{◌≡◌, ℕ, ◌+◌, ◌-◌, ◌<◌, ◌≤◌, List, [], ◌∷◌, ◌++◌, length, take, drop}
-use Rattle.std.proofs.Common.{Some, suc, add-one, get_or, get_or-take, sym, ap, subst, ◌∙◌}
-use Rattle.std.proofs.Common.{arith}
-use Rattle.std.proofs.lemmas.List.{take-append-drop, take_more, length-append, length-take-le}
-use Rattle.std.proofs.lemmas.List.{get_or-append_right, take-append-le}
-use Rattle.std.proofs.lemmas.Option.{slice_get-get_or}
-use Rattle.std.proofs.Math.Seq.{drop-cons, take-length, take-append-add}
+use Rattle.std.proofs.Common.{◌≡◌, ℕ, ◌+◌, ◌<◌, ◌≤◌, List, ◌++◌, length, take, drop}
+use Rattle.std.proofs.Common.{sym, ap, subst, ◌∙◌, arith}
+use Rattle.std.proofs.lemmas.List.{length-append, length-take-le, take_all}
+use Rattle.std.proofs.Math.Seq.{take-length, take-append-add}
 use Rattle.est_meaning.specs.declared.event.Event.{Event}
+use Rattle.est_meaning.specs.Agreement.{AgreeAll, AgreeFirst}
 use Rattle.est_meaning.specs.declared.run.Move.{Move}
 use Rattle.est_meaning.specs.Run.{Setup, Place, IsBoundedRun, Follows, FollowsBefore}
 use Rattle.est_meaning.specs.Run.{Explains, YieldsFirst}
+use Rattle.est_meaning.proofs.AgreementLaws.{agree_length, take_on, first_taken}
 use Rattle.est_meaning.proofs.RunLaws.{one_place}
 use Rattle.est_meaning.proofs.TreeLaws.{IsOnTree}
 use Rattle.est_search.specs.inside.Agreement.{AgreeFor}
+use Rattle.est_search.proofs.AgreeForLaws.{agree_on, agree_most}
 
--- where e is the event at a place
-pub next_event : (trace : List Event) (m : ℕ) (e : Event) → m < length trace
-    → get_or trace m e ≡ e → trace ≡ take m trace ++ e ∷ drop (m + 1) trace
-next_event trace m e lt is =
-    let rest : drop m trace ≡ e ∷ drop (m + 1) trace =
-    rw add-one (drop-cons trace m e lt ∙ ap (λ x. x ∷ drop (suc m) trace) is) in
-    sym (take-append-drop m trace) ∙ ap (λ xs. take m trace ++ xs) rest
+module _ (c : Setup) (y : List Move) (p : Place) (is : IsBoundedRun c y p) (es outs : List Event)
+    (m k : ℕ) (so_far : AgreeAll (take m c.trace) es) (events : p.events ≡ es ++ outs)
+    (a : AgreeFor c.trace m outs k) where
+  many_before : length es ≡ m
+  many_before = (let w = a.within in agree_length (take m c.trace) es so_far
+      ∙ length-take-le m c.trace (omega arith))
 
-pub agree_one : (trace : List Event) (m : ℕ) (e : Event) → m < length trace
-    → get_or trace m e ≡ e → AgreeFor trace m (e ∷ []) 1
-agree_one trace m e lt is = record {
-  many = omega arith;
-  within = omega arith;
-  agree = take_more trace m e lt ∙ ap (λ x. take m trace ++ x ∷ []) is;
-  differ = λ less _ _. omega arith;
-}
-
-module _ (trace outs : List Event) (m k : ℕ) (a : AgreeFor trace m outs k) where
-  front_length : length (take m trace) ≡ m
-  front_length = (let w = a.within in length-take-le m trace (omega arith))
-
-  all_length : length (take m trace ++ outs) ≡ m + length outs
-  all_length = (let e = front_length in let f = length-append (take m trace) outs in omega arith)
+  many_events : length p.events ≡ m + length outs
+  many_events =
+      let n = many_before in
+      let e : length p.events ≡ length es + length outs = ap length events
+      ∙ length-append es outs in
+      omega arith
 
   -- the first m + k are those of the trace
-  agree_first : take (m + k) (take m trace ++ outs) ≡ take (m + k) trace
-  agree_first =
-      subst (λ n. take (n + k) (take m trace ++ outs) ≡ take m trace ++ take k outs) front_length
-      (take-append-add (take m trace) outs k) ∙ sym a.agree
-
-  differ_by : (d : Event) (j : ℕ) → m + k < j → k < length outs → m + k < length trace
-      → take j (take m trace ++ outs) ≡ take j trace → ⊥
-  differ_by d j lt more within e =
-      let all = take m trace ++ outs in
-      let same : get_or all (m + k) d ≡ get_or trace (m + k) d =
-      sym (get_or-take j all (m + k) d lt) ∙ ap (λ w. get_or w (m + k) d) e
-      ∙ get_or-take j trace (m + k) d lt in
-      let later : get_or all (m + k) d ≡ get_or outs ((m + k) - m) d =
-      get_or-append_right (take m trace) outs m (m + k) d front_length (omega arith) in
-      let num : (m + k) - m ≡ k = omega arith in
-      let here : get_or outs k d ≡ get_or trace (m + k) d =
-      sym (ap (λ n. get_or outs n d) num) ∙ sym later ∙ same in
-      a.differ more within (slice_get-get_or outs k d more ∙ ap Some here
-      ∙ sym (slice_get-get_or trace (m + k) d within))
-
--- no more than m + k are those of the trace
-agree_most : (trace outs : List Event) (m k : ℕ) → AgreeFor trace m outs k → (j : ℕ)
-    → m + k < j → k < length outs → m + k < length trace
-    → take j (take m trace ++ outs) ≡ take j trace → ⊥
-agree_most trace [] m k a j lt more within e = omega arith
-agree_most trace (o ∷ outs) m k a j lt more within e =
-    differ_by trace (o ∷ outs) m k a o j lt more within e
-
-module _ (c : Setup) (y : List Move) (p : Place) (is : IsBoundedRun c y p) (outs : List Event)
-    (m k : ℕ) (events : p.events ≡ take m c.trace ++ outs)
-    (a : AgreeFor c.trace m outs k) where
-  many_events : length p.events ≡ m + length outs
-  many_events = ap length events ∙ all_length c.trace outs m k a
+  agree_so : AgreeAll (take (m + k) c.trace) (take (m + k) p.events)
+  agree_so =
+      let w = a.within in
+      let front : take (m + k) c.trace ≡ take m c.trace ++ take k (drop m c.trace) =
+      take_on m k c.trace (omega arith) in
+      let here : take (m + k) p.events ≡ es ++ take k outs = ap (λ x. take (m + k) x) events
+      ∙ subst (λ n. take (n + k) (es ++ outs) ≡ es ++ take k outs) many_before
+      (take-append-add es outs k) in
+      subst (λ xs. AgreeAll xs (take (m + k) p.events)) (sym front)
+      (subst (λ x. AgreeAll (take m c.trace ++ take k (drop m c.trace)) x) (sym here)
+      (agree_on c.trace es outs m k so_far a))
 
   pub yields_so : FollowsBefore c y → YieldsFirst c y (m + k)
   yields_so before = record {
@@ -80,7 +48,7 @@ module _ (c : Setup) (y : List Move) (p : Place) (is : IsBoundedRun c y p) (outs
     before = before;
     many = (let n = many_events in let w = a.many in omega arith);
     within = a.within;
-    agree = ap (λ w. take (m + k) w) events ∙ agree_first c.trace outs m k a;
+    agree = agree_so;
   }
 
   pub yields_no_more : (j : ℕ) → YieldsFirst c y j → j ≤ m + k
@@ -89,47 +57,56 @@ module _ (c : Setup) (y : List Move) (p : Place) (is : IsBoundedRun c y p) (outs
       let n : j ≤ length p.events = subst (λ (w : Place). j ≤ length w.events) e h.many in
       let all = many_events in
       let w = h.within in
-      let same : take j p.events ≡ take j c.trace =
-      subst (λ (w : Place). take j w.events ≡ take j c.trace) e h.agree in
-      let same' : take j (take m c.trace ++ outs) ≡ take j c.trace =
-      subst (λ w. take j w ≡ take j c.trace) events same in
-      let never : m + k < j → ⊥ =
-      λ lt. agree_most c.trace outs m k a j lt (omega arith) (omega arith) same' in
+      let same : AgreeAll (take j c.trace) (take j p.events) =
+      subst (λ (w : Place). AgreeAll (take j c.trace) (take j w.events)) e h.agree in
+      let same' : AgreeAll (take j c.trace) (take j (es ++ outs)) =
+      subst (λ x. AgreeAll (take j c.trace) (take j x)) events same in
+      let never : m + k < j → ⊥ = λ lt. agree_most c.trace es outs m k many_before a j lt
+      (omega arith) (omega arith) same' in
       omega arith
 
   -- where the events depart from the trace, the run does not follow it
   pub departs : k < length outs → IsOnTree c y → ⊥
   departs short on =
       let e : on.place ≡ p = one_place c y on.place p on.is_run is in
-      let f : Follows c p = subst (λ w. Follows c w) e on.follows in
+      let f : AgreeFirst c.trace p.events = subst (λ w. Follows c w) e on.follows in
       let n = many_events in
-      let len : length c.trace ≡ length p.events + length f.0 =
-      ap length f.1 ∙ length-append p.events f.0 in
-      let all : take (length p.events) c.trace ≡ p.events =
-      ap (λ w. take (length p.events) w) f.1
-      ∙ take-append-le (length p.events) p.events f.0 (omega arith) ∙ take-length p.events in
-      let same : take (length p.events) p.events ≡ take (length p.events) c.trace =
-      take-length p.events ∙ sym all in
-      agree_most c.trace outs m k a (length p.events) (omega arith) short (omega arith)
-      (subst (λ w. take (length p.events) w ≡ take (length p.events) c.trace) events same)
+      let first = first_taken c.trace p.events f in
+      let len = first.0 in
+      let same : AgreeAll (take (length p.events) c.trace) (take (length p.events) p.events) =
+      subst (λ x. AgreeAll (take (length p.events) c.trace) x) (sym (take-length p.events)) first.1
+      in
+      agree_most c.trace es outs m k many_before a (length p.events) (omega arith) short
+      (omega arith)
+      (subst (λ x. AgreeAll (take (length p.events) c.trace) (take (length p.events) x)) events
+      same)
 
-module _ (c : Setup) (y : List Move) (p : Place) (is : IsBoundedRun c y p) (outs : List Event)
-    (m : ℕ) (events : p.events ≡ take m c.trace ++ outs)
+module _ (c : Setup) (y : List Move) (p : Place) (is : IsBoundedRun c y p) (es outs : List Event)
+    (m : ℕ) (so_far : AgreeAll (take m c.trace) es) (events : p.events ≡ es ++ outs)
     (a : AgreeFor c.trace m outs (length outs)) where
-  pub events_are : p.events ≡ take (m + length outs) c.trace
-  events_are = events ∙ ap (λ w. take m c.trace ++ w) (sym (take-length outs)) ∙ sym a.agree
+  -- the events of the run agree with so many of the trace
+  pub agree_now : AgreeAll (take (m + length outs) c.trace) p.events
+  agree_now =
+      let n = many_events c y p is es outs m (length outs) so_far events a in
+      subst (λ x. AgreeAll (take (m + length outs) c.trace) x)
+      (take_all (m + length outs) p.events (omega arith))
+      (agree_so c y p is es outs m (length outs) so_far events a)
 
   pub is_unfinished : m + length outs < length c.trace → Explains c y → ⊥
   is_unfinished lt h =
       let e : h.place ≡ p = one_place c y h.place p h.is_run is in
-      let w : p.events ≡ c.trace = subst (λ (w : Place). w.events ≡ c.trace) e h.whole in
-      let n : length p.events ≡ length c.trace = ap length w in
-      let all = many_events c y p is outs m (length outs) events a in
+      let n = agree_length c.trace h.place.events h.whole.events in
+      let same : length h.place.events ≡ length p.events =
+      ap (λ (w : Place). length w.events) e in
+      let all = many_events c y p is es outs m (length outs) so_far events a in
       omega arith
 
   pub explains_so : m + length outs ≡ length c.trace → Explains c y
   explains_so n = record {
     place = p;
     is_run = is;
-    whole = events_are ∙ ap (λ n. take n c.trace) n ∙ take-length c.trace;
+    whole = record {
+      events = subst (λ xs. AgreeAll xs p.events)
+          (take_all (m + length outs) c.trace (omega arith)) agree_now;
+    };
   }

@@ -9,6 +9,7 @@ use Rattle.est_meaning.specs.mean_blocks.Outcome.{Outcome, Done, Fault, Limit}
 use Rattle.est_meaning.specs.mean_blocks.TextByPlace.{text_of}
 use Rattle.est_meaning.specs.declared.event.Event.{Event}
 use Rattle.est_meaning.specs.declared.firing.Firing.{Firing}
+use Rattle.est_meaning.specs.Agreement.{AgreeAll}
 use Rattle.est_meaning.specs.TransitionSelection.{IsPossible}
 use Rattle.est_meaning.specs.FiringSteps.{outcome}
 use Rattle.est_meaning.specs.SituationStacks.{Stack, pushed}
@@ -39,7 +40,7 @@ use Rattle.est_search.proofs.AheadLaws.{Turn, turn_on, turn_off, skip_back, skip
 use Rattle.est_search.proofs.KnownLaws.{knows_skip, noted_on, noted_now}
 use Rattle.est_search.proofs.KnownLaws.{best_on, trials_more, accepts_tried, over_now}
 use Rattle.est_search.proofs.EventLaws.{yields_so, yields_no_more, departs}
-use Rattle.est_search.proofs.EventLaws.{events_are, is_unfinished, explains_so}
+use Rattle.est_search.proofs.EventLaws.{agree_now, is_unfinished, explains_so}
 use Rattle.est_search.proofs.PathLaws.{inner_at}
 use Rattle.est_search.proofs.PathLaws.{firing_next, firing_ends, none_left, left_next, IsNextOf}
 use Rattle.est_search.proofs.PathLaws.{next_mine, none_mine, IsListed, listed_stage, spent_stage}
@@ -51,6 +52,9 @@ use Rattle.est_search.proofs.WalkLaws.{events_noted}
 
 module _ (c : Setup) (stack : Stack) (v : View) (tried : ℕ) (best : Best) (notes : Notes)
     (way : IsOnWay c stack v tried best notes) (f : Firing) (w : View) (next : IsNext v f w) where
+  abbrev pub stands : Place
+  stands = place_at stack.now v.top way.at.node.events
+
   mine_next : IsNextOf way.at.mine way.at.rest f next.firings next.left
   mine_next = next_mine way.at.mine way.at.rest f next.firings next.left
       (sym next.firings_are ∙ way.at.firings_are) (way.at.count ∙ next.left_is)
@@ -64,7 +68,7 @@ module _ (c : Setup) (stack : Stack) (v : View) (tried : ℕ) (best : Best) (not
 
   trial : IsTrial c (Fire f ∷ v.moves)
   trial = (
-    place_at c stack.now v.top,
+    stands,
     inner_at c v.moves stack.now v.top way.at.node,
     fire_possible,
   )
@@ -72,7 +76,7 @@ module _ (c : Setup) (stack : Stack) (v : View) (tried : ℕ) (best : Best) (not
   comes : (o : Outcome Situation (List Event))
       → outcome c.limit (text_of c.spec) stack.now f ≡ o → ComesTo c v.moves f o
   comes o is = record {
-    place = place_at c stack.now v.top;
+    place = stands;
     inner = inner_at c v.moves stack.now v.top way.at.node;
     possible = fire_possible;
     outcome_is = is;
@@ -84,7 +88,7 @@ module _ (c : Setup) (stack : Stack) (v : View) (tried : ℕ) (best : Best) (not
       listed.dealt_is way.all
 
   is_next : IsNextMark c (marks_of v.moves) (Some listed.mark) (Trying f)
-  is_next = firing_next c v.moves (place_at c stack.now v.top) listed.mark f mine_next.others
+  is_next = firing_next c v.moves stands listed.mark f mine_next.others
       way.at.node.is_run listed.past listed.left
 
   off_turn : (IsOnTree c (Fire f ∷ v.moves) → ⊥)
@@ -109,7 +113,12 @@ module _ (c : Setup) (stack : Stack) (v : View) (tried : ℕ) (best : Best) (not
     rest = way.at.rest;
     firings_are = mine_next.rest_is;
     count = mine_next.count;
-    node = record { is_run = way.at.node.is_run; unfinished = way.at.node.unfinished };
+    node = record {
+      events = way.at.node.events;
+      is_run = way.at.node.is_run;
+      agree = way.at.node.agree;
+      unfinished = way.at.node.unfinished;
+    };
     stage = subst (λ st. StageIs c stack.now st (Some (Trying f)) mine_next.others)
         (sym listed.stage_is)
         (Trying f, refl, tt, left_next c stack.now listed.mark f mine_next.others listed.left);
@@ -159,7 +168,7 @@ module _ (c : Setup) (stack : Stack) (v : View) (tried : ℕ) (best : Best) (not
     quiet never = noted_on c (IsAhead (marks_of v.moves) (Some listed.mark))
         (IsAhead (marks_of v.moves) (Some (Trying f))) (marks_of (Fire f ∷ v.moves))
         (off_turn off) (PassesLimit c) (passes_in_tree c)
-        (trying_passes c v.moves (place_at c stack.now v.top) f way.at.node.is_run never)
+        (trying_passes c v.moves stands f way.at.node.is_run never)
         (passed_at notes.passed)
 
     sound : ((fault : BlockFault) → outcome c.limit (text_of c.spec) stack.now f ≡ Fault fault → ⊥)
@@ -170,7 +179,7 @@ module _ (c : Setup) (stack : Stack) (v : View) (tried : ℕ) (best : Best) (not
     sound never = noted_on c (IsAhead (marks_of v.moves) (Some listed.mark))
         (IsAhead (marks_of v.moves) (Some (Trying f))) (marks_of (Fire f ∷ v.moves))
         (off_turn off) (Faults c) (faults_in_tree c)
-        (trying_faults c v.moves (place_at c stack.now v.top) f way.at.node.is_run never)
+        (trying_faults c v.moves stands f way.at.node.is_run never)
         (faulted_at notes.faulted)
 
   -- it is no bounded run
@@ -194,8 +203,8 @@ module _ (c : Setup) (stack : Stack) (v : View) (tried : ℕ) (best : Best) (not
       → ((s : Situation) (outs : List Event) → o ≡ Done outs s → ⊥) → (p : Place)
       → IsBoundedRun c (Fire f ∷ v.moves) p → ⊥
   undone_nowhere o is never p run =
-      let e : run.0 ≡ place_at c stack.now v.top =
-      one_place c v.moves run.0 (place_at c stack.now v.top) run.1 way.at.node.is_run in
+      let e : run.0 ≡ stands =
+      one_place c v.moves run.0 stands run.1 way.at.node.is_run in
       never run.2.situation run.2.outs (sym is
       ∙ subst (λ (u : Place). outcome c.limit (text_of c.spec) u.situation f
       ≡ Done run.2.outs run.2.situation) e run.2.step.done)
@@ -284,8 +293,8 @@ module _ (c : Setup) (stack : Stack) (v : View) (tried : ℕ) (best : Best) (not
     silent_nowhere : c.silent < silent_after v.top.silent outs → (p : Place)
         → IsBoundedRun c (Fire f ∷ v.moves) p → ⊥
     silent_nowhere many p run =
-        let e : run.0 ≡ place_at c stack.now v.top =
-        one_place c v.moves run.0 (place_at c stack.now v.top) run.1 way.at.node.is_run in
+        let e : run.0 ≡ stands =
+        one_place c v.moves run.0 stands run.1 way.at.node.is_run in
         let d : outcome c.limit (text_of c.spec) stack.now f ≡ Done run.2.outs run.2.situation =
         subst (λ (u : Place). outcome c.limit (text_of c.spec) u.situation f
         ≡ Done run.2.outs run.2.situation) e run.2.step.done in
@@ -308,12 +317,12 @@ module _ (c : Setup) (stack : Stack) (v : View) (tried : ℕ) (best : Best) (not
 
     module _ (few : silent_after v.top.silent outs ≤ c.silent) where
       fired : Place
-      fired = after_firing (place_at c stack.now v.top) s' outs
+      fired = after_firing stands s' outs
 
       fired_run : IsBoundedRun c (Fire f ∷ v.moves) fired
       unfolding fired
       fired_run = (
-        place_at c stack.now v.top,
+        stands,
         way.at.node.is_run,
         record {
           situation = s';
@@ -324,31 +333,34 @@ module _ (c : Setup) (stack : Stack) (v : View) (tried : ℕ) (best : Best) (not
         few,
       )
 
-      fired_events : fired.events ≡ take v.top.matched c.trace ++ outs
+      fired_events : fired.events ≡ way.at.node.events ++ outs
       unfolding fired
       fired_events = refl
 
+      abbrev matched : AgreeAll (take v.top.matched c.trace) way.at.node.events
+      matched = way.at.node.agree
+
       module _ (k : ℕ) (agree : AgreeFor c.trace v.top.matched outs k) where
         fired_yields : YieldsFirst c (Fire f ∷ v.moves) (v.top.matched + k)
-        fired_yields = yields_so c (Fire f ∷ v.moves) fired fired_run outs v.top.matched k
-            fired_events agree (
-              place_at c stack.now v.top,
+        fired_yields = yields_so c (Fire f ∷ v.moves) fired fired_run way.at.node.events outs
+            v.top.matched k matched fired_events agree (
+              stands,
               way.at.node.is_run,
               (inner_at c v.moves stack.now v.top way.at.node).follows,
             )
 
         fired_few : (r : List Move) (j : ℕ) → marks_of r ≡ marks_of (Fire f ∷ v.moves)
             → YieldsFirst c r j → j ≤ v.top.matched + k
-        fired_few r j same y = yields_no_more c (Fire f ∷ v.moves) fired fired_run outs
-            v.top.matched k fired_events agree j (subst (λ u. YieldsFirst c u j)
-            (marks_same r (Fire f ∷ v.moves) same) y)
+        fired_few r j same y = yields_no_more c (Fire f ∷ v.moves) fired fired_run
+            way.at.node.events outs v.top.matched k matched fired_events agree j
+            (subst (λ u. YieldsFirst c u j) (marks_same r (Fire f ∷ v.moves) same) y)
 
         pub departed_on : (best' : Best) (made : ℕ) → made ≡ length v.moves
             → HasReached best best' made (Fire f) (v.top.matched + k) → k < length outs
             → IsOnWay c stack w (tried + 1) best' notes
         departed_on best' made made_is reached short =
-            let off = departs c (Fire f ∷ v.moves) fired fired_run outs v.top.matched k
-            fired_events agree short in
+            let off = departs c (Fire f ∷ v.moves) fired fired_run way.at.node.events outs
+            v.top.matched k matched fired_events agree short in
             fired_off off best' notes
             (best_reached c (IsAhead (marks_of v.moves) (Some listed.mark))
             (IsAhead (marks_of v.moves) (Some (Trying f))) v.moves (Fire f) (off_turn off) best
@@ -362,21 +374,22 @@ module _ (c : Setup) (stack : Stack) (v : View) (tried : ℕ) (best : Best) (not
         led_found end = accepts_tried c (IsAhead (marks_of v.moves) (Some listed.mark))
             (IsAhead (marks_of (Fire f ∷ v.moves)) None) (Fire f ∷ v.moves) on_turn tried trial
             all_listed.knows.trials
-            (explains_so c (Fire f ∷ v.moves) fired fired_run outs v.top.matched fired_events agree
-            end) all_listed.knows.explaining
+            (explains_so c (Fire f ∷ v.moves) fired fired_run way.at.node.events outs v.top.matched
+            matched fired_events agree end) all_listed.knows.explaining
 
-        led_next : IsBoundedRun c (Fire f ∷ v.moves) (record {
+        led_run : IsBoundedRun c (Fire f ∷ v.moves) (record {
           situation = s';
-          events = take (v.top.matched + length outs) c.trace;
+          events = way.at.node.events ++ outs;
           silent_in_row = silent_after v.top.silent outs;
         })
         unfolding fired
-        led_next = subst (λ es. IsBoundedRun c (Fire f ∷ v.moves) (record {
-          situation = s';
-          events = es;
-          silent_in_row = silent_after v.top.silent outs;
-        })) (events_are c (Fire f ∷ v.moves) fired fired_run outs v.top.matched fired_events agree)
-            fired_run
+        led_run = fired_run
+
+        led_agree : AgreeAll (take (v.top.matched + length outs) c.trace)
+            (way.at.node.events ++ outs)
+        unfolding fired
+        led_agree = agree_now c (Fire f ∷ v.moves) fired fired_run way.at.node.events outs
+            v.top.matched matched fired_events agree
 
         pub led_on : (best' : Best) (made : ℕ) → made ≡ length v.moves
             → HasReached best best' made (Fire f) (v.top.matched + length outs)
@@ -396,31 +409,41 @@ module _ (c : Setup) (stack : Stack) (v : View) (tried : ℕ) (best : Best) (not
                 rest = next.firings;
                 firings_are = refl;
                 count = refl;
-                node = record { is_run = led_next; unfinished = lt };
+                node = record {
+                  events = way.at.node.events ++ outs;
+                  is_run = led_run;
+                  agree = led_agree;
+                  unfinished = lt;
+                };
                 stage = (refl, refl);
                 lower = (
                   mine_next.others,
                   way.at.rest,
                   mine_next.rest_is,
                   mine_next.count,
-                  record { is_run = way.at.node.is_run; unfinished = way.at.node.unfinished },
+                  record {
+                    events = way.at.node.events;
+                    is_run = way.at.node.is_run;
+                    agree = way.at.node.agree;
+                    unfinished = way.at.node.unfinished;
+                  },
                   left_next c stack.now listed.mark f mine_next.others listed.left,
                   way.at.lower,
                 );
               };
               all = all_after c P P' v.moves (Fire f) on_turn tried best notes all_listed
                   (Fire f ∷ v.moves) (tried + 1) best' notes
-                  (is_unfinished c (Fire f ∷ v.moves) fired fired_run outs v.top.matched
-                  fired_events agree lt)
+                  (is_unfinished c (Fire f ∷ v.moves) fired fired_run way.at.node.events outs
+                  v.top.matched matched fired_events agree lt)
                   (best_reached c P P' v.moves (Fire f) on_turn best best' all_listed.run made
                   (v.top.matched + length outs) (Fire f ∷ v.moves) (starts_one (Fire f) v.moves)
                   made_is reached (fired_yields (length outs) agree)
                   (fired_few (length outs) agree) all_listed.kept all_listed.knows.best)
                   (noted_on c P P' z on_turn (PassesLimit c) (passes_in_tree c)
-                  (trying_passes c v.moves (place_at c stack.now v.top) f way.at.node.is_run
+                  (trying_passes c v.moves stands f way.at.node.is_run
                   never_limit) (passed_at notes.passed))
                   (noted_on c P P' z on_turn (Faults c) (faults_in_tree c)
-                  (trying_faults c v.moves (place_at c stack.now v.top) f way.at.node.is_run
+                  (trying_faults c v.moves stands f way.at.node.is_run
                   never_fault) (faulted_at notes.faulted))
                   all_listed.noted
                   (trials_more c P P' (Fire f ∷ v.moves) on_turn tried trial);
@@ -466,7 +489,7 @@ module _ (c : Setup) (stack : Stack) (v : View) (tried : ℕ) (best : Best) (not
 
   none_goes_on : (n : Mark) (x : List Mark) → IsInTree c x → IsAfter way.dealt n
       → StartsWith x (n ∷ marks_of v.moves) → ⊥
-  none_goes_on n x tree a s = none_left c v.moves (place_at c stack.now v.top)
+  none_goes_on n x tree a s = none_left c v.moves (place_at stack.now v.top way.at.node.events)
       spent_listed.mark way.at.node.is_run spent_listed.past spent_listed.left n x tree
       (subst (λ d. IsAfter d n) spent_listed.dealt_is a) s
 

@@ -1,3 +1,4 @@
+pub mod AgreeForLaws
 pub mod AheadLaws
 pub mod CallLaws
 pub mod EventLaws

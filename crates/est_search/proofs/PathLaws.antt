@@ -1,13 +1,15 @@
 -- What is left to be tried, and the best run on a path.
 use Rattle.std.proofs.Common.{◌≡◌, ℕ, suc, ◌+◌, ◌<◌, ◌≤◌, ◌⊎◌, List, [], ◌∷◌, ◌++◌}
-use Rattle.std.proofs.Common.{Option, Some, None, length, take, drop, refl, sym, ap, subst, ◌∙◌}
+use Rattle.std.proofs.Common.{Option, Some, None, length, take, refl, sym, ap, subst, ◌∙◌}
 use Rattle.std.proofs.Common.{inl, inr, append_assoc, arith}
 use Rattle.std.proofs.lemmas.Bool.{cases_lt}
-use Rattle.std.proofs.lemmas.List.{take-append-drop, length-take-le, length-append}
+use Rattle.std.proofs.lemmas.List.{length-take-le, length-append}
 use Rattle.est_syntax.specs.Least.{IsIn}
 use Rattle.est_meaning.specs.mean_blocks.GlobalSituation.{Situation}
 use Rattle.est_meaning.specs.mean_blocks.TextByPlace.{text_of}
+use Rattle.est_meaning.specs.declared.event.Event.{Event}
 use Rattle.est_meaning.specs.declared.firing.Firing.{Firing}
+use Rattle.est_meaning.specs.Agreement.{AgreeAll}
 use Rattle.est_meaning.specs.TransitionSelection.{IsPossible}
 use Rattle.est_meaning.specs.FiringOrder.{FiringBefore, IsBeforeAll}
 use Rattle.est_meaning.specs.declared.run.Move.{Move}
@@ -16,6 +18,7 @@ use Rattle.est_meaning.specs.Order.{Mark, Taking, Guarding, Trying, MarkBefore, 
 use Rattle.est_meaning.specs.Order.{StartsWith}
 use Rattle.est_meaning.specs.Run.{Setup, Place, IsBoundedRun, YieldsFirst}
 use Rattle.est_meaning.specs.Trials.{IsInner}
+use Rattle.est_meaning.proofs.AgreementLaws.{agree_length, so_many_first}
 use Rattle.est_meaning.proofs.OrderLaws.{firing_irreflexive, mark_transitive, starts_self}
 use Rattle.est_meaning.proofs.OrderLaws.{starts_trans}
 use Rattle.est_meaning.proofs.RunLaws.{one_place}
@@ -33,18 +36,20 @@ use Rattle.est_search.proofs.KnownLaws.{best_on, best_more}
 
 -- INNER RUNS
 
-too_short : {X : Type 0} (m : ℕ) (xs : List X) → m < length xs → take m xs ≡ xs → ⊥
-too_short m xs lt e =
-    let n : length (take m xs) ≡ length xs = ap length e in
+too_short : (m : ℕ) (xs es : List Event) → m < length xs → AgreeAll (take m xs) es
+    → AgreeAll xs es → ⊥
+too_short m xs es lt a whole =
+    let n = agree_length (take m xs) es a in
     let k = length-take-le m xs (omega arith) in
+    let w = agree_length xs es whole in
     omega arith
 
-pub inner_at : (c : Setup) (h : List Move) (s : Situation) (l : Level) → IsNode c h s l
-    → IsInner c h (place_at c s l)
+pub inner_at : (c : Setup) (h : List Move) (s : Situation) (l : Level) (n : IsNode c h s l)
+    → IsInner c h (place_at s l n.events)
 inner_at c h s l n = record {
   is_run = n.is_run;
-  follows = (drop l.matched c.trace, sym (take-append-drop l.matched c.trace));
-  unfinished = λ e. too_short l.matched c.trace n.unfinished e;
+  follows = so_many_first l.matched c.trace n.events n.agree;
+  unfinished = λ w. too_short l.matched c.trace n.events n.unfinished n.agree w.events;
 }
 
 -- THE NEXT MARK

@@ -5,11 +5,13 @@ use Rattle.std.proofs.Common.{zero-le, arith}
 use Rattle.std.proofs.lemmas.List.{append-nil}
 use Rattle.est_syntax.specs.declared.specification.Spec.{Spec}
 use Rattle.est_meaning.specs.declared.event.Event.{Event}
+use Rattle.est_meaning.specs.Agreement.{AgreeAll}
 use Rattle.est_meaning.specs.SituationStacks.{Stack}
 use Rattle.est_meaning.specs.declared.run.Move.{Move}
 use Rattle.est_meaning.specs.declared.run.Move.TheVariants.{Take, Fire}
 use Rattle.est_meaning.specs.Order.{Mark, marks_of, Before, longer, differs, NotAfter}
-use Rattle.est_meaning.specs.Run.{Setup, Place, first_place, IsBoundedRun, Explains, YieldsFirst}
+use Rattle.est_meaning.specs.Run.{Setup, Place, first_place, IsBoundedRun, Follows, Explains}
+use Rattle.est_meaning.specs.Run.{YieldsFirst}
 use Rattle.est_meaning.specs.Trials.{IsTrial, PassesLimit, guards, block, Faults}
 use Rattle.est_meaning.proofs.OrderLaws.{starts_cases, marks_same}
 use Rattle.est_meaning.proofs.RunLaws.{explains_follows, yields_below_all}
@@ -22,7 +24,7 @@ use Rattle.est_search.specs.inside.Ahead.{IsAhead}
 use Rattle.est_search.specs.inside.Agreement.{AgreeFor}
 use Rattle.est_search.specs.inside.Path.{first_view, view_of, AreLower}
 use Rattle.est_search.specs.inside.Walk.{Accepts, IsStarting, IsReady, IsOnWay}
-use Rattle.est_search.proofs.EventLaws.{yields_so, yields_no_more, departs, events_are}
+use Rattle.est_search.proofs.EventLaws.{yields_so, yields_no_more, departs, agree_now}
 use Rattle.est_search.proofs.EventLaws.{is_unfinished, explains_so}
 
 -- each list goes on from the empty one, or is it
@@ -63,21 +65,20 @@ module _ (c : Setup) (k : ℕ) (a : AgreeFor c.trace 0 c.start_outs k) where
   at_start = refl
 
   most : (j : ℕ) → YieldsFirst c [] j → j ≤ k
-  most j y = (let le = yields_no_more c [] (first_place c) at_start c.start_outs 0 k refl a j y in
-      omega arith)
+  most j y = (let le = yields_no_more c [] (first_place c) at_start [] c.start_outs 0 k tt refl a j
+      y in omega arith)
 
   has : YieldsFirst c [] k
   has = (let e : 0 + k ≡ k = omega arith in subst (λ n. YieldsFirst c [] n) e
-      (yields_so c [] (first_place c) at_start c.start_outs 0 k refl a tt))
+      (yields_so c [] (first_place c) at_start [] c.start_outs 0 k tt refl a tt))
 
   -- THE EVENTS OF THE START DEPART FROM THE TRACE
 
   module _ (short : k < length c.start_outs) where
     off : IsOnTree c [] → ⊥
-    off = departs c [] (first_place c) at_start c.start_outs 0 k refl a short
+    off = departs c [] (first_place c) at_start [] c.start_outs 0 k tt refl a short
 
-    off_run : (r : List Move) (p : Place) → IsBoundedRun c r p
-        → (f : (rest : List Event) × (c.trace ≡ p.events ++ rest)) → ⊥
+    off_run : (r : List Move) (p : Place) → IsBoundedRun c r p → Follows c p → ⊥
     off_run r p is f = off (starts_on_tree c r [] p is f (r, sym (append-nil r)))
 
     no_trial : (x : List Move) → IsTrial c x → ⊥
@@ -135,7 +136,7 @@ module _ (c : Setup) (a : AgreeFor c.trace 0 c.start_outs (length c.start_outs))
   pub start_accepts : length c.start_outs ≡ length c.trace → Accepts c [] 0
   start_accepts e = record {
     first = record {
-      has = explains_so c [] (first_place c) whole_start c.start_outs 0 refl a (omega arith);
+      has = explains_so c [] (first_place c) whole_start [] c.start_outs 0 tt refl a (omega arith);
       least = λ r x. nil_first r;
     };
     tried_is = record {
@@ -150,23 +151,21 @@ module _ (c : Setup) (a : AgreeFor c.trace 0 c.start_outs (length c.start_outs))
   -- they are a part of it
   module _ (lt : length c.start_outs < length c.trace) where
     unfinished : Explains c [] → ⊥
-    unfinished = is_unfinished c [] (first_place c) whole_start c.start_outs 0 refl a (omega arith)
+    unfinished = is_unfinished c [] (first_place c) whole_start [] c.start_outs 0 tt refl a
+        (omega arith)
 
     start_place : IsBoundedRun c [] (record {
       situation = c.start;
-      events = take (length c.start_outs) c.trace;
+      events = c.start_outs;
       silent_in_row = 0;
     })
-    start_place =
+    start_place = refl
+
+    start_agrees : AgreeAll (take (length c.start_outs) c.trace) c.start_outs
+    start_agrees =
         let n : 0 + length c.start_outs ≡ length c.start_outs = omega arith in
-        let e : c.start_outs ≡ take (length c.start_outs) c.trace =
-        events_are c [] (first_place c) whole_start c.start_outs 0 refl a
-        ∙ ap (λ n. take n c.trace) n in
-        sym (ap (λ es. let w : Place = record {
-          situation = c.start;
-          events = es;
-          silent_in_row = 0;
-        } in w) e)
+        subst (λ k. AgreeAll (take k c.trace) c.start_outs) n
+        (agree_now c [] (first_place c) whole_start [] c.start_outs 0 tt refl a)
 
     start_on : (stack : Stack) (best : Best) → c.start ≡ stack.now → stack.below ≡ []
         → best.yields ≡ length c.start_outs → best.common ≡ 0 → best.tail.items ≡ []
@@ -180,11 +179,13 @@ module _ (c : Setup) (a : AgreeFor c.trace 0 c.start_outs (length c.start_outs))
         firings_are = refl;
         count = refl;
         node = record {
+          events = c.start_outs;
           is_run = subst (λ s. IsBoundedRun c [] (record {
             situation = s;
-            events = take (length c.start_outs) c.trace;
+            events = c.start_outs;
             silent_in_row = 0;
           })) now start_place;
+          agree = start_agrees;
           unfinished = lt;
         };
         stage = (refl, refl);

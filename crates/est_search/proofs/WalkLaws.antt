@@ -1,6 +1,6 @@
 -- What is known after a step of a search, and the steps that take an event or list the firings.
 use Rattle.std.proofs.Common.{◌≡◌, ℕ, ◌+◌, ◌<◌, ◌≤◌, List, [], ◌∷◌, ◌++◌, Option, Some, None}
-use Rattle.std.proofs.Common.{length, take, drop, get_or, refl, sym, ap, subst, ◌∙◌}
+use Rattle.std.proofs.Common.{length, take, get_or, refl, sym, ap, subst, ◌∙◌}
 use Rattle.std.proofs.Common.{reverse, zero-le, arith}
 use Rattle.std.specs.Option.{option_or}
 use Rattle.std.proofs.lemmas.List.{length-take-le}
@@ -10,6 +10,7 @@ use Rattle.est_meaning.specs.mean_blocks.GlobalSituation.{Situation}
 use Rattle.est_meaning.specs.mean_blocks.TextByPlace.{text_of}
 use Rattle.est_meaning.specs.declared.event.Event.{Event}
 use Rattle.est_meaning.specs.declared.firing.Firing.{Firing}
+use Rattle.est_meaning.specs.Agreement.{AgreeAll}
 use Rattle.est_meaning.specs.TransitionSelection.{IsSettled}
 use Rattle.est_meaning.specs.FiringSteps.{outcome}
 use Rattle.est_meaning.specs.OutsideEvents.{after_event}
@@ -22,8 +23,10 @@ use Rattle.est_meaning.specs.Order.{Mark, Taking, Guarding, Trying, marks_of}
 use Rattle.est_meaning.specs.Run.{Setup, Place, Takes, IsFromOutside, after_taking}
 use Rattle.est_meaning.specs.Run.{IsBoundedRun, Explains, YieldsFirst}
 use Rattle.est_meaning.specs.Trials.{IsTrial, ComesTo, PassesLimit, guards, block, Faults}
+use Rattle.est_meaning.proofs.AgreementLaws.{agree_length}
 use Rattle.est_meaning.proofs.OrderLaws.{marks_same, starts_one}
 use Rattle.est_meaning.proofs.RunLaws.{one_place}
+use Rattle.est_meaning.proofs.Takings.{takes_at}
 use Rattle.est_meaning.proofs.TreeLaws.{passes_in_tree, faults_in_tree}
 use Rattle.est_search.specs.declared.path.Stage.TheVariants.{Fresh, Taken}
 use Rattle.est_search.specs.declared.path.Level.{Level}
@@ -40,8 +43,9 @@ use Rattle.est_search.specs.inside.Walk.{KnowsAll, IsOnWay, Accepts}
 use Rattle.est_search.proofs.AheadLaws.{Turn, Skip, turn_on, turn_off, skip_mark}
 use Rattle.est_search.proofs.KnownLaws.{knows_skip, noted_on, noted_now, explaining_on, trials_on}
 use Rattle.est_search.proofs.KnownLaws.{best_on, accepts_untried}
-use Rattle.est_search.proofs.EventLaws.{next_event, agree_one, yields_so, yields_no_more}
-use Rattle.est_search.proofs.EventLaws.{events_are, is_unfinished, explains_so}
+use Rattle.est_search.proofs.AgreeForLaws.{agree_one}
+use Rattle.est_search.proofs.EventLaws.{yields_so, yields_no_more, agree_now, is_unfinished}
+use Rattle.est_search.proofs.EventLaws.{explains_so}
 use Rattle.est_search.proofs.PathLaws.{inner_at, taking_first, guarding_next, guarding_ends}
 use Rattle.est_search.proofs.PathLaws.{BestAfter, best_reached}
 
@@ -120,9 +124,11 @@ pub events_noted : (c : Setup) (h : List Move) (s : Situation) (l : Level) → I
     → EventsAre c (option_or o
     (Some (record { run = moves; events = many; firing = firing })))
 events_noted c h s l node None moves many firing same count before = record {
-  place = place_at c s l;
-  is_run = subst (λ r. IsBoundedRun c r (place_at c s l)) (sym same) node.is_run;
-  count = (let within = node.unfinished in length-take-le l.matched c.trace (omega arith)) ∙ sym count;
+  place = place_at s l node.events;
+  is_run = subst (λ r. IsBoundedRun c r (place_at s l node.events)) (sym same) node.is_run;
+  count = (let within = node.unfinished in
+      agree_length (take l.matched c.trace) node.events node.agree
+      ∙ length-take-le l.matched c.trace (omega arith)) ∙ sym count;
 }
 events_noted c h s l node (Some p) moves many firing same count before = before
 
@@ -160,10 +166,10 @@ module _ (c : Setup) (P P' : List Mark → Type 0) (h : List Move) (last : Move)
 
 module _ (c : Setup) (stack : Stack) (v : View) (tried : ℕ) (best : Best) (notes : Notes)
     (way : IsOnWay c stack v tried best notes) where
-  here : Place
-  here = place_at c stack.now v.top
+  abbrev pub here : Place
+  here = place_at stack.now v.top way.at.node.events
 
-  pub here_run : IsBoundedRun c v.moves (place_at c stack.now v.top)
+  pub here_run : IsBoundedRun c v.moves here
   here_run = way.at.node.is_run
 
   module _ (fresh : v.stage ≡ Fresh) where
@@ -175,7 +181,7 @@ module _ (c : Setup) (stack : Stack) (v : View) (tried : ℕ) (best : Best) (not
         way.all
 
     -- no event can be taken
-    pub skipped : ((q : Place) → Takes c (place_at c stack.now v.top) q → ⊥)
+    pub skipped : ((q : Place) → Takes c here q → ⊥)
         → IsOnWay c stack (with_taken v) tried best notes
     skipped never =
         let h = marks_of v.moves in
@@ -194,32 +200,29 @@ module _ (c : Setup) (stack : Stack) (v : View) (tried : ℕ) (best : Best) (not
               (skip_mark c h None Taking (taking_first c h) (λ x tree s.
               (let can = (tree Taking v.moves s).0 in
               never can.defined.0 (subst (λ w. Takes c w can.defined.0)
-              (one_place c v.moves can.place (place_at c stack.now v.top) can.is_run here_run)
+              (one_place c v.moves can.place here can.is_run here_run)
               can.defined.1)))) all_fresh;
         }
 
     module _ (e : Event) (is : get_or c.trace v.top.matched e ≡ e)
         (outside : IsFromOutside e) where
       there : Place
-      there = after_taking c (place_at c stack.now v.top) e
+      there = after_taking c here e
 
-      pub takes : Takes c (place_at c stack.now v.top)
-          (after_taking c (place_at c stack.now v.top) e)
-      takes = record {
-        event = e;
-        rest = drop (v.top.matched + 1) c.trace;
-        outside = outside;
-        next = next_event c.trace v.top.matched e way.at.node.unfinished is;
-        leads = refl;
-      }
+      pub takes : Takes c here
+          (after_taking c here e)
+      takes = takes_at c here v.top.matched e way.at.node.unfinished is way.at.node.agree outside
 
       taken_run : IsBoundedRun c (Take ∷ v.moves) there
       unfolding there
-      taken_run = (place_at c stack.now v.top, here_run, takes, zero-le)
+      taken_run = (here, here_run, takes, zero-le)
 
-      taken_events : there.events ≡ take v.top.matched c.trace ++ e ∷ []
+      taken_events : there.events ≡ way.at.node.events ++ e ∷ []
       unfolding there
       taken_events = refl
+
+      abbrev matched : AgreeAll (take v.top.matched c.trace) way.at.node.events
+      matched = way.at.node.agree
 
       one : AgreeFor c.trace v.top.matched (e ∷ []) 1
       one = agree_one c.trace v.top.matched e way.at.node.unfinished is
@@ -234,35 +237,36 @@ module _ (c : Setup) (stack : Stack) (v : View) (tried : ℕ) (best : Best) (not
       pub taken_found : v.top.matched + 1 ≡ length c.trace → Accepts c (Take ∷ v.moves) tried
       taken_found end = accepts_untried c (IsAhead (marks_of v.moves) None)
           (IsAhead (marks_of (Take ∷ v.moves)) None) (Take ∷ v.moves) taken_turn tried untried
-          (explains_so c (Take ∷ v.moves) there taken_run (e ∷ []) v.top.matched taken_events one
-          end) all_fresh.knows.explaining all_fresh.knows.trials
+          (explains_so c (Take ∷ v.moves) there taken_run way.at.node.events (e ∷ [])
+          v.top.matched matched taken_events one end) all_fresh.knows.explaining
+          all_fresh.knows.trials
 
       taken_yields : YieldsFirst c (Take ∷ v.moves) (v.top.matched + 1)
-      taken_yields = yields_so c (Take ∷ v.moves) there taken_run (e ∷ []) v.top.matched 1
-          taken_events one (
-            place_at c stack.now v.top,
+      taken_yields = yields_so c (Take ∷ v.moves) there taken_run way.at.node.events
+          (e ∷ []) v.top.matched 1 matched taken_events one (
+            here,
             here_run,
             (inner_at c v.moves stack.now v.top way.at.node).follows,
           )
 
       taken_few : (r : List Move) (j : ℕ) → marks_of r ≡ marks_of (Take ∷ v.moves)
           → YieldsFirst c r j → j ≤ v.top.matched + 1
-      taken_few r j same y = yields_no_more c (Take ∷ v.moves) there taken_run (e ∷ [])
-          v.top.matched 1 taken_events one j (subst (λ w. YieldsFirst c w j)
+      taken_few r j same y = yields_no_more c (Take ∷ v.moves) there taken_run way.at.node.events
+          (e ∷ []) v.top.matched 1 matched taken_events one j (subst (λ w. YieldsFirst c w j)
           (marks_same r (Take ∷ v.moves) same) y)
 
-      taken_next : IsBoundedRun c (Take ∷ v.moves) (record {
+      next_run : IsBoundedRun c (Take ∷ v.moves) (record {
         situation = after_event (text_of c.spec) stack.now e;
-        events = take (v.top.matched + 1) c.trace;
+        events = way.at.node.events ++ e ∷ [];
         silent_in_row = 0;
       })
       unfolding there
-      taken_next = subst (λ es. IsBoundedRun c (Take ∷ v.moves) (record {
-        situation = after_event (text_of c.spec) stack.now e;
-        events = es;
-        silent_in_row = 0;
-      })) (events_are c (Take ∷ v.moves) there taken_run (e ∷ []) v.top.matched taken_events one)
-          taken_run
+      next_run = taken_run
+
+      next_agree : AgreeAll (take (v.top.matched + 1) c.trace) (way.at.node.events ++ e ∷ [])
+      unfolding there
+      next_agree = agree_now c (Take ∷ v.moves) there taken_run way.at.node.events (e ∷ [])
+          v.top.matched matched taken_events one
 
       pub taken_on : (best' : Best) (made : ℕ) → made ≡ length v.moves
           → HasReached best best' made Take (v.top.matched + 1)
@@ -280,7 +284,12 @@ module _ (c : Setup) (stack : Stack) (v : View) (tried : ℕ) (best : Best) (not
               rest = v.firings;
               firings_are = refl;
               count = refl;
-              node = record { is_run = taken_next; unfinished = lt };
+              node = record {
+                events = way.at.node.events ++ e ∷ [];
+                is_run = next_run;
+                agree = next_agree;
+                unfinished = lt;
+              };
               stage = (refl, refl);
               lower = (
                 way.at.mine,
@@ -294,8 +303,8 @@ module _ (c : Setup) (stack : Stack) (v : View) (tried : ℕ) (best : Best) (not
             };
             all = all_after c P P' v.moves Take taken_turn tried best notes all_fresh
                 (Take ∷ v.moves) tried best' notes
-                (is_unfinished c (Take ∷ v.moves) there taken_run (e ∷ []) v.top.matched
-                taken_events one lt)
+                (is_unfinished c (Take ∷ v.moves) there taken_run way.at.node.events
+                (e ∷ []) v.top.matched matched taken_events one lt)
                 (best_reached c P P' v.moves Take taken_turn best best' all_fresh.run made
                 (v.top.matched + 1) (Take ∷ v.moves) (starts_one Take v.moves) made_is reached
                 taken_yields taken_few all_fresh.kept all_fresh.knows.best)
@@ -348,7 +357,12 @@ module _ (c : Setup) (stack : Stack) (v : View) (tried : ℕ) (best : Best) (not
           firings_are = ap (λ w. offers ++ w) (way.at.firings_are
               ∙ ap (λ w. w ++ way.at.rest) at_taken.1);
           count = refl;
-          node = record { is_run = way.at.node.is_run; unfinished = way.at.node.unfinished };
+          node = record {
+            events = way.at.node.events;
+            is_run = way.at.node.is_run;
+            agree = way.at.node.agree;
+            unfinished = way.at.node.unfinished;
+          };
           stage = (Guarding, refl, tt, left);
           lower = way.at.lower;
         };
@@ -383,7 +397,8 @@ module _ (c : Setup) (stack : Stack) (v : View) (tried : ℕ) (best : Best) (not
       }) (noted_on c (IsAhead (marks_of v.moves) (Some Taking))
       (IsAhead (marks_of v.moves) (Some Guarding)) (Guarding ∷ marks_of v.moves) guarded_turn
       (PassesLimit c) (passes_in_tree c)
-      (guarding_passes c v.moves (place_at c stack.now v.top) way.at.node.is_run settled)
+      (guarding_passes c v.moves (place_at stack.now v.top way.at.node.events) way.at.node.is_run
+      settled)
       (passed_at notes.passed) all_taken.knows.passes) refl all_taken.noted.1
 
   -- the guards are noted, where nothing was
@@ -416,7 +431,7 @@ module _ (c : Setup) (stack : Stack) (v : View) (tried : ℕ) (best : Best) (not
       (IsAhead (marks_of v.moves) (Some Guarding)) (Guarding ∷ marks_of v.moves) guarded_turn
       (PassesLimit c) (passes_in_tree c)
       (guards v.moves refl (record {
-        place = place_at c stack.now v.top;
+        place = place_at stack.now v.top way.at.node.events;
         inner = inner_at c v.moves stack.now v.top way.at.node;
         unsettled = unsettled;
       })) (passed_at notes.passed) all_taken.knows.passes)) refl

@@ -12,7 +12,10 @@ pub fn agreed(trace: &[Event], from: usize, events: &[Event]) -> usize
 {
     let mut many = 0;
     for event in events {
-        if many >= trace.len() - from || !event.is(&trace[from + many]) {
+        if from + many >= trace.len() {
+            return many;
+        }
+        if !event.is(&trace[from + many]) {
             return many;
         }
         many += 1;

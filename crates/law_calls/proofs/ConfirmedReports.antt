@@ -3,16 +3,17 @@
 use Rattle.std.proofs.Common.{◌≡◌, ◌≤◌, ◌+◌, ◌-◌, ◌∙◌, inl, inr, ℕ, zero, suc}
 use Rattle.std.proofs.Common.{true, false, List, [], ◌∷◌, ◌++◌, length, reverse, Option, Some}
 use Rattle.std.proofs.Common.{arith, refl, sym, subst, ap, cond, nat_le, take, append_assoc}
-use Rattle.std.proofs.Common.{length-append}
 use Rattle.std.proofs.lemmas.Bool.Decides.{nat_tests}
-use Rattle.std.proofs.lemmas.List.{take_at, take_all}
+use Rattle.std.proofs.lemmas.List.{take_all}
 use Rattle.est_lexer.specs.declared.kind.Token.{Token}
 use Rattle.est_meaning.specs.declared.firing.Firing.{Firing}
 use Rattle.est_meaning.specs.declared.run.Move.{Move}
+use Rattle.est_meaning.specs.Agreement.{AgreeAll}
 use Rattle.est_meaning.specs.Order.{marks_of}
 use Rattle.est_meaning.specs.Run.{Setup, Place, first_place, IsBoundedRun, Follows, FollowsBefore}
 use Rattle.est_meaning.specs.Run.{Explains, Yields}
 use Rattle.est_meaning.specs.Trials.{IsInner, PassesLimit, guards, block, mark_passed}
+use Rattle.est_meaning.proofs.AgreementLaws.{first_taken}
 use Rattle.est_meaning.proofs.OrderLaws.{marks_same}
 use Rattle.est_meaning.proofs.RunLaws.{one_place, run_prefix, follows_grows}
 use Rattle.est_search.specs.declared.verdict.Faulted.{Faulted}
@@ -109,7 +110,7 @@ yields_none c = inl record {
   before = tt;
   many = omega arith;
   within = omega arith;
-  agree = refl;
+  agree = tt;
 }
 
 -- the run without its last move follows the trace where the run does
@@ -120,26 +121,20 @@ follows_before c (m ∷ earlier) p r follows =
     let a = run_prefix c (m ∷ []) earlier p r in
     (a.place, a.is_run, follows_grows c a.place p a.grows follows)
 
--- the first of a list that is longer
-first_taken : {X : Type 0} (xs ys whole : List X) → whole ≡ xs ++ ys
-    → take (length xs) whole ≡ take (length xs) xs
-first_taken xs ys whole e = ap (take (length xs)) e ∙ take_at xs ys (length xs) refl
-    ∙ sym (take_all (length xs) xs (omega arith))
-
-front_short : {X : Type 0} (xs ys whole : List X) → whole ≡ xs ++ ys → length xs ≤ length whole
-front_short xs ys whole e = let l = ap length e in omega (arith, l, length-append xs ys)
-
 -- a bounded run that follows the trace yields all its events
 inner_yields : (c : Setup) (run : List Move) (p : Place) → IsInner c run p
     → Yields c run (length p.events)
-inner_yields c run p inner = inl record {
-  place = p;
-  is_run = inner.is_run;
-  before = follows_before c run p inner.is_run inner.follows;
-  many = omega arith;
-  within = front_short p.events inner.follows.0 c.trace inner.follows.1;
-  agree = sym (first_taken p.events inner.follows.0 c.trace inner.follows.1);
-}
+inner_yields c run p inner =
+    let first = first_taken c.trace p.events inner.follows in
+    inl record {
+      place = p;
+      is_run = inner.is_run;
+      before = follows_before c run p inner.is_run inner.follows;
+      many = omega arith;
+      within = first.0;
+      agree = subst (λ es. AgreeAll (take (length p.events) c.trace) es)
+          (sym (take_all (length p.events) p.events (omega arith))) first.1;
+    }
 
 -- MARKS
 

@@ -1,6 +1,6 @@
 -- The numbers of verdicts are those that an explanation may have.
 use Rattle.std.proofs.Common.{◌≡◌, sym, ap, subst, ◌∙◌, ℕ, zero, suc, ◌+◌, ◌-◌, ◌≤◌, ◌<◌, ◌^◌}
-use Rattle.std.proofs.Common.{List, [], ◌∷◌, ◌++◌, length, length-append, reverse, get_or, Option}
+use Rattle.std.proofs.Common.{List, [], ◌∷◌, length, reverse, get_or, Option}
 use Rattle.std.proofs.Common.{Some, None, inl, inr, arith}
 use Rattle.std.specs.Prelude.{IfSome}
 use Rattle.std.specs.List.{All}
@@ -14,6 +14,7 @@ use Rattle.est_meaning.specs.declared.run.Move.{Move}
 use Rattle.est_meaning.specs.Order.{marks_of}
 use Rattle.est_meaning.specs.Run.{Setup, Place, IsBegun, IsBoundedRun, Yields}
 use Rattle.est_meaning.specs.Trials.{IsInner, ComesTo, PassesLimit, guards, block, mark_passed}
+use Rattle.est_meaning.proofs.AgreementLaws.{first_taken}
 use Rattle.est_meaning.proofs.OrderLaws.{marks_same}
 use Rattle.est_meaning.proofs.RunLaws.{bounded_is_run, one_place, yields_below_all}
 use Rattle.est_explanation.specs.CanonicalExplanation.{IsWritableFiring}
@@ -34,10 +35,6 @@ reversed_all P xs h k d l =
     subst P (sym (get_or-reverse (reverse xs) k d m)
     ∙ ap (λ ys. get_or ys k d) (reverse-reverse xs))
     (h (length (reverse xs) - 1 - k) d (omega (arith, m)))
-
--- a list is no shorter than its front
-front_short : {X : Type 0} (xs ys whole : List X) → whole ≡ xs ++ ys → length xs ≤ length whole
-front_short xs ys whole e = let l = ap length e in omega (arith, l, length-append xs ys)
 
 module _ (c : Setup) (short : IsShort c.spec) (begun : IsBegun c)
     (few : length c.trace ≤ most_events) where
@@ -113,7 +110,7 @@ module _ (c : Setup) (short : IsShort c.spec) (begun : IsBegun c)
       h.reached.is_run i.1.is_run in
       let n = ap (λ (p : Place). length p.events) same in
       let m = h.reached.count in
-      let l = front_short i.0.events i.1.follows.0 c.trace i.1.follows.1 in (
+      let l = (first_taken c.trace i.0.events i.1.follows).0 in (
         below,
         record {
           moves = moves run h.reached.place h.reached.is_run;

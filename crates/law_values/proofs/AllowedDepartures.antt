@@ -15,6 +15,7 @@ use Rattle.mean_blocks.specs.declared.fault.BlockFault.TheVariants.{Range}
 use Rattle.mean_blocks.specs.TakenValues.{is_within, are_within, taken}
 use Rattle.mean_blocks.proofs.FittingTaken.{taken_fit}
 use Rattle.est_meaning.specs.AllowedEvents.{IsSendable}
+use Rattle.est_meaning.proofs.AgreementLaws.{agree_same}
 use Rattle.est_meaning.proofs.RunLaws.{bounded_is_run}
 use Rattle.law_values.specs.SentInteractions.{Takes, LeavesAsSent}
 use Rattle.law_values.specs.DepartureLaws.{MayBeGiven, WhatIsTakenFits}
@@ -103,5 +104,6 @@ given_departures_are_allowed spec i sent h =
 
 pub explained_traces_send : ExplainedTracesSend
 explained_traces_send c run sound begun e =
-    subst (AllByRecursion (LeavesAsSent c.spec)) e.whole
+    subst (AllByRecursion (LeavesAsSent c.spec))
+    (agree_same c.trace e.place.events e.whole.events)
     (runs_send c run e.place sound begun (bounded_is_run c run e.place e.is_run)).departures

@@ -48,6 +48,7 @@ use Rattle.est_meaning.proofs.Options.{then_some, map_some, by_option}
 use Rattle.est_meaning.proofs.Outside.{ports_go_both_ways}
 use Rattle.est_meaning.specs.declared.run.Move.TheVariants.{Take, Fire}
 use Rattle.est_meaning.specs.Run.{Place, IsFromOutside}
+use Rattle.est_meaning.proofs.AgreementLaws.{agree_same}
 use Rattle.est_meaning.proofs.RunLaws.{bounded_is_run}
 use Rattle.law_runs.specs.UpkeepLaws.{OnDone}
 use Rattle.law_runs.proofs.GivenThings.{Gives}
@@ -377,7 +378,7 @@ runs_fit c [] p typed begun came r =
     (starts_fit c.limit c.spec c.start c.start_outs typed begun)
 runs_fit c (Take ∷ run) p typed begun came r = let x = r.2 in
     let h = runs_fit c run r.0 typed begun came r.1 in
-    let k = in_whole (MayCome c.spec) r.0.events x.event x.rest
+    let k = in_whole (MayCome c.spec) x.front x.event x.rest
     (subst (AllByRecursion (MayCome c.spec)) x.next came) in
     let sent = runs_send c (Take ∷ run) p (sound c.spec typed) begun r in
     subst (λ (w : Place). FitsSoFar c.spec w.situation w.events) (sym x.leads) record {
@@ -399,5 +400,5 @@ runs_fit c (Fire f ∷ run) p typed begun came r = let x = r.2 in
 
 pub explained_traces_are_allowed : ExplainedTracesAreAllowed
 explained_traces_are_allowed c run typed begun came e =
-    subst (AllByRecursion (IsAllowed c.spec)) e.whole
+    subst (AllByRecursion (IsAllowed c.spec)) (agree_same c.trace e.place.events e.whole.events)
     (runs_fit c run e.place typed begun came (bounded_is_run c run e.place e.is_run)).allowed

@@ -10,14 +10,16 @@ use Rattle.est_meaning.specs.mean_blocks.Outcome.{Done}
 use Rattle.est_meaning.specs.mean_blocks.TextByPlace.{text_of}
 use Rattle.est_meaning.specs.declared.event.Event.{Event}
 use Rattle.est_meaning.specs.rule_declares.PortList.{ports_of}
+use Rattle.est_meaning.specs.Agreement.{AgreeAll}
 use Rattle.est_meaning.specs.FiringSteps.{start_of}
 use Rattle.est_meaning.specs.OutsideEvents.{after_event, units_of}
+use Rattle.est_meaning.proofs.AgreementLaws.{agree_self}
 use Rattle.est_meaning.proofs.Outside.{events_are_outside}
 use Rattle.est_meaning.proofs.Steps.{firings_are_orderly}
 use Rattle.est_meaning.specs.declared.run.Move.{Move}
 use Rattle.est_meaning.specs.Run.{Setup, Place, IsBoundedRun, IsFromOutside, silent_after}
 use Rattle.run_make.specs.Recipe.{Task, Standing, Draws, DrawsOutside, Leads, Makes}
-use Rattle.run_make.specs.Recipe.{first_standing, IsMadeTrace, setup_along, IsExplained}
+use Rattle.run_make.specs.Recipe.{first_standing, setup_along}
 use Rattle.run_make.specs.Recipe.{MadeTracesAreExplained}
 use Rattle.run_make.specs.Recipe as recipe
 
@@ -113,8 +115,10 @@ reaches_on t p q (recipe.happens w next left e drawn held draws) r = record {
           before.is_run,
           record {
             event = e;
+            front = p.events;
             rest = rest;
             outside = from_outside (ports_of t.spec) next left e draws;
+            agree = agree_self p.events;
             next = on;
             leads = refl;
           },
@@ -156,7 +160,10 @@ made_explained t seed count trace run made =
         place = place;
         is_run = subst (λ (moves : List Move). IsBoundedRun c moves place) (sym made.run_is)
             to.is_run;
-        whole = sym made.trace_is;
+        whole = record {
+          events = subst (λ es. AgreeAll es made.last.events) (sym made.trace_is)
+              (agree_self made.last.events);
+        };
       };
     }
 

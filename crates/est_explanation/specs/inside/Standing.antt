@@ -1,14 +1,14 @@
 -- Where a replay stands on its way, and what its moves answer.
-use Rattle.std.specs.Prelude.{◌≡◌, ℕ, ◌+◌, ◌<◌, ◌≤◌, ◌⊎◌, List, []}
-use Rattle.std.specs.Prelude.{◌∷◌, ◌++◌, length, take, drop, reverse}
+use Rattle.std.specs.Prelude.{◌≡◌, ℕ, ◌+◌, ◌-◌, ◌<◌, ◌≤◌, ◌⊎◌, List, []}
+use Rattle.std.specs.Prelude.{◌∷◌, length, take, drop, reverse}
 use Rattle.est_syntax.specs.declared.specification.Spec.{Spec}
 use Rattle.est_meaning.specs.mean_blocks.GlobalSituation.{Situation}
 use Rattle.est_meaning.specs.declared.event.Event.{Event}
+use Rattle.est_meaning.specs.Agreement.{AgreeAll, AgreeFirst}
 use Rattle.est_meaning.specs.SituationStacks.{Stack}
 use Rattle.est_meaning.specs.declared.run.Move.{Move}
 use Rattle.est_meaning.specs.Task.{Suits}
-use Rattle.est_meaning.specs.Run.{AgreeFirst, Setup, Place}
-use Rattle.est_meaning.specs.Run.{Moves, IsBoundedRun, silent_after}
+use Rattle.est_meaning.specs.Run.{Setup, Place, Moves, IsBoundedRun, silent_after}
 use Rattle.est_explanation.specs.declared.verdict.Why.TheVariants as why
 use Rattle.est_explanation.specs.declared.verdict.Replayed.{Replayed}
 use Rattle.est_explanation.specs.declared.verdict.Replayed.TheVariants.{Confirmed, Rejected}
@@ -17,17 +17,18 @@ use Rattle.est_explanation.specs.declared.replay.Moved.{Moved}
 use Rattle.est_explanation.specs.declared.replay.Moved.TheVariants.{Passed, Failed}
 use Rattle.est_explanation.specs.Replay.{MoveFails, IsPassed}
 
--- the place where the events so far are the first of the trace
+-- the place where these are the events so far
 abbrev pub place_of : Stack → List Event → Standing → Place
-place_of stack trace at = record
-    { situation = stack.now; events = take at.events trace; silent_in_row = at.silent_in_row }
+place_of stack events at =
+    record { situation = stack.now; events = events; silent_in_row = at.silent_in_row }
 
--- a bounded run leads there
+-- a bounded run leads there, whose events agree with so many of the trace
 pub record IsReady (c : Setup) (spec : Spec) (limit silent : ℕ) (trace : List Event) (stack : Stack)
-    (at : Standing) : Type 0 where
+    (at : Standing) (events : List Event) : Type 0 where
   pub suits : Suits c spec limit silent trace
   pub run : List Move
-  pub is_run : IsBoundedRun c run (place_of stack trace at)
+  pub is_run : IsBoundedRun c run (place_of stack events at)
+  pub agree : AgreeAll (take at.events trace) events
 
 -- the replay stands at this place
 pub record StandsAt (s : Situation) (at : Standing) (p : Place) : Type 0 where
@@ -54,13 +55,13 @@ HasMoved c asked p m s (Failed w) = MoveFails c (AgreesUpTo c asked) p m w
 -- what comes of the events of a firing
 abbrev pub HasLanded : List Event → ℕ → ℕ → Standing → List Event → Moved → Type 0
 HasLanded trace silent asked at outs (Passed next) =
-    AgreeFirst trace (take asked (take at.events trace ++ outs))
+    AgreeFirst (drop at.events trace) (take (asked - at.events) outs)
     × (next.events ≡ at.events + length outs)
     × (next.silent_in_row ≡ silent_after at.silent_in_row outs) × (next.silent_in_row ≤ silent)
 HasLanded trace silent asked at outs (Failed why.WrongOutput) =
-    AgreeFirst trace (take asked (take at.events trace ++ outs)) → ⊥
+    AgreeFirst (drop at.events trace) (take (asked - at.events) outs) → ⊥
 HasLanded trace silent asked at outs (Failed why.TooSilent) =
-    AgreeFirst trace (take asked (take at.events trace ++ outs))
+    AgreeFirst (drop at.events trace) (take (asked - at.events) outs)
     × (silent < silent_after at.silent_in_row outs)
 HasLanded trace silent asked at outs (Failed (why.NoStart fault)) = ⊥
 HasLanded trace silent asked at outs (Failed why.Limit) = ⊥

@@ -4,7 +4,9 @@ use Rattle.std.specs.Prelude.{Option, Some, None, length, take, reverse}
 use Rattle.est_syntax.specs.Least.{IsIn}
 use Rattle.est_meaning.specs.mean_blocks.GlobalSituation.{Situation}
 use Rattle.est_meaning.specs.mean_blocks.TextByPlace.{text_of}
+use Rattle.est_meaning.specs.declared.event.Event.{Event}
 use Rattle.est_meaning.specs.declared.firing.Firing.{Firing}
+use Rattle.est_meaning.specs.Agreement.{AgreeAll}
 use Rattle.est_meaning.specs.TransitionSelection.{IsPossible}
 use Rattle.est_meaning.specs.FiringOrder.{IsAscending}
 use Rattle.est_meaning.specs.SituationStacks.{Stack}
@@ -91,14 +93,15 @@ pub record IsUndone (v : View) (made : Move) (w : View) : Type 0 where
 
 -- WHERE IT STANDS
 
--- where a run stands that has so many events of the trace
-abbrev pub place_at : Setup → Situation → Level → Place
-place_at c s l =
-    record { situation = s; events = take l.matched c.trace; silent_in_row = l.silent }
+-- where a run stands that has these events
+abbrev pub place_at : Situation → Level → List Event → Place
+place_at s l events = record { situation = s; events = events; silent_in_row = l.silent }
 
--- the run has a part of the trace
+-- the run has events that agree with so many of the trace, and not with all of it
 pub record IsNode (c : Setup) (h : List Move) (s : Situation) (l : Level) : Type 0 where
-  pub is_run : IsBoundedRun c h (place_at c s l)
+  pub events : List Event
+  pub is_run : IsBoundedRun c h (place_at s l events)
+  pub agree : AgreeAll (take l.matched c.trace) events
   pub unfinished : l.matched < length c.trace
 
 -- these are the possible firings after a mark, in order

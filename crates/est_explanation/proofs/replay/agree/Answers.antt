@@ -1,8 +1,7 @@
 use Rattle.std.proofs.Common.{◌≡◌, ◌∙◌, ◌-◌, sym, ap, subst, length, take, drop, min}
 use Rattle.std.proofs.Math.Nat.{min_comm}
 use Rattle.std.proofs.lemmas.List.{take_rest, take_min}
-use Rattle.est_meaning.specs.Run.{AgreeFirst}
-use Rattle.est_explanation.proofs.Events.{agrees_on, agrees_back}
+use Rattle.est_meaning.specs.Agreement.{AgreeFirst}
 use Rattle.est_explanation.proofs.replay.agree.Goals as goal
 
 pub returns : goal.returns
@@ -15,10 +14,9 @@ returns c =
     let few : take c.min-compared.result outs ≡ take (asked - so) outs =
     ap (λ n. take n outs) (c.min-compared.ensures ∙ min_comm (length outs) c.saturating_sub.result
     ∙ ap (λ n. min n (length outs)) c.saturating_sub.ensures) ∙ take_min (asked - so) outs in (
-      λ r. agrees_on trace outs so asked c.requires (subst (λ w. AgreeFirst (drop so trace) w) few
+      λ r. subst (λ w. AgreeFirst (drop so trace) w) few
           (subst (λ w. AgreeFirst w (take c.min-compared.result outs)) rest
-          (c.begins_with.ensures.0 r))),
+          (c.begins_with.ensures.0 r)),
       λ p. c.begins_with.ensures.1 (subst (λ w. AgreeFirst w (take c.min-compared.result outs))
-          (sym rest) (subst (λ w. AgreeFirst (drop so trace) w) (sym few)
-          (agrees_back trace outs so asked c.requires p))),
+          (sym rest) (subst (λ w. AgreeFirst (drop so trace) w) (sym few) p)),
     )

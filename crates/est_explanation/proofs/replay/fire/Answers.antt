@@ -5,7 +5,7 @@ use Rattle.est_explanation.proofs.Moving.{fired_lands}
 use Rattle.est_explanation.proofs.replay.fire.Goals as goal
 
 pub returns-in-Done-clause-moved : goal.returns-in-Done-clause-moved
-returns-in-Done-clause-moved g c spec speaks =
+returns-in-Done-clause-moved g c spec speaks events ready =
     let w = g.W.World in
     let offers = rw c.in-Settled.is at (c.in_ok-options.ensures.offers spec speaks) in
     let answer = rw c.in-Done.is at (c.in_ok-fire.ensures.answer spec
@@ -18,8 +18,7 @@ returns-in-Done-clause-moved g c spec speaks =
     c.args.expected.now.asked c.args.at es c.land.result) c.deref-in-Done.ensures.value
     c.land.ensures in
     fired_lands (g.setup spec) spec (w.limit c.args.world.now) c.args.expected.now.silent
-    c.args.expected.now.trace.now (w.stack c.args.world.now spec) c.args.at
-    (c.requires.1.1.1 spec speaks)
+    c.args.expected.now.trace.now (w.stack c.args.world.now spec) c.args.at events ready
     c.args.expected.now.asked c.args.firing.now c.options.new.into.items
     (w.limit c.options.new.self) (w.stack c.options.new.self spec)
     (w.stack c.fire.new.self spec) c.fire.new.outs.items

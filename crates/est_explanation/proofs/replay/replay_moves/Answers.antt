@@ -24,10 +24,13 @@ make-requires g c κs within =
         (
           (let fired = c.loop-index.invariant.fired in let room = c.requires.1.0 in let few =
               c.requires.1.1.0 in omega arith),
-          λ spec speaks. ready_call (g.setup spec) c.args.replaying.now.claim moves
-              c.loop-index.index c.loop-index.at spec (w.limit world) c.args.replaying.now.silent
-              c.args.replaying.now.trace.now (w.stack world spec) (i spec speaks).0
-              (i spec speaks).1 c.loop-index-test.true,
+          λ spec speaks. (
+            (i spec speaks).1.0.events,
+            ready_call (g.setup spec) c.args.replaying.now.claim moves c.loop-index.index
+                c.loop-index.at spec (w.limit world) c.args.replaying.now.silent
+                c.args.replaying.now.trace.now (w.stack world spec) (i spec speaks).0
+                (i spec speaks).1 c.loop-index-test.true,
+          ),
         ),
       ),
     )
@@ -38,11 +41,15 @@ returns-in-Failed-clause-answer g c spec speaks =
     let world = c.loop-index.world in
     let here = c.loop-index.invariant.keeps.forward spec speaks in
     let i = c.loop-index.invariant.standing spec here in
+    let ready = ready_call (g.setup spec) c.args.replaying.now.claim c.args.replaying.now.moves.now
+    c.loop-index.index c.loop-index.at spec (w.limit world) c.args.replaying.now.silent
+    c.args.replaying.now.trace.now (w.stack world spec) i.0 i.1 c.loop-index-test.true in
     rejects_call (g.setup spec) c.args.replaying.now.claim c.args.replaying.now.moves.now
     c.loop-index.index c.loop-index.at spec (w.limit world) c.args.replaying.now.silent
     c.args.replaying.now.trace.now (w.stack world spec) i.0 i.1 c.loop-index-test.true
     c.asked-compared.result c.asked-compared.ensures (w.stack c.make.new.world spec).now
-    c.in-Failed.why (rw c.in-Failed.is at (c.in_ok-next.ensures.moved spec here))
+    c.in-Failed.why
+    (rw c.in-Failed.is at (c.in_ok-next.ensures.moved spec here i.1.0.events ready))
 
 pub loop-index-preserved : goal.loop-index-preserved
 loop-index-preserved g c =
@@ -60,6 +67,10 @@ loop-index-preserved g c =
           (let there = forgot.backward spec speaks in
           let here = made.backward spec there in
           let i = c.loop-index.invariant.standing spec here in
+          let ready = ready_call (g.setup spec) c.args.replaying.now.claim
+          c.args.replaying.now.moves.now c.loop-index.index c.loop-index.at spec (w.limit world)
+          c.args.replaying.now.silent c.args.replaying.now.trace.now (w.stack world spec) i.0 i.1
+          c.loop-index-test.true in
           let limit : w.limit world ≡ w.limit c.forget.new.self = sym (forgot.limit_is
           ∙ made.limit_is) in
           let now : (w.stack c.make.new.world spec).now ≡ (w.stack c.forget.new.self spec).now =
@@ -73,7 +84,8 @@ loop-index-preserved g c =
                 (w.limit world) c.args.replaying.now.silent c.args.replaying.now.trace.now
                 (w.stack world spec) i.0 i.1 c.loop-index-test.true
                 c.asked-compared.result c.asked-compared.ensures (w.stack c.make.new.world spec).now
-                c.in-Passed.next (rw c.in-Passed.is at (c.in_ok-next.ensures.moved spec here))),
+                c.in-Passed.next (rw c.in-Passed.is at (c.in_ok-next.ensures.moved spec here
+                i.1.0.events ready))),
           ));
     }
 

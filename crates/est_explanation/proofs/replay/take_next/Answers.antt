@@ -13,12 +13,12 @@ pass-requires g c spec speaks =
     let stack = g.W.World.stack c.args.world.now spec in
     subst (λ n. stack.now.clock + n ≤ 10 ^ 15) (sym c.from.ensures)
     (time_fits (g.setup spec) spec (g.W.World.limit c.args.world.now) c.args.expected.now.silent
-    c.args.expected.now.trace.now stack c.args.at (c.requires.1.1 spec speaks)
-    c.index-trace-at.result c.in-Passes.units c.if-at-trace.false (sym c.index-trace-at.is)
-    c.in-Passes.is)
+    c.args.expected.now.trace.now stack c.args.at (c.requires.1.1 spec speaks).0
+    (c.requires.1.1 spec speaks).1 c.index-trace-at.result c.in-Passes.units
+    c.if-at-trace.false (sym c.index-trace-at.is) c.in-Passes.is)
 
 pub returns-clause-moved : goal.returns-clause-moved
-returns-clause-moved g c spec speaks =
+returns-clause-moved g c spec speaks events ready =
     let stack = g.W.World.stack c.args.world.now spec in
     let e = c.index-trace-at.result in
     elim c.match-event.branch [
@@ -34,8 +34,7 @@ returns-clause-moved g c spec speaks =
           let now : (g.W.World.stack c.match-event.world spec).now ≡ there = same ∙ arrived in
           let after : there ≡ (g.W.World.stack c.match-event.world spec).now = sym now in
           next_taken (g.setup spec) spec (g.W.World.limit c.args.world.now)
-          c.args.expected.now.silent c.args.expected.now.trace.now stack c.args.at
-          (c.requires.1.1 spec speaks)
+          c.args.expected.now.silent c.args.expected.now.trace.now stack c.args.at events ready
           c.args.expected.now.asked e (g.W.World.stack c.match-event.world spec).now
           c.if-at-trace.false (sym c.index-trace-at.is) outside after)
       | in-Passes+in_ok-pass-in-Passes w ↦
@@ -55,8 +54,7 @@ returns-clause-moved g c spec speaks =
           let after : after_event (text_of spec) stack.now e
           ≡ (g.W.World.stack c.match-event.world spec).now = here ∙ sym now in
           next_taken (g.setup spec) spec (g.W.World.limit c.args.world.now)
-          c.args.expected.now.silent c.args.expected.now.trace.now stack c.args.at
-          (c.requires.1.1 spec speaks)
+          c.args.expected.now.silent c.args.expected.now.trace.now stack c.args.at events ready
           c.args.expected.now.asked e (g.W.World.stack c.match-event.world spec).now
           c.if-at-trace.false (sym c.index-trace-at.is) outside after)
     ]
