@@ -11,4 +11,6 @@ pub mod names;
 pub mod texts;
 pub mod value;
 
+pub use est_syntax;
+pub use est_syntax::est_items;
 pub use rule_scope;
