@@ -85,10 +85,10 @@ def written(folder, name, *what):
     return path, path.stat().st_size
 
 
-def checks(folder, kind):
+def checks(folder, kind, command="check"):
     def made(size):
         path, length = written(folder, "large.est", kind, size, SEED)
-        return [PROGRAM, "check", path], length
+        return [PROGRAM, command, path], length
 
     return made
 
@@ -167,14 +167,21 @@ def searches_in_vain(folder):
     return made
 
 
+def share(what, ours, others):
+    told = ", ".join(f"{one / other:.3f}" for one, other in zip(ours, others))
+    print(f"| {what} | | | {told} | | |", flush=True)
+
+
 def shares(folder):
-    """Rows of whole texts and of Pascal programs of the same content, and the share of their times."""
+    """Rows of whole texts, checked and printed, and of Pascal programs of the same content, and the shares of their
+    times."""
     ours = rows("check of whole texts, as a user would write them", SIZES, "bytes", checks(folder, "whole"), GOOD, folder)
+    prints = rows("`print` of the same", SIZES, "bytes", checks(folder, "whole", "print"), GOOD, folder)
+    share("print over check", prints, ours)
     if not shutil.which("fpc"):
         return
     others = rows("`fpc -Cn` of the same in Pascal", SIZES, "bytes", compiles(folder, "whole_pascal"), 0, folder)
-    told = ", ".join(f"{one / other:.3f}" for one, other in zip(ours, others))
-    print(f"| check over fpc | | | {told} | | |", flush=True)
+    share("check over fpc", ours, others)
 
 
 def table(folder, what, names, kind, *statuses):

@@ -3,11 +3,11 @@
 
     python3 docs/trusted.py [NAME..]
 
-Definitions of these names are not followed: without `ReplayEnds`, `ExplainEnds`, `HoldsTrace` and `SelfRunEnds` what is left is
-read to trust `check` alone. The lines are those of each definition that the contracts of `run` and of `Status::code` reach,
-without comments, blank lines and imports. Types of `src` are followed, and not counted. A variable with the name of a
-definition counts as that definition, so the true number is a little smaller. As a module it reads definitions for
-`docs/generate`.
+Definitions of these names are not followed: without `ReplayEnds`, `ExplainEnds`, `HoldsTrace`, `SelfRunEnds` and
+`IsPrintedText` what is left is read to trust `check` alone. The lines are those of each definition that the contracts of `run`
+and of `Status::code` reach, without comments, blank lines and imports. Types of `src` are followed, and not counted. A variable
+with the name of a definition counts as that definition, so the true number is a little smaller. As a module it reads
+definitions for `docs/generate`.
 """
 
 import collections

@@ -8,15 +8,16 @@ use Rattle.std.proofs.lemmas.List.{nil_from_length, take_all}
 use Rattle.std.specs.Global.{Global}
 use Rattle.est_meaning.specs.declared.run.Limits.{Limits}
 use Rattle.call_files.specs.declared.words.Command.{Command}
-use Rattle.call_files.specs.declared.words.Command.TheVariants.{Check, Explain, Replay, SelfRun}
-use Rattle.call_files.specs.Requests.{Request, Asks, AreLimits, AreSearchLimits, AreRecipe}
-use Rattle.call_files.specs.Requests.{AsksNothing, AsksToCheck, AsksToExplain, AsksToReplay}
-use Rattle.call_files.specs.Requests.{AsksToSelfRun, IsCommand, bytes_of}
-use Rattle.call_files.specs.Requests.{to_check, to_explain, to_replay, to_self_run}
+use Rattle.call_files.specs.declared.words.Command.TheVariants.{Check, Print, Explain, Replay}
+use Rattle.call_files.specs.declared.words.Command.TheVariants.{SelfRun}
+use Rattle.call_files.specs.Requests.{Request, check, print, Asks, AreLimits, AreSearchLimits}
+use Rattle.call_files.specs.Requests.{AreRecipe, AsksNothing, AsksOfFile, AsksToExplain}
+use Rattle.call_files.specs.Requests.{AsksToReplay, AsksToSelfRun, IsCommand, bytes_of}
+use Rattle.call_files.specs.Requests.{to_check, to_print, to_explain, to_replay, to_self_run}
 use Rattle.call_files.specs.Requests.{usual, told, left_out, given}
 use Rattle.call_files.specs.Requests.{IsNumber, usual_budget, most_silent, most_budget}
 use Rattle.call_files.specs.Requests.{most_statements}
-use Rattle.call_files.specs.inside.CommandWords.{BeginWith}
+use Rattle.call_files.specs.inside.CommandWords.{BeginWith, BeginForFile}
 
 -- a word that is not empty, by its length
 pub named : (word : String Global) (empty : Bool) → empty ≡ (string_len word == 0) → empty ≡ false
@@ -28,6 +29,12 @@ named word empty is not = λ nil. let long : length (string_bytes word) ≡ 0 = 
 pub unnamed : (word : String Global) (empty : Bool) → empty ≡ (string_len word == 0) → empty ≡ true
     → string_bytes word ≡ []
 unnamed word empty is holds = nil_from_length _ (grind (arith, nat_tests, word.bytes.ok.0))
+
+-- words that begin with `check` do not begin with `print`
+pub check_or_print : (word : List ℕ) → word ≡ codes "check" → word ≡ codes "print" → ⊥
+check_or_print word one other =
+    let first : 99 ≡ 112 = ap (λ w. get_or w 0 0) (sym one ∙ other) in
+    absurd (omega (arith, first))
 
 -- words that begin with `explain` do not begin with `selfrun`
 pub explain_or_self_run : (word : List ℕ) → word ≡ codes "explain" → word ≡ codes "selfrun" → ⊥
@@ -53,39 +60,87 @@ three_words (x ∷ y ∷ []) a b c long short at_a at_b at_c = absurd (omega ari
 three_words (x ∷ y ∷ z ∷ []) a b c long short at_a at_b at_c = cc
 three_words (x ∷ y ∷ z ∷ w ∷ words) a b c long short at_a at_b at_c = absurd (omega arith)
 
--- CHECK
+-- ONE FILE
 
--- words that begin so ask for a check
-pub is_check : (words : List (String Global)) (specification : String Global)
-    → BeginWith (codes "check") words → 2 ≤ length words → length words < 3
+-- words that begin so ask for this of the file that the second one names
+module _ (word : List ℕ) (request : List ℕ → Request)
+    (asks : (words : List (List ℕ)) (name : List ℕ) → words ≡ word ∷ name ∷ [] → name ≢ []
+    → Asks words (request name)) where
+  asks_of_file : (words : List (String Global)) (specification : String Global)
+      → BeginWith word words → 2 ≤ length words → length words < 3
+      → specification ≡ get_or words 1 specification → string_bytes specification ≢ []
+      → AsksOfFile request words
+  asks_of_file [] specification begin long short at named = absurd begin
+  asks_of_file (a ∷ []) specification begin long short at named = absurd (omega arith)
+  asks_of_file (a ∷ b ∷ []) specification begin long short at named =
+      asks (bytes_of (a ∷ b ∷ [])) (string_bytes b) (ap (λ c. c ∷ string_bytes b ∷ []) begin)
+      (subst (λ w. string_bytes w ≢ []) at named)
+  asks_of_file (a ∷ b ∷ c ∷ words) specification begin long short at named = absurd (omega arith)
+
+-- words that begin so ask for the command
+pub is_for_file : (command : Command) (words : List (String Global))
+    (specification : String Global)
+    → BeginForFile command words → 2 ≤ length words → length words < 3
     → specification ≡ get_or words 1 specification → string_bytes specification ≢ []
-    → AsksToCheck words
-is_check [] specification begin long short at named = absurd begin
-is_check (a ∷ []) specification begin long short at named = absurd (omega arith)
-is_check (a ∷ b ∷ []) specification begin long short at named =
-    to_check (string_bytes b) (ap (λ c. c ∷ string_bytes b ∷ []) begin)
-    (subst (λ w. string_bytes w ≢ []) at named)
-is_check (a ∷ b ∷ c ∷ words) specification begin long short at named = absurd (omega arith)
+    → IsCommand words command
+is_for_file Check words specification begin long short at named =
+    asks_of_file (codes "check") check (λ ws name are is. to_check name are is) words
+    specification begin long short at named
+is_for_file Print words specification begin long short at named =
+    asks_of_file (codes "print") print (λ ws name are is. to_print name are is) words
+    specification begin long short at named
+is_for_file (Explain limits) words specification begin long short at named = absurd begin
+is_for_file (Replay limits) words specification begin long short at named = absurd begin
+is_for_file (SelfRun seed count) words specification begin long short at named = absurd begin
 
--- words of a check are two, and the second one is a name
-pub record IsCheckOf (words : List (String Global)) : Type 0 where
+-- words of such a command are two, and the second one is a name
+pub record IsForFileOf (words : List (String Global)) : Type 0 where
   pub two : length words ≡ 2
   pub named : (word : String Global) → word ≡ get_or words 1 word → string_bytes word ≢ []
 
--- what words that begin so ask for
-pub is_check_of : (words : List (String Global)) → BeginWith (codes "check") words
-    → (request : Request) → Asks (bytes_of words) request → IsCheckOf words
-is_check_of [] begin request asked = absurd begin
-is_check_of (a ∷ []) begin _ (to_check name are named) = absurd cc
-is_check_of (a ∷ b ∷ []) begin _ (to_check name are named) = record {
+two_of : (words : List (String Global)) (first name : List ℕ) → bytes_of words ≡ first ∷ name ∷ []
+    → name ≢ [] → IsForFileOf words
+two_of [] first name are named = absurd cc
+two_of (a ∷ []) first name are named = absurd cc
+two_of (a ∷ b ∷ []) first name are named = record {
   two = refl;
   named = λ word at. subst (λ w. w ≢ []) (let e : name ≡ string_bytes word = cc in e) named;
 }
-is_check_of (a ∷ b ∷ c ∷ words) begin _ (to_check name are named) = absurd cc
-is_check_of (a ∷ words) begin _ (to_explain s t limits n b m are s_named t_named is) = absurd cc
-is_check_of (a ∷ words) begin _ (to_replay s t e limits n m are s_named t_named e_named is) =
-    absurd cc
-is_check_of (a ∷ words) begin _ (to_self_run name x y n m are named is) = absurd cc
+two_of (a ∷ b ∷ c ∷ words) first name are named = absurd cc
+
+-- words that begin with one word do not ask for what begins with another
+other_word : (word other : List ℕ) (words : List (String Global)) (rest : List (List ℕ))
+    → (word ≡ other → ⊥) → BeginWith word words → bytes_of words ≡ other ∷ rest → ⊥
+other_word word other [] rest apart begin are = absurd begin
+other_word word other (a ∷ words) rest apart begin are =
+    apart (sym begin ∙ ap (λ ws. get_or ws 0 []) are)
+
+-- what words ask for that begin with a word that is for one file alone
+of_file : (word : List ℕ) (words : List (String Global)) → (word ≡ codes "explain" → ⊥)
+    → (word ≡ codes "replay" → ⊥) → (word ≡ codes "selfrun" → ⊥) → BeginWith word words
+    → (request : Request) → Asks (bytes_of words) request → IsForFileOf words
+of_file word words no_search no_replay no_run begin _ (to_check name are named) =
+    two_of words (codes "check") name are named
+of_file word words no_search no_replay no_run begin _ (to_print name are named) =
+    two_of words (codes "print") name are named
+of_file word words no_search no_replay no_run begin _
+    (to_explain s t limits n b m are s_named t_named is) =
+    absurd (other_word word (codes "explain") words _ no_search begin are)
+of_file word words no_search no_replay no_run begin _
+    (to_replay s t e limits n m are s_named t_named e_named is) =
+    absurd (other_word word (codes "replay") words _ no_replay begin are)
+of_file word words no_search no_replay no_run begin _ (to_self_run name x y n m are named is) =
+    absurd (other_word word (codes "selfrun") words _ no_run begin are)
+
+pub is_for_file_of : (command : Command) (words : List (String Global)) → BeginForFile command words
+    → (request : Request) → Asks (bytes_of words) request → IsForFileOf words
+is_for_file_of Check words begin request asked =
+    of_file (codes "check") words (λ e. cc) (λ e. cc) (λ e. cc) begin request asked
+is_for_file_of Print words begin request asked =
+    of_file (codes "print") words (λ e. cc) (λ e. cc) (λ e. cc) begin request asked
+is_for_file_of (Explain limits) words begin request asked = absurd begin
+is_for_file_of (Replay limits) words begin request asked = absurd begin
+is_for_file_of (SelfRun seed count) words begin request asked = absurd begin
 
 -- SEARCH
 
@@ -127,6 +182,7 @@ pub is_explain_of : (words : List (String Global)) → BeginWith (codes "explain
     → (request : Request) → Asks (bytes_of words) request → IsExplainOf words
 is_explain_of [] begin request asked = absurd begin
 is_explain_of (a ∷ words) begin _ (to_check name are named) = absurd cc
+is_explain_of (a ∷ words) begin _ (to_print name are named) = absurd cc
 is_explain_of (a ∷ []) begin _ (to_explain s t limits n b m are s_named t_named is) = absurd cc
 is_explain_of (a ∷ x ∷ []) begin _ (to_explain s t limits n b m are s_named t_named is) = absurd cc
 is_explain_of (a ∷ x ∷ y ∷ rest) begin _ (to_explain s t limits n b m are s_named t_named is) =
@@ -240,6 +296,7 @@ pub is_replay_of : (words : List (String Global)) → BeginWith (codes "replay")
     → (request : Request) → Asks (bytes_of words) request → IsReplayOf words
 is_replay_of [] begin request asked = absurd begin
 is_replay_of (a ∷ words) begin _ (to_check name are named) = absurd cc
+is_replay_of (a ∷ words) begin _ (to_print name are named) = absurd cc
 is_replay_of (a ∷ words) begin _ (to_explain s t limits n b m are s_named t_named is) = absurd cc
 is_replay_of (a ∷ words) begin _ (to_self_run name x y n m are named is) = absurd cc
 is_replay_of (a ∷ []) begin _ (to_replay s t e limits n m are s_named t_named e_named is) =
@@ -316,6 +373,7 @@ pub is_self_run_of : (words : List (String Global)) → BeginWith (codes "selfru
     → (request : Request) → Asks (bytes_of words) request → IsSelfRunOf words
 is_self_run_of [] begin request asked = absurd begin
 is_self_run_of (a ∷ words) begin _ (to_check name are named) = absurd cc
+is_self_run_of (a ∷ words) begin _ (to_print name are named) = absurd cc
 is_self_run_of (a ∷ words) begin _ (to_explain s t limits n b m are s_named t_named is) =
     absurd (explain_or_self_run (string_bytes a) (ap (λ ws. get_or ws 0 []) are) begin)
 is_self_run_of (a ∷ words) begin _ (to_replay s t e limits n m are s_named t_named e_named is) =
@@ -336,12 +394,13 @@ is_self_run_of (a ∷ b ∷ c ∷ d ∷ e ∷ words) begin _ (to_self_run s x y 
 
 -- COMMANDS
 
--- words that ask to check a file ask for something
-check_asks : (words : List (String Global)) → AsksToCheck words → AsksNothing words → ⊥
-check_asks [] asked nothing = asked
-check_asks (a ∷ []) asked nothing = asked
-check_asks (a ∷ b ∷ []) asked nothing = nothing _ asked
-check_asks (a ∷ b ∷ c ∷ words) asked nothing = asked
+-- words that ask for this of a file ask for something
+file_asks : (request : List ℕ → Request) (words : List (String Global)) → AsksOfFile request words
+    → AsksNothing words → ⊥
+file_asks request [] asked nothing = asked
+file_asks request (a ∷ []) asked nothing = asked
+file_asks request (a ∷ b ∷ []) asked nothing = nothing _ asked
+file_asks request (a ∷ b ∷ c ∷ words) asked nothing = asked
 
 -- words that ask for a search ask for something
 explain_asks : (words : List (String Global)) (limits : Limits) → AsksToExplain limits words
@@ -373,7 +432,8 @@ self_run_asks (a ∷ b ∷ c ∷ d ∷ e ∷ words) n m asked nothing = asked
 -- words that ask for a command ask for something
 pub command_asks : (words : List (String Global)) (command : Command) → IsCommand words command
     → AsksNothing words → ⊥
-command_asks words Check asked nothing = check_asks words asked nothing
+command_asks words Check asked nothing = file_asks check words asked nothing
+command_asks words Print asked nothing = file_asks print words asked nothing
 command_asks words (Explain limits) asked nothing = explain_asks words limits asked nothing
 command_asks words (Replay limits) asked nothing = replay_asks words limits asked.0 nothing
 command_asks words (SelfRun seed count) asked nothing = self_run_asks words seed count asked nothing

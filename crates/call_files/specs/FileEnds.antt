@@ -54,8 +54,7 @@ HoldsSpecification shelf name spec =
 
 -- the file holds the text of this trace of a specification, and of no other
 abbrev pub HoldsTrace : Seen → List ℕ → Spec → List Event → Type 0
-HoldsTrace shelf name spec events =
-    Holds file.Trace (shelf.before.told name) (OfTrace spec events)
+HoldsTrace shelf name spec events = Holds file.Trace (shelf.before.told name) (OfTrace spec events)
 
 -- the file holds the text of this explanation, and of no other
 abbrev pub HoldsExplanation : Seen → List ℕ → Explanation → Type 0

@@ -113,8 +113,7 @@ refusal_at file text tokens (Some place) why =
 refusal_at file text tokens None why = line_of why
 
 -- the tokens of a text are refused, with this status and this report
-pub record IsReported
-    (file : File) (Refuses : Refusals) (status : Status) (report text : List ℕ)
+pub record IsReported (file : File) (Refuses : Refusals) (status : Status) (report text : List ℕ)
     (tokens : List Token)
     : Type 0 where
   pub place : Option ℕ

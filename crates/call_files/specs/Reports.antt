@@ -12,8 +12,7 @@ use Rattle.call_files.specs.ReportLines.{line_feed}
 
 -- a good specification, with the numbers of its bodies, transitions and ports
 abbrev pub ok_line : Counts → List ℕ
-ok_line counts =
-    codes "ok: " ++ decimal counts.bodies ++ codes " bodies, "
+ok_line counts = codes "ok: " ++ decimal counts.bodies ++ codes " bodies, "
     ++ decimal counts.transitions ++ codes " transitions, "
     ++ decimal counts.ports ++ codes " ports" ++ line_feed
 

@@ -5,18 +5,20 @@ use Rattle.std.specs.Global.{Global}
 use Rattle.std.specs.Str.Parse.{IsNumeral, digits_value}
 use Rattle.est_meaning.specs.declared.run.Limits.{Limits}
 use Rattle.call_files.specs.declared.words.Command.{Command}
-use Rattle.call_files.specs.declared.words.Command.TheVariants.{Check, Explain, Replay, SelfRun}
+use Rattle.call_files.specs.declared.words.Command.TheVariants.{Check, Print, Explain, Replay}
+use Rattle.call_files.specs.declared.words.Command.TheVariants.{SelfRun}
 
 -- the bytes of each word
 abbrev pub bytes_of : List (String Global) → List (List ℕ)
 bytes_of words = map string_bytes words
 
--- What words ask for: to check a specification, to explain a trace, or to replay an explanation of
--- one, with the most silent firings in a row, the most firings that are tried, and the most
--- statements of a block or guard; or to make a trace from a seed, with at least so many events, and
--- to explain it.
+-- What words ask for: to check a specification or to print it, to explain a trace, or to replay an
+-- explanation of one, with the most silent firings in a row, the most firings that are tried, and
+-- the most statements of a block or guard; or to make a trace from a seed, with at least so many
+-- events, and to explain it.
 pub data Request : Type 0 where
   check : (specification : List ℕ) → Request
+  print : (specification : List ℕ) → Request
   explain : (specification trace : List ℕ) (silent budget statements : ℕ) → Request
   replay : (specification trace explanation : List ℕ) (silent statements : ℕ) → Request
   selfrun : (specification : List ℕ) (seed count : ℕ) → Request
@@ -86,6 +88,8 @@ pub record AreRecipe (first second : List ℕ) (seed count : ℕ) : Type 0 where
 pub data Asks (words : List (List ℕ)) : Request → Type 0 where
   to_check : (specification : List ℕ) → words ≡ codes "check" ∷ specification ∷ []
       → specification ≢ [] → Asks words (check specification)
+  to_print : (specification : List ℕ) → words ≡ codes "print" ∷ specification ∷ []
+      → specification ≢ [] → Asks words (print specification)
   to_explain : (specification trace : List ℕ) (limits : List (List ℕ))
       (silent budget statements : ℕ)
       → words ≡ codes "explain" ∷ specification ∷ trace ∷ limits
@@ -105,11 +109,11 @@ pub data Asks (words : List (List ℕ)) : Request → Type 0 where
 abbrev pub AsksNothing : List (String Global) → Type 0
 AsksNothing words = (request : Request) → Asks (bytes_of words) request → ⊥
 
--- the words ask to check the file that the second one names
-abbrev pub AsksToCheck : List (String Global) → Type 0
-AsksToCheck (command ∷ specification ∷ []) =
-    Asks (bytes_of (command ∷ specification ∷ [])) (check (string_bytes specification))
-AsksToCheck _ = ⊥
+-- the words ask for this of the file that the second one names, and for no more
+abbrev pub AsksOfFile : (List ℕ → Request) → List (String Global) → Type 0
+AsksOfFile request (command ∷ specification ∷ []) =
+    Asks (bytes_of (command ∷ specification ∷ [])) (request (string_bytes specification))
+AsksOfFile request _ = ⊥
 
 -- the words ask to explain, within these limits, the trace that the third one names by the
 -- specification that the second one names
@@ -138,7 +142,8 @@ AsksToSelfRun seed count _ = ⊥
 
 -- the words ask for this command, and the files that it is for are the words at their places
 abbrev pub IsCommand : List (String Global) → Command → Type 0
-IsCommand words Check = AsksToCheck words
+IsCommand words Check = AsksOfFile check words
+IsCommand words Print = AsksOfFile print words
 IsCommand words (Explain limits) = AsksToExplain limits words
 IsCommand words (Replay limits) = AsksToReplay limits words × (limits.budget ≡ usual_budget)
 IsCommand words (SelfRun seed count) = AsksToSelfRun seed count words

@@ -18,8 +18,7 @@ use Rattle.call_files.specs.Reports.{fault_text}
 
 -- the numbers of a firing
 abbrev pub firing_text : Firing → List ℕ
-firing_text firing =
-    decimal firing.instance ++ codes " " ++ decimal firing.transition ++ codes " "
+firing_text firing = decimal firing.instance ++ codes " " ++ decimal firing.transition ++ codes " "
     ++ decimal firing.choice
 
 -- a trace of so many events is explained
@@ -62,8 +61,7 @@ abbrev pub over_action_line : ℕ → Option Firing → List ℕ
 over_action_line limit (Some firing) =
     codes "{ over budget: firing " ++ firing_text firing ++ codes " passed the limit "
     ++ decimal limit ++ codes " after these moves }" ++ line_feed
-over_action_line limit None =
-    codes "{ over budget: a guard passed the limit " ++ decimal limit
+over_action_line limit None = codes "{ over budget: a guard passed the limit " ++ decimal limit
     ++ codes " after these moves }" ++ line_feed
 
 -- a start that passes the limit of statements

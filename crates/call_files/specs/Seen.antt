@@ -25,8 +25,7 @@ pub record Sent : Type 0 where
   pub after : Sunk
 
 -- what a shelf tells, from its parts
-abbrev pub shelved :
-    (List ℕ → Option (List ℕ)) → (List ℕ → ℕ) → List (List ℕ) → ℕ → Shelved
+abbrev pub shelved : (List ℕ → Option (List ℕ)) → (List ℕ → ℕ) → List (List ℕ) → ℕ → Shelved
 shelved told faults started taken =
     record { told = told; faults = faults; started = started; taken = taken }
 

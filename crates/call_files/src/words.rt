@@ -2,7 +2,7 @@
 ghost use Rattle.std.specs.Prelude.{◌≡◌, ℕ, IfOk, IfSome, MatchOption, OnErr, codes};
 ghost use Rattle.call_files.specs.Requests.{AreLimits, AreRecipe, AreSearchLimits, AsksNothing};
 ghost use Rattle.call_files.specs.Requests.{IsCommand, IsNumber, bytes_of, usual_budget};
-ghost use Rattle.call_files.specs.inside.CommandWords.{BeginWith};
+ghost use Rattle.call_files.specs.inside.CommandWords.{BeginForFile, BeginWith};
 
 use est_meaning::run::Limits;
 
@@ -30,6 +30,8 @@ const MOST_MADE: u32 = 100_000;
 pub enum Command {
     /// To check the specification in the file that the word after `check` names.
     Check,
+    /// To print the specification in the file that the word after `print` names.
+    Print,
     /// To explain a trace. The words after `explain` name the files of the specification and the
     /// trace.
     Explain { limits: Limits },
@@ -51,7 +53,8 @@ pub fn read_words(words: &[String]) -> Result<Command, BadUsage>
     ensures refused { OnErr result (AsksNothing words.now) }
 {
     match words {
-        [command, ..] if command.as_str() == "check" => read_check(words),
+        [command, ..] if command.as_str() == "check" => read_file(words, Command::Check),
+        [command, ..] if command.as_str() == "print" => read_file(words, Command::Print),
         [command, ..] if command.as_str() == "explain" => read_explain(words),
         [command, ..] if command.as_str() == "replay" => read_replay(words),
         [command, ..] if command.as_str() == "selfrun" => read_self_run(words),
@@ -59,14 +62,14 @@ pub fn read_words(words: &[String]) -> Result<Command, BadUsage>
     }
 }
 
-// Reads the words of a check.
-fn read_check(words: &[String]) -> Result<Command, BadUsage>
-    requires { BeginWith (codes "check") words.now }
+// Reads the words of a command that is for one file alone.
+fn read_file(words: &[String], command: Command) -> Result<Command, BadUsage>
+    requires { BeginForFile command words.now }
     ensures asked { IfOk result (IsCommand words.now) }
     ensures refused { OnErr result (AsksNothing words.now) }
 {
     match words {
-        [_, specification] if !specification.is_empty() => Ok(Command::Check),
+        [_, specification] if !specification.is_empty() => Ok(command),
         _ => Err(BadUsage),
     }
 }

@@ -24,7 +24,7 @@ use std::process::ExitCode;
 use std::str;
 
 // The files of cases, in the order in which they are run. The first has the texts that all share.
-const FILES: [&str; 27] = [
+const FILES: [&str; 28] = [
     "texts.cases",
     "words.cases",
     "tokens.cases",
@@ -37,6 +37,7 @@ const FILES: [&str; 27] = [
     "modules.cases",
     "specifications.cases",
     "profile.cases",
+    "prints.cases",
     "traces.cases",
     "values.cases",
     "ports.cases",

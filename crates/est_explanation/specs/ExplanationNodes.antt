@@ -25,8 +25,7 @@ number_view n = kept (value n)
 
 -- the three numbers of a firing in order
 abbrev pub firing_view : Firing → View
-firing_view firing =
-    pair (number_view firing.instance)
+firing_view firing = pair (number_view firing.instance)
     (pair (number_view firing.transition) (number_view firing.choice))
 
 -- which of the two moves, and the numbers of a firing

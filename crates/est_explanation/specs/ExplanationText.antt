@@ -18,14 +18,12 @@ explanations text = language production text
 
 -- the tokens of the text are a text of the explanation: they have a tree of a shape that it shows
 abbrev pub IsExplanationText : List ℕ → List Token → Explanation → Type 0
-IsExplanationText text tokens x =
-    (t : Shape) × HasTree (explanations text) explanation 0 tokens t
+IsExplanationText text tokens x = (t : Shape) × HasTree (explanations text) explanation 0 tokens t
     × Shows layer (node (an_explanation x)) t
 
 -- the tokens of the text are a text of the explanation, and of no other
 abbrev pub IsOnlyExplanationText : List ℕ → List Token → Explanation → Type 0
-IsOnlyExplanationText text tokens x =
-    IsExplanationText text tokens x
+IsOnlyExplanationText text tokens x = IsExplanationText text tokens x
     × ((other : Explanation) → IsExplanationText text tokens other → other ≡ x)
 
 -- what an error says of the tokens: their first bad place; out of memory says nothing

@@ -53,8 +53,7 @@ is_character _ = false
 
 -- The kind of the token that the bytes are, if they are one.
 unfoldable pub kind_of : List ℕ → Option TokenKind
-kind_of bytes =
-    if is_identifier bytes then Some (name_kind bytes)
+kind_of bytes = if is_identifier bytes then Some (name_kind bytes)
     else if is_number bytes then Some Number
     else if is_character bytes then Some Character
     else symbol_kind bytes

@@ -14,8 +14,7 @@ Word = List ℕ × TokenKind
 -- The reserved words, and those of Estelle and Pascal that the profile leaves out. No spelling
 -- stands twice, so their order says nothing.
 unfoldable pub words : List Word
-words =
-    (codes "activity", Reserved word.Activity) ∷ (codes "all", Reserved word.All)
+words = (codes "activity", Reserved word.Activity) ∷ (codes "all", Reserved word.All)
     ∷ (codes "and", Reserved word.And) ∷
     (codes "any", Reserved word.Any) ∷ (codes "array", Reserved word.Array)
     ∷ (codes "attach", Reserved word.Attach) ∷
@@ -71,8 +70,7 @@ words =
 -- The special symbols, with `?` and `_`, and those that the profile leaves out. No spelling stands
 -- twice, so their order says nothing.
 unfoldable pub symbols : List Word
-symbols =
-    (codes "...", LeftOut left.Ellipsis) ∷ (codes "..", Symbol sign.DoublePeriod)
+symbols = (codes "...", LeftOut left.Ellipsis) ∷ (codes "..", Symbol sign.DoublePeriod)
     ∷ (codes ".", Symbol sign.Period) ∷
     (codes ":=", Symbol sign.Assign) ∷ (codes ":", Symbol sign.Colon)
     ∷ (codes "<>", Symbol sign.Unequal) ∷ (codes "<=", Symbol sign.AtMost) ∷

@@ -4,8 +4,7 @@ use Rattle.est_meaning.specs.declared.firing.Firing.{Firing}
 
 -- a firing comes before another
 unfoldable pub FiringBefore : Firing → Firing → Type 0
-FiringBefore f g = (f.instance < g.instance)
-    ⊎ ((f.instance ≡ g.instance)
+FiringBefore f g = (f.instance < g.instance) ⊎ ((f.instance ≡ g.instance)
     × ((f.transition < g.transition) ⊎ ((f.transition ≡ g.transition) × (f.choice < g.choice))))
 
 -- a firing comes before each of these

@@ -66,8 +66,7 @@ finished t finish (Fault f) = Fault f
 finished t finish Limit = Limit
 
 -- what comes of a choice whose `from` and `when` hold (ISO 9074, 5: execution of a transition)
-abbrev pub fired_in : ℕ → Text → Situation → Firing → Choice → View
-    → Outcome Situation (List Event)
+abbrev pub fired_in : ℕ → Text → Situation → Firing → Choice → View → Outcome Situation (List Event)
 fired_in limit t s f c v = finished t (completed limit t f c) (performed_in limit t s c v)
 
 -- what comes of a choice; of one whose `from` or `when` fails nothing is meant

@@ -227,6 +227,5 @@ asked limit x v =
 -- `from` holds; its conditions and its bounds, where both hold (profile). A part is evaluated
 -- whatever comes of those before it.
 abbrev pub parts_of : ℕ → Text → Situation → Choice → List Part
-parts_of limit t s c =
-    (if is_from t c then subscripts limit t s c (when_of c.transition) else [])
+parts_of limit t s c = (if is_from t c then subscripts limit t s c (when_of c.transition) else [])
     ++ option_map_or (asked limit c.transition) (view_of limit t s c) []

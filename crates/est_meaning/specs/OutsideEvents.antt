@@ -34,8 +34,7 @@ port_point t port = option_and_then (port_in t port) (started_header t.outline t
 
 -- where a signal of an interaction point is declared, in its channel
 abbrev pub signal_place : Text → InteractionPoint → Signal → Option ℕ
-signal_place t p x = option_and_then
-    (λ (side : Side). option_map (λ (n : Standing). n.place)
+signal_place t p x = option_and_then (λ (side : Side). option_map (λ (n : Standing). n.place)
     (standing t.outline side.channel x.name.bytes))
     (side_at t.outline (Some p.declared))
 
@@ -91,8 +90,7 @@ later s units = record s { clock = s.clock + units }
 -- The situation after an event. What arrives goes down from its port into the queue of the
 -- innermost interaction point; what leaves has left it; time makes the clock later.
 unfoldable pub after_event : Text → Situation → Event → Situation
-after_event t s (event.Arrives i) =
-    option_map_or (λ (x : Item). arrived t x.at x s) (arrival t i) s
+after_event t s (event.Arrives i) = option_map_or (λ (x : Item). arrived t x.at x s) (arrival t i) s
 after_event t s (event.Leaves i) = s
 after_event t s (event.Passes units) = later s units
 

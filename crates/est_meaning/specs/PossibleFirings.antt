@@ -10,8 +10,7 @@ use Rattle.est_meaning.specs.declared.answers.Offers.TheVariants.{Settled, Unset
 use Rattle.est_meaning.specs.FiringOrder.{IsAscending}
 
 -- these are exactly the possible firings, in order
-pub record AreOptions (limit : ℕ) (t : Text) (s : Situation)
-    (firings : List Firing) : Type 0 where
+pub record AreOptions (limit : ℕ) (t : Text) (s : Situation) (firings : List Firing) : Type 0 where
   pub ascending : IsAscending firings
   pub sound : (f : Firing) → IsIn f firings → IsPossible limit t s f
   pub complete : (f : Firing) → IsPossible limit t s f → IsIn f firings

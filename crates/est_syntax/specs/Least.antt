@@ -28,8 +28,7 @@ number rule.CaseTwice = 18
 
 -- whether one fault comes before another: by place, and then by the number of the rule
 abbrev pub is_before : Fault → Fault → Bool
-is_before f g =
-    if nat_lt f.place g.place then true else
+is_before f g = if nat_lt f.place g.place then true else
     (if nat_lt g.place f.place then false else nat_lt (number f.rule) (number g.rule))
 
 -- x is one of a list

@@ -31,11 +31,12 @@ use Rattle.call_files.specs.SearchReports.{verdict_status}
 use Rattle.call_files.specs.FileTexts.{Holds, Refusals, RefusesSpecification, RefusesTrace}
 use Rattle.call_files.specs.FileTexts.{RefusesExplanation, SaysOfSpecification}
 use Rattle.call_files.specs.FileTexts.{SaysOfTrace, SaysOfExplanation, IsReported}
-use Rattle.call_files.specs.Requests.{Request, check, explain, replay, selfrun}
+use Rattle.call_files.specs.Requests.{Request, check, print, explain, replay, selfrun}
 use Rattle.call_files.specs.Seen.{Seen, Sent}
 use Rattle.call_files.specs.FileEnds.{End, reported, unread, EndsAt, longer, refused}
 use Rattle.call_files.specs.FileEnds.{failed, EndsAtText, text_longer, text_refused}
-use Rattle.est_tool.specs.Ends.{at_its_file, good, at_specification}
+use Rattle.est_print.specs.PrintedText.{IsPrintedText}
+use Rattle.est_tool.specs.Ends.{TellsCounts, CheckEnds, at_its_file, good, at_specification}
 use Rattle.est_tool.specs.Ends.{at_trace, at_explanation, replayed, Ends}
 use Rattle.est_tool.specs.Ends.{ends_at_specification, ends_at_trace, not_started}
 use Rattle.est_tool.specs.Ends.{start_over, searched}
@@ -116,13 +117,18 @@ of_made spec _ _ (refuses trace run end at) = at_text (RefusesTrace spec) end
     (λ text tokens status place why refuses. of_trace refuses.0 status place why refuses.2) at
 of_made spec _ _ (explains trace run events s outs verdict reads begun is) = of_verdict verdict
 
+of_check : (Says : Spec → List ℕ → Type 0) (shelf : Seen) (name : List ℕ) (end : End)
+    → CheckEnds Says shelf name end → IsReportable end
+of_check Says shelf name _ (at_its_file end is) = at_file RefusesSpecification end
+    (λ text tokens status place why refuses. of_specification refuses.0 status place why refuses.2)
+    is
+of_check Says shelf name _ (good spec report holds says) = tt
+
 -- how what the words ask for ends, a report has such a status
 pub ends_reportable : (shelf : Seen) (request : Request) (end : End) → Ends shelf request end
     → IsReportable end
-ends_reportable shelf (check name) _ (at_its_file end is) = at_file RefusesSpecification end
-    (λ text tokens status place why refuses. of_specification refuses.0 status place why refuses.2)
-    is
-ends_reportable shelf (check name) _ (good spec holds) = tt
+ends_reportable shelf (check name) end ends = of_check TellsCounts shelf name end ends
+ends_reportable shelf (print name) end ends = of_check IsPrintedText shelf name end ends
 ends_reportable shelf (explain s t silent budget statements) _ (ends_at_specification end is) =
     at_file RefusesSpecification end (λ text tokens status place why refuses. of_specification
     refuses.0 status place why refuses.2) is

@@ -18,17 +18,19 @@ use Rattle.call_files.specs.declared.stop.Stop.{Stop}
 use Rattle.call_files.specs.declared.stop.Stop.TheVariants.{Refused, ReadFault, OutOfMemory}
 use Rattle.call_files.specs.declared.file.File.{File}
 use Rattle.call_files.specs.declared.status.Status.{Status}
-use Rattle.call_files.specs.declared.status.Status.TheVariants.{Fine}
 use Rattle.call_files.specs.Files.{limit_of}
 use Rattle.est_tool.specs.ReplayReports.{replay_status}
 use Rattle.call_files.specs.Seen.{Shelved, Seen, seen}
 use Rattle.call_files.specs.FileTexts.{Holds, Refusals, IsReported, OfSpecification}
 use Rattle.call_files.specs.FileTexts.{OfTrace, OfExplanation}
-use Rattle.call_files.specs.Requests.{Request, check, explain, replay, selfrun}
+use Rattle.call_files.specs.Requests.{Request, check, print, explain, replay, selfrun}
 use Rattle.call_files.specs.FileEnds.{End, reported, IsTooLong, EndsAt, longer, refused, failed}
 use Rattle.call_files.specs.FileEnds.{HoldsSpecification, HoldsTrace}
 use Rattle.call_files.specs.FileEnds.{HoldsExplanation}
-use Rattle.est_tool.specs.Ends.{CheckEnds, at_its_file, good, ReplayEnds, at_specification}
+use Rattle.call_files.specs.est_check.SentenceOf.{IsSentence}
+use Rattle.est_print.specs.PrintedText.{IsOfSentence, IsPrintedText}
+use Rattle.est_tool.specs.Ends.{TellsCounts, CheckEnds, at_its_file, good}
+use Rattle.est_tool.specs.Ends.{ReplayEnds, at_specification}
 use Rattle.est_tool.specs.Ends.{at_trace, at_explanation, replayed, Ends}
 use Rattle.est_tool.specs.Ends.{ExplainEnds, ends_at_specification, ends_at_trace}
 use Rattle.est_tool.specs.Ends.{not_started, start_over, searched}
@@ -36,7 +38,7 @@ use Rattle.est_tool.specs.SelfRuns.{stops_at_its_file, makes}
 use Rattle.est_tool.specs.Started.{ExplainStarts, first_alone, both}
 use Rattle.est_tool.specs.Started.{ReplayStarts, one, two, three, Starts}
 use Rattle.call_files.specs.Reads.{IsStop, IsQuiet, ReadsFile}
-use Rattle.est_tool.specs.inside.Work.{IsMade, Gives, IsReport, IsCounted}
+use Rattle.est_tool.specs.inside.Work.{IsMade, Gives, IsReport, IsFine}
 use Rattle.est_tool.specs.inside.Work.{IsAnswered, Tells, IsExplained, IsWork}
 use Rattle.est_tool.specs.inside.Searching.{IsSearched}
 use Rattle.call_files.proofs.ReadLaws.{stop_then, stops_for, quiet_any, quiet_stop}
@@ -99,10 +101,16 @@ module _ (before middle after : Shelved) (same : SameTold before.told middle.tol
       → HoldsSpecification (seen before after) name spec
   text_before name spec holds = holds_before _ (OfSpecification spec) (same name) holds
 
+  check_before : (Says : Spec → List ℕ → Type 0) (name : List ℕ) (end : End)
+      → CheckEnds Says (seen middle after) name end → CheckEnds Says (seen before after) name end
+  check_before Says name _ (at_its_file end at) = at_its_file end (file_before end at)
+  check_before Says name _ (good spec report holds says) =
+      good spec report (text_before name spec holds) says
+
   ends_before : (request : Request) (end : End) → Ends (seen middle after) request end
       → Ends (seen before after) request end
-  ends_before (check s) _ (at_its_file end at) = at_its_file end (file_before end at)
-  ends_before (check s) _ (good spec holds) = good spec (text_before s spec holds)
+  ends_before (check s) end ends = check_before TellsCounts s end ends
+  ends_before (print s) end ends = check_before IsPrintedText s end ends
   ends_before (explain s t n b m) _ (ends_at_specification end at) = ends_at_specification end
       (file_before end at)
   ends_before (explain s t n b m) _ (ends_at_trace spec end holds at) = ends_at_trace spec end
@@ -149,6 +157,7 @@ module _ (before middle after : Shelved) (same : SameTold before.told middle.tol
   starts_before : (request : Request) (names : List (List ℕ))
       → Starts (seen middle after) request names → Starts (seen before after) request names
   starts_before (check s) names starts = starts
+  starts_before (print s) names starts = starts
   starts_before (explain s t n b m) names starts = explain_starts_before s t names starts
   starts_before (replay s t e n m) names starts = replay_starts_before s t e names starts
   starts_before (selfrun s n m) names starts = starts
@@ -227,13 +236,18 @@ module _
 
 -- REPORTS
 
-pub check_reports : (shelf : Seen) (name : List ℕ) (spec : Spec)
+-- a specification that was checked is one that can be printed
+pub of_sentence : (spec : Spec) → IsSentence spec → IsOfSentence spec
+of_sentence spec is =
+    record { source = is.text; read = is.tokens; listed = is.listed; tree = is.tree }
+
+pub check_reports : (Says : Spec → List ℕ → Type 0) (shelf : Seen) (name : List ℕ) (spec : Spec)
     → HoldsSpecification shelf name spec
-    → (status : Status) (report : List ℕ) → IsCounted spec status report
-    → CheckEnds shelf name (reported status report)
-check_reports shelf name spec holds status report is =
-    subst (λ s. CheckEnds shelf name (reported s report)) (sym is.0)
-    (subst (λ r. CheckEnds shelf name (reported Fine r)) (sym is.1) (good spec holds))
+    → (status : Status) (report : List ℕ) → IsFine Says spec status report
+    → CheckEnds Says shelf name (reported status report)
+check_reports Says shelf name spec holds status report is =
+    subst (λ s. CheckEnds Says shelf name (reported s report)) (sym is.0)
+    (good spec report holds is.1)
 
 -- an end with this status and this report
 ends_so : (shelf : Seen) (s t : List ℕ) (silent budget statements : ℕ) (a b : Status)

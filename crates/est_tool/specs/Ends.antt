@@ -28,14 +28,20 @@ use Rattle.est_meaning.specs.Task.{setup_from}
 use Rattle.call_files.specs.SearchReports.{verdict_status}
 use Rattle.call_files.specs.FileTexts.{RefusesSpecification}
 use Rattle.call_files.specs.FileTexts.{RefusesTrace, RefusesExplanation}
-use Rattle.call_files.specs.Requests.{Request, check, explain, replay, selfrun}
+use Rattle.call_files.specs.Requests.{Request, check, print, explain, replay, selfrun}
+use Rattle.est_print.specs.PrintedText.{IsPrintedText}
 
--- `check` ends at its file, or tells the numbers of a good specification
-pub data CheckEnds (shelf : Seen) (name : List ℕ) : End → Type 0 where
+-- the report tells the numbers of the specification
+abbrev pub TellsCounts : Spec → List ℕ → Type 0
+TellsCounts spec report = report ≡ ok_line (counts_of spec)
+
+-- `check` and `print` end at their file, or with a report that says this of a good specification
+pub data CheckEnds (Says : Spec → List ℕ → Type 0) (shelf : Seen) (name : List ℕ)
+    : End → Type 0 where
   at_its_file : (end : End) → EndsAt shelf file.Specification name RefusesSpecification end
-      → CheckEnds shelf name end
-  good : (spec : Spec) → HoldsSpecification shelf name spec
-      → CheckEnds shelf name (reported Fine (ok_line (counts_of spec)))
+      → CheckEnds Says shelf name end
+  good : (spec : Spec) (report : List ℕ) → HoldsSpecification shelf name spec → Says spec report
+      → CheckEnds Says shelf name (reported Fine report)
 
 -- `replay` ends at the first of its files that is refused, or tells the answer
 pub data ReplayEnds
@@ -44,18 +50,15 @@ pub data ReplayEnds
   at_specification : (end : End)
       → EndsAt shelf file.Specification specification RefusesSpecification end
       → ReplayEnds shelf specification trace explanation silent statements end
-  at_trace : (spec : Spec) (end : End)
-      → HoldsSpecification shelf specification spec
+  at_trace : (spec : Spec) (end : End) → HoldsSpecification shelf specification spec
       → EndsAt shelf file.Trace trace (RefusesTrace spec) end
       → ReplayEnds shelf specification trace explanation silent statements end
   at_explanation : (spec : Spec) (events : List Event) (end : End)
-      → HoldsSpecification shelf specification spec
-      → HoldsTrace shelf trace spec events
+      → HoldsSpecification shelf specification spec → HoldsTrace shelf trace spec events
       → EndsAt shelf file.Explanation explanation RefusesExplanation end
       → ReplayEnds shelf specification trace explanation silent statements end
   replayed : (spec : Spec) (events : List Event) (read : Explanation) (answer : Replayed)
-      → HoldsSpecification shelf specification spec
-      → HoldsTrace shelf trace spec events
+      → HoldsSpecification shelf specification spec → HoldsTrace shelf trace spec events
       → HoldsExplanation shelf explanation read
       → IsReplay statements silent spec events read.moves read.claim answer
       → ReplayEnds shelf specification trace explanation silent statements
@@ -63,32 +66,27 @@ pub data ReplayEnds
 
 -- `explain` ends at the first of its files that is refused, or at a start that faults or passes its
 -- limit, or tells the verdict, in a report whose numbers an explanation may have
-pub data ExplainEnds
-    (shelf : Seen) (specification trace : List ℕ) (silent budget statements : ℕ)
+pub data ExplainEnds (shelf : Seen) (specification trace : List ℕ) (silent budget statements : ℕ)
     : End → Type 0 where
   ends_at_specification : (end : End)
       → EndsAt shelf file.Specification specification RefusesSpecification end
       → ExplainEnds shelf specification trace silent budget statements end
-  ends_at_trace : (spec : Spec) (end : End)
-      → HoldsSpecification shelf specification spec
+  ends_at_trace : (spec : Spec) (end : End) → HoldsSpecification shelf specification spec
       → EndsAt shelf file.Trace trace (RefusesTrace spec) end
       → ExplainEnds shelf specification trace silent budget statements end
   not_started : (spec : Spec) (events : List Event) (fault : BlockFault)
-      → HoldsSpecification shelf specification spec
-      → HoldsTrace shelf trace spec events
+      → HoldsSpecification shelf specification spec → HoldsTrace shelf trace spec events
       → start_of statements (text_of spec) ≡ Fault fault
       → ExplainEnds shelf specification trace silent budget statements
       (reported NoStart (no_start_line fault))
-  start_over : (spec : Spec) (events : List Event)
-      → HoldsSpecification shelf specification spec
+  start_over : (spec : Spec) (events : List Event) → HoldsSpecification shelf specification spec
       → HoldsTrace shelf trace spec events
       → start_of statements (text_of spec) ≡ Limit
       → ExplainEnds shelf specification trace silent budget statements
       (reported OverBudget (over_start_line statements))
   searched : (spec : Spec) (events : List Event) (s : Situation) (outs : List Event)
       (verdict : Verdict)
-      → HoldsSpecification shelf specification spec
-      → HoldsTrace shelf trace spec events
+      → HoldsSpecification shelf specification spec → HoldsTrace shelf trace spec events
       → start_of statements (text_of spec) ≡ Done outs s
       → IsVerdict (setup_from statements silent spec events s outs) budget verdict
       → IsReadable statements (length events) verdict
@@ -97,7 +95,8 @@ pub data ExplainEnds
 
 -- how what the words ask for ends
 abbrev pub Ends : Seen → Request → End → Type 0
-Ends shelf (check specification) end = CheckEnds shelf specification end
+Ends shelf (check specification) end = CheckEnds TellsCounts shelf specification end
+Ends shelf (print specification) end = CheckEnds IsPrintedText shelf specification end
 Ends shelf (explain specification trace silent budget statements) end =
     ExplainEnds shelf specification trace silent budget statements end
 Ends shelf (replay specification trace explanation silent statements) end =

@@ -23,13 +23,11 @@ Reports words shelf status report = CallEnds words shelf (reported status report
 
 -- What a call writes that ends with a status: nothing where the words, a read or memory failed, a
 -- front part of its report where a write failed, and else the report.
-abbrev pub Writes :
-    (Status → List ℕ → Type 0) → Status → Option (List ℕ) → Option (List ℕ) → Type 0
+abbrev pub Writes : (Status → List ℕ → Type 0) → Status → Option (List ℕ) → Option (List ℕ) → Type 0
 Writes Gives Usage before after = after ≡ before
 Writes Gives ReadFault before after = after ≡ before
 Writes Gives OutOfMemory before after = after ≡ before
-Writes Gives WriteFault before after =
-    (status : Status) × (report : List ℕ) × Gives status report
+Writes Gives WriteFault before after = (status : Status) × (report : List ℕ) × Gives status report
     × (part : List ℕ) × IsPrefix part report × (after ≡ appended before part)
 Writes Gives status before after =
     (report : List ℕ) × Gives status report × (after ≡ appended before report)
@@ -38,15 +36,13 @@ Writes Gives status before after =
 -- and a file is started only where those before it are good. Each is started once; a name that
 -- stands for two files is started for each of them.
 abbrev pub StartsItsFiles : List (String Global) → Seen → Type 0
-StartsItsFiles words shelf =
-    (request : Request) × Asks (bytes_of words) request
+StartsItsFiles words shelf = (request : Request) × Asks (bytes_of words) request
     × (names : List (List ℕ)) × Starts shelf request names
     × (shelf.after.started ≡ shelf.before.started ++ names)
 
 -- What a call does that ends with a status, by its words, and by what is seen of its files and of
 -- its output.
-pub record IsResult
-    (words : List (String Global)) (shelf : Seen) (output : Sent) (status : Status)
+pub record IsResult (words : List (String Global)) (shelf : Seen) (output : Sent) (status : Status)
     : Type 0 where
   -- the words ask for nothing that the program does, and nothing else ends so
   pub usage : (status ≡ Usage) ↔ AsksNothing words

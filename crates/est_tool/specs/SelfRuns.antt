@@ -64,8 +64,7 @@ pub data MadeEnds (spec : Spec) : Made → End → Type 0 where
 
 -- `selfrun` ends at its file where that is refused, or by what is made of the specification
 pub data SelfRunEnds (shelf : Seen) (name : List ℕ) (seed count : ℕ) : End → Type 0 where
-  stops_at_its_file : (end : End)
-      → EndsAt shelf file.Specification name RefusesSpecification end
+  stops_at_its_file : (end : End) → EndsAt shelf file.Specification name RefusesSpecification end
       → SelfRunEnds shelf name seed count end
   makes : (spec : Spec) (made : Made) (end : End) → HoldsSpecification shelf name spec
       → IsMadeOf spec seed count made → MadeEnds spec made end

@@ -4,7 +4,7 @@ use Rattle.est_syntax.specs.declared.specification.Spec.{Spec}
 use Rattle.est_meaning.specs.declared.event.Event.{Event}
 use Rattle.call_files.specs.Seen.{Seen}
 use Rattle.call_files.specs.FileEnds.{HoldsSpecification, HoldsTrace}
-use Rattle.call_files.specs.Requests.{Request, check, explain, replay, selfrun}
+use Rattle.call_files.specs.Requests.{Request, check, print, explain, replay, selfrun}
 
 -- `replay` starts its files in their order, each once, and one only where those before it are good
 pub data ReplayStarts (shelf : Seen) (specification trace explanation : List ℕ)
@@ -24,10 +24,11 @@ pub data ExplainStarts (shelf : Seen) (specification trace : List ℕ) : List (L
   both : (spec : Spec) → HoldsSpecification shelf specification spec
       → ExplainStarts shelf specification trace (specification ∷ trace ∷ [])
 
--- the files of these names are all that is started for what the words ask for: `check` and `selfrun`
--- start their file, once
+-- the files of these names are all that is started for what the words ask for: `check`, `print` and
+-- `selfrun` start their file, once
 abbrev pub Starts : Seen → Request → List (List ℕ) → Type 0
 Starts shelf (check specification) names = names ≡ specification ∷ []
+Starts shelf (print specification) names = names ≡ specification ∷ []
 Starts shelf (explain specification trace silent budget statements) names =
     ExplainStarts shelf specification trace names
 Starts shelf (replay specification trace explanation silent statements) names =

@@ -5,8 +5,10 @@ ghost use Rattle.call_files.specs.est_explanation.Replay.{most_moves};
 ghost use Rattle.call_files.specs.declared.file.File.TheVariants as file;
 ghost use Rattle.call_files.specs.Seen.{seen, shelved};
 ghost use Rattle.call_files.specs.FileTexts.{Holds, OfSpecification, OfTrace};
-ghost use Rattle.call_files.specs.Requests.{check, explain, replay};
-ghost use Rattle.est_tool.specs.inside.Work.{IsWork, Gives, IsCounted};
+ghost use Rattle.call_files.specs.Requests.{check, print, explain, replay};
+ghost use Rattle.est_print.specs.PrintedText.{IsPrintedText};
+ghost use Rattle.est_tool.specs.Ends.{TellsCounts};
+ghost use Rattle.est_tool.specs.inside.Work.{IsWork, Gives, IsFine};
 ghost use Rattle.est_tool.specs.inside.Work.{IsAnswered, IsExplained, IsReport, Tells};
 ghost use Rattle.call_files.specs.SearchReports.{no_start_line, over_start_line};
 
@@ -26,6 +28,7 @@ use call_files::{Report, Shelf, Stop};
 use est_meaning::event::Trace;
 use est_meaning::mean_blocks::fault::BlockFault;
 use est_meaning::run::Limits;
+use est_print::print_spec;
 use est_replay::checked::replay;
 use std::alloc::Global;
 
@@ -55,14 +58,36 @@ pub(crate) fn check_file<S: Shelf>(alloc: Global, shelf: &mut S, name: &str) -> 
     counted(alloc, &checked)
 }
 
-// The report of a good specification.
+// The numbers of a good specification.
 fn counted(alloc: Global, checked: &Checked) -> Result<Report, Stop>
-    ensures { Gives (IsCounted checked.now) result }
+    ensures { Gives (IsFine TellsCounts checked.now) result }
 {
     let text = ok_report(alloc, checked.counts())?;
     Ok(Report {
         status: Status::Fine,
         text: text.into_bytes(),
+    })
+}
+
+/// Prints the specification in a file.
+pub(crate) fn print_file<S: Shelf>(alloc: Global, shelf: &mut S, name: &str) -> Result<Report, Stop>
+    ensures { IsWork [] (print name.now) (seen
+        (shelved (S.told shelf.old) (S.faults shelf.old) (S.started shelf.old) (S.taken shelf.old))
+        (shelved (S.told shelf.new) (S.faults shelf.new) (S.started shelf.new) (S.taken shelf.new)))
+        result }
+{
+    let checked = specification_in(alloc, shelf, name)?;
+    printed(alloc, &checked)
+}
+
+// The text of a good specification.
+fn printed(alloc: Global, checked: &Checked) -> Result<Report, Stop>
+    ensures { Gives (IsFine IsPrintedText checked.now) result }
+{
+    let text = print_spec(alloc, checked.spec())?;
+    Ok(Report {
+        status: Status::Fine,
+        text,
     })
 }
 

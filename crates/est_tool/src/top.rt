@@ -5,7 +5,9 @@ ghost use Rattle.call_files.specs.Requests.{IsCommand};
 ghost use Rattle.est_tool.specs.inside.Work.{IsMade, IsObeyed};
 ghost use Rattle.est_tool.specs.inside.Written.{HasReport, IsReportable, Delivers, Sends};
 
-use crate::commands::{ExplainFiles, ReplayFiles, check_file, explain_files, replay_files};
+use crate::commands::{
+    ExplainFiles, ReplayFiles, check_file, explain_files, print_file, replay_files,
+};
 use crate::self_run::self_run_file;
 use call_files::status::Status;
 use call_files::words::{BadUsage, Command, read_words};
@@ -47,6 +49,7 @@ fn obey<S: Shelf>(
 {
     match command {
         Command::Check => check_file(alloc, shelf, words[1].as_str()),
+        Command::Print => print_file(alloc, shelf, words[1].as_str()),
         Command::Explain { limits } => {
             let files = ExplainFiles {
                 specification: words[1].as_str(),

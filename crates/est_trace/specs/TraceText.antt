@@ -32,8 +32,7 @@ IsTraceText ports text tokens events = IsTraceOfAtMost most_events ports text to
 
 -- the tokens of the text are a text of the trace, and of no other
 abbrev pub IsOnlyTraceText : List Port → List ℕ → List Token → List Event → Type 0
-IsOnlyTraceText ports text tokens events =
-    IsTraceText ports text tokens events
+IsOnlyTraceText ports text tokens events = IsTraceText ports text tokens events
     × ((other : List Event) → IsTraceText ports text tokens other → other ≡ events)
 
 -- the shape of events of these shapes, each within the one before, and then the rest
@@ -44,8 +43,7 @@ nested (t ∷ ts) u = some (both t (nested ts u))
 -- from place a on so many events are complete before a place, and the token there would begin
 -- another one
 abbrev pub IsFullAfter : List Port → ℕ → List ℕ → List Token → ℕ → ℕ → Type 0
-IsFullAfter ports most text tokens a place =
-    (ts : List Shape) × (length ts ≡ most)
+IsFullAfter ports most text tokens a place = (ts : List Shape) × (length ts ≡ most)
     × Tree (traces text) tokens (length tokens) (rule (events_at ports)) most a place
     (nested ts nothing)
     × MeetsOne (holds text) (slice_get tokens place) (event_starts ports)

@@ -45,8 +45,7 @@ signal_at values signal = option_map_or (signal_text values) signal []
 
 -- an interaction at one of these ports: the port, `.` and the signal
 abbrev pub interaction_text : List Port → Interaction → List ℕ
-interaction_text ports x =
-    let port = slice_get ports x.port in
+interaction_text ports x = let port = slice_get ports x.port in
     name_at port ++ index_at port ++ codes "."
     ++ signal_at x.values (slice_get (signals_at port) x.signal)
 
@@ -62,5 +61,4 @@ event_line ports event = happening ports event ++ codes "\n"
 
 -- the text of a trace at these ports
 abbrev pub trace_text : List Port → List Event → List ℕ
-trace_text ports events =
-    codes "trace 1\n" ++ flat_map (event_line ports) events ++ codes "end\n"
+trace_text ports events = codes "trace 1\n" ++ flat_map (event_line ports) events ++ codes "end\n"

@@ -85,8 +85,7 @@ side_faults o None role = []
 side_faults o (Some channel) role = role_faults o channel role
 
 abbrev pub point_faults : Outline → Point → List Fault
-point_faults o p =
-    twices_faults o p.names ++ dims_faults o p.dims p.place
+point_faults o p = twices_faults o p.names ++ dims_faults o p.dims p.place
     ++ use_faults o sort.Channel p.channel
     ++ side_faults o (declaration_of o sort.Channel p.channel) p.role
 
@@ -112,8 +111,7 @@ attribute_faults o owner (Some p) place =
     if may_own owner (is_system (entry_at o p)) then [] else broken place WrongAttribute
 
 abbrev pub modvar_faults : Outline → Owner → ModvarDef → List Fault
-modvar_faults o owner m =
-    twices_faults o m.names ++ dims_faults o m.dims m.place
+modvar_faults o owner m = twices_faults o m.names ++ dims_faults o m.dims m.place
     ++ use_faults o sort.Header m.header
     ++ attribute_faults o owner (declaration_of o sort.Header m.header) m.header.place
 
@@ -128,8 +126,7 @@ word_place [] = 0
 word_place (u ∷ us) = u.place - 1
 
 abbrev pub formal_faults : Outline → Option Used → Formal → List Fault
-formal_faults o result f =
-    twices_faults o f.names ++ type_faults o f.kind
+formal_faults o result f = twices_faults o f.names ++ type_faults o f.kind
     ++ broken_if (is_some result && f.by_place) (word_place f.names) NotInFunction
 
 -- the `any` variables of a transition

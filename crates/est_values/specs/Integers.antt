@@ -10,8 +10,7 @@ use Rattle.est_values.specs.declared.arithmetic.NumberFault.TheVariants.{Range, 
 
 -- an exact number, where it is an integer of this profile: from -maxint to maxint
 abbrev pub in_range : ℤ → Result ℤ NumberFault
-in_range z =
-    if int_le (neg_ℤ (pos maxint)) z && int_le z (pos maxint) then Ok z else Err Range
+in_range z = if int_le (neg_ℤ (pos maxint)) z && int_le z (pos maxint) then Ok z else Err Range
 
 -- the sum
 abbrev pub plus : ℤ → ℤ → Result ℤ NumberFault

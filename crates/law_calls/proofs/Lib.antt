@@ -14,6 +14,7 @@ pub mod NamedAnys
 pub mod NamedKinds
 pub mod OneRequest
 pub mod OneResult
+pub mod Printings
 pub mod ReadAnys
 pub mod ReadBodies
 pub mod ReadableVerdicts

@@ -1,12 +1,12 @@
 -- Words ask for one thing at most.
 use Rattle.std.proofs.Common.{◌≡◌, ◌∙◌, ℕ, List, [], ◌∷◌, get_or, sym, ap, refl}
 use Rattle.std.specs.Str.Parse.{digits_value}
-use Rattle.call_files.specs.Requests.{check, explain, replay, selfrun}
-use Rattle.call_files.specs.Requests.{to_check, to_explain, to_replay, to_self_run}
+use Rattle.call_files.specs.Requests.{check, print, explain, replay, selfrun}
+use Rattle.call_files.specs.Requests.{to_check, to_print, to_explain, to_replay, to_self_run}
 use Rattle.call_files.specs.Requests.{AreLimits, left_out, given, AreSearchLimits, usual, told}
 use Rattle.call_files.specs.Requests.{IsNumber, most_silent, most_budget, most_statements}
 use Rattle.call_files.specs.Requests.{most_made, most_seed}
-use Rattle.call_files.proofs.WordLaws.{explain_or_self_run}
+use Rattle.call_files.proofs.WordLaws.{check_or_print, explain_or_self_run}
 use Rattle.law_calls.specs.CallLaws.{OneRequest}
 
 -- a word is of one number
@@ -101,3 +101,19 @@ request_one words _ _ (to_self_run name x y n m e p q) (to_self_run name' x' y' 
     let seed : n ≡ n' = one_number 0 most_seed x x' n n' two q.seeded q'.seeded in
     let count : m ≡ m' = one_number 0 most_made y y' m m' three q.counted q'.counted in
     λ i. selfrun (one i) (seed i) (count i)
+request_one words _ _ (to_print name e named) (to_print other f named') = let same : name ≡ other =
+    cc in ap print same
+request_one words _ _ (to_print name e named) (to_check other f named') =
+    absurd (check_or_print _ (first_is words _ _ f) (first_is words _ _ e))
+request_one words _ _ (to_check name e named) (to_print other f named') =
+    absurd (check_or_print _ (first_is words _ _ e) (first_is words _ _ f))
+request_one words _ _ (to_print name e named)
+    (to_explain specification trace limits silent budget statements f p q l) = absurd cc
+request_one words _ _ (to_explain specification trace limits silent budget statements e p q l)
+    (to_print other f named) = absurd cc
+request_one words _ _ (to_print name e named)
+    (to_replay specification trace explanation limits silent statements f p q r l) = absurd cc
+request_one words _ _ (to_replay specification trace explanation limits silent statements e p q r l)
+    (to_print other f named) = absurd cc
+request_one words _ _ (to_print name e named) (to_self_run other x y n m f p q) = absurd cc
+request_one words _ _ (to_self_run other x y n m e p q) (to_print name f named) = absurd cc

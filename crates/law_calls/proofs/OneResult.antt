@@ -12,22 +12,31 @@ use Rattle.est_tool.specs.ReplayReports.{replay_line}
 use Rattle.est_tool.specs.ReplayReports.{replay_status}
 use Rattle.call_files.specs.FileTexts.{OfSpecification, OfTrace, OfExplanation}
 use Rattle.call_files.specs.FileTexts.{RefusesSpecification, RefusesTrace, RefusesExplanation}
-use Rattle.call_files.specs.Requests.{check, explain, replay, selfrun}
+use Rattle.call_files.specs.Requests.{check, print, explain, replay, selfrun}
 use Rattle.call_files.specs.Seen.{Seen}
-use Rattle.est_tool.specs.inside.Work.{IsCounted, IsAnswered, IsExplained}
+use Rattle.est_print.specs.PrintedText.{IsPrintedText}
+use Rattle.est_tool.specs.inside.Work.{IsFine, IsAnswered, IsExplained}
 use Rattle.call_files.specs.FileEnds.{End, reported, unread}
-use Rattle.est_tool.specs.Ends.{CheckEnds, at_its_file, good, ReplayEnds}
+use Rattle.est_tool.specs.Ends.{TellsCounts, CheckEnds, ReplayEnds}
 use Rattle.est_tool.specs.Ends.{at_specification, at_trace, at_explanation, replayed}
 use Rattle.law_calls.specs.CallLaws.{TellAlike, OneResult}
 use Rattle.law_calls.proofs.Stages.{AreSame, OfReport, stopped, stops, goes_on, one_stage}
 use Rattle.law_calls.proofs.Stages.{AtSpecification, AtTrace, AtExplanation}
 use Rattle.law_calls.proofs.Stages.{specifications_decided, traces_decided, explanations_decided}
+use Rattle.law_print.proofs.OneText.{one_text}
+use Rattle.law_calls.proofs.Printings.{same_self, check_stages}
 use Rattle.law_calls.proofs.SearchStages.{Explains, explain_stages, one_explained}
 use Rattle.law_calls.proofs.SelfRunStages.{SelfRuns, self_run_stages, one_made_report}
 
-one_counted : (spec : Spec) (s s' : Status) (r r' : List ℕ) → IsCounted spec s r
-    → IsCounted spec s' r' → AreSame s s' r r'
-one_counted spec s s' r r' x y = (x.0 ∙ sym y.0, x.1 ∙ sym y.1)
+-- one report says this of a specification
+abbrev SaysOnce : (Spec → List ℕ → Type 0) → Type 0
+SaysOnce Says = (spec : Spec) (r r' : List ℕ) → Says spec r → Says spec r' → r ≡ r'
+
+one_counted : SaysOnce TellsCounts
+one_counted spec r r' x y = x ∙ sym y
+
+one_printed : SaysOnce IsPrintedText
+one_printed spec r r' x y = one_text spec spec r r' (same_self spec r x) x y
 
 one_answered : (silent statements : ℕ) (spec : Spec) (events : List Event) (read : Explanation)
     (s s' : Status) (r r' : List ℕ) → IsAnswered silent statements spec events read s r
@@ -39,13 +48,6 @@ one_answered silent statements spec events read s s' r r' x y =
       x.3 ∙ ap (λ a. replay_line (length events) a) same
           ∙ sym y.3,
     )
-
-check_stages : (shelf : Seen) (name : List ℕ) (end : End) → CheckEnds shelf name end
-    → OfReport (AtSpecification shelf name IsCounted) end
-check_stages shelf name _ (at_its_file (reported s r) x) =
-    stops (stopped shelf Specification name RefusesSpecification (reported s r) x)
-check_stages shelf name _ (at_its_file unread x) = tt
-check_stages shelf name _ (good read holds) = goes_on read holds (refl, refl)
 
 -- the stages of a replay
 abbrev Runs : Seen → List ℕ → List ℕ → ℕ → ℕ → Spec → Status → List ℕ → Type 0
@@ -82,13 +84,19 @@ replay_stages shelf specification trace explanation silent statements _
     goes_on spec holds
     (goes_on events traced (goes_on read explained (answer, is, refl, refl)))
 
-one_check : (shelf shelf' : Seen) (name : List ℕ) (s s' : Status) (r r' : List ℕ)
-    → TellAlike shelf shelf' name
-    → AtSpecification shelf name IsCounted s r → AtSpecification shelf' name IsCounted s' r'
+one_check : (Says : Spec → List ℕ → Type 0) → SaysOnce Says → (shelf shelf' : Seen)
+    (name : List ℕ) (s s' : Status) (r r' : List ℕ) → TellAlike shelf shelf' name
+    → CheckEnds Says shelf name (reported s r) → CheckEnds Says shelf' name (reported s' r')
     → AreSame s s' r r'
-one_check shelf shelf' name s s' r r' told x y =
+one_check Says once shelf shelf' name s s' r r' told x y =
     one_stage Specification name told.0 RefusesSpecification OfSpecification specifications_decided
-    shelf shelf' told.1 told.2 IsCounted IsCounted one_counted s s' r r' x y
+    shelf shelf' told.1 told.2 (IsFine Says) (IsFine Says) one_fine s s' r r'
+    (check_stages Says shelf name (reported s r) x)
+    (check_stages Says shelf' name (reported s' r') y)
+  where
+    one_fine : (spec : Spec) (s s' : Status) (r r' : List ℕ) → IsFine Says spec s r
+        → IsFine Says spec s' r' → AreSame s s' r r'
+    one_fine spec s s' r r' x y = (x.0 ∙ sym y.0, once spec r r' x.1 y.1)
 
 one_replay : (shelf shelf' : Seen) (specification trace explanation : List ℕ)
     (silent statements : ℕ) (s s' : Status) (r r' : List ℕ) → TellAlike shelf shelf' specification
@@ -146,8 +154,9 @@ one_self_run shelf shelf' name seed count s s' r r' told x y =
 
 pub result_one : OneResult
 result_one shelf shelf' (check specification) s s' r r' told x y =
-    one_check shelf shelf' specification s s' r r' told (check_stages shelf specification
-    (reported s r) x) (check_stages shelf' specification (reported s' r') y)
+    one_check TellsCounts one_counted shelf shelf' specification s s' r r' told x y
+result_one shelf shelf' (print specification) s s' r r' told x y =
+    one_check IsPrintedText one_printed shelf shelf' specification s s' r r' told x y
 result_one shelf shelf' (explain specification trace silent budget statements) s s' r r' told x y =
     one_explain shelf shelf' specification trace
     (record { silent = silent; budget = budget; statements = statements }) s s' r r'

@@ -4,7 +4,7 @@ use Rattle.call_files.specs.declared.status.Status.{Status}
 use Rattle.call_files.specs.Seen.{Seen}
 use Rattle.call_files.specs.FileEnds.{reported}
 use Rattle.est_tool.specs.Ends.{Ends}
-use Rattle.call_files.specs.Requests.{Request, check, explain, replay, selfrun, Asks}
+use Rattle.call_files.specs.Requests.{Request, check, print, explain, replay, selfrun, Asks}
 
 -- two shelves tell a file, and tell the same bytes of it
 abbrev pub TellAlike : Seen → Seen → List ℕ → Type 0
@@ -15,6 +15,7 @@ TellAlike shelf shelf' name =
 -- two shelves tell each file that is asked for, and tell the same bytes of it
 abbrev pub TellFilesAlike : Seen → Seen → Request → Type 0
 TellFilesAlike shelf shelf' (check specification) = TellAlike shelf shelf' specification
+TellFilesAlike shelf shelf' (print specification) = TellAlike shelf shelf' specification
 TellFilesAlike shelf shelf' (explain specification trace silent budget statements) =
     TellAlike shelf shelf' specification × TellAlike shelf shelf' trace
 TellFilesAlike shelf shelf' (replay specification trace explanation silent statements) =

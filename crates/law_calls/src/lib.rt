@@ -1,11 +1,12 @@
 //! Laws of calls: what words ask for, what is reported, what a search decides; what `explain`
-//! reports, `replay` confirms; numbers are those that an explanation may have; and made traces are
-//! allowed, read back, and never refused.
+//! reports, `replay` confirms; numbers are those that an explanation may have; made traces are
+//! allowed, read back, and never refused; and what is printed, printed again, stays.
 #![tactic(auto)]
 
 pub mod confirmed;
 pub mod laws;
 pub mod made_events;
+pub mod printed;
 pub mod self_runs;
 pub mod sound_traces;
 pub mod writable;

@@ -43,7 +43,8 @@ use Rattle.est_trace.specs.WrittenTraces.{signal_at, signals_at, name_at, index_
 use Rattle.est_trace.specs.WrittenTraces.{interaction_text, happening}
 use Rattle.law_texts.specs.ReadablePorts.{IsReadableSignal, IsReadablePort, AreReadablePorts}
 use Rattle.est_explanation.proofs.Words.{Written}
-use Rattle.law_texts.proofs.Wholes.{Ends, Stands, standing_whole, name_stands, symbol_stands}
+use Rattle.text_printer.proofs.Standing.{Stands, name_stands, symbol_stands}
+use Rattle.law_texts.proofs.Wholes.{Ends, standing_whole}
 use Rattle.law_texts.proofs.Writing.{Writes, word_written, both_written, made_written}
 use Rattle.law_texts.proofs.Writing.{first_written, second_written, picked}
 use Rattle.law_texts.proofs.Marks.{marked, mark_meets, left_parenthesis, name_written}

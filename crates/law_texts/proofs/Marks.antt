@@ -23,8 +23,8 @@ use Rattle.text_values.specs.TraceGrammar.{Rule, symbol}
 use Rattle.law_texts.specs.PlainNames.{IsPlainName}
 use Rattle.est_explanation.proofs.Words.{Written}
 use Rattle.est_explanation.proofs.Numerals.{decimal_is_number, decimal_value}
-use Rattle.law_texts.proofs.Wholes.{Ends, Stands, standing_whole, name_stands, number_stands}
-use Rattle.law_texts.proofs.Wholes.{symbol_stands}
+use Rattle.text_printer.proofs.Standing.{Stands, name_stands, number_stands, symbol_stands}
+use Rattle.law_texts.proofs.Wholes.{Ends, standing_whole}
 use Rattle.law_texts.proofs.Writing.{Meets, Writes, word_written, token_written}
 
 -- no comment begins with a `(` before the text

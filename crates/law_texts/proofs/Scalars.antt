@@ -40,7 +40,8 @@ use Rattle.text_values.specs.WrittenOrdinals.{character_text, constant_text, ord
 use Rattle.law_texts.specs.PlainNames.{IsPlainName}
 use Rattle.law_texts.specs.ReadableKinds.{ArePlainNames, HasPlainConstants, IsReadableOrdinal}
 use Rattle.est_explanation.proofs.Words.{Written}
-use Rattle.law_texts.proofs.Wholes.{Ends, standing_whole, plain_stands, quotes_stand}
+use Rattle.text_printer.proofs.Standing.{plain_stands, quotes_stand}
+use Rattle.law_texts.proofs.Wholes.{Ends, standing_whole}
 use Rattle.law_texts.proofs.Writing.{Writes, nothing_written, both_written, made_written}
 use Rattle.law_texts.proofs.Writing.{first_written, second_written, token_written, picked}
 use Rattle.law_texts.proofs.Marks.{left_parenthesis, right_parenthesis, minus, mark_written}

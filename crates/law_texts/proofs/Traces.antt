@@ -25,7 +25,8 @@ use Rattle.est_trace.specs.inside.AtPorts.{IsAtPorts, AreAtPorts}
 use Rattle.est_trace.specs.WrittenTraces.{happening, event_line, trace_text}
 use Rattle.law_texts.specs.ReadablePorts.{AreReadablePorts}
 use Rattle.est_explanation.proofs.Words.{Written, IsWhole, text_of, AreWritten}
-use Rattle.law_texts.proofs.Wholes.{Ends, AreWholeBefore, standing_whole, number_stands}
+use Rattle.text_printer.proofs.Standing.{number_stands}
+use Rattle.law_texts.proofs.Wholes.{Ends, AreWholeBefore, standing_whole}
 use Rattle.law_texts.proofs.Writing.{Parsed, Writes, nothing_written, word_written}
 use Rattle.law_texts.proofs.Writing.{both_written, some_written, rule_written}
 use Rattle.law_texts.proofs.Marks.{NoStar}

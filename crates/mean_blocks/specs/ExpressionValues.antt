@@ -95,11 +95,9 @@ abbrev mutual
   factor_of (factor.Group' p e place) v = row_first e v
   factor_of (factor.Not' p f place) v = row_factor f v >>= negated
   factor_of (factor.Set' n members place) v = row_members members [] v >>= λ zs. lift (set_of zs)
-  factor_of (factor.Variable' name n path place) v =
-      let h = head v.site.text.outline name in
+  factor_of (factor.Variable' name n path place) v = let h = head v.site.text.outline name in
       valued v h (value_begun v h >>= λ r. row_selected path r v)
-  factor_of (factor.Call' name n arguments place) v =
-      let m = meaning v.site.text.outline name in
+  factor_of (factor.Call' name n arguments place) v = let m = meaning v.site.text.outline name in
       applied v m (row_values arguments [] v) (row_required arguments v)
 
   -- of the one expression in a box, and of the one operand
@@ -264,6 +262,5 @@ argument_of e false v = value_of e v >>= λ a. give (slot.Value a)
 -- the arguments of a procedure, after those before them
 abbrev pub arguments_in : List Expr → ℕ → List Slot → View → Counts (List Slot)
 arguments_in [] p xs v = give xs
-arguments_in (e ∷ es) p xs v =
-    argument_of e (takes_place v.site.text.outline p (length xs)) v
+arguments_in (e ∷ es) p xs v = argument_of e (takes_place v.site.text.outline p (length xs)) v
     >>= λ x. arguments_in es p (xs ++ x ∷ []) v

@@ -96,8 +96,7 @@ held e hs = option_and_then (λ (h : Holding). h.number) (find (is_holding e) hs
 
 -- holdings of which that of one element is another instance
 abbrev pub holding : Element → ℕ → List Holding → List Holding
-holding e n hs =
-    first_changed (is_holding e) (λ (h : Holding). record h { number = Some n }) hs
+holding e n hs = first_changed (is_holding e) (λ (h : Holding). record h { number = Some n }) hs
 
 -- the situation in which a queue has these items
 abbrev pub with_queue : QueueName → List Item → Situation → Situation

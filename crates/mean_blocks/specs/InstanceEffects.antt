@@ -88,8 +88,7 @@ is_among ns n = list_any (nat_eq n) ns
 -- children
 abbrev pub descendants : List ℕ → List Row → List ℕ
 descendants ns [] = ns
-descendants ns (r ∷ rs) =
-    descendants (if is_among ns r.parent then ns ++ r.number ∷ [] else ns) rs
+descendants ns (r ∷ rs) = descendants (if is_among ns r.parent then ns ++ r.number ∷ [] else ns) rs
 
 -- the instance of a queue
 abbrev pub owner : QueueName → ℕ

@@ -22,8 +22,7 @@ is_taken t s p = is_some (s.peer p) || is_some (above t s p)
 -- two interaction points are connected
 abbrev pub connected : Text → InteractionPoint → InteractionPoint → Situation
     → Result Situation BlockFault
-connected t p q s =
-    if is_point p q then Err SelfLink else
+connected t p q s = if is_point p q then Err SelfLink else
     (if is_taken t s p || is_taken t s q then Err LinkTaken else
     Ok (record s { peer = with_point p (Some q) (with_point q (Some p) s.peer) }))
 

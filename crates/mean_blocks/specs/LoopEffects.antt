@@ -23,8 +23,7 @@ use Rattle.mean_blocks.specs.WriteEffects.{ordinal_of, framed, stored}
 -- whether a `while` goes on, after the turn for which it does: its condition is evaluated, and then
 -- the turn is counted
 abbrev pub turn_of : (State → Outcome State ℤ) → Does → State → Outcome State Bool
-turn_of condition turn =
-    condition >>= λ z. choose z (enter >> (turn >> give true)) (give false)
+turn_of condition turn = condition >>= λ z. choose z (enter >> (turn >> give true)) (give false)
 
 -- a `while` of less than n turns: n is more than the statements that are left, of which each turn
 -- counts one
@@ -61,8 +60,7 @@ step true = negsuc 0
 -- afterwards, also where there was no turn. A bound outside the variable's range is a fault when
 -- its turn comes.
 abbrev pub controlled : Used → Expr → Bool → Expr → Does → Site → Does
-controlled name first down last turn site =
-    evaluated site (variable_of name []) >>= λ r.
+controlled name first down last turn site = evaluated site (variable_of name []) >>= λ r.
     ordinal_of first site >>= λ a.
     ordinal_of last site >>= λ b.
     counts (distance down a b) a (step down) (λ z. stored site.function r (value.Ordinal z) >> turn)

@@ -40,8 +40,7 @@ variable_begun v _ = junk
 
 -- where what a name stands for begins in an expression: of a function, its result as a whole
 abbrev pub value_begun : View → Head → Counts Reached
-value_begun v (Function p k) =
-    give (Component (whole (holder.Instance v.site.instance) p) k)
+value_begun v (Function p k) = give (Component (whole (holder.Instance v.site.instance) p) k)
 value_begun v h = variable_begun v h
 
 -- the instance that the name of an `all` stands for, and else that of an element

@@ -56,8 +56,7 @@ use Rattle.mean_blocks.specs.LoopEffects.{turns, repeats, controlled, over}
 -- A call of a procedure: the arguments, their ranges, and its statements one level deeper (ISO
 -- 7185, 6.8.2.3; the order is profile).
 abbrev pub performed : Used → List Expr → Site → Does
-performed name arguments site =
-    known (declared_at site.text.outline name) >>= λ p.
+performed name arguments site = known (declared_at site.text.outline name) >>= λ p.
     evaluated site (arguments_in arguments p []) >>= λ xs.
     known (routine_at site.text p) >>= λ r.
     lift (routine_frame site.text.outline p xs) >>= λ f.
@@ -84,9 +83,7 @@ values_of o d xs = on_ok (frame_of o (places_of o sort.Variable d) xs)
 
 -- the item of an output: its interaction point, its arguments and their ranges
 abbrev pub item_of : Sending → View → Counts Item
-item_of x v =
-    own_point x.at v >>= λ p.
-    values_in x.arguments [] v >>= λ xs.
+item_of x v = own_point x.at v >>= λ p. values_in x.arguments [] v >>= λ xs.
     known (interaction_of v.site.text.outline p.declared x.signal) >>= λ d.
     lift (values_of v.site.text.outline d xs) >>= λ vs.
     give (record { at = p; signal = d; values = vs })
@@ -116,8 +113,7 @@ first_reached o n f s = with_row n (in_state (first_state o f)) s
 -- then the first state (ISO 9074, initialization-part)
 abbrev pub initialized : ℕ → Option FirstPart → Site → Does
 initialized n None site = give tt
-initialized n (Some f) site =
-    lift (frame_of site.text.outline
+initialized n (Some f) site = lift (frame_of site.text.outline
     (places_of site.text.outline sort.Variable (first_region f)) []) >>= λ frame.
     framed frame (site.deeper n false (first_statements f))
     >> changes (λ s. Ok (first_reached site.text.outline n f s))
@@ -130,8 +126,7 @@ element_of a v = accessed a (λ p zs. give (record { declared = p; index = zs })
 -- too many instances, the ranges of the arguments, and the initialize part of the new instance one
 -- level deeper (ISO 9074, init-statement; the order is profile).
 abbrev pub init_done : Access → Used → List Expr → Site → Does
-init_done target body arguments site =
-    evaluated site (element_of target) >>= λ e.
+init_done target body arguments site = evaluated site (element_of target) >>= λ e.
     evaluated site (values_in arguments []) >>= λ xs.
     known (declared_at site.text.outline body) >>= λ b.
     known (body_at site.text b) >>= λ x.
@@ -164,8 +159,7 @@ abbrev mutual
   body_of (statement.Assign target path e place) site = assigned target path e site
   body_of (statement.Call name arguments place) site =
       acts site.function (performed name arguments site)
-  body_of (statement.If' condition a first second place) site =
-      ordinal_of condition site >>= λ z.
+  body_of (statement.If' condition a first second place) site = ordinal_of condition site >>= λ z.
       choose z (row_statement first site) (held_statement second site)
   body_of (statement.Case' e a arms place) site = ordinal_of e site >>= λ z. row_arms arms z site
   body_of (statement.While' condition a turn place) site = λ s.

@@ -93,8 +93,7 @@ all_by w o over None = typed w sort.Variable (text_type o over)
 all_by w o over (Some header) = module_variable w (Some []) (Some header)
 
 abbrev pub all_named : Within → Used → TypeText → Outline → Outline
-all_named w u over o =
-    declared w u (text_last over)
+all_named w u over o = declared w u (text_last over)
     (all_by (in_section section.All w) o over (over_header o over)) o
 
 -- the place of the first token of an expression
@@ -133,8 +132,7 @@ abbrev mutual
 
   pub row_arms : Within → {n : _} → Row_of-Arm n → Outline → Outline
   row_arms w end_of-Arm o = o
-  row_arms w (more_of-Arm constants s rest) o =
-      row_arms w rest
+  row_arms w (more_of-Arm constants s rest) o = row_arms w rest
       (within_declares w s (lying w (statement_place s) (arm_lying w constants o)))
 
 -- a statement, and statements in order
@@ -189,8 +187,7 @@ when_given w at u place (gs, o) =
 abbrev pub choosing : Within → List VarDef → ℕ → Clausal → Clausal
 choosing w names place (gs, o) = (
   gs,
-  vars_declare (in_region section.Any (under w gs) place) names
-      (lying (under w gs) place o),
+  vars_declare (in_region section.Any (under w gs) place) names (lying (under w gs) place o),
 )
 
 abbrev pub any_given : Within → List VarDef → ℕ → Clausal → Clausal
@@ -285,8 +282,7 @@ abbrev mutual
 
   pub first_declares : Within → Held-Body-first → Outline → Outline
   first_declares w first.None' o = o
-  first_declares w (first.Some' to a parts statements place) o =
-      let v = inner w place in
+  first_declares w (first.Some' to a parts statements place) o = let v = inner w place in
       statements_declare v statements (row_parts v parts (to_lying w to o))
 
   pub row_groups : Within → {n : _} → Row_of-Group n → Outline → Outline

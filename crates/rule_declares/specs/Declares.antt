@@ -50,8 +50,7 @@ names_declare w (u ∷ us) last e o = names_declare w us last e (declared w u la
 
 -- a constant
 abbrev pub constdef_declares : Within → ConstDef → Outline → Outline
-constdef_declares w c o =
-    declared w c.name (constant_last c.value)
+constdef_declares w c o = declared w c.name (constant_last c.value)
     (constant w (constant_value (lying w c.name.place o) c.value)) (lying w c.name.place o)
 
 abbrev pub consts_declare : Within → List ConstDef → Outline → Outline
@@ -178,8 +177,7 @@ by_parts_declare w region (b ∷ bs) o = by_parts_declare w region bs (by_part_d
 
 -- a channel, with a region for its roles and interactions
 abbrev pub channel_declares : Within → Channel → Outline → Outline
-channel_declares w c o =
-    by_parts_declare w c.name.place c.by (roles_put c.name.place c.roles First
+channel_declares w c o = by_parts_declare w c.name.place c.by (roles_put c.name.place c.roles First
     (declared w c.name (channel_last c) (plain w sort.Channel) (lying w c.name.place o)))
 
 -- the side of an interaction point, where its channel is one and has its role
@@ -196,8 +194,7 @@ side_of o p = side_by o (declaration_of o sort.Channel p.channel) p.role
 
 -- interaction points
 abbrev pub point_named : Within → Point → Outline → Outline
-point_named w p o =
-    names_declare w p.names p.role.place
+point_named w p o = names_declare w p.names p.role.place
     (point w (dims_of o p.dims) (dims_elements (dims_of o p.dims)) (side_of o p) p.queue) o
 
 abbrev pub point_declares : Within → Point → Outline → Outline
@@ -209,8 +206,7 @@ points_declare w (p ∷ ps) o = points_declare w ps (point_declares w p o)
 
 -- module variables
 abbrev pub modvar_named : Within → ModvarDef → Outline → Outline
-modvar_named w m o =
-    names_declare w m.names m.header.place
+modvar_named w m o = names_declare w m.names m.header.place
     (module_variable w (dims_of o m.dims) (declaration_of o sort.Header m.header)) o
 
 abbrev pub modvar_declares : Within → ModvarDef → Outline → Outline
@@ -235,8 +231,7 @@ after (v ∷ vs) place = if stands_before v place then after vs place else v ∷
 -- the interaction points and the exports of a header, in the order of the text
 abbrev pub sections_declare : Within → List Point → List VarDef → Outline → Outline
 sections_declare w [] vs o = vars_declare w vs o
-sections_declare w (p ∷ ps) vs o =
-    sections_declare w ps (after vs p.place)
+sections_declare w (p ∷ ps) vs o = sections_declare w ps (after vs p.place)
     (point_declares w p (vars_declare w (before vs p.place) o))
 
 abbrev pub has_exports : List VarDef → Bool
@@ -245,8 +240,7 @@ has_exports (v ∷ vs) = true
 
 -- a header, with a region for its parameters, interaction points and exports
 abbrev pub header_named : Within → Header → Outline → Outline
-header_named w h o =
-    declared w h.name (header_last h) (header w h.system (has_exports h.exports))
+header_named w h o = declared w h.name (header_last h) (header w h.system (has_exports h.exports))
     (lying w h.name.place o)
 
 abbrev pub header_declares : Within → Header → Outline → Outline
@@ -271,8 +265,7 @@ states_named o (u ∷ us) = with_state (declaration_of o sort.State u) (states_n
 
 -- state sets
 abbrev pub stateset_named : Within → StateSet → Outline → Outline
-stateset_named w s o =
-    declared w s.name (names_last s.states s.name.place)
+stateset_named w s o = declared w s.name (names_last s.states s.name.place)
     (state_set w (states_named o s.states)) o
 
 abbrev pub stateset_declares : Within → StateSet → Outline → Outline
@@ -293,8 +286,7 @@ abbrev pub formal_given : Formal → Outline → Outline
 formal_given f o = kinds_given f.names (named_type o f.kind) o
 
 abbrev pub formal_declares : Within → Formal → Outline → Outline
-formal_declares w f o =
-    formal_given f
+formal_declares w f o = formal_given f
     (formal_named (in_section (formal_section f) w) f (lying w f.kind.place o))
 
 abbrev pub formals_declare : Within → List Formal → Outline → Outline

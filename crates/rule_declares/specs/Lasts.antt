@@ -63,6 +63,5 @@ points_last (p ∷ ps) last = points_last ps p.role.place
 
 -- of a header, whose sections stand in any order
 abbrev pub header_last : Header → ℕ
-header_last h =
-    max (vars_last h.params h.name.place)
+header_last h = max (vars_last h.params h.name.place)
     (max (points_last h.points h.name.place) (vars_last h.exports h.name.place))

@@ -22,5 +22,4 @@ values_of k = map (λ (i : ℕ). first_value k +ℤ pos i) (range_with_len 0 (co
 -- the tuples of values of these kinds, in lexicographic order
 abbrev pub tuples_of : List Kind → List (List ℤ)
 tuples_of [] = [] ∷ []
-tuples_of (k ∷ ks) =
-    flat_map (λ (z : ℤ). map (λ (t : List ℤ). z ∷ t) (tuples_of ks)) (values_of k)
+tuples_of (k ∷ ks) = flat_map (λ (z : ℤ). map (λ (t : List ℤ). z ∷ t) (tuples_of ks)) (values_of k)

@@ -27,8 +27,7 @@ use Rattle.rule_declares.specs.OrdinalValues.{tuples_of}
 -- the kind of a parameter, where one is declared and has a kind
 abbrev pub kind_by : Option Entry → List Kind
 kind_by None = []
-kind_by (Some e) =
-    if same_sort sort.Variable e.declared.sort then
+kind_by (Some e) = if same_sort sort.Variable e.declared.sort then
     option_to_list (option_map (λ (m : Measured). m.kind) e.kind)
     else []
 

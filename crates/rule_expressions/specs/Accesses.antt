@@ -16,6 +16,5 @@ subscripts_at place = option_map (λ (p : ℕ). receiver.Subscripts p) place
 
 -- what a name with its subscripts breaks where this sort is wanted
 abbrev pub access_faults : Outline → Sort → Access → List Fault
-access_faults o s a =
-    use_faults o s a.name
+access_faults o s a = use_faults o s a.name
     ++ are_taken_faults o (subscripts_at (declaration_of o s a.name)) 0 a.name.place a.index

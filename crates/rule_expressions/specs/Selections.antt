@@ -184,8 +184,7 @@ entry_faults o p (Some e) place = sort_faults o p e.declared.sort place
 
 -- what a name of this meaning breaks in an expression
 abbrev pub meant_faults : Outline → Meant → ℕ → List Fault
-meant_faults o m place =
-    meaning_faults m place
+meant_faults o m place = meaning_faults m place
     (λ (n : PredeclaredName). predeclared_faults (predeclared_constant n) n place)
     (λ (p : ℕ). entry_faults o p (entry_at o p) place)
 

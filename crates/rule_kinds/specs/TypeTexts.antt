@@ -64,8 +64,7 @@ scalar k = record { kind = k; scalars = 1; levels = 0 }
 
 -- whether so many scalars and levels are within the limits of a type
 abbrev pub is_within : ℕ → ℕ → Bool
-is_within scalars levels =
-    if nat_lt most_scalars scalars then false else
+is_within scalars levels = if nat_lt most_scalars scalars then false else
     (if nat_lt most_levels levels then false else true)
 
 -- a kind within the limits of a type
@@ -156,8 +155,7 @@ are_declared o (u ∷ us) = is_some (entry_at o u.place) && are_declared o us
 -- the kind of an enumeration of names at a place, all of which are declared by it
 abbrev pub enumeration : Outline → List Used → ℕ → Option Measured
 enumeration o [] place = None
-enumeration o (u ∷ us) place =
-    if are_declared o (u ∷ us)
+enumeration o (u ∷ us) place = if are_declared o (u ∷ us)
     then Some (scalar (kind.Enumeration place (map (λ (x : Used). x.name) (u ∷ us)))) else None
 
 -- the kind of an array over an index
@@ -285,8 +283,7 @@ abbrev mutual
 abbrev mutual
   pub text_faults : Outline → TypeText → List Fault
   text_faults o (text.Named u) = type_faults o u
-  text_faults o (text.Range low high) =
-      constant_faults o low ++ constant_faults o high
+  text_faults o (text.Range low high) = constant_faults o low ++ constant_faults o high
       ++ range_faults (constant_value o low) (constant_value o high) (constant_place low)
   text_faults o (text.Names names place) = twices_faults o names
   text_faults o (text.Array' a index b of place) =
@@ -306,8 +303,7 @@ abbrev mutual
 
   pub row_index_faults : Outline → {n : _} → Row_of-TypeText n → Option Measured → ℕ → List Fault
   row_index_faults o end_of-TypeText m place = []
-  row_index_faults o (more_of-TypeText t rest) m place =
-      row_index_faults o rest m place
+  row_index_faults o (more_of-TypeText t rest) m place = row_index_faults o rest m place
       ++ (text_faults o t
       ++ array_faults (text_type o t) (row_arrays o rest m) (text_place t) place)
 

@@ -9,8 +9,7 @@ use Rattle.rule_scope.specs.declared.predeclared.PredeclaredName.TheVariants as 
 
 -- the predeclared names of the profile (ISO 7185, required identifiers)
 unfoldable pub predeclared_names : List (List ℕ × PredeclaredName)
-predeclared_names =
-    (codes "integer", known.Integer) ∷ (codes "boolean", known.Boolean)
+predeclared_names = (codes "integer", known.Integer) ∷ (codes "boolean", known.Boolean)
     ∷ (codes "char", known.Char) ∷ (codes "false", known.False) ∷ (codes "true", known.True)
     ∷ (codes "maxint", known.Maxint) ∷ (codes "ord", known.Ord) ∷ (codes "chr", known.Chr)
     ∷ (codes "succ", known.Succ) ∷ (codes "pred", known.Pred) ∷ (codes "abs", known.Abs)

@@ -54,8 +54,7 @@ end_used o place m = meaning_faults m place (λ (n : PredeclaredName). broken pl
 
 -- what a name with its subscripts breaks that stands alone
 abbrev pub single_faults : Outline → Access → List Fault
-single_faults o a =
-    end_used o a.name.place (meaning o a.name)
+single_faults o a = end_used o a.name.place (meaning o a.name)
     ++ are_taken_faults o (subscripts_at (end_of o a.name)) 0 a.name.place a.index
 
 -- the place of an interaction point that stands in a header
@@ -89,8 +88,7 @@ child_point o child point = outer_point o (module_header o child) point.name
 
 -- what a module variable and an interaction point of its module break
 abbrev pub child_faults : Outline → Access → Access → List Fault
-child_faults o child point =
-    access_faults o sort.ModuleVariable child
+child_faults o child point = access_faults o sort.ModuleVariable child
     ++ outer_used o (module_header o child) point.name
     ++ are_taken_faults o (subscripts_at (child_point o child point)) 0 point.name.place point.index
 
@@ -166,8 +164,7 @@ connect_faults o one other =
 
 -- what an `attach` of an own point to a point of a child breaks
 abbrev pub attach_faults : Outline → Access → Access → Access → List Fault
-attach_faults o own child point =
-    access_faults o sort.Point own
+attach_faults o own child point = access_faults o sort.Point own
     ++ external_faults o (declaration_of o sort.Point own.name) own.name.place
     ++ child_faults o child point
     ++ joined_faults (point_side o own.name) (side_at o (child_point o child point))

@@ -46,8 +46,7 @@ header_faults _ _ place = []
 -- what a body breaks whose text has not ended, or that is not for that header
 abbrev pub body_faults : Outline → Option ℕ → Option ℕ → ℕ → List Fault
 body_faults o header None place = []
-body_faults o header (Some body) place =
-    if lies_in o place body then broken place WrongBody
+body_faults o header (Some body) place = if lies_in o place body then broken place WrongBody
     else header_faults header (header_in (entry_at o body)) place
 
 -- the parameters of a body are those of its header
@@ -56,8 +55,7 @@ parameters_of header = option_map (λ (h : ℕ). receiver.Parameters h) header
 
 -- what an `init` breaks
 abbrev pub init_faults : Outline → Access → Used → List Expr → List Fault
-init_faults o target body arguments =
-    access_faults o sort.ModuleVariable target
+init_faults o target body arguments = access_faults o sort.ModuleVariable target
     ++ started_faults o (declaration_of o sort.ModuleVariable target.name) target.name.place
     ++ use_faults o sort.Body body
     ++ body_faults o (header_at o (declaration_of o sort.ModuleVariable target.name))

@@ -66,7 +66,6 @@ signal_of o (Some s) u = signal_standing o (standing o s.channel (spelled u))
 
 -- an interaction that is sent
 abbrev pub sending_faults : Outline → Sending → List Fault
-sending_faults o s =
-    signal_faults o Sends s.at s.signal
+sending_faults o s = signal_faults o Sends s.at s.signal
     ++ are_taken_faults o (signal_of o (point_side o s.at.name) s.signal) 0 s.signal.place
     s.arguments

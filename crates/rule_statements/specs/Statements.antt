@@ -60,8 +60,7 @@ is_place _ = false
 -- what an argument of a procedure breaks, which is a variable where its parameter is given one
 abbrev pub argument_by : Outline → Option ℕ → List ℕ → Option Entry → Expr → List Fault
 argument_by o f loops None e = expr_faults o e
-argument_by o f loops (Some g) e =
-    if is_place g.section then place_faults o f loops g.kind e
+argument_by o f loops (Some g) e = if is_place g.section then place_faults o f loops g.kind e
     else expr_faults o e ++ gives (type_in g.kind) (expr_type o e) (expr_place e)
 
 -- what an argument breaks for the parameter with this number, counted from 0
@@ -75,15 +74,13 @@ arguments_faults o f loops p i name (e ∷ es) =
     argument_faults o f loops p i e ++ arguments_faults o f loops p (i + 1) name es
 
 -- what arguments break after a name, which is that of a procedure or of none
-abbrev pub called_faults :
-    Outline → Option ℕ → List ℕ → Option ℕ → ℕ → List Expr → List Fault
+abbrev pub called_faults : Outline → Option ℕ → List ℕ → Option ℕ → ℕ → List Expr → List Fault
 called_faults o f loops None name es = flat_map (expr_faults o) es
 called_faults o f loops (Some p) name es = arguments_faults o f loops p 0 name es
 
 -- a procedure with its arguments
 abbrev pub call_faults : Outline → Option ℕ → List ℕ → Used → List Expr → List Fault
-call_faults o f loops name es =
-    use_faults o sort.Procedure name
+call_faults o f loops name es = use_faults o sort.Procedure name
     ++ called_faults o f loops (declaration_of o sort.Procedure name) name.place es
 
 -- the type of the control variable of a `for`

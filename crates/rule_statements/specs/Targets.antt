@@ -129,8 +129,7 @@ subscripts_in (Some x) = held (out-Selector x)
 
 -- whether as many subscripts as these kinds stand first, and no others after them
 abbrev pub are_subscripts : List Kind → List Selector → Bool
-are_subscripts ks path =
-    nat_eq (length ks) (unwrap_or (subscripts_in (slice_get path 0)) 0)
+are_subscripts ks path = nat_eq (length ks) (unwrap_or (subscripts_in (slice_get path 0)) 0)
     && not (is_some (subscripts_in (slice_get path 0))
     && is_some (subscripts_in (slice_get path 1)))
 
@@ -147,21 +146,18 @@ counted_faults _ dims path place = []
 
 -- what the name of a declaration breaks that may not be written
 abbrev pub sort_target_faults : Entry → List Selector → ℕ → List Fault
-sort_target_faults e path place =
-    if is_target_sort e.declared.sort
+sort_target_faults e path place = if is_target_sort e.declared.sort
     then broken place NotWritable ++ counted_faults e.declared.sort e.dims path place
     else broken place WrongSort
 
 -- what the name of a declaration breaks as a target
-abbrev pub entry_target_faults :
-    Option ℕ → List ℕ → ℕ → Entry → List Selector → ℕ → List Fault
+abbrev pub entry_target_faults : Option ℕ → List ℕ → ℕ → Entry → List Selector → ℕ → List Fault
 entry_target_faults f loops p e path place =
     if is_writable f loops p e.section e.declared.sort then []
     else sort_target_faults e path place
 
 -- what the name of something declared breaks as a target
-abbrev pub target_in_faults :
-    Option ℕ → List ℕ → ℕ → Option Entry → List Selector → ℕ → List Fault
+abbrev pub target_in_faults : Option ℕ → List ℕ → ℕ → Option Entry → List Selector → ℕ → List Fault
 target_in_faults f loops p None path place = broken place WrongSort
 target_in_faults f loops p (Some e) path place = entry_target_faults f loops p e path place
 
@@ -205,8 +201,7 @@ path_target_faults o f loops u path =
 
 -- an assignment
 abbrev pub assign_faults : Outline → Option ℕ → List ℕ → Used → List Selector → Expr → List Fault
-assign_faults o f loops u path e =
-    path_target_faults o f loops u path ++ expr_faults o e
+assign_faults o f loops u path e = path_target_faults o f loops u path ++ expr_faults o e
     ++ gives (selected_type (path_target o f loops u path)) (expr_type o e) (expr_place e)
 
 -- what stands for a `var` parameter of this kind is alike to it
@@ -219,8 +214,7 @@ unlike_faults m s place = []
 abbrev pub place_faults_by :
     Outline → Option ℕ → List ℕ → Option Measured → Expr → Option Variable → List Fault
 place_faults_by o f loops m e None = expr_faults o e ++ broken (expr_place e) NotWritable
-place_faults_by o f loops m e (Some v) =
-    path_target_faults o f loops v.0 v.1
+place_faults_by o f loops m e (Some v) = path_target_faults o f loops v.0 v.1
     ++ unlike_faults m (path_target o f loops v.0 v.1) (expr_place e)
 
 -- an argument for such a parameter

@@ -62,6 +62,5 @@ result_names (Some u) = u ∷ []
 
 -- A routine looks up the types of its parameters and of its result, and what its block does.
 abbrev pub routine_names : Routine → List Used
-routine_names r =
-    formals_names (out-Routine r).formals ++ result_names (out-Routine r).result
+routine_names r = formals_names (out-Routine r).formals ++ result_names (out-Routine r).result
     ++ block_names (out-Routine r).block

@@ -404,8 +404,7 @@ factor (factors.Group of_ place) = at place (choice 2 (pair (node (an_expr of_))
 factor (factors.Not of_ place) = at place (choice 3 (node (a_factor of_)))
 factor (factors.Set ms place) = at place (choice 4 (pair (members ms) empty))
 factor (factors.Variable name ss place) = at place (last_choice 5 (pair (used name) (selectors ss)))
-factor (factors.Call name arguments place) =
-    at place (last_choice 5 (pair (used name)
+factor (factors.Call name arguments place) = at place (last_choice 5 (pair (used name)
     (given (first (pair (nodes (map an_expr arguments)) empty)))))
 
 -- A selector, with its parts.
@@ -496,8 +495,7 @@ statement (statements.Repeat turn until place) =
 statement (statements.For name from down to turn place) =
     chosen place 6 (pair (used name) (pair (node (an_expr from)) (pair (direction down)
     (pair (node (an_expr to)) (node (a_statement turn))))))
-statement (statements.All name over turn place) =
-    chosen place 7 (pair (used name)
+statement (statements.All name over turn place) = chosen place 7 (pair (used name)
     (pair (node (a_short_type over)) (node (a_statement turn))))
 statement (statements.Output sendings place) = chosen place 8 (nodes (map a_sending sendings))
 statement (statements.Init target body arguments place) =
@@ -506,8 +504,7 @@ statement (statements.Release target place) = chosen place 10 (node (an_access t
 statement (statements.Connect one other place) =
     chosen place 11 (pair (node (an_end_point one)) (node (an_end_point other)))
 statement (statements.Disconnect end_ place) = chosen place 12 (node (an_end_point end_))
-statement (statements.Attach own child ip place) =
-    chosen place 13 (pair (node (an_access own))
+statement (statements.Attach own child ip place) = chosen place 13 (pair (node (an_access own))
     (pair (node (an_access child)) (node (an_access ip))))
 statement (statements.Detach end_ place) =
     at place (given (last_choice 14 (node (an_end_point end_))))
@@ -631,8 +628,7 @@ first_statement _ = nowhere
 
 -- a specification
 abbrev pub specification : Spec → View
-specification s =
-    pair (used s.name) (pair (default_queue s.queue) (pair (time_scale s.scale)
+specification s = pair (used s.name) (pair (default_queue s.queue) (pair (time_scale s.scale)
     (pair (nodes (map a_common_part s.parts))
     (pair (first_statement (out-Statement s.first)) (pair empty empty)))))
 

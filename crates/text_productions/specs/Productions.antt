@@ -467,8 +467,7 @@ production settype = deeper (said words.Set (said words.Of (rule typetext)))
 -- vars = "var" vardef { vardef } .
 production vars = said words.Var (several (rule vardef))
 -- vardef = idents ":" typetext ";" .
-production vardef = seq idents (symbol symbols.Colon
-    (seq (rule typetext) (mark symbols.Semicolon)))
+production vardef = seq idents (symbol symbols.Colon (seq (rule typetext) (mark symbols.Semicolon)))
 -- channel = "channel" ident "(" ident "," ident ")" ";" by { by } .
 production channel = said words.Channel (seq identifier (symbol symbols.LeftParenthesis
     (seq identifier (symbol symbols.Comma (seq identifier (symbol symbols.RightParenthesis
@@ -544,8 +543,7 @@ production arm = seq (listed (rule constant)) (symbol symbols.Colon (rule statem
 -- sending = access "." ident [ "(" exprs ")" ] .
 production sending = seq (rule access) (symbol symbols.Period (seq identifier arguments))
 -- init = "init" access "with" ident [ "(" exprs ")" ] .
-production init = said words.Init (seq (rule access) (said words.With
-    (seq identifier arguments)))
+production init = said words.Init (seq (rule access) (said words.With (seq identifier arguments)))
 -- end_point = access [ "." access ] .
 production end_point = seq (rule access) access_given
 -- expr = simple [ ( "=" | "<>" | "<" | "<=" | ">" | ">=" | "in" ) simple ] .

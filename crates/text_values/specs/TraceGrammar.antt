@@ -71,8 +71,7 @@ numbers low high = when (is_natural high) (token (number (to_natural low) (to_na
 
 -- an integer within bounds: a number, or "-" and a number above 0
 abbrev pub integers : ℤ → ℤ → Rule
-integers low high = alt (numbers low high)
-    (when (not (is_natural low)) (symbol symbols.Minus
+integers low high = alt (numbers low high) (when (not (is_natural low)) (symbol symbols.Minus
     (token (number (max (to_natural (neg_ℤ high)) 1) (to_natural (neg_ℤ low))))))
 
 -- `chr`, and the code of a character within bounds in parentheses
@@ -176,8 +175,7 @@ subscripts ks = bracketed symbols.LeftBracket symbols.RightBracket ordinal ks
 
 -- a signal that passes in this direction: its name, and the values of its parameters
 abbrev pub signal : Direction → Signal → Rule
-signal direction x =
-    when (passes direction x) (word (named x.name.bytes) (parameters x.kinds))
+signal direction x = when (passes direction x) (word (named x.name.bytes) (parameters x.kinds))
 
 -- "." and one of these signals
 abbrev pub dot_signal : Direction → List Signal → Rule
@@ -197,8 +195,7 @@ is_head p = are_first p.index_kinds p.index
 -- element of an array, "." and such a signal. An array has one alternative, that of its first
 -- element.
 abbrev pub port : Direction → Port → Rule
-port direction p = when (is_head p && some_pass direction p.signals)
-    (word (named p.name.bytes)
+port direction p = when (is_head p && some_pass direction p.signals) (word (named p.name.bytes)
     (seq (subscripts p.index_kinds) (dot_signal direction p.signals)))
 
 -- "time" number
@@ -207,9 +204,7 @@ time = word (said "time") (token (number 0 maxint))
 
 -- event = "time" number | "in" port "." signal | "out" port "." signal .
 abbrev pub event : List Port → Rule
-event ports =
-    alt time
-    (alt (word (said "in") (one_of (port Receives) ports))
+event ports = alt time (alt (word (said "in") (one_of (port Receives) ports))
     (word (said "out") (one_of (port Sends) ports)))
 
 -- { event }, each event within a level of its own: the levels count the events.

@@ -40,8 +40,7 @@ abbrev pub text_by : values.Value-F Text → Text
 text_by values.Undefined k = codes "_"
 text_by (values.Ordinal z) k = ordinal_text k z
 text_by (values.Set zs) k = set_text (base_by (out-Kind k) k) zs
-text_by (values.Group parts) k =
-    enclosed (codes "(") (codes ")")
+text_by (values.Group parts) k = enclosed (codes "(") (codes ")")
     (paired (λ (j : Kind) (text : Text). text j) (kinds_by (out-Kind k) (length parts)) parts)
 
 -- the text of a value of a kind

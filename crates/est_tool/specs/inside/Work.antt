@@ -8,12 +8,10 @@ use Rattle.call_files.specs.declared.stop.Stop.TheVariants.{OutOfMemory}
 use Rattle.call_files.specs.declared.status.Status.{Status}
 use Rattle.call_files.specs.declared.status.Status.TheVariants.{Fine, OverBudget, NoStart}
 use Rattle.est_syntax.specs.declared.specification.Spec.{Spec}
-use Rattle.rule_ports.specs.Counts.{counts_of}
 use Rattle.est_meaning.specs.declared.event.Event.{Event}
 use Rattle.call_files.specs.est_explanation.Replay.{IsReplay}
 use Rattle.call_files.specs.est_explanation.declared.explanation.Explanation.{Explanation}
 use Rattle.call_files.specs.est_explanation.declared.verdict.Replayed.{Replayed}
-use Rattle.call_files.specs.Reports.{ok_line}
 use Rattle.call_files.specs.ReadableReports.{IsReadable}
 use Rattle.est_tool.specs.ReplayReports.{replay_line}
 use Rattle.call_files.specs.SearchReports.{no_start_line, over_start_line, verdict_report}
@@ -44,9 +42,9 @@ Gives P (Err stop) = stop ≡ OutOfMemory
 abbrev pub IsReport : Status → List ℕ → Status → List ℕ → Type 0
 IsReport status report status' report' = (status' ≡ status) × (report' ≡ report)
 
--- the report of a good specification
-abbrev pub IsCounted : Spec → Status → List ℕ → Type 0
-IsCounted spec = IsReport Fine (ok_line (counts_of spec))
+-- the report of a good specification, of which it says this
+abbrev pub IsFine : (Spec → List ℕ → Type 0) → Spec → Status → List ℕ → Type 0
+IsFine Says spec status report = (status ≡ Fine) × Says spec report
 
 -- the report of a replay within limits, by the one answer
 abbrev pub IsAnswered : ℕ → ℕ → Spec → List Event → Explanation → Status → List ℕ → Type 0

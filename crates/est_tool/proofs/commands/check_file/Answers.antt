@@ -1,6 +1,6 @@
 use Rattle.call_files.specs.FileTexts.{OfSpecification, RefusesSpecification}
 use Rattle.std.proofs.Common.{refl, []}
-use Rattle.est_tool.specs.Ends.{at_its_file}
+use Rattle.est_tool.specs.Ends.{TellsCounts, at_its_file}
 use Rattle.est_tool.proofs.WorkLaws.{stops_at, ends_work, check_reports}
 use Rattle.est_tool.proofs.commands.check_file.Goals as goal
 
@@ -13,4 +13,4 @@ pub returns : goal.returns
 returns g c =
     ends_work OfSpecification RefusesSpecification [] _ _ _ c.counted.result _
     c.in_ok-checked.ensures c.counted.ensures refl
-    (check_reports _ _ _ c.in_ok-checked.ensures.good)
+    (check_reports TellsCounts _ _ _ c.in_ok-checked.ensures.good)

@@ -1,0 +1,6 @@
+use Rattle.std.proofs.Common.{refl}
+use Rattle.text_printer.proofs.Printing.{take}
+use Rattle.est_print.proofs.estelle_statement.release_statement.Goals as goal
+
+pub returns : goal.returns
+returns c = take refl c.word.ensures c.access.ensures

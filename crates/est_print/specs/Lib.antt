@@ -1,0 +1,2 @@
+pub mod PrintedText
+pub mod inside

@@ -1,0 +1,15 @@
+pub mod Ending
+pub mod Given
+pub mod Joined
+pub mod KeptTokens
+pub mod Lists
+pub mod Parts
+pub mod Printing
+pub mod Putting
+pub mod Sections
+pub mod Single
+pub mod SpelledWords
+pub mod Standing
+pub mod Told
+pub mod Turns
+pub mod Within

@@ -1,0 +1,6 @@
+use Rattle.std.proofs.Common.{refl}
+use Rattle.text_printer.proofs.Printing.{take}
+use Rattle.text_printer.proofs.stateset.statesets.Goals as goal
+
+pub returns : goal.returns
+returns c = take refl c.word.ensures c.several_statesets.ensures
