@@ -53,12 +53,12 @@ def read(reader, name, text):
         return None, (3 if name == "trace" else 4, f"{name}:{refused}\n")
 
 
-def explained(specification, trace, silent=SILENT, budget=BUDGET, statements=STATEMENTS):
+def explained(specification, text, silent=SILENT, budget=BUDGET, statements=STATEMENTS):
     """The answer of `explain`."""
     if answer := checked(specification):
         return answer
     system = system_of(specification)
-    events, answer = read(lambda text: TraceReader(system, text).trace(), "trace", trace)
+    trace, answer = read(lambda text: TraceReader(system, text).trace(), "trace", text)
     if answer:
         return answer
     world = World(system, statements)
@@ -66,15 +66,15 @@ def explained(specification, trace, silent=SILENT, budget=BUDGET, statements=STA
         situation, sent = world.start()
     except (Fault, Limit) as cause:
         return no_start(cause, statements)
-    search = Search(world, events, silent, budget)
+    search = Search(world, trace, silent, budget)
     try:
         moves = search.found(situation, sent)
     except OverFirings:
         return 5, f"{{ over budget: {budget} firings tried }}\n"
     if moves is not None:
-        total = len(events)
+        total = len(trace.events)
         return 0, f"{{ accepted: {total} events }}\n" + written_explanation(moves, total + 1)
-    return over_action(search, statements) if search.passed else refused_at(search, len(events))
+    return over_action(search, statements) if search.passed else refused_at(search, len(trace.events))
 
 
 def no_start(cause, statements=STATEMENTS):
@@ -101,12 +101,12 @@ def refused_at(search, total):
     return 1, first + written_explanation(search.best, search.most)
 
 
-def replayed(specification, trace, explanation, silent=SILENT, statements=STATEMENTS):
+def replayed(specification, text, explanation, silent=SILENT, statements=STATEMENTS):
     """The answer of `replay`."""
     if answer := checked(specification):
         return answer
     system = system_of(specification)
-    events, answer = read(lambda text: TraceReader(system, text).trace(), "trace", trace)
+    trace, answer = read(lambda text: TraceReader(system, text).trace(), "trace", text)
     if answer:
         return answer
     read_explanation, answer = read(
@@ -116,10 +116,10 @@ def replayed(specification, trace, explanation, silent=SILENT, statements=STATEM
         return answer
     moves, claim = read_explanation
     try:
-        Replay(World(system, statements), events, silent, moves, claim).confirm()
+        Replay(World(system, statements), trace, silent, moves, claim).confirm()
     except Rejected as rejected:
         return 1, "rejected at move {}: {}\n".format(*rejected.args)
-    total = len(events)
+    total = len(trace.events)
     return 0, f"confirmed: {f'all {total}' if claim > total else f'first {claim} of {total}'} events\n"
 
 
@@ -144,13 +144,13 @@ def self_run(specification, seed, count, budget=BUDGET):
         return answer
     system = maker.world.system
     text = written_trace(system, maker.events).encode("latin-1")
-    events, answer = read(lambda text: TraceReader(system, text).trace(), "trace", text)
+    trace, answer = read(lambda text: TraceReader(system, text).trace(), "trace", text)
     if answer:
         return answer
     first = f"made: {len(maker.events)} events, {len(text)} bytes, {len(maker.moves)} moves\n"
     world = World(system, STATEMENTS)
     try:
-        moves = Search(world, events, SILENT, budget).found(*world.start())
+        moves = Search(world, trace, SILENT, budget).found(*world.start())
     except OverFirings:
         if budget < BUDGET:
             raise OverFirings(first) from None

@@ -115,7 +115,7 @@ class Calls:
         if self.draw.random() < 0.3:
             self.limits[2] = max(1, self.walker.world.most - self.draw.choice([0, 0, 1]))
         claim = len(events) + 1
-        yield self.replay(events, moves, claim)
+        yield self.replay(self.walker.seen(events), moves, claim)
         yield from self.searches(events)
         for _ in range(2):
             yield self.replay(events, self.walker.probed(), 0)
@@ -124,7 +124,8 @@ class Calls:
             yield self.spoiled(events, moves)
 
     def replay(self, events, moves, claim, limits=None):
-        texts = {"specification": self.text, "trace": written_trace(self.walker.system, events)}
+        trace = written_trace(self.walker.system, events, is_quiet=self.walker.is_quiet())
+        texts = {"specification": self.text, "trace": trace}
         texts["explanation"] = written_explanation(moves, claim)
         return Call("replay", texts, [1000, self.limits[2]] if limits is None else limits)
 
@@ -134,7 +135,8 @@ class Calls:
             events = events[: self.draw.randint(0, 12)]
         if self.draw.random() < 0.5:
             events = self.walker.spoiled_events(events)
-        search = Call("explain", {"specification": self.text, "trace": self.walker.trace(events)}, self.limits)
+        texts = {"specification": self.text, "trace": self.walker.trace(self.walker.seen(events))}
+        search = Call("explain", texts, self.limits)
         yield search
         if self.draw.random() < 0.3:
             texts = {**search.texts, "explanation": search.answer()[1]}
@@ -143,7 +145,8 @@ class Calls:
     def refused(self, events):
         """A replay of no moves, of a trace in which a token is spoiled."""
         at = self.draw.randint(0, len(events))
-        texts = {"specification": self.text, "trace": self.walker.spoiled_text(events[at : at + 3])}
+        events = self.walker.seen(events[at : at + 3])
+        texts = {"specification": self.text, "trace": self.walker.spoiled_text(events)}
         return Call("replay", {**texts, "explanation": written_explanation([], 0)}, [])
 
     def spoiled(self, events, moves):
@@ -152,7 +155,7 @@ class Calls:
         claim = walker.claim(events) if draw.random() < 0.5 else len(events) + 1
         events = walker.spoiled_events(events) if draw.random() < 0.3 else events
         moves = walker.spoiled_moves(moves) if draw.random() < 0.5 else moves
-        texts = {"specification": self.text, "trace": walker.trace(events)}
+        texts = {"specification": self.text, "trace": walker.trace(walker.seen(events))}
         texts["explanation"] = walker.explanation(moves, claim)
         return Call("replay", texts, draw.choice([[], [self.limits[0], self.limits[2]]]))
 

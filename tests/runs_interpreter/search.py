@@ -2,7 +2,7 @@
 
 import dataclasses
 
-from .values import Fault, Limit
+from .values import Fault, Limit, matches
 from .world import OUT
 
 
@@ -19,14 +19,24 @@ class OverFirings(Exception):
     """More firings than the budget would be tried."""
 
 
+def agrees(expected, event):
+    """Whether an event that is sent is as a trace has it."""
+    return expected[:3] == event[:3] and matches(expected.values, event.values)
+
+
 def agreeing(sent, trace, count):
     """How many events of a trace are there, where some more are sent after the first ones."""
     end = count
     for event in sent:
-        if end == len(trace) or trace[end] != event:
+        if end == len(trace) or not agrees(trace[end], event):
             break
         end += 1
     return end
+
+
+def ends(world, trace, situation, count):
+    """Whether a trace ends in a situation, where so many of its events are there."""
+    return count == len(trace.events) and (not trace.is_quiet or world.is_quiet(situation))
 
 
 class Search:
@@ -45,11 +55,11 @@ class Search:
 
     def found(self, situation, sent):
         """The run that explains the trace, or None, after a start."""
-        count = agreeing(sent, self.trace, 0)
+        count = agreeing(sent, self.trace.events, 0)
         self.note(count, [])
         if count < len(sent):
             return None
-        if count == len(self.trace):
+        if ends(self.world, self.trace, situation, count):
             return []
         return self.walk(Node(situation, count, 0))
 
@@ -63,15 +73,15 @@ class Search:
                 continue
             move, after = step
             self.path.append(move)
-            if after.count == len(self.trace):
+            if ends(self.world, self.trace, after.situation, after.count):
                 return self.path
             branches.append(self.branches(after))
         return None
 
     def branches(self, node):
         """The moves after a run, each with the longer run, where it may lead on."""
-        event = self.trace[node.count]
-        if event.kind != OUT:
+        event = self.trace.events[node.count] if node.count < len(self.trace.events) else None
+        if event and event.kind != OUT:
             self.note(node.count + 1, [*self.path, None])
             yield None, Node(self.world.happen(node.situation, event), node.count + 1, 0)
         try:
@@ -103,7 +113,7 @@ class Search:
             return None
         if not sent and node.silent == self.silent:
             return None
-        count = agreeing(sent, self.trace, node.count)
+        count = agreeing(sent, self.trace.events, node.count)
         self.note(count, [*self.path, firing])
         is_following = count == node.count + len(sent)
         return Node(situation, count, 0 if sent else node.silent + 1) if is_following else None
@@ -135,27 +145,30 @@ class Replay:
                 situation = self.take(number, situation)
             else:
                 situation = self.fire(number, situation, move)
-        total = len(self.trace)
-        is_yielded = self.count >= self.claim if self.claim <= total else self.claim == total + 1 == self.count + 1
+        total = len(self.trace.events)
+        if self.claim <= total:
+            is_yielded = self.count >= self.claim
+        else:
+            is_yielded = self.claim == total + 1 and ends(self.world, self.trace, situation, self.count)
         if not is_yielded:
             raise Rejected(len(self.moves) + 1, "not all")
 
     def compare(self, number, sent):
         """Compares what is sent with the trace; after the last move only as far as the claim goes."""
         is_last = number == len(self.moves)
-        end = self.claim if is_last and self.claim <= len(self.trace) else None
+        end = self.claim if is_last and self.claim <= len(self.trace.events) else None
         for event in sent:
             if end is not None and self.count >= end:
                 return
-            if self.count == len(self.trace) or self.trace[self.count] != event:
+            if self.count == len(self.trace.events) or not agrees(self.trace.events[self.count], event):
                 raise Rejected(number, "wrong output")
             self.count += 1
 
     def take(self, number, situation):
-        if self.count == len(self.trace) or self.trace[self.count].kind == OUT:
+        if self.count == len(self.trace.events) or self.trace.events[self.count].kind == OUT:
             raise Rejected(number, "no event")
         self.count, self.in_row = self.count + 1, 0
-        return self.world.happen(situation, self.trace[self.count - 1])
+        return self.world.happen(situation, self.trace.events[self.count - 1])
 
     def fire(self, number, situation, firing):
         try:

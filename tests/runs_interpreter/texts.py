@@ -4,13 +4,15 @@ import collections
 
 from rules_checker.tokens import TOKEN, WORDS, Token
 
-from .values import CHAR, MOST, WRITER, SetOf, is_group, part_kinds
+from .values import CHAR, MOST, UNSEEN, WRITER, SetOf, is_group, is_partial, part_kinds
 from .world import IN, OUT, TIME, Event, Firing, passing
 
 MOST_EVENTS = 200000
 MOST_NUMBER = 999999999
 MOST_CLAIM = 200001
 END = Token("end", "", None)
+# A trace: its events, and whether it ends quiet.
+Trace = collections.namedtuple("Trace", "events is_quiet")
 
 
 class Refused(Exception):
@@ -77,9 +79,10 @@ class TextReader:
         self.place += 1
         return int(token.text)
 
-    def head(self, word):
+    def head(self, word, last=1):
+        """The word that a text begins with, and its version."""
         self.must(word)
-        self.number(1, 1)
+        return self.number(1, last)
 
     def whole(self, result):
         if self.place < len(self.tokens):
@@ -93,15 +96,18 @@ class TraceReader(TextReader):
     def __init__(self, system, text):
         super().__init__(text)
         self.system = system
+        # The version, and whether a value is read that need not have been seen.
+        self.version, self.may_lack = 1, False
 
     def trace(self):
-        self.head("trace")
+        self.version = self.head("trace", 3)
         events = []
         while not self.may("end"):
             if len(events) == MOST_EVENTS and self.is_next(IN, OUT, TIME):
                 self.refuse("too many events")
             events.append(self.event())
-        return self.whole(events)
+        is_quiet = self.version == 3 and self.may("quiet")
+        return self.whole(Trace(events, is_quiet))
 
     def event(self):
         kind = self.must(IN, OUT, TIME)
@@ -120,6 +126,7 @@ class TraceReader(TextReader):
         self.must(".")
         signal = self.signal(kind, point)
         kinds = [own for _, own in signal.params]
+        self.may_lack = kind == OUT and self.version >= 2
         values = self.values("(", kinds, ")") if kinds else ()
         return Event(kind, self.system.port_numbers[point.name, subscripts], signal.number, values)
 
@@ -143,6 +150,8 @@ class TraceReader(TextReader):
         return tuple(found)
 
     def value(self, kind):
+        if self.may_lack and self.may(UNSEEN):
+            return UNSEEN
         if is_group(kind):
             return self.values("(", part_kinds(kind), ")")
         if self.may("_"):
@@ -216,8 +225,11 @@ def written_event(system, event, writer=WRITER):
     return f"{event.kind} {at}.{signal.name}" + (f"({values})" if values else "")
 
 
-def written_trace(system, events, writer=WRITER):
-    return "\n".join(["trace 1", *(written_event(system, event, writer) for event in events), "end", ""])
+def written_trace(system, events, writer=WRITER, version=1, is_quiet=False):
+    """A text of this version, or else of the first that has what the trace asks for."""
+    least = 3 if is_quiet else 2 if any(is_partial(event.values) for event in events) else 1
+    lines = [written_event(system, event, writer) for event in events]
+    return "\n".join([f"trace {max(version, least)}", *lines, "end quiet" if is_quiet else "end", ""])
 
 
 def written_explanation(moves, claim):

@@ -1,12 +1,14 @@
 """Kinds and values.
 
-An ordinal is a number, a set is a frozenset of numbers, a group is a tuple, and None is what is undefined.
+An ordinal is a number, a set is a frozenset of numbers, a group is a tuple, and None is what is undefined. Of a value
+of a trace a part that was not seen, or all of it, is UNSEEN.
 """
 
 import dataclasses
 
 MOST = 2147483647
 MEMBERS = 64
+UNSEEN = "?"
 
 
 class Fault(Exception):
@@ -105,6 +107,18 @@ def with_part(value, path, part):
     return (*value[:at], with_part(value[at], path[1:], part), *value[at + 1 :])
 
 
+def matches(seen, value):
+    """Whether a value is one of which so much may have been seen."""
+    if isinstance(seen, tuple) and isinstance(value, tuple):
+        return len(seen) == len(value) and all(map(matches, seen, value))
+    return seen == UNSEEN or seen == value
+
+
+def is_partial(seen):
+    """Whether not all of a value was seen."""
+    return any(map(is_partial, seen)) if isinstance(seen, tuple) else seen == UNSEEN
+
+
 def tuples_of(kinds):
     """All tuples of some ordinal kinds, in order."""
     found = [()]
@@ -117,6 +131,8 @@ class Writer:
     """Writes values in their canonical texts."""
 
     def value(self, kind, value):
+        if value == UNSEEN:
+            return UNSEEN
         if is_group(kind):
             return "(" + ", ".join(map(self.value, part_kinds(kind), value)) + ")"
         if value is None:

@@ -3,12 +3,12 @@
 import re
 
 from .texts import MOST_NUMBER, written_explanation, written_trace
-from .values import WRITER, Fault, Limit, SetOf, Writer, is_group, part_kinds
+from .values import UNSEEN, WRITER, Fault, Limit, SetOf, Writer, is_group, part_kinds
 from .world import IN, OUT, TIME, Event, Firing, passing
 
 TOKEN = re.compile(r"\{[^}]*\}|''''|'.'|\w+|\.\.|[^\w\s]")
-OTHERS = """end in out time p0 p1 s0 s1 ( ) [ ] , . _ - 0 1 2 9 2147483648 9999999999999999999 true false red green
-e0 e1 'a' 'e' 'f' '~' '' chr take fire yields # exist .. := { (* abc""".split()
+OTHERS = """end in out time p0 p1 s0 s1 ( ) [ ] , . _ ? - 0 1 2 9 2147483648 9999999999999999999 true false red green
+e0 e1 'a' 'e' 'f' '~' '' chr take fire yields quiet # exist .. := { (* abc""".split()
 
 
 def value_of(draw, kind, is_defined=False):
@@ -22,6 +22,13 @@ def value_of(draw, kind, is_defined=False):
     if len(kind.values()) > 1000:
         return draw.choice([0, 1, 2, 3, 4, 5, 7, -1, -4, draw.choice([9, 100, kind.low, kind.high])])
     return draw.choice(kind.values())
+
+
+def seen_of(draw, value):
+    """A value, here and there with a part that was not seen."""
+    if draw.random() < 0.3:
+        return UNSEEN
+    return tuple(seen_of(draw, part) for part in value) if isinstance(value, tuple) else value
 
 
 class VariedWriter(Writer):
@@ -149,6 +156,15 @@ class Walker:
             events[at] = self.changed(events[at])
         return events
 
+    def seen(self, events):
+        """The same events, now and then with values of departures that were not seen."""
+        if self.draw.random() < 0.6:
+            return events
+        return [self.seen_event(event) if event.kind == OUT else event for event in events]
+
+    def seen_event(self, event):
+        return event._replace(values=tuple(seen_of(self.draw, value) for value in event.values))
+
     def changed(self, event):
         """An event with other values, or another one."""
         if event.kind == TIME or not event.values or self.draw.random() < 0.3:
@@ -199,9 +215,16 @@ class Walker:
 
     # Texts.
 
+    def version(self):
+        return self.draw.choice([1, 1, 1, 2, 3])
+
+    def is_quiet(self):
+        """Whether a trace ends quiet."""
+        return self.draw.random() < 0.25
+
     def trace(self, events):
         writer = VariedWriter(self.draw) if self.draw.random() < 0.5 else WRITER
-        return self.spelled(written_trace(self.system, events, writer))
+        return self.spelled(written_trace(self.system, events, writer, self.version(), self.is_quiet()))
 
     def explanation(self, moves, claim):
         return self.spelled(written_explanation(moves, claim))
@@ -236,7 +259,8 @@ class Walker:
 
     def spoiled_text(self, events):
         """The text of some events, with a token that is spoiled."""
-        tokens = TOKEN.findall(written_trace(self.system, events, VariedWriter(self.draw)))
+        text = written_trace(self.system, events, VariedWriter(self.draw), self.version(), self.is_quiet())
+        tokens = TOKEN.findall(text)
         self.spoil(tokens)
         return " ".join(tokens) + "\n"
 

@@ -146,6 +146,13 @@ class World:
             possible += [own.firing for own in found if own.priority <= least]
         return possible
 
+    def is_quiet(self, situation):
+        """Whether nothing has to happen: no guard passes the limit, and nothing is due."""
+        try:
+            return not any(own.is_due for row in situation.rows.values() for own in self.offers(situation, row))
+        except Limit:
+            return False
+
     def restamp(self, situation, stamps, fired):
         """Stamps the delay transitions that are enabled: anew where they were not, or were fired."""
         found = {}

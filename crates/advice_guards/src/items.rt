@@ -6,7 +6,7 @@ use est_lexer::tokens::Tokens;
 use est_meaning::mean_blocks::situation::Item;
 use est_meaning::rule_scope::declaration::Sort;
 use est_meaning::rule_scope::outline::Outline;
-use plain_frames::plain_names::declared::{kind_at, places_of};
+use plain_frames::plain_declared::declared::{kind_at, places_of};
 use std::alloc::{AllocError, Global};
 use text_values::written_lists::append_separator;
 use text_values::written_values::append_value;

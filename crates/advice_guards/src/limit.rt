@@ -8,8 +8,8 @@ use advice_tokens::note::append_note;
 use advice_tokens::place::spot_of;
 use est_meaning::firing::Firing;
 use est_meaning::mean_blocks::situation::Row;
-use plain_frames::system::Working;
-use plain_guards::candidate::Candidate;
+use plain_frames::plain_systems::system::Working;
+use plain_guards::plain_clauses::candidate::Candidate;
 use plain_guards::plain_transitions::written::Written;
 use std::alloc::{AllocError, Global};
 

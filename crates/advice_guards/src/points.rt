@@ -7,7 +7,7 @@ use est_meaning::mean_blocks::situation::InteractionPoint;
 use est_meaning::rule_scope::outline::Outline;
 use est_syntax::expression::{Access, Expr};
 use est_syntax::kind::Kind;
-use plain_frames::plain_names::declared::dims_at;
+use plain_frames::plain_declared::declared::dims_at;
 use std::alloc::{AllocError, Global};
 use text_values::written_lists::append_separator;
 use text_values::written_ordinals::append_ordinal;

@@ -3,10 +3,10 @@
 use crate::scene::Scene;
 use est_meaning::firing::Firing;
 use est_meaning::mean_blocks::situation::Row;
-use plain_frames::system::Working;
-use plain_guards::candidate::Candidate;
+use plain_frames::plain_systems::system::Working;
 use plain_guards::judging::judge;
-use plain_guards::verdict::Verdict;
+use plain_guards::plain_clauses::candidate::Candidate;
+use plain_guards::plain_clauses::verdict::Verdict;
 use std::alloc::{AllocError, Global};
 
 /// What is looked for in the choices of an instance: a guard that passes the limit, one that is

@@ -5,7 +5,7 @@ use crate::scene::Scene;
 use advice_tokens::note::{append_note, printed};
 use advice_tokens::place::spot_of;
 use est_lexer::tokens::Tokens;
-use plain_guards::candidate::Candidate;
+use plain_guards::plain_clauses::candidate::Candidate;
 use plain_guards::plain_transitions::written::Written;
 use std::alloc::{AllocError, Global};
 

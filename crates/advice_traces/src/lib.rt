@@ -7,5 +7,6 @@ mod kinds;
 mod ports;
 pub mod position;
 pub mod trace;
+mod unseen;
 mod values;
 mod wider;

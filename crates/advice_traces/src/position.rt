@@ -56,8 +56,8 @@ pub(crate) fn wants_item(tokens: &Tokens, place: u32) -> bool {
     }
 }
 
-// Whether the token of a place is this word or symbol.
-fn is_word(tokens: &Tokens, place: u32, word: &[u8]) -> bool {
+/// Whether the token of a place is this word or symbol.
+pub(crate) fn is_word(tokens: &Tokens, place: u32, word: &[u8]) -> bool {
     word.eq_ignore_ascii_case(spelled(tokens, place))
 }
 
@@ -183,6 +183,20 @@ fn is_begun(position: Position) -> bool {
         Position::Time => true,
         _ => false,
     }
+}
+
+/// Whether `?` may stand for a value in the events of a trace that go this way: what leaves may be
+/// seen in part in a trace of version 2 or 3.
+pub(crate) fn may_be_unseen(tokens: &Tokens, direction: Direction) -> bool {
+    match direction {
+        Direction::Sends => spelled(tokens, 1) == b"2" || may_end_quiet(tokens),
+        Direction::Receives => false,
+    }
+}
+
+/// Whether `quiet` may stand after the end of a trace: it may in version 3.
+pub(crate) fn may_end_quiet(tokens: &Tokens) -> bool {
+    spelled(tokens, 1) == b"3"
 }
 
 /// The place of the first token of an event, by its number from 0, of a trace that is read well; or

@@ -4,7 +4,10 @@ use crate::kinds::{push_bytes, push_kind};
 use crate::ports::{
     passes, port_of, push_ports, push_signals, signal_of, signals_at, subscripts_at,
 };
-use crate::position::{Event, Position, position_of, spelled, wants_item};
+use crate::position::{
+    Event, Position, is_word, may_be_unseen, may_end_quiet, position_of, spelled, wants_item,
+};
+use crate::unseen::append_unseen;
 use crate::values::push_within;
 use crate::wider::append_wider;
 use advice_tokens::bad_bytes::text_of_bytes;
@@ -18,7 +21,7 @@ use est_syntax::ports::{Direction, Signal};
 use rule_ports::ports::Ports;
 use std::alloc::{AllocError, Global};
 
-const FIRST: &str = "a trace begins with 'trace 1'";
+const FIRST: &str = "a trace begins with 'trace 1', 'trace 2' or 'trace 3'";
 
 const NEXT: &str = "could stand here: 'in', 'out', 'time' or 'end'";
 
@@ -34,7 +37,8 @@ pub fn append_refused(
 ) -> Result<(), AllocError> {
     append_token(alloc, "trace", text, tokens, place, notes)?;
     append_wanted(alloc, checked.ports(), tokens, place, notes)?;
-    append_wider(alloc, checked.ports(), tokens, place, notes)
+    append_wider(alloc, checked.ports(), tokens, place, notes)?;
+    append_unseen(alloc, tokens, place, notes)
 }
 
 // Adds what could stand at a place, and what is wrong with what does.
@@ -124,7 +128,21 @@ fn wanted_text(
         Position::Value { event, signal, .. } => {
             within_text(alloc, ports, tokens, event, signal, place)
         }
-        Position::End => String::from_str(alloc, "nothing stands after 'end'"),
+        Position::End => String::from_str(alloc, end_text(tokens, place)),
+    }
+}
+
+// What may stand at a place after the end.
+fn end_text(tokens: &Tokens, place: u32) -> &'static str {
+    let is_next = is_word(tokens, place.saturating_sub(1), b"end");
+    if is_next && may_end_quiet(tokens) {
+        "only 'quiet' stands after 'end'"
+    } else if is_next && is_word(tokens, place, b"quiet") {
+        "a trace that ends quiet begins with 'trace 3'"
+    } else if is_next {
+        "nothing stands after 'end'"
+    } else {
+        "nothing stands after 'quiet'"
     }
 }
 
@@ -376,6 +394,14 @@ fn values_text(
     Ok(text)
 }
 
+// Adds that `?` could stand there too, if it could.
+fn push_unseen(text: &mut String, is_value: bool) -> Result<(), AllocError> {
+    if is_value {
+        text.push_str(" or '?'")?;
+    }
+    Ok(())
+}
+
 // What could stand for an item of the values.
 fn value_text(
     alloc: Global,
@@ -389,6 +415,14 @@ fn value_text(
     let mut text = String::new(alloc);
     push_quoted(alloc, &mut text, spelled(tokens, signal))?;
     push_item(alloc, &mut text, "value", kinds, item)?;
+    let is_value = match item {
+        None => false,
+        Some(whole) => (whole as usize) < kinds.len(),
+    };
+    push_unseen(
+        &mut text,
+        is_value && may_be_unseen(tokens, event.direction),
+    )?;
     Ok(text)
 }
 
@@ -405,6 +439,7 @@ fn within_text(
     let mut text = String::new(alloc);
     push_quoted(alloc, &mut text, spelled(tokens, signal))?;
     push_count(alloc, &mut text, "value", kinds.len())?;
-    push_within(alloc, &mut text, tokens, kinds, signal, place)?;
+    let is_part = push_within(alloc, &mut text, tokens, kinds, signal, place)?;
+    push_unseen(&mut text, is_part && may_be_unseen(tokens, event.direction))?;
     Ok(text)
 }

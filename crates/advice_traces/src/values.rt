@@ -144,32 +144,45 @@ struct Open<'l> {
     innermost: u32,
 }
 
-// Adds what the next item in a value of a kind is.
-fn push_next(alloc: Global, text: &mut String, kind: &Kind, open: Open) -> Result<(), AllocError> {
+// Adds what the next item in a value of a kind is, and tells whether it is a field or a component.
+fn push_next(
+    alloc: Global,
+    text: &mut String,
+    kind: &Kind,
+    open: Open,
+) -> Result<bool, AllocError> {
     let mut path = String::new(alloc);
     let list = push_path(alloc, &mut path, kind, open.around)?;
-    let item = match list {
+    let (item, is_part) = match list {
         Kind::SetOf(base) => {
             text.push_str("a member of ")?;
-            base.get()
+            (base.get(), false)
         }
-        _ => push_selector(alloc, &mut path, list, open.innermost)?,
+        _ => (push_selector(alloc, &mut path, list, open.innermost)?, true),
     };
     push_reached(alloc, text, &path, open.number)?;
     text.push_str(" is ")?;
-    push_kind(alloc, text, item)
+    push_kind(alloc, text, item)?;
+    Ok(is_part)
 }
 
 // Adds what the innermost list in a value of a kind has.
-fn push_list(alloc: Global, text: &mut String, kind: &Kind, open: Open) -> Result<(), AllocError> {
+fn push_list(
+    alloc: Global,
+    text: &mut String,
+    kind: &Kind,
+    open: Open,
+) -> Result<bool, AllocError> {
     let mut path = String::new(alloc);
     let list = push_path(alloc, &mut path, kind, open.around)?;
     push_reached(alloc, text, &path, open.number)?;
-    push_parts(alloc, text, list)
+    push_parts(alloc, text, list)?;
+    Ok(false)
 }
 
 /// Adds what is to stand at a place within the values of a signal, which have these kinds: which
-/// field, component or member, or how many there are in the innermost list.
+/// field, component or member, or how many there are in the innermost list. Tells whether it is a
+/// field or a component.
 pub(crate) fn push_within(
     alloc: Global,
     text: &mut String,
@@ -177,13 +190,13 @@ pub(crate) fn push_within(
     kinds: &[Kind],
     signal: u32,
     place: u32,
-) -> Result<(), AllocError> {
+) -> Result<bool, AllocError> {
     let levels = levels_at(alloc, tokens, signal, place)?;
     let [whole, around @ .., innermost] = levels.as_slice() else {
-        return Ok(());
+        return Ok(false);
     };
     let Some(kind) = kinds.get(*whole as usize) else {
-        return Ok(());
+        return Ok(false);
     };
     let open = Open {
         number: whole.saturating_add(1),

@@ -6,8 +6,8 @@ use est_syntax::expression::{Expr, Factor, Selector, Simple};
 use est_syntax::kind::{Kind, MAXINT};
 use est_syntax::name::Used;
 use est_values::ordinals::{first_ordinal, last_ordinal};
-use plain_names::heads::Head;
-use plain_names::names::head;
+use plain_declared::heads::Head;
+use plain_declared::names::head;
 use rule_scope::outline::Outline;
 use std::alloc::AllocError;
 

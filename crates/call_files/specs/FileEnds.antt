@@ -2,7 +2,7 @@
 use Rattle.std.specs.Prelude.{◌≡◌, ℕ, ◌+◌, ◌<◌, List, length, IfSome}
 use Rattle.call_files.specs.FaultCounts.{Rose}
 use Rattle.est_syntax.specs.declared.specification.Spec.{Spec}
-use Rattle.est_meaning.specs.declared.event.Event.{Event}
+use Rattle.est_meaning.specs.RecordedTraces.{Recorded}
 use Rattle.est_explanation.specs.declared.explanation.Explanation.{Explanation}
 use Rattle.call_files.specs.declared.file.File.{File}
 use Rattle.call_files.specs.declared.file.File.TheVariants as file
@@ -53,8 +53,8 @@ HoldsSpecification shelf name spec =
     Holds file.Specification (shelf.before.told name) (OfSpecification spec)
 
 -- the file holds the text of this trace of a specification, and of no other
-abbrev pub HoldsTrace : Seen → List ℕ → Spec → List Event → Type 0
-HoldsTrace shelf name spec events = Holds file.Trace (shelf.before.told name) (OfTrace spec events)
+abbrev pub HoldsTrace : Seen → List ℕ → Spec → Recorded → Type 0
+HoldsTrace shelf name spec trace = Holds file.Trace (shelf.before.told name) (OfTrace spec trace)
 
 -- the file holds the text of this explanation, and of no other
 abbrev pub HoldsExplanation : Seen → List ℕ → Explanation → Type 0

@@ -6,7 +6,7 @@ use Rattle.est_lexer.specs.Offsets.{offset_at}
 use Rattle.est_lexer.specs.TokenList.{IsTokenList}
 use Rattle.est_syntax.specs.declared.specification.Spec.{Spec}
 use Rattle.est_meaning.specs.rule_declares.PortList.{ports_of}
-use Rattle.est_meaning.specs.declared.event.Event.{Event}
+use Rattle.est_meaning.specs.RecordedTraces.{Recorded}
 use Rattle.est_explanation.specs.declared.explanation.Explanation.{Explanation}
 use Rattle.est_trace.specs.est_check.SpecificationText.{IsSpecification, IsNoSpecification}
 use Rattle.est_trace.specs.est_check.declared.specification_error.SpecificationError.{SpecificationError}
@@ -47,8 +47,8 @@ abbrev pub OfSpecification : Spec → List ℕ → List Token → Type 0
 OfSpecification spec text tokens = IsSpecification text tokens spec
 
 -- the tokens are a text of this trace of the specification, and of no other
-abbrev pub OfTrace : Spec → List Event → List ℕ → List Token → Type 0
-OfTrace spec events text tokens = IsOnlyTraceText (ports_of spec) text tokens events
+abbrev pub OfTrace : Spec → Recorded → List ℕ → List Token → Type 0
+OfTrace spec trace text tokens = IsOnlyTraceText (ports_of spec) text tokens trace
 
 -- the tokens are a text of this explanation, and of no other
 abbrev pub OfExplanation : Explanation → List ℕ → List Token → Type 0

@@ -14,7 +14,7 @@ use crate::reading::{read_text, too_long};
 use crate::status::Status;
 use crate::stop::Stop;
 use est_lexer::lex::lex;
-use est_meaning::event::Trace;
+use est_meaning::trace::Trace;
 use est_trace::error::TraceError;
 use est_trace::est_check::Checked;
 use est_trace::trace::read_trace;
@@ -59,7 +59,7 @@ fn trace_of(alloc: Global, text: &[u8], checked: &Checked) -> Result<Trace, Stop
 {
     let tokens = lex(alloc, text)?;
     match read_trace(alloc, checked, &tokens) {
-        Ok(events) => Ok(events),
+        Ok(trace) => Ok(trace),
         Err(error) => Err(refuse(alloc, File::Trace, &tokens, said_of(error))),
     }
 }

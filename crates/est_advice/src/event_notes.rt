@@ -1,15 +1,15 @@
 //! The notes on the event at which a trace is refused, or which no run reached that was tried.
 ghost use Rattle.est_meaning.specs.AllowedEvents.{IsAllowedTrace};
 
-use crate::event_texts::{event_text, receives, text_of};
+use crate::event_texts::{expected_text, receives, text_of};
 use crate::limit_notes::append_limits;
 use crate::looked::Looked;
 use crate::waiting::append_waiting;
 use advice_tokens::note::append_note;
 use est_meaning::answers::Started;
 use est_replay::est_plain::world::PlainWorld;
-use plain_walk::noted::Others;
-use plain_walk::other_events::{End, Found, next_events};
+use run_notes::noted::Others;
+use run_notes::other_events::{End, Found, next_events};
 use std::alloc::{AllocError, Global};
 
 const NOTHING: &str = "after the events before, nothing leaves within the limits until something \
@@ -62,6 +62,18 @@ fn append_found(
     append_limits(alloc, looked, found, notes)
 }
 
+// What is said of a trace that ends quiet, as no run does that has its events.
+fn quiet_note(alloc: Global, end: End, count: usize) -> Result<String, AllocError> {
+    match end {
+        End::Refused => format!(in alloc;
+            "no run within the limits has just these {count} events and ends quiet"
+        ),
+        _ => format!(in alloc;
+            "no run that was tried has just these {count} events and ends quiet"
+        ),
+    }
+}
+
 // What is said of a trace that the best runs yield, each of which sends something more.
 fn end_note(alloc: Global, end: End, count: usize) -> Result<String, AllocError> {
     match end {
@@ -95,11 +107,14 @@ fn event_note(
 
 // What is said of the event after those that the best runs yield.
 fn note_of(alloc: Global, looked: &Looked<'_>, found: &Found) -> Result<String, AllocError> {
-    let (happened, count) = (found.others.happened, looked.trace.len());
-    match looked.trace.as_slice().get(happened) {
+    let happened = found.others.happened;
+    let events = looked.trace.events();
+    let count = events.len();
+    match events.get(happened) {
+        None if looked.trace.is_quiet() => quiet_note(alloc, found.end, count),
         None => end_note(alloc, found.end, count),
-        Some(event) => {
-            let text = event_text(alloc, looked.checked.ports(), event)?;
+        Some(expected) => {
+            let text = expected_text(alloc, looked.checked.ports(), expected)?;
             event_note(alloc, found.end, happened, count, &text)
         }
     }

@@ -1,13 +1,13 @@
 //! The events that could leave, in words.
 
 use advice_tokens::note::printed;
-use call_files::est_trace::written_trace::append_trace;
+use call_files::est_trace::written_trace::{append_expectation, append_happening};
 use est_meaning::event::Event;
+use est_meaning::trace::Expected;
 use est_syntax::ports::Signals;
-use plain_walk::noted::Others;
 use rule_ports::ports::Ports;
+use run_notes::noted::Others;
 use std::alloc::{AllocError, Global};
-use std::slice;
 
 // So many events are told at most, and so many characters of each.
 const MOST_TOLD: usize = 8;
@@ -38,25 +38,27 @@ fn quoted(alloc: Global, line: &[u8]) -> Result<String, AllocError> {
     format!(in alloc; "'{shown}{dots}'")
 }
 
-/// An event in quotes, as traces write it, or how it begins where it is long.
-pub(crate) fn event_text(
+/// An event that is expected in quotes, as its trace has it, or how it begins where it is long.
+pub(crate) fn expected_text(
+    alloc: Global,
+    ports: &Ports,
+    expected: &Expected,
+) -> Result<String, AllocError> {
+    let mut text = Vec::new(alloc);
+    append_expectation(alloc, &mut text, ports, expected)?;
+    quoted(alloc, &text)
+}
+
+// Adds an event in quotes, as traces write it, or how it begins where it is long.
+fn push_event(
     alloc: Global,
     ports: &Ports,
     event: &Event,
-) -> Result<String, AllocError> {
-    let mut text = Vec::new(alloc);
-    append_trace(alloc, &mut text, ports, slice::from_ref(event))?;
-    let end = text.len().saturating_sub(b"\nend\n".len());
-    let begin = b"trace 1\n".len().min(end);
-    quoted(alloc, &text[begin..end])
-}
-
-// Adds the line of an event. The other lines of a trace, its first and its last one, tell nothing.
-fn push_line(alloc: Global, line: &[u8], text: &mut String) -> Result<(), AllocError> {
-    if !line.starts_with(b"out ") {
-        return Ok(());
-    }
-    let item = quoted(alloc, line)?;
+    text: &mut String,
+) -> Result<(), AllocError> {
+    let mut line = Vec::new(alloc);
+    append_happening(alloc, &mut line, ports, event)?;
+    let item = quoted(alloc, &line)?;
     push_item(text, &item)
 }
 
@@ -67,16 +69,8 @@ fn push_events(
     others: &Others,
     text: &mut String,
 ) -> Result<(), AllocError> {
-    let events = others.events.as_slice();
-    let mut bytes = Vec::new(alloc);
-    append_trace(
-        alloc,
-        &mut bytes,
-        ports,
-        &events[..events.len().min(MOST_TOLD)],
-    )?;
-    for line in bytes.split(|byte| *byte == b'\n') {
-        push_line(alloc, line, text)?;
+    for event in others.events.as_slice().iter().take(MOST_TOLD) {
+        push_event(alloc, ports, event, text)?;
     }
     Ok(())
 }

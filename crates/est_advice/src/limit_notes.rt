@@ -2,7 +2,7 @@
 
 use crate::looked::Looked;
 use advice_tokens::note::append_note;
-use plain_walk::other_events::{End, Found};
+use run_notes::other_events::{End, Found};
 use std::alloc::{AllocError, Global};
 
 // The most firings to be tried that words can ask for.

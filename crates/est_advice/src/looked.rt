@@ -5,8 +5,8 @@ use advice_tokens::place::spot_of;
 use advice_traces::position::place_of_event;
 use call_files::est_check::Checked;
 use call_files::est_lexer::tokens::Tokens;
-use est_meaning::event::Trace;
 use est_meaning::run::Limits;
+use est_meaning::trace::Trace;
 
 /// A good specification and a trace of it, each with its tokens, and the limits of a search.
 #[derive(Clone, Copy)]

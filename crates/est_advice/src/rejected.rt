@@ -9,8 +9,8 @@ use call_files::est_explanation::verdict::{Replayed, Why};
 use call_files::est_lexer::tokens::{MOST_BYTES, Tokens};
 use call_files::est_trace::error::TraceError;
 use call_files::est_trace::trace::read_trace;
-use est_meaning::event::{Event, Trace};
 use est_meaning::run::{Limits, Move};
+use est_meaning::trace::{Expected, Trace};
 use est_replay::checked::replay;
 use std::alloc::{AllocError, Global};
 
@@ -22,11 +22,11 @@ pub struct Texts<'t> {
     pub explanation: &'t Tokens<'t>,
 }
 
-// The first check of a replay that fails, of these moves along these events.
+// The first check of a replay that fails, of these moves along this trace.
 #[derive(Clone, Copy)]
 pub(crate) struct Rejected<'t> {
     pub texts: &'t Texts<'t>,
-    pub trace: &'t [Event],
+    pub trace: &'t [Expected],
     pub moves: &'t [Move],
     pub claim: u32,
     pub at: u32,
@@ -96,7 +96,7 @@ fn append_replayed(
         Replayed::Rejected { at, why } => {
             let rejected = Rejected {
                 texts,
-                trace: trace.as_slice(),
+                trace: trace.events().as_slice(),
                 moves: explanation.moves.as_slice(),
                 claim: explanation.claim,
                 at,

@@ -16,8 +16,8 @@ use call_files::est_lexer::tokens::{MOST_BYTES, Tokens};
 use call_files::est_trace::error::TraceError;
 use call_files::est_trace::trace::read_trace;
 use call_files::file::File;
-use est_meaning::event::Trace;
 use est_meaning::run::Limits;
+use est_meaning::trace::Trace;
 use std::alloc::{AllocError, Global};
 
 /// A good specification.
@@ -94,7 +94,7 @@ fn append_then<S: Shelf>(
         } => {
             let replayed = Replayed {
                 tokens,
-                events: trace.len(),
+                events: trace.events().len(),
                 limits: &limits,
             };
             append_explanation(alloc, shelf, good, &replayed, explanation, notes)

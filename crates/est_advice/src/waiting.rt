@@ -9,10 +9,10 @@ use est_meaning::firing::Firing;
 use est_meaning::mean_blocks::situation::Item;
 use est_syntax::est_items::Twin;
 use est_values::Queue;
-use plain_walk::noted::Others;
-use plain_walk::plain_guards::plain_frames::rows::row_of;
-use plain_walk::plain_guards::plain_frames::system::{System, Waiting};
+use plain_walk::plain_guards::plain_systems::rows::row_of;
+use plain_walk::plain_guards::plain_systems::system::{System, Waiting};
 use plain_walk::walk::Walk;
+use run_notes::noted::Others;
 use std::alloc::{AllocError, Global};
 
 // So many interactions are told at most, and so many characters of each.
@@ -173,7 +173,7 @@ fn append_after(
     others: &Others,
     notes: &mut String,
 ) -> Result<(), AllocError> {
-    let trace = looked.trace.as_slice();
+    let trace = looked.trace.events().as_slice();
     make_all(alloc, walk, trace, begun, others.run.as_slice())?;
     settle(alloc, walk)?;
     append_told(alloc, looked, others.happened, &walk.system, notes)

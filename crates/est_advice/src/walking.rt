@@ -9,15 +9,17 @@ use est_meaning::answers::Started;
 use est_meaning::event::Event;
 use est_meaning::firing::Firing;
 use est_meaning::run::Move;
+use est_meaning::trace::Expected;
 use plain_walk::walk::Walk;
 use std::alloc::{AllocError, Global};
 
-// Lets the first of these events happen, if it may be taken, and answers how many happened.
-fn take(alloc: Global, walk: &mut Walk, rest: &[Event]) -> Result<Option<usize>, AllocError> {
+// Lets the event happen that is expected first, if it may be taken, and answers how many happened.
+fn take(alloc: Global, walk: &mut Walk, rest: &[Expected]) -> Result<Option<usize>, AllocError> {
     match rest.first() {
         None => Ok(None),
-        Some(Event::Leaves(_)) => Ok(None),
-        Some(event) => {
+        Some(Expected::Partly { .. }) => Ok(None),
+        Some(Expected::Known(Event::Leaves(_))) => Ok(None),
+        Some(Expected::Known(event)) => {
             walk.happen(alloc, event)?;
             Ok(Some(1))
         }
@@ -34,12 +36,12 @@ fn fire(alloc: Global, walk: &mut Walk, firing: &Firing) -> Result<Option<usize>
     Ok(Some(count))
 }
 
-// Makes a move, if it can be made, where these events are left of the trace, and answers how many
-// of them happen.
+// Makes a move, if it can be made, where this is left of the trace, and answers how many events
+// happen.
 fn make(
     alloc: Global,
     walk: &mut Walk,
-    rest: &[Event],
+    rest: &[Expected],
     next: &Move,
 ) -> Result<Option<usize>, AllocError> {
     match next {
@@ -53,7 +55,7 @@ fn make(
 pub(crate) fn make_all(
     alloc: Global,
     walk: &mut Walk,
-    trace: &[Event],
+    trace: &[Expected],
     happened: usize,
     moves: &[Move],
 ) -> Result<usize, AllocError> {

@@ -24,7 +24,7 @@ use std::process::ExitCode;
 use std::str;
 
 // The files of cases, in the order in which they are run. The first has the texts that all share.
-const FILES: [&str; 28] = [
+const FILES: [&str; 30] = [
     "texts.cases",
     "words.cases",
     "tokens.cases",
@@ -44,6 +44,8 @@ const FILES: [&str; 28] = [
     "explanations.cases",
     "replays.cases",
     "searches.cases",
+    "seen.cases",
+    "quiet.cases",
     "runs.cases",
     "blocks.cases",
     "limits.cases",

@@ -9,6 +9,7 @@ use Rattle.est_meaning.specs.mean_blocks.TextByPlace.{text_of}
 use Rattle.est_meaning.specs.declared.event.Event.{Event}
 use Rattle.est_meaning.specs.declared.firing.Firing.{Firing}
 use Rattle.est_meaning.specs.Agreement.{AgreeFirst}
+use Rattle.est_meaning.specs.RecordedTraces.{Recorded}
 use Rattle.est_meaning.specs.TransitionSelection.{IsSettled, IsPossible}
 use Rattle.est_meaning.specs.FiringSteps.{outcome, start_of}
 use Rattle.est_meaning.proofs.Steps.{possible_settled}
@@ -32,8 +33,8 @@ use Rattle.est_explanation.specs.Replay.{IsPassed, IsAnswer, AnswersFrom, OneAns
 pub follows_agrees : (c : Setup) (claim : ℕ) (left : List Move) (p : Place) → Follows c p
     → AgreesSoFar c claim left p
 follows_agrees c claim [] p f =
-    first_shorter c.trace (take claim p.events) (drop claim p.events)
-    (subst (λ w. AgreeFirst c.trace w) (sym (take-append-drop claim p.events)) f)
+    first_shorter c.trace.events (take claim p.events) (drop claim p.events)
+    (subst (λ w. AgreeFirst c.trace.events w) (sym (take-append-drop claim p.events)) f)
 follows_agrees c claim (m ∷ left) p f = f
 
 -- FAILING AND PASSING
@@ -219,7 +220,7 @@ yields_passed c run claim y =
         record {
           is_run = a.is_run;
           before = a.before;
-          agrees = so_many_first claim c.trace (take claim a.place.events) a.agree;
+          agrees = so_many_first claim c.trace.events (take claim a.place.events) a.agree;
         },
       )
       | inr a ↦ (let e = a.1 in (
@@ -343,7 +344,7 @@ walked_one c moves claim a b x y =
       ]
     ]
 
-from_one : (limit silent : ℕ) (spec : Spec) (trace : List Event) (moves : List Move) (claim : ℕ)
+from_one : (limit silent : ℕ) (spec : Spec) (trace : Recorded) (moves : List Move) (claim : ℕ)
     (a b : Replayed) (o : FiringOutcome) → AnswersFrom limit silent spec trace moves claim a o
     → AnswersFrom limit silent spec trace moves claim b o → a ≡ b
 from_one limit silent spec trace moves claim a b (Done outs s) x y =

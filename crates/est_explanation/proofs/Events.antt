@@ -9,6 +9,7 @@ use Rattle.std.proofs.lemmas.List.{take-append-drop, take_all, take-take}
 use Rattle.std.proofs.lemmas.List.{take-append-le, length-take-le, get_or_append_left}
 use Rattle.est_syntax.specs.Least.{IsIn}
 use Rattle.est_meaning.specs.declared.event.Event.{Event}
+use Rattle.est_meaning.specs.declared.trace.Expected.{Expected}
 use Rattle.est_meaning.specs.declared.firing.Firing.{Firing}
 use Rattle.est_meaning.specs.Agreement.{Agrees, AgreeAll, AgreeFirst}
 use Rattle.est_meaning.proofs.AgreementLaws.{agree_length, agree_take, agree_joined}
@@ -16,26 +17,27 @@ use Rattle.est_meaning.proofs.AgreementLaws.{so_many_first, first_taken, first_b
 
 -- BEGINNINGS
 
-pub begins_whole : (trace events : List Event) (n : ℕ) → length events ≤ n
+pub begins_whole : (trace : List Expected) (events : List Event) (n : ℕ) → length events ≤ n
     → AgreeAll (take n trace) (take n events) → AgreeFirst trace events
 begins_whole trace events n le a = so_many_first n trace events
     (subst (λ w. AgreeAll (take n trace) w) (take_all n events le) a)
 
-pub no_longer : (trace events : List Event) → length trace < length events → AgreeFirst trace events
-    → ⊥
+pub no_longer : (trace : List Expected) (events : List Event) → length trace < length events
+    → AgreeFirst trace events → ⊥
 no_longer trace events lt p = (let n = (first_taken trace events p).0 in omega arith)
 
 -- what agrees, agrees at each place
-agree_there : (xs es : List Event) (k : ℕ) (x e : Event) → AgreeAll xs es → k < length es
-    → Agrees (get_or xs k x) (get_or es k e)
+agree_there : (xs : List Expected) (es : List Event) (k : ℕ) (x : Expected) (e : Event)
+    → AgreeAll xs es → k < length es → Agrees (get_or xs k x) (get_or es k e)
 agree_there [] [] k x e a lt = (let never : ⊥ = omega arith in absurd never)
 agree_there [] (f ∷ es) k x e a lt = absurd a
 agree_there (y ∷ xs) [] k x e a lt = absurd a
 agree_there (y ∷ xs) (f ∷ es) zero x e a lt = a.0
 agree_there (y ∷ xs) (f ∷ es) (suc k) x e a lt = agree_there xs es k x e a.1 (omega arith)
 
-pub no_difference : (trace events : List Event) (k : ℕ) (x e : Event) → k < length events
-    → get_or trace k x ≡ x → get_or events k e ≡ e → (Agrees x e → ⊥) → AgreeFirst trace events → ⊥
+pub no_difference : (trace : List Expected) (events : List Event) (k : ℕ) (x : Expected) (e : Event)
+    → k < length events → get_or trace k x ≡ x → get_or events k e ≡ e → (Agrees x e → ⊥)
+    → AgreeFirst trace events → ⊥
 no_difference trace events k x e lt there here differs p =
     let n = agree_length p.front events p.agree in
     let first : get_or p.front k x ≡ x =
@@ -54,8 +56,9 @@ taken_over events outs so asked many le =
 
 -- behind events that agree with so many of the trace, others agree with the first of the rest, just
 -- where all events up to a number agree with the first of the trace
-pub agrees_on : (trace events outs : List Event) (so asked : ℕ) → so ≤ length trace
-    → AgreeAll (take so trace) events → AgreeFirst (drop so trace) (take (asked - so) outs)
+pub agrees_on : (trace : List Expected) (events outs : List Event) (so asked : ℕ)
+    → so ≤ length trace → AgreeAll (take so trace) events
+    → AgreeFirst (drop so trace) (take (asked - so) outs)
     → AgreeFirst trace (take asked (events ++ outs))
 agrees_on trace events outs so asked within a p =
     let n : length events ≡ so = agree_length (take so trace) events a
@@ -80,8 +83,9 @@ agrees_on trace events outs so asked within a p =
       }
     ]
 
-pub agrees_back : (trace events outs : List Event) (so asked : ℕ) → so ≤ length trace
-    → AgreeAll (take so trace) events → AgreeFirst trace (take asked (events ++ outs))
+pub agrees_back : (trace : List Expected) (events outs : List Event) (so asked : ℕ)
+    → so ≤ length trace → AgreeAll (take so trace) events
+    → AgreeFirst trace (take asked (events ++ outs))
     → AgreeFirst (drop so trace) (take (asked - so) outs)
 agrees_back trace events outs so asked within a p =
     let n : length events ≡ so = agree_length (take so trace) events a

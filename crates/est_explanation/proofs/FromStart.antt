@@ -5,13 +5,14 @@ use Rattle.est_meaning.specs.mean_blocks.GlobalSituation.{Situation}
 use Rattle.est_meaning.specs.mean_blocks.Outcome.{Done}
 use Rattle.est_meaning.specs.mean_blocks.TextByPlace.{text_of}
 use Rattle.est_meaning.specs.declared.event.Event.{Event}
+use Rattle.est_meaning.specs.RecordedTraces.{Recorded}
 use Rattle.est_meaning.specs.FiringSteps.{start_of}
 use Rattle.est_meaning.specs.declared.run.Move.{Move}
 use Rattle.est_meaning.specs.Run.{Setup}
 use Rattle.est_explanation.specs.declared.verdict.Replayed.{Replayed}
 use Rattle.est_explanation.specs.Replay.{IsAnswer, AnswersFrom, IsReplay}
 
-abbrev pub setup_at : ℕ → ℕ → List Event → Situation → List Event → Spec → Setup
+abbrev pub setup_at : ℕ → ℕ → Recorded → Situation → List Event → Spec → Setup
 setup_at limit silent trace t outs spec = record {
   spec = spec;
   limit = limit;
@@ -27,7 +28,7 @@ pub starts_so : (limit limit' : ℕ) (spec : Spec) (t : Situation) (outs outs' :
 starts_so limit limit' spec t outs outs' l o e = ap (λ n. start_of n (text_of spec)) l ∙ e
     ∙ ap (λ es. Done es t) (sym o)
 
-pub answers_from : (limit limit' silent : ℕ) (spec : Spec) (trace : List Event) (t : Situation)
+pub answers_from : (limit limit' silent : ℕ) (spec : Spec) (trace : Recorded) (t : Situation)
     (outs outs' : List Event) (moves : List Move) (claim : ℕ) (a : Replayed)
     → limit' ≡ limit → outs' ≡ outs → start_of limit (text_of spec) ≡ Done outs t
     → IsAnswer (setup_at limit' silent trace t outs' spec) moves claim a

@@ -2,6 +2,7 @@ pub mod Answering
 pub mod CanonicalTrees
 pub mod CanonicalWords
 pub mod Checks
+pub mod Claims
 pub mod Comments
 pub mod Events
 pub mod Explaining

@@ -12,12 +12,15 @@ use Rattle.est_meaning.specs.mean_blocks.TextByPlace.{text_of}
 use Rattle.est_meaning.specs.declared.event.Interaction.{Interaction}
 use Rattle.est_meaning.specs.declared.event.Event.{Event}
 use Rattle.est_meaning.specs.declared.event.Event.TheVariants.{Arrives, Passes}
+use Rattle.est_meaning.specs.declared.trace.Expected.{Expected}
+use Rattle.est_meaning.specs.declared.trace.Expected.TheVariants.{Known}
 use Rattle.est_meaning.specs.declared.firing.Firing.{Firing}
 use Rattle.est_meaning.specs.Agreement.{AgreeAll, AgreeFirst}
+use Rattle.est_meaning.specs.RecordedTraces.{Recorded}
 use Rattle.est_meaning.specs.TransitionSelection.{IsPossible}
 use Rattle.est_meaning.specs.FiringSteps.{outcome}
 use Rattle.est_meaning.specs.OutsideEvents.{after_event, units_of}
-use Rattle.est_meaning.specs.AllowedEvents.{IsAllowed, IsArrival}
+use Rattle.est_meaning.specs.AllowedEvents.{IsAllowed, IsAllowedExpected, IsArrival}
 use Rattle.est_meaning.specs.declared.answers.Fired.TheVariants as fired
 use Rattle.est_meaning.specs.declared.answers.Offers.{Offers}
 use Rattle.est_meaning.specs.declared.answers.Offers.TheVariants.{Settled, Unsettled}
@@ -29,7 +32,8 @@ use Rattle.est_meaning.proofs.AgreementLaws.{agree_length}
 use Rattle.est_meaning.proofs.StackLaws.{FiringOutcome, fired_done, fired_fault, fired_limit}
 use Rattle.est_meaning.proofs.RunLaws.{bounded_is_run}
 use Rattle.est_meaning.proofs.ClockLaws.{clock_bounded}
-use Rattle.est_meaning.proofs.Takings.{none_taken, taken_follows, takes_at, inside_stays}
+use Rattle.est_meaning.proofs.Takings.{IsKnownOutside, none_taken, taken_follows, takes_at}
+use Rattle.est_meaning.proofs.Takings.{inside_stays}
 use Rattle.est_explanation.specs.declared.verdict.Why.TheVariants as why
 use Rattle.est_explanation.specs.declared.replay.Standing.{Standing}
 use Rattle.est_explanation.specs.declared.replay.Moved.{Moved}
@@ -43,90 +47,97 @@ use Rattle.est_explanation.proofs.Events.{agrees_on, agrees_back}
 pub pushed_now : (new old : Stack) (s : Situation) → new ≡ pushed s old → new.now ≡ s
 pushed_now new old s e = ap (λ (x : Stack). x.now) e
 
-module _ (c : Setup) (spec : Spec) (limit silent : ℕ) (trace : List Event) (stack : Stack)
+module _ (c : Setup) (spec : Spec) (limit silent : ℕ) (trace : Recorded) (stack : Stack)
     (at : Standing) (events : List Event)
     (r : IsReady c spec limit silent trace stack at events) where
-  many_events : at.events ≤ length trace → length events ≡ at.events
-  many_events within = agree_length (take at.events trace) events r.agree
-      ∙ length-take-le at.events trace within
+  many_events : at.events ≤ length trace.events → length events ≡ at.events
+  many_events within = agree_length (take at.events trace.events) events r.agree
+      ∙ length-take-le at.events trace.events within
 
   -- TAKING
 
-  pub none_left : length trace ≤ at.events → HasNoEvent c (place_of stack events at)
+  pub none_left : length trace.events ≤ at.events → HasNoEvent c (place_of stack events at)
   none_left past q t =
-      let n : length c.trace ≡ length trace = ap length r.suits.trace_is in
-      let k = agree_length (take at.events trace) events r.agree in
-      let w : length (take at.events trace) ≡ length trace =
-      ap length (take_all at.events trace past) in
+      let n : length c.trace.events ≡ length trace.events =
+      ap (λ (w : Recorded). length w.events) r.suits.trace_is in
+      let k = agree_length (take at.events trace.events) events r.agree in
+      let w : length (take at.events trace.events) ≡ length trace.events =
+      ap length (take_all at.events trace.events past) in
       none_taken c (place_of stack events at) q (omega arith) t
 
-  module _ (e : Event) (lt : at.events < length trace) (is : get_or trace at.events e ≡ e) where
-    within_there : at.events < length c.trace
-    within_there = subst (λ w. at.events < length w) (sym r.suits.trace_is) lt
+  module _ (x : Expected) (lt : at.events < length trace.events)
+      (is : get_or trace.events at.events x ≡ x) where
+    within_there : at.events < length c.trace.events
+    within_there = subst (λ (w : Recorded). at.events < length w.events) (sym r.suits.trace_is) lt
 
-    is_there : get_or c.trace at.events e ≡ e
-    is_there = ap (λ w. get_or w at.events e) r.suits.trace_is ∙ is
+    is_there : get_or c.trace.events at.events x ≡ x
+    is_there = ap (λ (w : Recorded). get_or w.events at.events x) r.suits.trace_is ∙ is
 
-    agree_there : AgreeAll (take at.events c.trace) events
-    agree_there = subst (λ w. AgreeAll (take at.events w) events) (sym r.suits.trace_is) r.agree
+    agree_there : AgreeAll (take at.events c.trace.events) events
+    agree_there = subst (λ (w : Recorded). AgreeAll (take at.events w.events) events)
+        (sym r.suits.trace_is) r.agree
 
-  pub next_inside : (e : Event) → at.events < length trace → get_or trace at.events e ≡ e
-      → (IsFromOutside e → ⊥) → HasNoEvent c (place_of stack events at)
-  next_inside e lt is inside q t =
-      inside_stays c (place_of stack events at) at.events e (within_there e lt is)
-      (is_there e lt is) (agree_there e lt is) inside q t
+  pub next_inside : (x : Expected) → at.events < length trace.events
+      → get_or trace.events at.events x ≡ x → (IsKnownOutside x → ⊥)
+      → HasNoEvent c (place_of stack events at)
+  next_inside x lt is inside q t =
+      inside_stays c (place_of stack events at) at.events x (within_there x lt is)
+      (is_there x lt is) (agree_there x lt is) inside q t
 
-  pub next_takes : (e : Event) → at.events < length trace → get_or trace at.events e ≡ e
-      → IsFromOutside e → Takes c (place_of stack events at)
-      (after_taking c (place_of stack events at) e)
-  next_takes e lt is outside =
-      takes_at c (place_of stack events at) at.events e (within_there e lt is) (is_there e lt is)
-      (agree_there e lt is) outside
+  pub next_takes : (x : Expected) (e : Event) → at.events < length trace.events
+      → get_or trace.events at.events x ≡ x → x ≡ Known e → IsFromOutside e
+      → Takes c (place_of stack events at) (after_taking c (place_of stack events at) e)
+  next_takes x e lt is known outside =
+      takes_at c (place_of stack events at) at.events x (within_there x lt is) (is_there x lt is)
+      (agree_there x lt is) e known outside
 
-  pub next_taken : (asked : ℕ) (e : Event) (s : Situation) → at.events < length trace
-      → get_or trace at.events e ≡ e → IsFromOutside e
-      → after_event (text_of spec) stack.now e ≡ s
+  pub next_taken : (asked : ℕ) (x : Expected) (e : Event) (s : Situation)
+      → at.events < length trace.events → get_or trace.events at.events x ≡ x → x ≡ Known e
+      → IsFromOutside e → after_event (text_of spec) stack.now e ≡ s
       → HasMoved c asked (place_of stack events at) Take s
       (Passed (record { events = at.events + 1; silent_in_row = 0 }))
-  next_taken asked e s lt is outside after =
+  next_taken asked x e s lt is known outside after =
       let p = place_of stack events at in
       let q = after_taking c p e in
-      let t = next_takes e lt is outside in
+      let t = next_takes x e lt is known outside in
       let many = many_events (omega arith) in (
         q,
         t,
         zero-le,
         follows_agrees c asked [] q (taken_follows c p q t),
         record {
-          situation_is = ap (λ x. after_event (text_of x) stack.now e) r.suits.spec_is ∙ after;
+          situation_is = ap (λ y. after_event (text_of y) stack.now e) r.suits.spec_is ∙ after;
           many = length_push events e ∙ ap (λ n. n + 1) many;
           silent_in_row_is = refl;
         },
       )
 
-  pub next_allowed : (e : Event) → at.events < length trace → get_or trace at.events e ≡ e
-      → IsAllowed spec e
-  next_allowed e lt is =
-      let a : IsAllowed c.spec (get_or c.trace at.events e) =
-      r.suits.allowed.each at.events e (within_there e lt is) in
-      subst (λ x. IsAllowed x e) r.suits.spec_is
-      (subst (IsAllowed c.spec) (is_there e lt is) a)
+  pub next_allowed : (x : Expected) (e : Event) → at.events < length trace.events
+      → get_or trace.events at.events x ≡ x → x ≡ Known e → IsAllowed spec e
+  next_allowed x e lt is known =
+      let a : IsAllowedExpected c.spec (get_or c.trace.events at.events x) =
+      r.suits.allowed.each at.events x (within_there x lt is) in
+      let b : IsAllowedExpected c.spec (Known e) =
+      subst (IsAllowedExpected c.spec) (is_there x lt is ∙ known) a in
+      subst (λ y. IsAllowed y e) r.suits.spec_is b
 
-  pub next_arrives : (e : Event) (i : Interaction) → at.events < length trace
-      → get_or trace at.events e ≡ e → e ≡ Arrives i → IsArrival spec e
-  next_arrives e i lt is e_is = subst (IsArrival spec) (sym e_is) (subst (IsAllowed spec) e_is
-      (next_allowed e lt is))
+  pub next_arrives : (x : Expected) (e : Event) (i : Interaction)
+      → at.events < length trace.events → get_or trace.events at.events x ≡ x → x ≡ Known e
+      → e ≡ Arrives i → IsArrival spec e
+  next_arrives x e i lt is known e_is = subst (IsArrival spec) (sym e_is)
+      (subst (IsAllowed spec) e_is (next_allowed x e lt is known))
 
-  pub time_fits : (e : Event) (units : ℕ) → at.events < length trace → get_or trace at.events e ≡ e
-      → e ≡ Passes units → stack.now.clock + units ≤ 10 ^ 15
+  pub time_fits : (x : Expected) (e : Event) (units : ℕ) → at.events < length trace.events
+      → get_or trace.events at.events x ≡ x → x ≡ Known e → e ≡ Passes units
+      → stack.now.clock + units ≤ 10 ^ 15
   unfolding next_takes
-  time_fits e units lt is e_is =
+  time_fits x e units lt is known e_is =
       let p = place_of stack events at in
       let outside : IsFromOutside e = subst IsFromOutside (sym e_is) tt in
       let b = clock_bounded c r.run p r.suits.begun r.suits.allowed
       (bounded_is_run c r.run p r.is_run) in
       let fits : stack.now.clock + units_of e ≤ 10 ^ 15 = b.1 (after_taking c p e)
-      (next_takes e lt is outside) in
+      (next_takes x e lt is known outside) in
       subst (λ w. stack.now.clock + units_of w ≤ 10 ^ 15) e_is fits
 
   -- FIRING
@@ -181,22 +192,25 @@ module _ (c : Setup) (spec : Spec) (limit silent : ℕ) (trace : List Event) (st
           )
 
       -- all events agree with the trace just where the last ones agree with the rest of it
-      all_agree : at.events ≤ length trace
-          → AgreeFirst (drop at.events trace) (take (asked - at.events) outs)
-          → AgreeFirst c.trace (take asked (events ++ outs))
+      all_agree : at.events ≤ length trace.events
+          → AgreeFirst (drop at.events trace.events) (take (asked - at.events) outs)
+          → AgreeFirst c.trace.events (take asked (events ++ outs))
       all_agree within a =
-          subst (λ w. AgreeFirst w (take asked (events ++ outs))) (sym r.suits.trace_is)
-          (agrees_on trace events outs at.events asked within r.agree a)
+          subst (λ (w : Recorded). AgreeFirst w.events (take asked (events ++ outs)))
+          (sym r.suits.trace_is)
+          (agrees_on trace.events events outs at.events asked within r.agree a)
 
-      rest_agrees : at.events ≤ length trace → AgreeFirst c.trace (take asked (events ++ outs))
-          → AgreeFirst (drop at.events trace) (take (asked - at.events) outs)
+      rest_agrees : at.events ≤ length trace.events
+          → AgreeFirst c.trace.events (take asked (events ++ outs))
+          → AgreeFirst (drop at.events trace.events) (take (asked - at.events) outs)
       rest_agrees within a =
-          agrees_back trace events outs at.events asked within r.agree
-          (subst (λ w. AgreeFirst w (take asked (events ++ outs))) r.suits.trace_is a)
+          agrees_back trace.events events outs at.events asked within r.agree
+          (subst (λ (w : Recorded). AgreeFirst w.events (take asked (events ++ outs)))
+          r.suits.trace_is a)
 
       landed : (s : Situation) → outcome limit' (text_of spec) mid.now f ≡ Done outs s
-          → new ≡ pushed s mid → at.events ≤ length trace → (moved : Moved)
-          → HasLanded trace silent asked at outs moved
+          → new ≡ pushed s mid → at.events ≤ length trace.events → (moved : Moved)
+          → HasLanded trace.events silent asked at outs moved
           → HasMoved c asked (place_of stack events at) (Fire f) new.now moved
       landed s done new_is within (Passed next) l =
           let p = place_of stack events at in
@@ -260,7 +274,8 @@ module _ (c : Setup) (spec : Spec) (limit silent : ℕ) (trace : List Event) (st
       landed s done new_is within (Failed why.NotAll) l = absurd l
 
       pub fired_lands : FiredAs (outcome limit' (text_of spec) mid.now f) fired.Done outs mid new
-          → at.events ≤ length trace → (moved : Moved) → HasLanded trace silent asked at outs moved
+          → at.events ≤ length trace.events → (moved : Moved)
+          → HasLanded trace.events silent asked at outs moved
           → HasMoved c asked (place_of stack events at) (Fire f) new.now moved
       fired_lands a within moved l =
           let d = fired_done (outcome limit' (text_of spec) mid.now f) outs mid new a in

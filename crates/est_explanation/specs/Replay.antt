@@ -11,6 +11,7 @@ use Rattle.est_meaning.specs.mean_blocks.TextByPlace.{text_of}
 use Rattle.est_meaning.specs.declared.event.Event.{Event}
 use Rattle.est_meaning.specs.declared.firing.Firing.{Firing}
 use Rattle.est_meaning.specs.Agreement.{AgreeFirst}
+use Rattle.est_meaning.specs.RecordedTraces.{Recorded}
 use Rattle.est_meaning.specs.TransitionSelection.{IsSettled, IsPossible}
 use Rattle.est_meaning.specs.FiringSteps.{outcome, start_of}
 use Rattle.est_meaning.specs.declared.run.Move.{Move}
@@ -34,10 +35,10 @@ most_moves = 2 ^ 32 - 2
 -- those up to the claim (which asks again for all where the claim is above the number of the
 -- trace's events)
 abbrev pub AgreesSoFar : Setup → ℕ → List Move → Place → Type 0
-AgreesSoFar c claim [] p = AgreeFirst c.trace (take claim p.events)
+AgreesSoFar c claim [] p = AgreeFirst c.trace.events (take claim p.events)
 AgreesSoFar c claim (m ∷ left) p = Follows c p
 
--- no next event is there to be taken: the next one is a departure, or there is none
+-- no next event is there to be taken: the next one is a departure or partly seen, or there is none
 abbrev pub HasNoEvent : Setup → Place → Type 0
 HasNoEvent c p = (q : Place) → Takes c p q → ⊥
 
@@ -110,7 +111,7 @@ IsAnswer c moves claim (Confirmed events) = (events ≡ claim) × Yields c (reve
 IsAnswer c moves claim (Rejected at w) = IsRejected c moves claim at w
 
 -- the answer from what comes of the start
-abbrev pub AnswersFrom : ℕ → ℕ → Spec → List Event → List Move → ℕ → Replayed
+abbrev pub AnswersFrom : ℕ → ℕ → Spec → Recorded → List Move → ℕ → Replayed
     → Outcome Situation (List Event) → Type 0
 AnswersFrom limit silent spec trace moves claim answer (Done outs s) = IsAnswer
     (setup_from limit silent spec trace s outs)
@@ -120,13 +121,13 @@ AnswersFrom limit silent spec trace moves claim answer (Fault fault) =
 AnswersFrom limit silent spec trace moves claim answer Limit = answer ≡ Rejected 0 why.Limit
 
 -- the answer of a replay
-abbrev pub IsReplay : ℕ → ℕ → Spec → List Event → List Move → ℕ → Replayed → Type 0
+abbrev pub IsReplay : ℕ → ℕ → Spec → Recorded → List Move → ℕ → Replayed → Type 0
 IsReplay limit silent spec trace moves claim answer =
     AnswersFrom limit silent spec trace moves claim answer (start_of limit (text_of spec))
 
 -- no two answers fit one explanation
 abbrev pub OneAnswer : Type 0
-OneAnswer = (limit silent : ℕ) (spec : Spec) (trace : List Event) (moves : List Move) (claim : ℕ)
+OneAnswer = (limit silent : ℕ) (spec : Spec) (trace : Recorded) (moves : List Move) (claim : ℕ)
     (a b : Replayed)
     → IsReplay limit silent spec trace moves claim a
     → IsReplay limit silent spec trace moves claim b → a ≡ b
@@ -134,5 +135,5 @@ OneAnswer = (limit silent : ℕ) (spec : Spec) (trace : List Event) (moves : Lis
 -- after the last move a claim above the number of the trace's events asks for all events
 abbrev pub ClaimsBeyondAskAll : Type 0
 ClaimsBeyondAskAll =
-    (c : Setup) (claim : ℕ) (p : Place) → length c.trace < claim → AgreesSoFar c claim [] p
+    (c : Setup) (claim : ℕ) (p : Place) → length c.trace.events < claim → AgreesSoFar c claim [] p
     → Follows c p

@@ -17,9 +17,11 @@ ghost use Rattle.est_explanation.specs.inside.Standing.{IsMet, IsEnding, asked_o
 
 use crate::verdict::{Replayed, Why};
 use est_meaning::answers::{Fired, Offers};
+use est_meaning::ending::ends_at;
 use est_meaning::event::Event;
 use est_meaning::firing::Firing;
 use est_meaning::run::Move;
+use est_meaning::trace::{Expected, Trace, agrees};
 use est_meaning::world::World;
 use std::alloc::{AllocError, Global};
 
@@ -27,7 +29,7 @@ use std::alloc::{AllocError, Global};
 /// a row.
 #[derive(Clone, Copy)]
 pub struct Replaying<'t> {
-    pub trace: &'t [Event],
+    pub trace: &'t Trace,
     pub moves: &'t [Move],
     pub claim: u32,
     pub silent: u32,
@@ -36,8 +38,8 @@ pub struct Replaying<'t> {
 // What a move is checked against: the trace, how many silent firings may stand in a row, and how
 // many events are compared at most.
 #[derive(Clone, Copy)]
-struct Expected<'t> {
-    trace: &'t [Event],
+struct Checks<'t> {
+    trace: &'t Trace,
     silent: u32,
     asked: usize,
 }
@@ -57,14 +59,14 @@ enum Moved {
 }
 
 // Whether a trace begins with these events.
-fn begins_with(trace: &[Event], events: &[Event]) -> bool
+fn begins_with(trace: &[Expected], events: &[Event]) -> bool
     ensures { IsTrue result ↔ AgreeFirst trace.now events.now }
 {
     if events.len() > trace.len() {
         return false;
     }
     for (index, event) in events.iter().enumerate() {
-        if !event.is(&trace[index]) {
+        if !agrees(&trace[index], event) {
             return false;
         }
     }
@@ -73,7 +75,7 @@ fn begins_with(trace: &[Event], events: &[Event]) -> bool
 
 // Whether these events, of which so many happened before, agree with the rest of the trace up to a
 // number of all events.
-fn agree(trace: &[Event], so_far: usize, outs: &[Event], asked: usize) -> bool
+fn agree(trace: &[Expected], so_far: usize, outs: &[Event], asked: usize) -> bool
     requires { so_far ≤ length trace.now }
     ensures { IsTrue result
         ↔ AgreeFirst (drop so_far trace.now) (take (asked - so_far) outs.now) }
@@ -83,7 +85,7 @@ fn agree(trace: &[Event], so_far: usize, outs: &[Event], asked: usize) -> bool
 }
 
 // How many events are compared at most where these moves are left.
-fn asked(trace: &[Event], claim: u32, left: &[Move]) -> usize
+fn asked(trace: &[Expected], claim: u32, left: &[Move]) -> usize
     ensures { result ≡ asked_of (length trace.now) claim left.now }
 {
     match left {
@@ -108,29 +110,31 @@ fn is_among(firing: &Firing, firings: &[Firing]) -> bool
 fn take_next<W: World>(
     alloc: Global,
     world: &mut W,
-    expected: &Expected<'_>,
+    checks: &Checks<'_>,
     at: Standing,
 ) -> Result<Moved, AllocError>
     ghost setup: { Spec → Setup }
-    requires within { at.events ≤ length expected.now.trace.now }
+    requires within { at.events ≤ length checks.now.trace.now.events }
     requires ready { (spec : Spec) → W.speaks world.old spec
         → (events : List Event) × IsReady (setup spec) spec (W.limit world.old)
-        expected.now.silent expected.now.trace.now (W.stack world.old spec) at events }
+        checks.now.silent checks.now.trace.now (W.stack world.old spec) at events }
     ensures keeps { Keeps W.speaks W.limit world.old world.new }
     ensures fired { W.fired world.new ≡ W.fired world.old }
     ensures moved { IfOk result
         (λ moved. (spec : Spec) → W.speaks world.old spec → (events : List Event)
-        → IsReady (setup spec) spec (W.limit world.old) expected.now.silent
-        expected.now.trace.now (W.stack world.old spec) at events
-        → HasMoved (setup spec) expected.now.asked
+        → IsReady (setup spec) spec (W.limit world.old) checks.now.silent
+        checks.now.trace.now (W.stack world.old spec) at events
+        → HasMoved (setup spec) checks.now.asked
         (place_of (W.stack world.old spec) events at) Move.Take
         (W.stack world.new spec).now moved) }
 {
-    let trace = expected.trace;
+    let trace = checks.trace.events().as_slice();
     if at.events >= trace.len() {
         return Ok(Moved::Failed(Why::NoEvent));
     }
-    let event = &trace[at.events];
+    let Expected::Known(event) = &trace[at.events] else {
+        return Ok(Moved::Failed(Why::NoEvent));
+    };
     match event {
         Event::Leaves(_) => return Ok(Moved::Failed(Why::NoEvent)),
         Event::Arrives(_) => world.arrive(alloc, event)?,
@@ -143,18 +147,23 @@ fn take_next<W: World>(
 }
 
 // Goes on after a firing with these events.
-fn land(expected: &Expected<'_>, at: Standing, outs: &[Event]) -> Moved
-    requires { at.events ≤ length expected.now.trace.now }
-    ensures { HasLanded expected.now.trace.now expected.now.silent expected.now.asked at outs.now
+fn land(checks: &Checks<'_>, at: Standing, outs: &[Event]) -> Moved
+    requires { at.events ≤ length checks.now.trace.now.events }
+    ensures { HasLanded checks.now.trace.now.events checks.now.silent checks.now.asked at outs.now
         result }
 {
-    if !agree(expected.trace, at.events, outs, expected.asked) {
+    if !agree(
+        checks.trace.events().as_slice(),
+        at.events,
+        outs,
+        checks.asked,
+    ) {
         return Moved::Failed(Why::WrongOutput);
     }
     let events = at.events + outs.len();
     match outs {
         [] => {
-            if at.silent_in_row < expected.silent {
+            if at.silent_in_row < checks.silent {
                 Moved::Passed(Standing {
                     events,
                     silent_in_row: at.silent_in_row + 1,
@@ -174,23 +183,23 @@ fn land(expected: &Expected<'_>, at: Standing, outs: &[Event]) -> Moved
 fn fire<W: World>(
     alloc: Global,
     world: &mut W,
-    expected: &Expected<'_>,
+    checks: &Checks<'_>,
     at: Standing,
     firing: &Firing,
 ) -> Result<Moved, AllocError>
     ghost setup: { Spec → Setup }
-    requires within { at.events ≤ length expected.now.trace.now }
+    requires within { at.events ≤ length checks.now.trace.now.events }
     requires room { W.fired world.old < 2 ^ 64 - 1 }
     requires ready { (spec : Spec) → W.speaks world.old spec
         → (events : List Event) × IsReady (setup spec) spec (W.limit world.old)
-        expected.now.silent expected.now.trace.now (W.stack world.old spec) at events }
+        checks.now.silent checks.now.trace.now (W.stack world.old spec) at events }
     ensures keeps { Keeps W.speaks W.limit world.old world.new }
     ensures fired { W.fired world.new ≤ W.fired world.old + 1 }
     ensures moved { IfOk result
         (λ moved. (spec : Spec) → W.speaks world.old spec → (events : List Event)
-        → IsReady (setup spec) spec (W.limit world.old) expected.now.silent
-        expected.now.trace.now (W.stack world.old spec) at events
-        → HasMoved (setup spec) expected.now.asked
+        → IsReady (setup spec) spec (W.limit world.old) checks.now.silent
+        checks.now.trace.now (W.stack world.old spec) at events
+        → HasMoved (setup spec) checks.now.asked
         (place_of (W.stack world.old spec) events at) (Move.Fire firing.now)
         (W.stack world.new spec).now moved) }
 {
@@ -204,7 +213,7 @@ fn fire<W: World>(
     }
     let mut outs = Vec::new(alloc);
     match world.fire(alloc, firing, &mut outs)? {
-        Fired::Done => Ok(land(expected, at, &outs)),
+        Fired::Done => Ok(land(checks, at, &outs)),
         Fired::Fault(fault) => Ok(Moved::Failed(Why::Fault(fault))),
         Fired::Limit => Ok(Moved::Failed(Why::Limit)),
     }
@@ -214,61 +223,84 @@ fn fire<W: World>(
 fn make<W: World>(
     alloc: Global,
     world: &mut W,
-    expected: &Expected<'_>,
+    checks: &Checks<'_>,
     at: Standing,
     next: &Move,
 ) -> Result<Moved, AllocError>
     ghost setup: { Spec → Setup }
-    requires within { at.events ≤ length expected.now.trace.now }
+    requires within { at.events ≤ length checks.now.trace.now.events }
     requires room { W.fired world.old < 2 ^ 64 - 1 }
     requires ready { (spec : Spec) → W.speaks world.old spec
         → (events : List Event) × IsReady (setup spec) spec (W.limit world.old)
-        expected.now.silent expected.now.trace.now (W.stack world.old spec) at events }
+        checks.now.silent checks.now.trace.now (W.stack world.old spec) at events }
     ensures keeps { Keeps W.speaks W.limit world.old world.new }
     ensures fired { W.fired world.new ≤ W.fired world.old + 1 }
     ensures moved { IfOk result
         (λ moved. (spec : Spec) → W.speaks world.old spec → (events : List Event)
-        → IsReady (setup spec) spec (W.limit world.old) expected.now.silent
-        expected.now.trace.now (W.stack world.old spec) at events
-        → HasMoved (setup spec) expected.now.asked
+        → IsReady (setup spec) spec (W.limit world.old) checks.now.silent
+        checks.now.trace.now (W.stack world.old spec) at events
+        → HasMoved (setup spec) checks.now.asked
         (place_of (W.stack world.old spec) events at) next.now
         (W.stack world.new spec).now moved) }
 {
     match next {
-        Move::Take => take_next(alloc, world, expected, at),
-        Move::Fire(firing) => fire(alloc, world, expected, at, firing),
+        Move::Take => take_next(alloc, world, checks, at),
+        Move::Fire(firing) => fire(alloc, world, checks, at, firing),
     }
 }
 
 // Whether so many events meet the claim, if those up to the claim agree with the trace.
-fn is_met(claim: u32, trace_len: usize, events: usize) -> bool
-    requires { trace_len ≤ most_events }
-    ensures { IsTrue result ↔ IsMet claim trace_len events }
+fn is_met<W: World>(
+    alloc: Global,
+    world: &mut W,
+    replaying: &Replaying<'_>,
+    events: usize,
+) -> Result<bool, AllocError>
+    requires { length replaying.now.trace.now.events ≤ most_events }
+    ensures keeps { Keeps W.speaks W.limit world.old world.new }
+    ensures fired { W.fired world.new ≡ W.fired world.old }
+    ensures met { IfOk result (λ met. (spec : Spec) → W.speaks world.old spec
+        → IsTrue met ↔ IsMet replaying.now.trace.now (W.limit world.old) (text_of spec)
+        (W.stack world.old spec).now replaying.now.claim events) }
 {
-    let claim = claim as usize;
-    if claim <= trace_len {
-        claim <= events
-    } else {
-        claim == trace_len + 1 && events == trace_len
+    let claim = replaying.claim as usize;
+    let all = replaying.trace.events().len();
+    if claim <= all {
+        return Ok(claim <= events);
     }
+    let whole = all + 1;
+    if claim != whole {
+        return Ok(false);
+    }
+    ends_at(alloc, world, replaying.trace, events)
 }
 
 // What is answered after the last move, with so many events.
-fn end(replaying: &Replaying<'_>, events: usize) -> Replayed
-    requires short { length replaying.now.trace.now ≤ most_events }
+fn end<W: World>(
+    alloc: Global,
+    world: &mut W,
+    replaying: &Replaying<'_>,
+    events: usize,
+) -> Result<Replayed, AllocError>
+    requires short { length replaying.now.trace.now.events ≤ most_events }
     requires few { length replaying.now.moves.now ≤ most_moves }
-    ensures { IsEnding replaying.now.claim (length replaying.now.trace.now)
-        (length replaying.now.moves.now) events result }
+    ensures keeps { Keeps W.speaks W.limit world.old world.new }
+    ensures fired { W.fired world.new ≡ W.fired world.old }
+    ensures ending { IfOk result (λ answer. (spec : Spec) → W.speaks world.old spec
+        → IsEnding replaying.now.trace.now (W.limit world.old) (text_of spec)
+        (W.stack world.old spec).now replaying.now.claim (length replaying.now.moves.now) events
+        answer) }
 {
-    if is_met(replaying.claim, replaying.trace.len(), events) {
-        Replayed::Confirmed {
+    let met = is_met(alloc, world, replaying, events)?;
+    if met {
+        Ok(Replayed::Confirmed {
             events: replaying.claim,
-        }
+        })
     } else {
-        Replayed::Rejected {
+        Ok(Replayed::Rejected {
             at: replaying.moves.len() as u32 + 1,
             why: Why::NotAll,
-        }
+        })
     }
 }
 
@@ -282,7 +314,7 @@ fn replay_moves<W: World>(
     ghost setup: { Spec → Setup }
     requires room { W.fired world.old ≤ 2 ^ 63 }
     requires few { length replaying.now.moves.now ≤ most_moves }
-    requires short { length replaying.now.trace.now ≤ most_events }
+    requires short { length replaying.now.trace.now.events ≤ most_events }
     requires start { (spec : Spec) → W.speaks world.old spec
         → IsSetup (setup spec) spec (W.limit world.old) replaying.now.silent replaying.now.trace.now
         (W.stack world.old spec) start_outs.now }
@@ -292,7 +324,7 @@ fn replay_moves<W: World>(
         (λ answer. (spec : Spec) → W.speaks world.old spec
         → IsAnswer (setup spec) replaying.now.moves.now replaying.now.claim answer) }
 {
-    let trace = replaying.trace;
+    let trace = replaying.trace.events().as_slice();
     let moves = replaying.moves;
     let claim = replaying.claim;
     let silent = replaying.silent;
@@ -308,12 +340,12 @@ fn replay_moves<W: World>(
     };
     for (index, next) in moves.iter().enumerate() {
         let compared = asked(trace, claim, &moves[index + 1..]);
-        let expected = Expected {
-            trace,
+        let checks = Checks {
+            trace: replaying.trace,
             silent,
             asked: compared,
         };
-        match make(alloc, world, &expected, at, next)? {
+        match make(alloc, world, &checks, at, next)? {
             Moved::Passed(next) => at = next,
             Moved::Failed(why) => {
                 return Ok(Replayed::Rejected {
@@ -324,12 +356,13 @@ fn replay_moves<W: World>(
         }
         world.forget();
     }
-    Ok(end(replaying, at.events))
+    end(alloc, world, replaying, at.events)
 }
 
 /// Replays moves on a world that stands at the start of each specification of which it
 /// speaks. The answer is the only one that fits (`laws::one_answer`). Each move is made once, and
-/// for each firing the possible firings are listed once.
+/// for each firing the possible firings are listed once; after the last move they are where all of
+/// a trace is claimed that ends quiet.
 pub fn replay_in<W: World>(
     alloc: Global,
     world: &mut W,

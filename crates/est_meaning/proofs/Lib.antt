@@ -1,6 +1,7 @@
 pub mod AgreementLaws
 pub mod ClockLaws
 pub mod Contexts
+pub mod Endings
 pub mod Examples
 pub mod GuardExamples
 pub mod Guards

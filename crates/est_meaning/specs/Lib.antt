@@ -2,12 +2,15 @@ pub mod Agreement
 pub mod AllowedEvents
 pub mod ClauseContexts
 pub mod DelayStamps
+pub mod Endings
 pub mod FiringOrder
 pub mod FiringSteps
 pub mod GuardParts
 pub mod Order
 pub mod OutsideEvents
 pub mod PossibleFirings
+pub mod QuietSituations
+pub mod RecordedTraces
 pub mod Run
 pub mod RunLaws
 pub mod SelectionLaws

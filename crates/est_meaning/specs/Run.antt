@@ -2,7 +2,7 @@
 --
 -- These definitions read a run from its last move back to its first, so that `m ∷ earlier` is the
 -- run `earlier` with one more move m.
-use Rattle.std.specs.Prelude.{◌≡◌, ℕ, ◌+◌, ◌≤◌, ◌⊎◌, List, [], ◌∷◌, ◌++◌, length, take}
+use Rattle.std.specs.Prelude.{◌≡◌, ℕ, ◌+◌, ◌≤◌, ◌⊎◌, IsTrue, List, [], ◌∷◌, ◌++◌, length, take}
 use Rattle.est_syntax.specs.declared.specification.Spec.{Spec}
 use Rattle.mean_blocks.specs.GlobalSituation.{Situation}
 use Rattle.mean_blocks.specs.Outcome.{Done}
@@ -10,9 +10,13 @@ use Rattle.mean_blocks.specs.TextByPlace.{text_of}
 use Rattle.est_meaning.specs.declared.event.Event.{Event}
 use Rattle.est_meaning.specs.declared.event.Event.TheVariants as event
 use Rattle.est_meaning.specs.declared.firing.Firing.{Firing}
+use Rattle.est_meaning.specs.declared.trace.Expected.{Expected}
+use Rattle.est_meaning.specs.declared.trace.Expected.TheVariants.{Known}
 use Rattle.est_meaning.specs.Agreement.{AgreeAll, AgreeFirst}
 use Rattle.est_meaning.specs.FiringSteps.{IsStep, start_of}
 use Rattle.est_meaning.specs.OutsideEvents.{after_event}
+use Rattle.est_meaning.specs.QuietSituations.{IsQuiet}
+use Rattle.est_meaning.specs.RecordedTraces.{Recorded}
 use Rattle.est_meaning.specs.declared.run.Move.{Move}
 use Rattle.est_meaning.specs.declared.run.Move.TheVariants.{Take, Fire}
 
@@ -23,7 +27,7 @@ pub record Setup : Type 0 where
   pub limit : ℕ
   -- how many silent firings may stand in a row
   pub silent : ℕ
-  pub trace : List Event
+  pub trace : Recorded
   -- the situation and the events after the start
   pub start : Situation
   pub start_outs : List Event
@@ -60,15 +64,15 @@ after_taking c p e = record {
   silent_in_row = 0;
 }
 
--- behind a front that the events so far agree with, the trace goes on with an arrival or a passing
--- of time, and this event happens
+-- after a front that the events so far agree with, the trace goes on with a known arrival or
+-- passing of time, and this event happens
 pub record Takes (c : Setup) (p q : Place) : Type 0 where
   pub event : Event
-  pub front : List Event
-  pub rest : List Event
+  pub front : List Expected
+  pub rest : List Expected
   pub outside : IsFromOutside event
   pub agree : AgreeAll front p.events
-  pub next : c.trace ≡ front ++ event ∷ rest
+  pub next : c.trace.events ≡ front ++ Known event ∷ rest
   pub leads : q ≡ after_taking c p event
 
 -- how many silent firings stand last after one more firing: a silent one adds one, and one with an
@@ -109,11 +113,12 @@ IsBoundedRun c (m ∷ earlier) p =
 
 -- the trace begins with the events so far
 abbrev pub Follows : Setup → Place → Type 0
-Follows c p = AgreeFirst c.trace p.events
+Follows c p = AgreeFirst c.trace.events p.events
 
--- the events so far are the whole trace
+-- the events so far are the whole trace, and where it ends quiet, the situation is quiet
 pub record IsWhole (c : Setup) (p : Place) : Type 0 where
-  pub events : AgreeAll c.trace p.events
+  pub events : AgreeAll c.trace.events p.events
+  pub quiet : IsTrue c.trace.quiet → IsQuiet c.limit (text_of c.spec) p.situation
 
 -- a bounded run that is whole
 pub record Explains (c : Setup) (run : List Move) : Type 0 where
@@ -132,10 +137,10 @@ pub record YieldsFirst (c : Setup) (run : List Move) (k : ℕ) : Type 0 where
   pub is_run : IsBoundedRun c run place
   pub before : FollowsBefore c run
   pub many : k ≤ length place.events
-  pub within : k ≤ length c.trace
-  pub agree : AgreeAll (take k c.trace) (take k place.events)
+  pub within : k ≤ length c.trace.events
+  pub agree : AgreeAll (take k c.trace.events) (take k place.events)
 
 -- a bounded run yields the first k events of the trace, or one more than it has where it explains
 -- the trace
 abbrev pub Yields : Setup → List Move → ℕ → Type 0
-Yields c run k = YieldsFirst c run k ⊎ ((k ≡ length c.trace + 1) × Explains c run)
+Yields c run k = YieldsFirst c run k ⊎ ((k ≡ length c.trace.events + 1) × Explains c run)

@@ -1,11 +1,13 @@
 -- What holds of runs and their order.
 use Rattle.std.specs.Prelude.{◌≡◌, ◌≤◌, ◌+◌, ◌^◌, ◌↔◌, ◌⊎◌, ℕ, List, [], ◌∷◌, ◌++◌, length}
-use Rattle.std.specs.Prelude.{take}
+use Rattle.std.specs.Prelude.{map, take}
 use Rattle.mean_blocks.specs.GlobalSituation.{Situation}
 use Rattle.mean_blocks.specs.KeepingLaws.{AreNumbered, AreMutual}
 use Rattle.mean_blocks.specs.TextByPlace.{text_of}
 use Rattle.est_meaning.specs.declared.event.Event.{Event}
 use Rattle.est_meaning.specs.declared.firing.Firing.{Firing}
+use Rattle.est_meaning.specs.declared.trace.Expected.{Expected}
+use Rattle.est_meaning.specs.declared.trace.Expected.TheVariants.{Known}
 use Rattle.est_meaning.specs.Agreement.{AgreeAll, AgreeFirst}
 use Rattle.est_meaning.specs.FiringSteps.{IsStep}
 use Rattle.est_meaning.specs.AllowedEvents.{IsAllowedTrace}
@@ -51,14 +53,15 @@ abbrev pub BoundedMeansFewInARow : Type 0
 BoundedMeansFewInARow = (c : Setup) (run : List Move) (p : Place)
     → IsBoundedRun c run p ↔ (IsRun c run p × HasFewInARow c run)
 
--- events agree with themselves and with no others; those that agree with the first of a list agree
--- with as many of its front; and what is added leaves the agreement of what was there
+-- events that are known agree with themselves and with no others; those that agree with the first
+-- of a list agree with as many of its front; and what is added leaves the agreement of what was
+-- there
 pub record AgreementIsOneByOne : Type 0 where
-  pub known : (es fs : List Event) → AgreeAll es fs ↔ (fs ≡ es)
-  pub first : (expected es : List Event)
+  pub known : (es fs : List Event) → AgreeAll (map Known es) fs ↔ (fs ≡ es)
+  pub first : (expected : List Expected) (es : List Event)
       → AgreeFirst expected es
       ↔ ((length es ≤ length expected) × AgreeAll (take (length es) expected) es)
-  pub joined : (front back es fs : List Event) → length front ≡ length es
+  pub joined : (front back : List Expected) (es fs : List Event) → length front ≡ length es
       → AgreeAll (front ++ back) (es ++ fs) ↔ (AgreeAll front es × AgreeAll back fs)
 
 -- what a run yields has no gaps below it, and a run without moves yields at least 0

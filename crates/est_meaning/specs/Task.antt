@@ -4,11 +4,12 @@ use Rattle.est_syntax.specs.declared.specification.Spec.{Spec}
 use Rattle.mean_blocks.specs.GlobalSituation.{Situation}
 use Rattle.est_meaning.specs.declared.event.Event.{Event}
 use Rattle.est_meaning.specs.AllowedEvents.{IsAllowedTrace}
+use Rattle.est_meaning.specs.RecordedTraces.{Recorded}
 use Rattle.est_meaning.specs.SituationStacks.{Stack}
 use Rattle.est_meaning.specs.Run.{Setup, IsBegun}
 
 -- the runs of a specification along a trace, from this situation and these events of its start
-abbrev pub setup_from : ℕ → ℕ → Spec → List Event → Situation → List Event → Setup
+abbrev pub setup_from : ℕ → ℕ → Spec → Recorded → Situation → List Event → Setup
 setup_from limit silent spec trace start outs = record {
   spec = spec;
   limit = limit;
@@ -19,11 +20,11 @@ setup_from limit silent spec trace start outs = record {
 }
 
 -- the runs from the situation in which a world stands, after these events of its start
-abbrev pub setup_of : ℕ → ℕ → List Event → Stack → List Event → Spec → Setup
+abbrev pub setup_of : ℕ → ℕ → Recorded → Stack → List Event → Spec → Setup
 setup_of limit silent trace stack outs spec = setup_from limit silent spec trace stack.now outs
 
 -- the setup is of these, its start is ready and its trace within its limits
-pub record Suits (c : Setup) (spec : Spec) (limit silent : ℕ) (trace : List Event) : Type 0 where
+pub record Suits (c : Setup) (spec : Spec) (limit silent : ℕ) (trace : Recorded) : Type 0 where
   pub spec_is : c.spec ≡ spec
   pub limit_is : c.limit ≡ limit
   pub silent_is : c.silent ≡ silent
@@ -32,7 +33,7 @@ pub record Suits (c : Setup) (spec : Spec) (limit silent : ℕ) (trace : List Ev
   pub allowed : IsAllowedTrace c.spec c.trace
 
 -- no move was made yet
-pub record IsSetup (c : Setup) (spec : Spec) (limit silent : ℕ) (trace : List Event) (stack : Stack)
+pub record IsSetup (c : Setup) (spec : Spec) (limit silent : ℕ) (trace : Recorded) (stack : Stack)
     (outs : List Event) : Type 0 where
   pub suits : Suits c spec limit silent trace
   pub start_is : c.start ≡ stack.now

@@ -25,9 +25,6 @@ pub enum Event {
 /// Events in order.
 pub type Events = Items<Event>;
 
-/// A recorded list of events.
-pub type Trace = Items<Event>;
-
 impl Interaction {
     /// Whether two interactions are one.
     pub fn is(&self, other: &Interaction) -> bool

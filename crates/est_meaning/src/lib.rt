@@ -4,11 +4,13 @@
 #![tactic(auto)]
 
 pub mod answers;
+pub mod ending;
 pub mod event;
 pub mod firing;
 pub mod laws;
 pub mod run;
 pub mod run_laws;
+pub mod trace;
 pub mod world;
 
 pub use mean_blocks;

@@ -19,8 +19,8 @@ pub fn bounded_runs_have_few_silent_in_a_row()
     ensures { BoundedMeansFewInARow }
 {}
 
-/// Events agree with themselves alone, one by one: with the first of a list as many agree as its
-/// front has, and joined lists agree part by part.
+/// Known events agree with themselves alone, one by one: with the first of a list as many agree as
+/// its front has, and joined lists agree part by part.
 pub fn events_agree_one_by_one()
     ensures { AgreementIsOneByOne }
 {}

@@ -1,12 +1,14 @@
 //! A system that can be run and undone step by step.
-ghost use Rattle.std.specs.Prelude.{◌≡◌, [], ℕ, ◌+◌, ◌-◌, ◌^◌, ◌<◌, ◌≤◌, length, IfOk, OnErr, OnOk};
+ghost use Rattle.std.specs.Prelude.{◌≡◌, ◌↔◌, [], ℕ, ◌+◌, ◌-◌, ◌^◌, ◌<◌, ◌≤◌, length, IsTrue};
+ghost use Rattle.std.specs.Prelude.{IfOk, OnErr, OnOk};
 ghost use Rattle.est_syntax.specs.declared.specification.Spec.{Spec};
 ghost use Rattle.mean_blocks.specs.TextByPlace.{text_of};
 ghost use Rattle.est_meaning.specs.AllowedEvents.{IsArrival};
 ghost use Rattle.est_meaning.specs.FiringSteps.{outcome};
 ghost use Rattle.est_meaning.specs.OutsideEvents.{after_event, later};
-ghost use Rattle.est_meaning.specs.TransitionSelection.{IsPossible};
+ghost use Rattle.est_meaning.specs.TransitionSelection.{IsSettled, IsPossible};
 ghost use Rattle.est_meaning.specs.PossibleFirings.{OffersAre};
+ghost use Rattle.est_meaning.specs.QuietSituations.{HasDue};
 ghost use Rattle.est_meaning.specs.SituationStacks.{Stack, pushed, alone, Keeps};
 ghost use Rattle.est_meaning.specs.SituationStacks.{SameStack, FiredAs};
 
@@ -39,6 +41,17 @@ pub trait World {
             (λ offers. (spec : Spec) → speaks self.old spec
             → OffersAre (limit self.old) (text_of spec) (stack self.old spec).now offers
             into.new.items) };
+
+    /// Whether in a settled situation some choice of some instance is due.
+    fn due_any(&mut self, alloc: Global) -> Result<bool, AllocError>
+        requires { (spec : Spec) → speaks self.old spec
+            → IsSettled (limit self.old) (text_of spec) (stack self.old spec).now }
+        ensures keeps { Keeps speaks limit self.old self.new }
+        ensures fired { fired self.new ≡ fired self.old }
+        ensures stack { SameStack speaks stack self.old self.new }
+        ensures due { IfOk result
+            (λ due. (spec : Spec) → speaks self.old spec
+            → IsTrue due ↔ HasDue (limit self.old) (text_of spec) (stack self.old spec).now) };
 
     /// Tries a possible firing. It counts, whatever comes of it.
     fn fire(

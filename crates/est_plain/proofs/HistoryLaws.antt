@@ -1,8 +1,8 @@
 -- Systems with their instances in order stay so where one more comes, or one goes.
 use Rattle.std.proofs.Common.{◌≡◌, sym, subst, ◌++◌, List, [], ◌∷◌}
 use Rattle.est_meaning.specs.mean_blocks.KeepingLaws.{AreNumbered}
-use Rattle.plain_frames.specs.declared.system.System.{System}
-use Rattle.plain_frames.specs.HeldSystems.{situation_of}
+use Rattle.plain_frames.specs.plain_systems.declared.system.System.{System}
+use Rattle.plain_frames.specs.plain_systems.HeldSystems.{situation_of}
 use Rattle.est_plain.specs.inside.NumberedSystems.{AllNumbered}
 
 -- ONE SYSTEM MORE

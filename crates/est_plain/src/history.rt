@@ -2,12 +2,12 @@
 
 ghost use Rattle.std.specs.Prelude.{◌≡◌, [], ◌<◌, length, OnOk, OnErr, IfOk};
 ghost use Rattle.est_meaning.specs.mean_blocks.KeepingLaws.{AreNumbered};
-ghost use Rattle.plain_frames.specs.HeldSystems.{situation_of};
+ghost use Rattle.plain_frames.specs.plain_systems.HeldSystems.{situation_of};
 ghost use Rattle.est_plain.specs.inside.NumberedSystems.{AreNumbered-prop, AllNumbered};
 ghost use Rattle.est_plain.specs.inside.NumberedSystems.{AllNumbered-prop};
 
-use est_syntax::est_items::Twin;
-use plain_frames::system::System;
+use est_syntax::est_items::{Items, Twin};
+use plain_frames::plain_systems::system::{System, Working};
 use std::alloc::{AllocError, Global};
 use std::mem;
 
@@ -42,6 +42,19 @@ impl History {
         ensures numbered { IfOk result (λ system. AreNumbered (situation_of system)) }
     {
         self.system.twin(alloc)
+    }
+
+    /// The current system once more, to be worked on.
+    pub fn working(&self, alloc: Global) -> Result<Working, AllocError>
+        ensures same { IfOk result
+            (λ working. situation_of working.system ≡ (stack_of self.now).now) }
+        ensures numbered { IfOk result (λ working. AreNumbered (situation_of working.system)) }
+    {
+        Ok(Working {
+            system: self.current(alloc)?,
+            outs: Items::new(alloc),
+            frames: Items::new(alloc),
+        })
     }
 
     /// Goes on to a system.

@@ -14,10 +14,8 @@ use est_meaning::firing::Firing;
 use est_meaning::mean_blocks::stop::Stop;
 use est_meaning::rule_scope::outline::Outline;
 use est_meaning::world::World;
-use est_syntax::est_items::Items;
 use est_syntax::specification::Spec;
 use plain_choices::options;
-use plain_frames::system::Working;
 use plain_steps::firing;
 use plain_steps::plain_outside::outside::Outside;
 use plain_steps::start::start_of;
@@ -69,12 +67,13 @@ impl<'c> World for PlainWorld<'c> {
     ghost spoken = { λ w. ∣ (w.behaviour.spec, w.behaviour_is) ∣₁ };
 
     fn options(&mut self, alloc: Global, into: &mut Vec<Firing>) -> Result<Offers, AllocError> {
-        let mut working = Working {
-            system: self.history.current(alloc)?,
-            outs: Items::new(alloc),
-            frames: Items::new(alloc),
-        };
+        let mut working = self.history.working(alloc)?;
         options::options(alloc, &self.behaviour, self.limit, &mut working, into)
+    }
+
+    fn due_any(&mut self, alloc: Global) -> Result<bool, AllocError> {
+        let mut working = self.history.working(alloc)?;
+        options::due_any(alloc, &self.behaviour, self.limit, &mut working)
     }
 
     fn fire(

@@ -7,8 +7,8 @@ use est_explanation::explanation::Explanation;
 use est_explanation::replay::{Replaying, replay_in};
 use est_explanation::verdict::{Replayed, Why};
 use est_meaning::answers::Started;
-use est_meaning::event::Trace;
 use est_meaning::run::Limits;
+use est_meaning::trace::Trace;
 use est_plain::est_check::Checked;
 use est_plain::world::PlainWorld;
 use std::alloc::{AllocError, Global};
@@ -45,7 +45,7 @@ pub fn replay(
                 &mut world,
                 outs.as_slice(),
                 &Replaying {
-                    trace: trace.as_slice(),
+                    trace,
                     moves: explanation.moves.as_slice(),
                     claim: explanation.claim,
                     silent: limits.silent,

@@ -6,13 +6,15 @@ use Rattle.std.specs.Prelude.{slice_get}
 use Rattle.std.proofs.lemmas.List.{drop_more, get_or-drop, length-drop}
 use Rattle.std.proofs.lemmas.Option.{slice_get-get_or}
 use Rattle.est_meaning.specs.declared.event.Event.{Event}
+use Rattle.est_meaning.specs.declared.trace.Expected.{Expected}
+use Rattle.est_meaning.specs.declared.trace.Expected.TheVariants.{Known}
 use Rattle.est_meaning.specs.Agreement.{Agrees, AgreeAll}
 use Rattle.est_meaning.proofs.AgreementLaws.{agree_joined, agree_more}
 use Rattle.est_search.specs.inside.Agreement.{AgreeFor}
 
 -- what agrees, agrees at each place
-agree_at : (xs es : List Event) (i : ℕ) (x e : Event) → AgreeAll xs es
-    → slice_get xs i ≡ Some x → slice_get es i ≡ Some e → Agrees x e
+agree_at : (xs : List Expected) (es : List Event) (i : ℕ) (x : Expected) (e : Event)
+    → AgreeAll xs es → slice_get xs i ≡ Some x → slice_get es i ≡ Some e → Agrees x e
 agree_at [] es i x e a p q = (let never : ⊥ = cc in absurd never)
 agree_at (y ∷ xs) [] i x e a p q = absurd a
 agree_at (y ∷ xs) (f ∷ es) zero x e a p q =
@@ -22,8 +24,8 @@ agree_at (y ∷ xs) (f ∷ es) zero x e a p q =
 agree_at (y ∷ xs) (f ∷ es) (suc i) x e a p q = agree_at xs es i x e a.1 p q
 
 -- the first m and then the next k of them agree
-pub agree_on : (trace es outs : List Event) (m k : ℕ) → AgreeAll (take m trace) es
-    → AgreeFor trace m outs k
+pub agree_on : (trace : List Expected) (es outs : List Event) (m k : ℕ)
+    → AgreeAll (take m trace) es → AgreeFor trace m outs k
     → AgreeAll (take m trace ++ take k (drop m trace)) (es ++ take k outs)
 agree_on trace es outs m k a f =
     agree_joined (take m trace) (take k (drop m trace)) es (take k outs) a f.agree
@@ -53,7 +55,7 @@ got_within (y ∷ xs) zero x e = omega arith
 got_within (y ∷ xs) (suc i) x e = (let n = got_within xs i x e in omega arith)
 
 -- where the events depart from the trace at m + k, no more than m + k agree
-pub agree_most : (trace es outs : List Event) (m k : ℕ) → length es ≡ m
+pub agree_most : (trace : List Expected) (es outs : List Event) (m k : ℕ) → length es ≡ m
     → AgreeFor trace m outs k → (j : ℕ) → m + k < j → k < length outs → m + k < length trace
     → AgreeAll (take j trace) (take j (es ++ outs)) → ⊥
 agree_most trace es outs m k n f j lt more within a =
@@ -67,8 +69,9 @@ agree_most trace es outs m k n f j lt more within a =
 -- COUNTING
 
 -- one event more agrees
-pub agreed_more : (trace events : List Event) (from k : ℕ) (x e : Event) → from + k < length trace
-    → k < length events → get_or trace (from + k) x ≡ x → get_or events k e ≡ e
+pub agreed_more : (trace : List Expected) (events : List Event) (from k : ℕ) (x : Expected)
+    (e : Event) → from + k < length trace → k < length events → get_or trace (from + k) x ≡ x
+    → get_or events k e ≡ e
     → AgreeAll (take k (drop from trace)) (take k events) → Agrees x e
     → AgreeAll (take (k + 1) (drop from trace)) (take (k + 1) events)
 agreed_more trace events from k x e within many there here a agrees =
@@ -76,7 +79,7 @@ agreed_more trace events from k x e within many there here a agrees =
     agree_more (drop from trace) events k x e (omega arith) many
     (get_or-drop from trace k x ∙ there) here a agrees
 
-module _ (trace events : List Event) (from k : ℕ) (many : k ≤ length events)
+module _ (trace : List Expected) (events : List Event) (from k : ℕ) (many : k ≤ length events)
     (within : from + k ≤ length trace)
     (agree : AgreeAll (take k (drop from trace)) (take k events)) where
   -- where the trace or the events end
@@ -92,7 +95,7 @@ module _ (trace events : List Event) (from k : ℕ) (many : k ≤ length events)
   }
 
   -- where the next ones do not agree
-  pub agreed_so_far : (x e : Event) → from + k < length trace → k < length events
+  pub agreed_so_far : (x : Expected) (e : Event) → from + k < length trace → k < length events
       → get_or trace (from + k) x ≡ x → get_or events k e ≡ e → (Agrees x e → ⊥)
       → AgreeFor trace from events k
   agreed_so_far x e short less there here off = record {
@@ -108,11 +111,11 @@ module _ (trace events : List Event) (from k : ℕ) (many : k ≤ length events)
         off (subst (λ w. Agrees w e) m (subst (λ w. Agrees y w) n a)));
   }
 
--- one event that stands in the trace
-pub agree_one : (trace : List Event) (m : ℕ) (e : Event) → m < length trace
-    → get_or trace m e ≡ e → AgreeFor trace m (e ∷ []) 1
+-- one known event that stands in the trace
+pub agree_one : (trace : List Expected) (m : ℕ) (e : Event) → m < length trace
+    → get_or trace m (Known e) ≡ Known e → AgreeFor trace m (e ∷ []) 1
 agree_one trace m e lt is =
-    let rest : drop m trace ≡ e ∷ drop (m + 1) trace = drop_more trace m e lt
+    let rest : drop m trace ≡ Known e ∷ drop (m + 1) trace = drop_more trace m (Known e) lt
     ∙ ap (λ x. x ∷ drop (m + 1) trace) is in
     agreed_all trace (e ∷ []) m 1 (omega arith) (omega arith)
     (subst (λ w. AgreeAll (take 1 w) (e ∷ [])) (sym rest) (refl, tt)) (inr (omega arith))

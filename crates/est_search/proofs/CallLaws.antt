@@ -1,20 +1,22 @@
 -- The steps of a search, as the code asks for them.
 use Rattle.std.proofs.Common.{◌≡◌, ℕ, suc, ◌+◌, ◌*◌, ◌-◌, ◌^◌, ◌<◌, ◌≤◌, ◌⊎◌, Bool, true, false}
-use Rattle.std.proofs.Common.{nat_eq}
-use Rattle.std.proofs.Common.{List, [], ◌∷◌, Some, None, length, reverse}
+use Rattle.std.proofs.Common.{◌↔◌, IsTrue, List, [], ◌∷◌, Some, None, length, reverse, take}
 use Rattle.std.proofs.Common.{Result, Ok, Err, OnErr, get_or, refl, sym, ap, subst, ◌∙◌, inl}
 use Rattle.std.proofs.Common.{inr, arith}
 use Rattle.std.specs.Option.{option_or}
-use Rattle.std.proofs.lemmas.Bool.Decides.{nat_tests}
-use Rattle.std.proofs.lemmas.List.{length-reverse, reverse-reverse}
+use Rattle.std.proofs.lemmas.List.{length-reverse, length-take-le, reverse-reverse}
 use Rattle.est_syntax.specs.declared.specification.Spec.{Spec}
 use Rattle.est_meaning.specs.mean_blocks.declared.fault.BlockFault.{BlockFault}
 use Rattle.est_meaning.specs.mean_blocks.GlobalSituation.{Situation}
 use Rattle.est_meaning.specs.mean_blocks.Outcome.{Outcome, Done, Fault, Limit}
 use Rattle.est_meaning.specs.mean_blocks.TextByPlace.{text_of}
 use Rattle.est_meaning.specs.declared.event.Event.{Event}
+use Rattle.est_meaning.specs.declared.trace.Expected.{Expected}
+use Rattle.est_meaning.specs.declared.trace.Expected.TheVariants.{Known}
+use Rattle.est_meaning.specs.RecordedTraces.{Recorded}
 use Rattle.est_meaning.specs.declared.firing.Firing.{Firing}
-use Rattle.est_meaning.specs.AllowedEvents.{IsAllowed}
+use Rattle.est_meaning.specs.AllowedEvents.{IsAllowed, IsAllowedExpected}
+use Rattle.est_meaning.specs.Endings.{IsTraceEnd}
 use Rattle.est_meaning.specs.OutsideEvents.{after_event, units_of}
 use Rattle.est_meaning.specs.TransitionSelection.{IsSettled, IsPossible}
 use Rattle.est_meaning.specs.FiringSteps.{outcome}
@@ -26,15 +28,17 @@ use Rattle.est_meaning.specs.declared.run.Move.{Move}
 use Rattle.est_meaning.specs.declared.run.Move.TheVariants.{Take, Fire}
 use Rattle.est_meaning.specs.Run.{Setup, Place, Takes, IsFromOutside, after_taking, silent_after}
 use Rattle.est_meaning.specs.Trials.{IsTrial, HasMany}
+use Rattle.est_meaning.proofs.AgreementLaws.{agree_length}
 use Rattle.est_meaning.proofs.ClockLaws.{clock_bounded}
+use Rattle.est_meaning.proofs.Endings.{not_true, ends_there, ends_here}
 use Rattle.est_meaning.proofs.RunLaws.{bounded_is_run}
-use Rattle.est_meaning.proofs.Takings.{takes_at, inside_stays}
+use Rattle.est_meaning.proofs.Takings.{IsKnownOutside, takes_at, inside_stays, none_taken}
 use Rattle.est_meaning.proofs.StackLaws.{fired_done, fired_fault, fired_limit}
 use Rattle.est_search.specs.declared.path.Stage.TheVariants.{Fresh, Taken, Listed}
 use Rattle.est_search.specs.declared.path.Path.{Path}
 use Rattle.est_search.specs.declared.walk.Notes.{Notes}
 use Rattle.est_search.specs.declared.walk.Walk.{Walk}
-use Rattle.est_search.specs.declared.walk.Landed.TheVariants.{Found, On, Off}
+use Rattle.est_search.specs.declared.walk.Landed.TheVariants.{On, Off}
 use Rattle.est_search.specs.inside.Agreement.{AgreeFor}
 use Rattle.est_search.specs.inside.Path.{View, view_of, place_at, entered, with_firings, with_taken}
 use Rattle.est_search.specs.inside.Path.{IsNext, IsUndone, stage_after, HasReached, HasKept}
@@ -58,92 +62,144 @@ pushed_same s t a b e =
 
 -- TAKING
 
-module _ (c : Setup) (spec : Spec) (limit silent : ℕ) (trace : List Event) (stack : Stack)
+module _ (c : Setup) (spec : Spec) (limit silent : ℕ) (trace : Recorded) (stack : Stack)
     (w : Walk) (r : IsReady c spec limit silent trace stack w) where
-  -- the next event is that of the trace
-  next_there : (e : Event) → get_or trace w.path.top.matched e ≡ e
-      → get_or c.trace w.path.top.matched e ≡ e
-  next_there e is = subst (λ es. get_or es w.path.top.matched e ≡ e) (sym r.suits.trace_is) is
+  -- what is expected next is that of the trace
+  next_there : (x : Expected) → get_or trace.events w.path.top.matched x ≡ x
+      → get_or c.trace.events w.path.top.matched x ≡ x
+  next_there x is = subst (λ (t : Recorded). get_or t.events w.path.top.matched x ≡ x)
+      (sym r.suits.trace_is) is
 
-  pub matched_within : w.path.top.matched < length trace
-  matched_within = subst (λ es. w.path.top.matched < length es) r.suits.trace_is
-      r.on_way.at.node.unfinished
+  trace_there : length c.trace.events ≡ length trace.events
+  trace_there = ap (λ (t : Recorded). length t.events) r.suits.trace_is
 
-  pub next_allowed : (e : Event) → get_or trace w.path.top.matched e ≡ e → IsAllowed spec e
-  next_allowed e is =
-      let a : IsAllowed c.spec (get_or c.trace w.path.top.matched e) =
-      r.suits.allowed.each w.path.top.matched e r.on_way.at.node.unfinished in
-      subst (λ x. IsAllowed x e) r.suits.spec_is (subst (IsAllowed c.spec) (next_there e is) a)
+  next_within : w.path.top.matched < length trace.events
+      → w.path.top.matched < length c.trace.events
+  next_within lt = (let n = trace_there in omega arith)
 
-  module _ (fresh : w.path.stage ≡ Fresh) (e : Event)
-      (is : get_or trace w.path.top.matched e ≡ e) where
-    pub time_fits : IsFromOutside e → stack.now.clock + units_of e ≤ 10 ^ 15
-    time_fits outside =
+  pub next_allowed : w.path.top.matched < length trace.events → (x : Expected) (e : Event)
+      → get_or trace.events w.path.top.matched x ≡ x → x ≡ Known e → IsAllowed spec e
+  next_allowed lt x e is known =
+      let a : IsAllowedExpected c.spec (get_or c.trace.events w.path.top.matched x) =
+      r.suits.allowed.each w.path.top.matched x (next_within lt) in
+      let b : IsAllowedExpected c.spec (Known e) =
+      subst (IsAllowedExpected c.spec) (next_there x is ∙ known) a in
+      subst (λ s. IsAllowed s e) r.suits.spec_is b
+
+  -- no event is taken
+  skip_by : w.path.stage ≡ Fresh
+      → ((q : Place) → Takes c (place_at stack.now w.path.top r.on_way.at.node.events) q → ⊥)
+      → (stack' : Stack) (new : Walk) → stack' ≡ stack
+      → view_of new.path ≡ with_taken (view_of w.path) → new.tried ≡ w.tried
+      → new.best ≡ w.best → new.notes ≡ w.notes → IsWalk c stack' new
+  skip_by fresh never stack' new same path tried best notes =
+      subst (λ s. IsOnWay c s (view_of new.path) new.tried new.best new.notes) (sym same)
+      (subst (λ v. IsOnWay c stack v new.tried new.best new.notes) (sym path)
+      (subst (λ n. IsOnWay c stack (with_taken (view_of w.path)) n new.best new.notes) (sym tried)
+      (subst (λ b. IsOnWay c stack (with_taken (view_of w.path)) w.tried b new.notes) (sym best)
+      (subst (λ n. IsOnWay c stack (with_taken (view_of w.path)) w.tried w.best n) (sym notes)
+      (skipped c stack (view_of w.path) w.tried w.best w.notes r.on_way fresh never)))))
+
+  none_past : length trace.events ≤ w.path.top.matched → (q : Place)
+      → Takes c (place_at stack.now w.path.top r.on_way.at.node.events) q → ⊥
+  none_past past q t =
+      let node = r.on_way.at.node in
+      let n = trace_there in
+      let a = agree_length (take w.path.top.matched c.trace.events) node.events node.agree in
+      let b = length-take-le w.path.top.matched c.trace.events node.within in
+      none_taken c (place_at stack.now w.path.top node.events) q (omega arith) t
+
+  -- no event is left
+  pub past_call : w.path.stage ≡ Fresh → length trace.events ≤ w.path.top.matched
+      → (stack' : Stack) (new : Walk) → stack' ≡ stack
+      → view_of new.path ≡ with_taken (view_of w.path) → new.tried ≡ w.tried
+      → new.best ≡ w.best → new.notes ≡ w.notes → IsWalk c stack' new
+  past_call fresh past = skip_by fresh (none_past past)
+
+  module _ (fresh : w.path.stage ≡ Fresh) (lt : w.path.top.matched < length trace.events)
+      (x : Expected) (is : get_or trace.events w.path.top.matched x ≡ x) where
+    pub time_fits : (e : Event) → x ≡ Known e → IsFromOutside e
+        → stack.now.clock + units_of e ≤ 10 ^ 15
+    time_fits e known outside =
         let node = r.on_way.at.node in
         let h = (view_of w.path).moves in
         let p = place_at stack.now w.path.top node.events in
         let b = clock_bounded c h p r.suits.begun r.suits.allowed
         (bounded_is_run c h p node.is_run) in
         b.1 (after_taking c p e)
-        (takes_at c p w.path.top.matched e node.unfinished (next_there e is) node.agree outside)
+        (takes_at c p w.path.top.matched x (next_within lt) (next_there x is) node.agree e known
+        outside)
 
-    no_take : (IsFromOutside e → ⊥) → (q : Place)
+    no_take : (IsKnownOutside x → ⊥) → (q : Place)
         → Takes c (place_at stack.now w.path.top r.on_way.at.node.events) q → ⊥
     no_take inside q t =
         let node = r.on_way.at.node in
-        inside_stays c (place_at stack.now w.path.top node.events) w.path.top.matched e
-        node.unfinished (next_there e is) node.agree inside q t
+        inside_stays c (place_at stack.now w.path.top node.events) w.path.top.matched x
+        (next_within lt) (next_there x is) node.agree inside q t
 
-    -- the event does not come from outside
-    pub skip_call : (stack' : Stack) (new : Walk) → (IsFromOutside e → ⊥) → stack' ≡ stack
+    -- it is no known event from outside
+    pub skip_call : (stack' : Stack) (new : Walk) → (IsKnownOutside x → ⊥) → stack' ≡ stack
         → view_of new.path ≡ with_taken (view_of w.path) → new.tried ≡ w.tried
         → new.best ≡ w.best → new.notes ≡ w.notes → IsWalk c stack' new
-    skip_call stack' new inside same path tried best notes =
-        subst (λ s. IsOnWay c s (view_of new.path) new.tried new.best new.notes) (sym same)
-        (subst (λ v. IsOnWay c stack v new.tried new.best new.notes) (sym path)
-        (subst (λ n. IsOnWay c stack (with_taken (view_of w.path)) n new.best new.notes) (sym tried)
-        (subst (λ b. IsOnWay c stack (with_taken (view_of w.path)) w.tried b new.notes) (sym best)
-        (subst (λ n. IsOnWay c stack (with_taken (view_of w.path)) w.tried w.best n) (sym notes)
-        (skipped c stack (view_of w.path) w.tried w.best w.notes r.on_way fresh
-        (no_take inside))))))
+    skip_call stack' new inside = skip_by fresh (no_take inside) stack' new
+
+    known_there : (e : Event) → x ≡ Known e
+        → get_or c.trace.events w.path.top.matched (Known e) ≡ Known e
+    known_there e known = subst (λ y. get_or c.trace.events w.path.top.matched y ≡ y) known
+        (next_there x is)
 
     -- the event is taken
-    pub take_call : (stack' : Stack) (new : Walk) (found : Bool) → IsFromOutside e
-        → stack' ≡ pushed (after_event (text_of spec) stack.now e) stack
-        → HasReached w.best new.best (length w.path.moves.items) Take (w.path.top.matched + 1)
-        → view_of new.path ≡ entered (view_of w.path) Take (w.path.top.matched + 1) 0
-        → new.tried ≡ w.tried → new.notes ≡ w.notes
-        → found ≡ nat_eq (w.path.top.matched + 1) (length trace) → IsFound c stack' found new
-    take_call stack' new true outside same reached path tried notes at_end =
-        let m = matched_within in
-        let n : length c.trace ≡ length trace = ap length r.suits.trace_is in
-        let e' : w.path.top.matched + 1 ≡ length trace = grind (arith, nat_tests) in
-        subst (λ h. Accepts c h new.tried) (sym (ap (λ (v : View). v.moves) path))
-        (subst (λ n. Accepts c (Take ∷ (view_of w.path).moves) n) (sym tried)
-        (taken_found c stack (view_of w.path) w.tried w.best w.notes r.on_way fresh e
-        (next_there e is) outside (omega arith)))
-    take_call stack' new false outside same reached path tried notes at_end =
-        let m = matched_within in
-        let n : length c.trace ≡ length trace = ap length r.suits.trace_is in
-        let lt : w.path.top.matched + 1 < length trace = grind (arith, nat_tests) in
-        let to : stack' ≡ pushed (after_event (text_of c.spec) stack.now e) stack =
-        same ∙ ap (λ x. pushed (after_event (text_of x) stack.now e) stack) (sym r.suits.spec_is) in
-        subst (λ s. IsOnWay c s (view_of new.path) new.tried new.best new.notes) (sym to)
-        (subst (λ v. IsOnWay c (pushed (after_event (text_of c.spec) stack.now e) stack) v new.tried
-        new.best new.notes) (sym path)
-        (subst (λ n. IsOnWay c (pushed (after_event (text_of c.spec) stack.now e) stack)
-        (entered (view_of w.path) Take (w.path.top.matched + 1) 0) n new.best new.notes)
-        (sym tried)
-        (subst (λ n. IsOnWay c (pushed (after_event (text_of c.spec) stack.now e) stack)
-        (entered (view_of w.path) Take (w.path.top.matched + 1) 0) w.tried new.best n)
-        (sym notes)
-        (taken_on c stack (view_of w.path) w.tried w.best w.notes r.on_way fresh e
-        (next_there e is) outside new.best (length w.path.moves.items) (made_many w.path) reached
-        (omega arith)))))
+    module _ (stack' : Stack) (new : Walk) (e : Event) (known : x ≡ Known e)
+        (outside : IsFromOutside e)
+        (same : stack' ≡ pushed (after_event (text_of spec) stack.now e) stack)
+        (reached :
+        HasReached w.best new.best (length w.path.moves.items) Take (w.path.top.matched + 1))
+        (path : view_of new.path ≡ entered (view_of w.path) Take (w.path.top.matched + 1) 0)
+        (tried : new.tried ≡ w.tried) (notes : new.notes ≡ w.notes) where
+      to : stack' ≡ pushed (after_event (text_of c.spec) stack.now e) stack
+      to = same
+          ∙ ap (λ x. pushed (after_event (text_of x) stack.now e) stack) (sym r.suits.spec_is)
+
+      now_there : stack'.now ≡ after_event (text_of c.spec) stack.now e
+      now_there = ap (λ (s : Stack). s.now) to
+
+      -- the trace ends with the event, in a situation
+      abbrev EndsIn : Situation → Type 0
+      EndsIn s = IsTraceEnd c.trace c.limit (text_of c.spec) s (w.path.top.matched + 1)
+
+      taken_whole : EndsIn stack'.now → IsFound c stack' true new
+      taken_whole end =
+          subst (λ h. Accepts c h new.tried) (sym (ap (λ (v : View). v.moves) path))
+          (subst (λ n. Accepts c (Take ∷ (view_of w.path).moves) n) (sym tried)
+          (taken_found c stack (view_of w.path) w.tried w.best w.notes r.on_way fresh e
+          (next_within lt) (known_there e known) outside (subst EndsIn now_there end)))
+
+      taken_part : (EndsIn stack'.now → ⊥) → IsFound c stack' false new
+      taken_part never =
+          subst (λ s. IsOnWay c s (view_of new.path) new.tried new.best new.notes) (sym to)
+          (subst (λ v. IsOnWay c (pushed (after_event (text_of c.spec) stack.now e) stack) v
+          new.tried new.best new.notes) (sym path)
+          (subst (λ n. IsOnWay c (pushed (after_event (text_of c.spec) stack.now e) stack)
+          (entered (view_of w.path) Take (w.path.top.matched + 1) 0) n new.best new.notes)
+          (sym tried)
+          (subst (λ n. IsOnWay c (pushed (after_event (text_of c.spec) stack.now e) stack)
+          (entered (view_of w.path) Take (w.path.top.matched + 1) 0) w.tried new.best n)
+          (sym notes)
+          (taken_on c stack (view_of w.path) w.tried w.best w.notes r.on_way fresh e
+          (next_within lt) (known_there e known) outside new.best (length w.path.moves.items)
+          (made_many w.path) reached (λ end. never (subst EndsIn (sym now_there) end))))))
+
+      pub take_call : (found : Bool)
+          → IsTrue found ↔ IsTraceEnd trace limit (text_of spec) stack'.now (w.path.top.matched + 1)
+          → IsFound c stack' found new
+      take_call true h = taken_whole (ends_there c spec limit silent trace r.suits stack'.now
+          (w.path.top.matched + 1) (h.0 refl))
+      take_call false h = taken_part (λ end. not_true (h.1 (ends_here c spec limit silent trace
+          r.suits stack'.now (w.path.top.matched + 1) end)))
 
 -- LISTING
 
-module _ (c : Setup) (spec : Spec) (limit silent : ℕ) (trace : List Event) (stack stack' : Stack)
+module _ (c : Setup) (spec : Spec) (limit silent : ℕ) (trace : Recorded) (stack stack' : Stack)
     (w new : Walk) (r : IsReady c spec limit silent trace stack w) (taken : w.path.stage ≡ Taken)
     (offers : List Firing) (same : stack' ≡ stack)
     (path : view_of new.path ≡ with_firings (view_of w.path) offers) (tried : new.tried ≡ w.tried)
@@ -198,7 +254,7 @@ pub on_err : {T E P : Type 0} (r : Result T E) → P → OnErr r P
 on_err (Ok v) p = tt
 on_err (Err e) p = p
 
-module _ (c : Setup) (spec : Spec) (limit silent : ℕ) (trace : List Event) (stack : Stack)
+module _ (c : Setup) (spec : Spec) (limit silent : ℕ) (trace : Recorded) (stack : Stack)
     (w : Walk) (f : Firing) (t : IsTrying c spec limit silent trace stack w f) where
   outcome_there : (o : Outcome Situation (List Event))
       → outcome limit (text_of spec) stack.now f ≡ o
@@ -214,16 +270,19 @@ module _ (c : Setup) (spec : Spec) (limit silent : ℕ) (trace : List Event) (st
   moves_same : (view_of w.path).moves ≡ t.before.moves
   moves_same = ap (λ (v : View). v.moves) t.next.next_is
 
+  trace_length : length c.trace.events ≡ length trace.events
+  trace_length = ap (λ (r : Recorded). length r.events) t.suits.trace_is
+
   top_matched : w.path.top.matched ≡ t.before.top.matched
   top_matched = ap (λ (v : View). v.top.matched) t.next.next_is
 
   top_silent : w.path.top.silent ≡ t.before.top.silent
   top_silent = ap (λ (v : View). v.top.silent) t.next.next_is
 
-  pub trying_within : w.path.top.matched < length trace
+  pub trying_within : w.path.top.matched ≤ length trace.events
   trying_within =
-      let u : t.before.top.matched < length c.trace = t.on_way.at.node.unfinished in
-      let n : length c.trace ≡ length trace = ap length t.suits.trace_is in
+      let u : t.before.top.matched ≤ length c.trace.events = t.on_way.at.node.within in
+      let n = trace_length in
       let e = top_matched in
       omega arith
 
@@ -290,10 +349,12 @@ module _ (c : Setup) (spec : Spec) (limit silent : ℕ) (trace : List Event) (st
           let s = t.suits.silent_is in
           omega arith
 
-      agree_there : (k : ℕ) → AgreeFor trace mid.path.top.matched mid.outs.items k
-          → AgreeFor c.trace t.before.top.matched mid.outs.items k
-      agree_there k a = subst (λ es. AgreeFor es t.before.top.matched mid.outs.items k)
-          (sym t.suits.trace_is) (subst (λ n. AgreeFor trace n mid.outs.items k) matched_is a)
+      agree_there : (k : ℕ) → AgreeFor trace.events mid.path.top.matched mid.outs.items k
+          → AgreeFor c.trace.events t.before.top.matched mid.outs.items k
+      agree_there k a = subst
+          (λ (r : Recorded). AgreeFor r.events t.before.top.matched mid.outs.items k)
+          (sym t.suits.trace_is)
+          (subst (λ n. AgreeFor trace.events n mid.outs.items k) matched_is a)
 
       module _ (new : Walk) (tried' : new.tried ≡ mid.tried) where
         reached_there : (k : ℕ) → HasReached mid.best new.best (length mid.path.moves.items) (Fire
@@ -309,7 +370,7 @@ module _ (c : Setup) (spec : Spec) (limit silent : ℕ) (trace : List Event) (st
 
         -- it does not lead on
         pub off_call : (back : Stack) → stack' ≡ pushed stack'.now back
-            → HasLanded trace silent mid new f Off → IsWalk c back new
+            → HasLanded trace.events silent mid new f Off → IsWalk c back new
         off_call back undone landed =
             let same : back ≡ stack =
             sym (pushed_same done.0 stack'.now stack back (sym done.2 ∙ undone)) in
@@ -336,7 +397,7 @@ module _ (c : Setup) (spec : Spec) (limit silent : ℕ) (trace : List Event) (st
                   rw (same, p, n, m) way)
             ]
 
-        entered_there : HasLedOn trace silent mid new f → view_of new.path
+        entered_there : HasLedOn trace.events silent mid new f → view_of new.path
             ≡ entered (view_of w.path) (Fire f) (t.before.top.matched + length mid.outs.items)
             (silent_after t.before.top.silent mid.outs.items)
         entered_there l = l.path
@@ -347,40 +408,58 @@ module _ (c : Setup) (spec : Spec) (limit silent : ℕ) (trace : List Event) (st
             ∙ ap (λ n. entered (view_of w.path) (Fire f) (t.before.top.matched
             + length mid.outs.items) (silent_after n mid.outs.items)) silent_is
 
+        -- the trace ends with the events of the firing
+        abbrev EndsOn : Type 0
+        EndsOn = IsTraceEnd c.trace c.limit (text_of c.spec) done.0
+            (t.before.top.matched + length mid.outs.items)
+
         -- it leads on
-        pub on_call : HasLanded trace silent mid new f On → IsWalk c stack' new
-        on_call landed =
-            let l = landed.0 in
-            let lt = landed.1 in
-            let n : length c.trace ≡ length trace = ap length t.suits.trace_is in
-            let e = matched_is in
+        on_call : HasLedOn trace.events silent mid new f → (EndsOn → ⊥) → IsWalk c stack' new
+        on_call l never =
             let way = led_on c stack t.before w.tried w.best w.notes t.on_way f (view_of w.path)
             t.next
             done.0 mid.outs.items done_there (few_there l.few)
             (agree_there (length mid.outs.items) l.agree) new.best (length mid.path.moves.items)
             made_is
-            (reached_there (length mid.outs.items) l.best) (omega arith) in
+            (reached_there (length mid.outs.items) l.best) never in
             let v = entered_there l in
             let n' : new.tried ≡ w.tried + 1 = tried' ∙ tried in
             let m : new.notes ≡ w.notes = l.notes ∙ notes in
             rw (done.2, v, n', m) way
 
         -- it explains the trace
-        pub found_call : HasLanded trace silent mid new f Found
+        found_call : HasLedOn trace.events silent mid new f → EndsOn
             → Accepts c (reverse new.path.moves.items) new.tried
-        found_call landed =
-            let l = landed.0 in
-            let end = landed.1 in
-            let n : length c.trace ≡ length trace = ap length t.suits.trace_is in
-            let e = matched_is in
+        found_call l end =
             let x : Accepts c (Fire f ∷ t.before.moves) (w.tried + 1) =
             led_found c stack t.before w.tried w.best w.notes t.on_way f (view_of w.path) t.next
             done.0 mid.outs.items done_there (few_there l.few)
-            (agree_there (length mid.outs.items) l.agree) (omega arith) in
+            (agree_there (length mid.outs.items) l.agree) end in
             let h : (view_of new.path).moves ≡ Fire f ∷ t.before.moves =
             ap (λ (v : View). v.moves) (entered_there l) ∙ ap (λ u. Fire f ∷ u) moves_same in
             let n' : new.tried ≡ w.tried + 1 = tried' ∙ tried in
             rw (h, n') x
+
+        landed_by : (found : Bool) → HasLedOn trace.events silent mid new f
+            → IsTrue found ↔ IsTraceEnd trace limit (text_of spec) done.0
+            (t.before.top.matched + length mid.outs.items) → IsFound c stack' found new
+        landed_by true l h = found_call l (ends_there c spec limit silent trace t.suits done.0
+            (t.before.top.matched + length mid.outs.items) (h.0 refl))
+        landed_by false l h = on_call l (λ end. not_true (h.1 (ends_here c spec limit silent trace
+            t.suits done.0 (t.before.top.matched + length mid.outs.items) end)))
+
+        pub landed_call : (end : Stack) (found : Bool) → end ≡ stack'
+            → HasLanded trace.events silent mid new f On
+            → IsTrue found ↔ IsTraceEnd trace limit (text_of spec) end.now new.path.top.matched
+            → IsFound c end found new
+        landed_call end found again l h =
+            let many : new.path.top.matched ≡ t.before.top.matched + length mid.outs.items =
+            ap (λ (v : View). v.top.matched) (entered_there l) in
+            let now : end.now ≡ done.0 = ap (λ (s : Stack). s.now) (again ∙ done.2) in
+            subst (λ s. IsFound c s found new) (sym again) (landed_by found l
+            (subst (λ s. IsTrue found ↔ IsTraceEnd trace limit (text_of spec) s
+            (t.before.top.matched + length mid.outs.items)) now
+            (subst (λ n. IsTrue found ↔ IsTraceEnd trace limit (text_of spec) end.now n) many h)))
 
 -- BACK
 
@@ -462,7 +541,7 @@ load_kept n p q r same lt = subst (λ v. load n (view_of r) < load n v) same lt
 pub load_next : (n : ℕ) (v w : View) (f : Firing) → IsNext v f w → load n w ≡ load n v
 load_next n v w f next = ap (load n) next.next_is
 
-pub trying : (c : Setup) (spec : Spec) (limit silent : ℕ) (trace : List Event) (stack : Stack)
+pub trying : (c : Setup) (spec : Spec) (limit silent : ℕ) (trace : Recorded) (stack : Stack)
     (w : Walk) (f : Firing) (p : Path) → IsReady c spec limit silent trace stack w
     → IsNext (view_of w.path) f (view_of p)
     → IsTrying c spec limit silent trace stack (record w { path = p }) f

@@ -10,6 +10,7 @@ use Rattle.est_meaning.specs.mean_blocks.TextByPlace.{text_of}
 use Rattle.est_meaning.specs.declared.event.Event.{Event}
 use Rattle.est_meaning.specs.declared.firing.Firing.{Firing}
 use Rattle.est_meaning.specs.Agreement.{AgreeAll}
+use Rattle.est_meaning.specs.Endings.{IsTraceEnd}
 use Rattle.est_meaning.specs.TransitionSelection.{IsPossible}
 use Rattle.est_meaning.specs.FiringSteps.{outcome}
 use Rattle.est_meaning.specs.SituationStacks.{Stack, pushed}
@@ -19,6 +20,7 @@ use Rattle.est_meaning.specs.Order.{Mark, Trying, mark_of, marks_of, StartsWith}
 use Rattle.est_meaning.specs.Run.{Setup, Place, after_firing, silent_after, IsBoundedRun}
 use Rattle.est_meaning.specs.Run.{YieldsFirst}
 use Rattle.est_meaning.specs.Trials.{IsTrial, ComesTo, PassesLimit, block, Faults}
+use Rattle.est_meaning.proofs.Endings.{whole_ends}
 use Rattle.est_meaning.proofs.OrderLaws.{marks_same, starts_self, starts_one}
 use Rattle.est_meaning.proofs.RunLaws.{one_place, explains_follows}
 use Rattle.est_meaning.proofs.TreeLaws.{IsInTree, IsOnTree, passes_in_tree, faults_in_tree}
@@ -116,6 +118,7 @@ module _ (c : Setup) (stack : Stack) (v : View) (tried : ℕ) (best : Best) (not
     node = record {
       events = way.at.node.events;
       is_run = way.at.node.is_run;
+      within = way.at.node.within;
       agree = way.at.node.agree;
       unfinished = way.at.node.unfinished;
     };
@@ -337,10 +340,18 @@ module _ (c : Setup) (stack : Stack) (v : View) (tried : ℕ) (best : Best) (not
       unfolding fired
       fired_events = refl
 
-      abbrev matched : AgreeAll (take v.top.matched c.trace) way.at.node.events
+      fired_now : fired.situation ≡ s'
+      unfolding fired
+      fired_now = refl
+
+      -- the trace ends with the events of the firing, in a situation
+      abbrev EndsIn : Situation → Type 0
+      EndsIn s = IsTraceEnd c.trace c.limit (text_of c.spec) s (v.top.matched + length outs)
+
+      abbrev matched : AgreeAll (take v.top.matched c.trace.events) way.at.node.events
       matched = way.at.node.agree
 
-      module _ (k : ℕ) (agree : AgreeFor c.trace v.top.matched outs k) where
+      module _ (k : ℕ) (agree : AgreeFor c.trace.events v.top.matched outs k) where
         fired_yields : YieldsFirst c (Fire f ∷ v.moves) (v.top.matched + k)
         fired_yields = yields_so c (Fire f ∷ v.moves) fired fired_run way.at.node.events outs
             v.top.matched k matched fired_events agree (
@@ -368,24 +379,27 @@ module _ (c : Setup) (stack : Stack) (v : View) (tried : ℕ) (best : Best) (not
             reached fired_yields fired_few all_listed.kept all_listed.knows.best)
             (quiet off never_limit) (sound off never_fault) all_listed.noted
 
-      module _ (agree : AgreeFor c.trace v.top.matched outs (length outs)) where
-        pub led_found : v.top.matched + length outs ≡ length c.trace
-            → Accepts c (Fire f ∷ v.moves) (tried + 1)
+      module _ (agree : AgreeFor c.trace.events v.top.matched outs (length outs)) where
+        pub led_found : EndsIn s' → Accepts c (Fire f ∷ v.moves) (tried + 1)
         led_found end = accepts_tried c (IsAhead (marks_of v.moves) (Some listed.mark))
             (IsAhead (marks_of (Fire f ∷ v.moves)) None) (Fire f ∷ v.moves) on_turn tried trial
             all_listed.knows.trials
             (explains_so c (Fire f ∷ v.moves) fired fired_run way.at.node.events outs v.top.matched
-            matched fired_events agree end) all_listed.knows.explaining
+            matched fired_events agree (subst EndsIn (sym fired_now) end))
+            all_listed.knows.explaining
 
-        led_run : IsBoundedRun c (Fire f ∷ v.moves) (record {
+        abbrev led_place : Place
+        led_place = record {
           situation = s';
           events = way.at.node.events ++ outs;
           silent_in_row = silent_after v.top.silent outs;
-        })
+        }
+
+        led_run : IsBoundedRun c (Fire f ∷ v.moves) led_place
         unfolding fired
         led_run = fired_run
 
-        led_agree : AgreeAll (take (v.top.matched + length outs) c.trace)
+        led_agree : AgreeAll (take (v.top.matched + length outs) c.trace.events)
             (way.at.node.events ++ outs)
         unfolding fired
         led_agree = agree_now c (Fire f ∷ v.moves) fired fired_run way.at.node.events outs
@@ -393,13 +407,14 @@ module _ (c : Setup) (stack : Stack) (v : View) (tried : ℕ) (best : Best) (not
 
         pub led_on : (best' : Best) (made : ℕ) → made ≡ length v.moves
             → HasReached best best' made (Fire f) (v.top.matched + length outs)
-            → v.top.matched + length outs < length c.trace
+            → (EndsIn s' → ⊥)
             → IsOnWay c (pushed s' stack) (entered w (Fire f) (v.top.matched + length outs)
             (silent_after v.top.silent outs)) (tried + 1) best' notes
-        led_on best' made made_is reached lt =
+        led_on best' made made_is reached never =
             let P = IsAhead (marks_of v.moves) (Some listed.mark) in
             let P' = IsAhead (marks_of (Fire f ∷ v.moves)) None in
             let z = marks_of (Fire f ∷ v.moves) in
+            let within = agree.within in
             subst (λ u. IsOnWay c (pushed s' stack) (entered u (Fire f)
             (v.top.matched + length outs) (silent_after v.top.silent outs)) (tried + 1) best'
             notes) (sym next.next_is) (record {
@@ -412,8 +427,10 @@ module _ (c : Setup) (stack : Stack) (v : View) (tried : ℕ) (best : Best) (not
                 node = record {
                   events = way.at.node.events ++ outs;
                   is_run = led_run;
+                  within = within;
                   agree = led_agree;
-                  unfinished = lt;
+                  unfinished = λ x. never (whole_ends c led_place (v.top.matched + length outs)
+                      within led_agree x);
                 };
                 stage = (refl, refl);
                 lower = (
@@ -424,6 +441,7 @@ module _ (c : Setup) (stack : Stack) (v : View) (tried : ℕ) (best : Best) (not
                   record {
                     events = way.at.node.events;
                     is_run = way.at.node.is_run;
+                    within = way.at.node.within;
                     agree = way.at.node.agree;
                     unfinished = way.at.node.unfinished;
                   },
@@ -434,7 +452,8 @@ module _ (c : Setup) (stack : Stack) (v : View) (tried : ℕ) (best : Best) (not
               all = all_after c P P' v.moves (Fire f) on_turn tried best notes all_listed
                   (Fire f ∷ v.moves) (tried + 1) best' notes
                   (is_unfinished c (Fire f ∷ v.moves) fired fired_run way.at.node.events outs
-                  v.top.matched matched fired_events agree lt)
+                  v.top.matched matched fired_events agree
+                  (λ end. never (subst EndsIn fired_now end)))
                   (best_reached c P P' v.moves (Fire f) on_turn best best' all_listed.run made
                   (v.top.matched + length outs) (Fire f ∷ v.moves) (starts_one (Fire f) v.moves)
                   made_is reached (fired_yields (length outs) agree)

@@ -3,13 +3,11 @@ use Rattle.std.proofs.Common.{◌≡◌, ℕ, suc, ◌+◌, ◌<◌, ◌≤◌, 
 use Rattle.std.proofs.Common.{Option, Some, None, length, take, refl, sym, ap, subst, ◌∙◌}
 use Rattle.std.proofs.Common.{inl, inr, append_assoc, arith}
 use Rattle.std.proofs.lemmas.Bool.{cases_lt}
-use Rattle.std.proofs.lemmas.List.{length-take-le, length-append}
+use Rattle.std.proofs.lemmas.List.{length-append}
 use Rattle.est_syntax.specs.Least.{IsIn}
 use Rattle.est_meaning.specs.mean_blocks.GlobalSituation.{Situation}
 use Rattle.est_meaning.specs.mean_blocks.TextByPlace.{text_of}
-use Rattle.est_meaning.specs.declared.event.Event.{Event}
 use Rattle.est_meaning.specs.declared.firing.Firing.{Firing}
-use Rattle.est_meaning.specs.Agreement.{AgreeAll}
 use Rattle.est_meaning.specs.TransitionSelection.{IsPossible}
 use Rattle.est_meaning.specs.FiringOrder.{FiringBefore, IsBeforeAll}
 use Rattle.est_meaning.specs.declared.run.Move.{Move}
@@ -18,7 +16,7 @@ use Rattle.est_meaning.specs.Order.{Mark, Taking, Guarding, Trying, MarkBefore, 
 use Rattle.est_meaning.specs.Order.{StartsWith}
 use Rattle.est_meaning.specs.Run.{Setup, Place, IsBoundedRun, YieldsFirst}
 use Rattle.est_meaning.specs.Trials.{IsInner}
-use Rattle.est_meaning.proofs.AgreementLaws.{agree_length, so_many_first}
+use Rattle.est_meaning.proofs.AgreementLaws.{so_many_first}
 use Rattle.est_meaning.proofs.OrderLaws.{firing_irreflexive, mark_transitive, starts_self}
 use Rattle.est_meaning.proofs.OrderLaws.{starts_trans}
 use Rattle.est_meaning.proofs.RunLaws.{one_place}
@@ -36,20 +34,12 @@ use Rattle.est_search.proofs.KnownLaws.{best_on, best_more}
 
 -- INNER RUNS
 
-too_short : (m : ℕ) (xs es : List Event) → m < length xs → AgreeAll (take m xs) es
-    → AgreeAll xs es → ⊥
-too_short m xs es lt a whole =
-    let n = agree_length (take m xs) es a in
-    let k = length-take-le m xs (omega arith) in
-    let w = agree_length xs es whole in
-    omega arith
-
 pub inner_at : (c : Setup) (h : List Move) (s : Situation) (l : Level) (n : IsNode c h s l)
     → IsInner c h (place_at s l n.events)
 inner_at c h s l n = record {
   is_run = n.is_run;
-  follows = so_many_first l.matched c.trace n.events n.agree;
-  unfinished = λ w. too_short l.matched c.trace n.events n.unfinished n.agree w.events;
+  follows = so_many_first l.matched c.trace.events n.events n.agree;
+  unfinished = n.unfinished;
 }
 
 -- THE NEXT MARK

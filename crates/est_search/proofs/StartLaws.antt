@@ -1,18 +1,23 @@
 -- The start of a search, and the verdicts that it may give at once.
-use Rattle.std.proofs.Common.{◌≡◌, ℕ, ◌+◌, ◌<◌, ◌≤◌, ◌⊎◌, List, [], ◌∷◌, ◌++◌, None}
+use Rattle.std.proofs.Common.{◌≡◌, ℕ, ◌+◌, ◌-◌, ◌<◌, ◌≤◌, ◌⊎◌, List, [], ◌∷◌, ◌++◌, None}
 use Rattle.std.proofs.Common.{length, take, reverse, refl, sym, ap, subst, ◌∙◌, inl, inr}
 use Rattle.std.proofs.Common.{zero-le, arith}
 use Rattle.std.proofs.lemmas.List.{append-nil}
 use Rattle.est_syntax.specs.declared.specification.Spec.{Spec}
+use Rattle.est_meaning.specs.mean_blocks.GlobalSituation.{Situation}
+use Rattle.est_meaning.specs.mean_blocks.TextByPlace.{text_of}
 use Rattle.est_meaning.specs.declared.event.Event.{Event}
+use Rattle.est_meaning.specs.Endings.{IsTraceEnd}
+use Rattle.est_meaning.specs.RecordedTraces.{Recorded}
 use Rattle.est_meaning.specs.Agreement.{AgreeAll}
 use Rattle.est_meaning.specs.SituationStacks.{Stack}
 use Rattle.est_meaning.specs.declared.run.Move.{Move}
 use Rattle.est_meaning.specs.declared.run.Move.TheVariants.{Take, Fire}
 use Rattle.est_meaning.specs.Order.{Mark, marks_of, Before, longer, differs, NotAfter}
 use Rattle.est_meaning.specs.Run.{Setup, Place, first_place, IsBoundedRun, Follows, Explains}
-use Rattle.est_meaning.specs.Run.{YieldsFirst}
-use Rattle.est_meaning.specs.Trials.{IsTrial, PassesLimit, guards, block, Faults}
+use Rattle.est_meaning.specs.Run.{IsWhole, YieldsFirst}
+use Rattle.est_meaning.specs.Trials.{IsTrial, HasMany, PassesLimit, guards, block, Faults}
+use Rattle.est_meaning.proofs.Endings.{whole_ends, ends_there, ends_here}
 use Rattle.est_meaning.proofs.OrderLaws.{starts_cases, marks_same}
 use Rattle.est_meaning.proofs.RunLaws.{explains_follows, yields_below_all}
 use Rattle.est_meaning.proofs.TreeLaws.{IsOnTree, starts_on_tree, nothing_starts}
@@ -23,7 +28,7 @@ use Rattle.est_search.specs.declared.verdict.Verdict.TheVariants.{Accepted, Refu
 use Rattle.est_search.specs.inside.Ahead.{IsAhead}
 use Rattle.est_search.specs.inside.Agreement.{AgreeFor}
 use Rattle.est_search.specs.inside.Path.{first_view, view_of, AreLower}
-use Rattle.est_search.specs.inside.Walk.{Accepts, IsStarting, IsReady, IsOnWay}
+use Rattle.est_search.specs.inside.Walk.{Accepts, IsStarting, IsBeginning, IsReady, IsOnWay}
 use Rattle.est_search.proofs.EventLaws.{yields_so, yields_no_more, departs, agree_now}
 use Rattle.est_search.proofs.EventLaws.{is_unfinished, explains_so}
 
@@ -60,7 +65,7 @@ nil_faults c t = (let e = t.at in cc)
 
 -- THE EVENTS OF THE START AGREE WITH THE TRACE
 
-module _ (c : Setup) (k : ℕ) (a : AgreeFor c.trace 0 c.start_outs k) where
+module _ (c : Setup) (k : ℕ) (a : AgreeFor c.trace.events 0 c.start_outs k) where
   at_start : IsBoundedRun c [] (first_place c)
   at_start = refl
 
@@ -128,15 +133,23 @@ module _ (c : Setup) (k : ℕ) (a : AgreeFor c.trace 0 c.start_outs k) where
       faulted_is = no_fault;
     }
 
-module _ (c : Setup) (a : AgreeFor c.trace 0 c.start_outs (length c.start_outs)) where
+module _ (c : Setup) (a : AgreeFor c.trace.events 0 c.start_outs (length c.start_outs)) where
   whole_start : IsBoundedRun c [] (first_place c)
   whole_start = refl
 
-  -- the events of the start are the trace
-  pub start_accepts : length c.start_outs ≡ length c.trace → Accepts c [] 0
-  start_accepts e = record {
+  all_outs : 0 + length c.start_outs ≡ length c.start_outs
+  all_outs = omega arith
+
+  -- the trace ends with so many events, at the start
+  abbrev EndsWith : ℕ → Type 0
+  EndsWith n = IsTraceEnd c.trace c.limit (text_of c.spec) c.start n
+
+  -- it ends with the events of the start
+  pub start_accepts : EndsWith (length c.start_outs) → Accepts c [] 0
+  start_accepts end = record {
     first = record {
-      has = explains_so c [] (first_place c) whole_start [] c.start_outs 0 tt refl a (omega arith);
+      has = explains_so c [] (first_place c) whole_start [] c.start_outs 0 tt refl a
+          (subst EndsWith (sym all_outs) end);
       least = λ r x. nil_first r;
     };
     tried_is = record {
@@ -148,24 +161,30 @@ module _ (c : Setup) (a : AgreeFor c.trace 0 c.start_outs (length c.start_outs))
     };
   }
 
-  -- they are a part of it
-  module _ (lt : length c.start_outs < length c.trace) where
+  -- it does not
+  module _ (never : EndsWith (length c.start_outs) → ⊥) where
     unfinished : Explains c [] → ⊥
     unfinished = is_unfinished c [] (first_place c) whole_start [] c.start_outs 0 tt refl a
-        (omega arith)
+        (λ end. never (subst EndsWith all_outs end))
 
-    start_place : IsBoundedRun c [] (record {
-      situation = c.start;
-      events = c.start_outs;
-      silent_in_row = 0;
-    })
+    -- where the run without moves stands, in this situation
+    abbrev place_in : Situation → Place
+    place_in s = record { situation = s; events = c.start_outs; silent_in_row = 0 }
+
+    start_place : IsBoundedRun c [] (place_in c.start)
     start_place = refl
 
-    start_agrees : AgreeAll (take (length c.start_outs) c.trace) c.start_outs
-    start_agrees =
-        let n : 0 + length c.start_outs ≡ length c.start_outs = omega arith in
-        subst (λ k. AgreeAll (take k c.trace) c.start_outs) n
+    start_within : length c.start_outs ≤ length c.trace.events
+    start_within = (let w = a.within in omega arith)
+
+    start_agrees : AgreeAll (take (length c.start_outs) c.trace.events) c.start_outs
+    start_agrees = subst (λ k. AgreeAll (take k c.trace.events) c.start_outs) all_outs
         (agree_now c [] (first_place c) whole_start [] c.start_outs 0 tt refl a)
+
+    start_open : (s : Situation) → c.start ≡ s → IsWhole c (place_in s) → ⊥
+    start_open s now whole =
+        never (whole_ends c (place_in c.start) (length c.start_outs) start_within start_agrees
+        (subst (λ u. IsWhole c (place_in u)) (sym now) whole))
 
     start_on : (stack : Stack) (best : Best) → c.start ≡ stack.now → stack.below ≡ []
         → best.yields ≡ length c.start_outs → best.common ≡ 0 → best.tail.items ≡ []
@@ -180,13 +199,10 @@ module _ (c : Setup) (a : AgreeFor c.trace 0 c.start_outs (length c.start_outs))
         count = refl;
         node = record {
           events = c.start_outs;
-          is_run = subst (λ s. IsBoundedRun c [] (record {
-            situation = s;
-            events = c.start_outs;
-            silent_in_row = 0;
-          })) now start_place;
+          is_run = subst (λ s. IsBoundedRun c [] (place_in s)) now start_place;
+          within = start_within;
           agree = start_agrees;
-          unfinished = lt;
+          unfinished = start_open stack.now now;
         };
         stage = (refl, refl);
         lower = subst (λ ss. AreLower c [] [] ss []) (sym below) tt;
@@ -240,25 +256,18 @@ module _ (c : Setup) (a : AgreeFor c.trace 0 c.start_outs (length c.start_outs))
 
 -- AS THE CODE ASKS IT
 
-module _ (c : Setup) (spec : Spec) (limit silent : ℕ) (trace : List Event) (stack : Stack)
+module _ (c : Setup) (spec : Spec) (limit silent : ℕ) (trace : Recorded) (stack : Stack)
     (outs : List Event) (s : IsStarting c spec limit silent trace stack outs) (k : ℕ)
-    (a : AgreeFor trace 0 outs k) where
-  agree : AgreeFor c.trace 0 c.start_outs k
-  agree = subst (λ es. AgreeFor es 0 c.start_outs k) (sym s.setup.suits.trace_is)
-      (subst (λ es. AgreeFor trace 0 es k) (sym s.setup.outs_are) a)
+    (a : AgreeFor trace.events 0 outs k) where
+  agree : AgreeFor c.trace.events 0 c.start_outs k
+  agree = subst (λ (t : Recorded). AgreeFor t.events 0 c.start_outs k) (sym s.setup.suits.trace_is)
+      (subst (λ es. AgreeFor trace.events 0 es k) (sym s.setup.outs_are) a)
 
   outs_length : length c.start_outs ≡ length outs
   outs_length = ap length s.setup.outs_are
 
-  trace_length : length c.trace ≡ length trace
-  trace_length = ap length s.setup.suits.trace_is
-
-  agree_all : length outs ≤ k → AgreeFor c.trace 0 c.start_outs (length c.start_outs)
-  agree_all le =
-      let m = a.many in
-      let o = outs_length in
-      let e : k ≡ length c.start_outs = omega arith in
-      subst (λ n. AgreeFor c.trace 0 c.start_outs n) e agree
+  outs_many : length outs ≤ k → length c.start_outs ≡ k
+  outs_many le = (let m = a.many in let o = outs_length in omega arith)
 
   pub answer_departs : (budget at : ℕ) (run : List Move) → k < length outs → at ≡ k + 1
       → run ≡ [] → IsVerdict c budget (Refused at run None)
@@ -268,41 +277,68 @@ module _ (c : Setup) (spec : Spec) (limit silent : ℕ) (trace : List Event) (st
       (subst (λ r. IsRefused c budget (k + 1) (reverse r) None) (sym run_is)
       (start_refused c k agree (omega arith) budget))
 
-  module _ (run : List Move) (le : length outs ≤ k) (end : k ≡ length trace)
-      (run_is : run ≡ []) where
-    accepts : Accepts c (reverse run) 0
-    accepts =
-        let m = a.many in
-        let o = outs_length in
-        let t = trace_length in
-        subst (λ r. Accepts c (reverse r) 0) (sym run_is)
-        (start_accepts c (agree_all le) (omega arith))
+  module _ (le : length outs ≤ k) where
+    -- the trace ends at the start
+    module _ (end : IsTraceEnd trace limit (text_of spec) stack.now k) (run : List Move)
+        (run_is : run ≡ []) where
+      end_there : IsTraceEnd c.trace c.limit (text_of c.spec) c.start (length c.start_outs)
+      end_there = subst (λ n. IsTraceEnd c.trace c.limit (text_of c.spec) c.start n)
+          (sym (outs_many le)) (ends_there c spec limit silent trace s.setup.suits c.start k
+          (subst (λ (u : Situation). IsTraceEnd trace limit (text_of spec) u k)
+          (sym s.setup.start_is) end))
 
-    pub answer_whole : (budget : ℕ) → IsVerdict c budget (Accepted run)
-    answer_whole budget = record {
-      first = accepts.first;
-      tried = (0, zero-le, accepts.tried_is);
-    }
+      accepts : Accepts c (reverse run) 0
+      accepts = subst (λ r. Accepts c (reverse r) 0) (sym run_is)
+          (start_accepts c (subst (λ n. AgreeFor c.trace.events 0 c.start_outs n)
+          (sym (outs_many le)) agree) end_there)
 
-    pub whole_tried : (many : ℕ) → many ≡ 0 → IsWithinTried c (Accepted run) many
-    whole_tried many none = subst (λ n. IsWithinTried c (Accepted run) n) (sym none)
-        accepts.tried_is.found
-
-  pub ready_at_start : (w : Walk) → length outs ≤ k → k < length trace
-      → view_of w.path ≡ first_view k → w.best.yields ≡ k → w.best.common ≡ 0
-      → w.best.tail.items ≡ [] → w.notes ≡ record { passed = None; faulted = None }
-      → w.tried ≡ 0 → IsReady c spec limit silent trace stack w
-  ready_at_start w le lt path yields common tail notes tried =
-      let m = a.many in
-      let o = outs_length in
-      let t = trace_length in
-      let e : k ≡ length c.start_outs = omega arith in
-      record {
-        suits = s.setup.suits;
-        on_way = subst (λ v. IsOnWay c stack v w.tried w.best w.notes)
-            (ap first_view (sym e) ∙ sym path)
-            (subst (λ n. IsOnWay c stack (first_view (length c.start_outs)) n w.best w.notes)
-            (sym tried) (subst (λ n. IsOnWay c stack (first_view (length c.start_outs)) 0 w.best n)
-            (sym notes) (start_on c (agree_all le) (omega arith) stack w.best s.setup.start_is
-            s.bottom (yields ∙ e) common tail)));
+      pub answer_whole : (budget : ℕ) → IsVerdict c budget (Accepted run)
+      answer_whole budget = record {
+        first = accepts.first;
+        tried = (0, zero-le, accepts.tried_is);
       }
+
+      pub whole_tried : (many : ℕ) → many ≡ 0 → IsWithinTried c (Accepted run) many
+      whole_tried many none = subst (λ n. IsWithinTried c (Accepted run) n) (sym none)
+          accepts.tried_is.found
+
+    -- it does not, and the world stands there again
+    pub beginning : (IsTraceEnd trace limit (text_of spec) stack.now k → ⊥) → (limit' : ℕ)
+        (stack' : Stack) → limit' ≡ limit → stack' ≡ stack
+        → IsBeginning c spec limit' silent trace stack' k
+    beginning never limit' stack' l e =
+        subst (λ n. IsBeginning c spec n silent trace stack' k) (sym l)
+        (subst (λ (x : Stack). IsBeginning c spec limit silent trace x k) (sym e) (record {
+          suits = s.setup.suits;
+          start_is = s.setup.start_is;
+          bottom = s.bottom;
+          many = outs_many le;
+          agree = agree;
+          unfinished = λ end. never
+              (subst (λ (u : Situation). IsTraceEnd trace limit (text_of spec) u k)
+              s.setup.start_is (ends_here c spec limit silent trace s.setup.suits c.start k end));
+        }))
+
+-- no move was made yet
+pub ready_at_start : (c : Setup) (spec : Spec) (limit silent : ℕ) (trace : Recorded)
+    (stack : Stack) (k : ℕ) (w : Walk) → IsBeginning c spec limit silent trace stack k
+    → view_of w.path ≡ first_view k → w.best.yields ≡ k → w.best.common ≡ 0
+    → w.best.tail.items ≡ [] → w.notes ≡ record { passed = None; faulted = None }
+    → w.tried ≡ 0 → IsReady c spec limit silent trace stack w
+ready_at_start c spec limit silent trace stack k w b path yields common tail notes tried = record {
+  suits = b.suits;
+  on_way = subst (λ v. IsOnWay c stack v w.tried w.best w.notes) (ap first_view b.many ∙ sym path)
+      (subst (λ n. IsOnWay c stack (first_view (length c.start_outs)) n w.best w.notes) (sym tried)
+      (subst (λ n. IsOnWay c stack (first_view (length c.start_outs)) 0 w.best n) (sym notes)
+      (start_on c (subst (λ n. AgreeFor c.trace.events 0 c.start_outs n) (sym b.many) b.agree)
+      (λ end. b.unfinished
+      (subst (λ n. IsTraceEnd c.trace c.limit (text_of c.spec) c.start n) b.many end)) stack w.best
+      b.start_is b.bottom (yields ∙ sym b.many) common tail)));
+}
+
+-- nothing was fired
+pub none_fired : (P : List Move → Type 0) (new old : ℕ) → new ≡ old → HasMany P (new - old)
+none_fired P new old same =
+    let none : new - old ≡ 0 = omega arith in
+    subst (HasMany P) (sym none)
+    (record { runs = []; count = refl; distinct = tt; each = λ x i. absurd i })

@@ -182,7 +182,7 @@ step_many c stack Done w s = trials_many c _ w.tried s.knows.trials
 
 -- the best run yields no more events than the trace has
 pub done_yields : (c : Setup) (stack : Stack) (w : Walk) (step : Step) → step ≡ Done
-    → StepIs c stack step w → w.best.yields ≤ length c.trace
+    → StepIs c stack step w → w.best.yields ≤ length c.trace.events
 done_yields c stack w step e s =
     (let d : IsDone c w = subst (λ x. StepIs c stack x w) e s in d.knows.best.has.within)
 

@@ -9,8 +9,10 @@ use Rattle.est_meaning.specs.mean_blocks.Outcome.{Outcome, Fault, Limit}
 use Rattle.est_meaning.specs.mean_blocks.GlobalSituation.{Situation}
 use Rattle.est_meaning.specs.mean_blocks.TextByPlace.{text_of}
 use Rattle.est_meaning.specs.declared.event.Event.{Event}
+use Rattle.est_meaning.specs.declared.trace.Expected.TheVariants.{Known}
 use Rattle.est_meaning.specs.declared.firing.Firing.{Firing}
 use Rattle.est_meaning.specs.Agreement.{AgreeAll}
+use Rattle.est_meaning.specs.Endings.{IsTraceEnd}
 use Rattle.est_meaning.specs.TransitionSelection.{IsSettled}
 use Rattle.est_meaning.specs.FiringSteps.{outcome}
 use Rattle.est_meaning.specs.OutsideEvents.{after_event}
@@ -24,6 +26,7 @@ use Rattle.est_meaning.specs.Run.{Setup, Place, Takes, IsFromOutside, after_taki
 use Rattle.est_meaning.specs.Run.{IsBoundedRun, Explains, YieldsFirst}
 use Rattle.est_meaning.specs.Trials.{IsTrial, ComesTo, PassesLimit, guards, block, Faults}
 use Rattle.est_meaning.proofs.AgreementLaws.{agree_length}
+use Rattle.est_meaning.proofs.Endings.{whole_ends}
 use Rattle.est_meaning.proofs.OrderLaws.{marks_same, starts_one}
 use Rattle.est_meaning.proofs.RunLaws.{one_place}
 use Rattle.est_meaning.proofs.Takings.{takes_at}
@@ -126,9 +129,8 @@ pub events_noted : (c : Setup) (h : List Move) (s : Situation) (l : Level) → I
 events_noted c h s l node None moves many firing same count before = record {
   place = place_at s l node.events;
   is_run = subst (λ r. IsBoundedRun c r (place_at s l node.events)) (sym same) node.is_run;
-  count = (let within = node.unfinished in
-      agree_length (take l.matched c.trace) node.events node.agree
-      ∙ length-take-le l.matched c.trace (omega arith)) ∙ sym count;
+  count = agree_length (take l.matched c.trace.events) node.events node.agree
+      ∙ length-take-le l.matched c.trace.events node.within ∙ sym count;
 }
 events_noted c h s l node (Some p) moves many firing same count before = before
 
@@ -204,14 +206,15 @@ module _ (c : Setup) (stack : Stack) (v : View) (tried : ℕ) (best : Best) (not
               can.defined.1)))) all_fresh;
         }
 
-    module _ (e : Event) (is : get_or c.trace v.top.matched e ≡ e)
+    module _ (e : Event) (lt : v.top.matched < length c.trace.events)
+        (is : get_or c.trace.events v.top.matched (Known e) ≡ Known e)
         (outside : IsFromOutside e) where
       there : Place
       there = after_taking c here e
 
       pub takes : Takes c here
           (after_taking c here e)
-      takes = takes_at c here v.top.matched e way.at.node.unfinished is way.at.node.agree outside
+      takes = takes_at c here v.top.matched (Known e) lt is way.at.node.agree e refl outside
 
       taken_run : IsBoundedRun c (Take ∷ v.moves) there
       unfolding there
@@ -221,11 +224,19 @@ module _ (c : Setup) (stack : Stack) (v : View) (tried : ℕ) (best : Best) (not
       unfolding there
       taken_events = refl
 
-      abbrev matched : AgreeAll (take v.top.matched c.trace) way.at.node.events
+      taken_now : there.situation ≡ after_event (text_of c.spec) stack.now e
+      unfolding there
+      taken_now = refl
+
+      -- the trace ends with the event, in a situation
+      abbrev EndsIn : Situation → Type 0
+      EndsIn s = IsTraceEnd c.trace c.limit (text_of c.spec) s (v.top.matched + 1)
+
+      abbrev matched : AgreeAll (take v.top.matched c.trace.events) way.at.node.events
       matched = way.at.node.agree
 
-      one : AgreeFor c.trace v.top.matched (e ∷ []) 1
-      one = agree_one c.trace v.top.matched e way.at.node.unfinished is
+      one : AgreeFor c.trace.events v.top.matched (e ∷ []) 1
+      one = agree_one c.trace.events v.top.matched e lt is
 
       taken_turn : Turn c (IsAhead (marks_of v.moves) None)
           (IsAhead (marks_of (Take ∷ v.moves)) None) (marks_of (Take ∷ v.moves))
@@ -234,11 +245,13 @@ module _ (c : Setup) (stack : Stack) (v : View) (tried : ℕ) (best : Best) (not
       untried : IsTrial c (Take ∷ v.moves) → ⊥
       untried t = t
 
-      pub taken_found : v.top.matched + 1 ≡ length c.trace → Accepts c (Take ∷ v.moves) tried
+      pub taken_found : EndsIn (after_event (text_of c.spec) stack.now e)
+          → Accepts c (Take ∷ v.moves) tried
       taken_found end = accepts_untried c (IsAhead (marks_of v.moves) None)
           (IsAhead (marks_of (Take ∷ v.moves)) None) (Take ∷ v.moves) taken_turn tried untried
           (explains_so c (Take ∷ v.moves) there taken_run way.at.node.events (e ∷ [])
-          v.top.matched matched taken_events one end) all_fresh.knows.explaining
+          v.top.matched matched taken_events one (subst EndsIn (sym taken_now) end))
+          all_fresh.knows.explaining
           all_fresh.knows.trials
 
       taken_yields : YieldsFirst c (Take ∷ v.moves) (v.top.matched + 1)
@@ -255,25 +268,28 @@ module _ (c : Setup) (stack : Stack) (v : View) (tried : ℕ) (best : Best) (not
           (e ∷ []) v.top.matched 1 matched taken_events one j (subst (λ w. YieldsFirst c w j)
           (marks_same r (Take ∷ v.moves) same) y)
 
-      next_run : IsBoundedRun c (Take ∷ v.moves) (record {
+      abbrev next_place : Place
+      next_place = record {
         situation = after_event (text_of c.spec) stack.now e;
         events = way.at.node.events ++ e ∷ [];
         silent_in_row = 0;
-      })
+      }
+
+      next_run : IsBoundedRun c (Take ∷ v.moves) next_place
       unfolding there
       next_run = taken_run
 
-      next_agree : AgreeAll (take (v.top.matched + 1) c.trace) (way.at.node.events ++ e ∷ [])
+      next_agree : AgreeAll (take (v.top.matched + 1) c.trace.events) (way.at.node.events ++ e ∷ [])
       unfolding there
       next_agree = agree_now c (Take ∷ v.moves) there taken_run way.at.node.events (e ∷ [])
           v.top.matched matched taken_events one
 
       pub taken_on : (best' : Best) (made : ℕ) → made ≡ length v.moves
           → HasReached best best' made Take (v.top.matched + 1)
-          → v.top.matched + 1 < length c.trace
+          → (EndsIn (after_event (text_of c.spec) stack.now e) → ⊥)
           → IsOnWay c (pushed (after_event (text_of c.spec) stack.now e) stack)
           (entered v Take (v.top.matched + 1) 0) tried best' notes
-      taken_on best' made made_is reached lt =
+      taken_on best' made made_is reached never =
           let P = IsAhead (marks_of v.moves) None in
           let P' = IsAhead (marks_of (Take ∷ v.moves)) None in
           let z = marks_of (Take ∷ v.moves) in
@@ -287,8 +303,10 @@ module _ (c : Setup) (stack : Stack) (v : View) (tried : ℕ) (best : Best) (not
               node = record {
                 events = way.at.node.events ++ e ∷ [];
                 is_run = next_run;
+                within = one.within;
                 agree = next_agree;
-                unfinished = lt;
+                unfinished = λ x. never
+                    (whole_ends c next_place (v.top.matched + 1) one.within next_agree x);
               };
               stage = (refl, refl);
               lower = (
@@ -304,7 +322,8 @@ module _ (c : Setup) (stack : Stack) (v : View) (tried : ℕ) (best : Best) (not
             all = all_after c P P' v.moves Take taken_turn tried best notes all_fresh
                 (Take ∷ v.moves) tried best' notes
                 (is_unfinished c (Take ∷ v.moves) there taken_run way.at.node.events
-                (e ∷ []) v.top.matched matched taken_events one lt)
+                (e ∷ []) v.top.matched matched taken_events one
+                (λ end. never (subst EndsIn taken_now end)))
                 (best_reached c P P' v.moves Take taken_turn best best' all_fresh.run made
                 (v.top.matched + 1) (Take ∷ v.moves) (starts_one Take v.moves) made_is reached
                 taken_yields taken_few all_fresh.kept all_fresh.knows.best)
@@ -360,6 +379,7 @@ module _ (c : Setup) (stack : Stack) (v : View) (tried : ℕ) (best : Best) (not
           node = record {
             events = way.at.node.events;
             is_run = way.at.node.is_run;
+            within = way.at.node.within;
             agree = way.at.node.agree;
             unfinished = way.at.node.unfinished;
           };

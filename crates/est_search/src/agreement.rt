@@ -4,9 +4,10 @@ ghost use Rattle.est_meaning.specs.Run.{silent_after};
 ghost use Rattle.est_search.specs.inside.Agreement.{AgreeFor};
 
 use est_meaning::event::Event;
+use est_meaning::trace::{Expected, agrees};
 
 /// For how many events these agree with the trace from a place on.
-pub fn agreed(trace: &[Event], from: usize, events: &[Event]) -> usize
+pub fn agreed(trace: &[Expected], from: usize, events: &[Event]) -> usize
     requires { from ≤ length trace.now }
     ensures { AgreeFor trace.now from events.now result }
 {
@@ -15,7 +16,7 @@ pub fn agreed(trace: &[Event], from: usize, events: &[Event]) -> usize
         if from + many >= trace.len() {
             return many;
         }
-        if !event.is(&trace[from + many]) {
+        if !agrees(&trace[from + many], event) {
             return many;
         }
         many += 1;

@@ -11,14 +11,16 @@ ghost use Rattle.est_meaning.specs.Task.{setup_of};
 ghost use Rattle.est_meaning.specs.Trials.{IsTrial, HasMany};
 ghost use Rattle.est_search.specs.Verdict.{IsVerdict, IsWithinTried};
 ghost use Rattle.est_search.specs.inside.Walk.{SameBottom, IsReady, StepIs};
-ghost use Rattle.est_search.specs.inside.Walk.{Concludes, Answers, IsStarting};
+ghost use Rattle.est_search.specs.inside.Walk.{Concludes, Answers, IsStarting, IsBeginning};
 
 use crate::agreement::agreed;
 use crate::turn::turn;
 use crate::verdict::Verdict;
 use crate::walk::{Notes, Step, Task, Walk, reversed};
-use est_meaning::event::{Event, Trace};
+use est_meaning::ending::ends_at;
+use est_meaning::event::Event;
 use est_meaning::run::Limits;
+use est_meaning::trace::Trace;
 use est_meaning::world::World;
 use est_syntax::est_items::Items;
 use std::alloc::{AllocError, Global};
@@ -33,7 +35,7 @@ fn walk_all<W: World>(
     ghost setup: { Spec → Setup }
     requires within { walk.old.tried ≤ task.now.budget }
     requires room { W.fired world.old + task.now.budget < 2 ^ 64 + walk.old.tried }
-    requires few { length task.now.trace.now ≤ most_events }
+    requires few { length task.now.trace.now.events ≤ most_events }
     requires ready { (spec : Spec) → W.speaks world.old spec
         → IsReady (setup spec) spec (W.limit world.old) task.now.silent task.now.trace.now
         (W.stack world.old spec) walk.old }
@@ -116,6 +118,43 @@ fn answer(alloc: Global, walk: Walk, budget: u32, step: Step) -> Result<Verdict,
     }
 }
 
+// Searches on from a start that has so many events of the trace and does not explain it.
+fn search_on<W: World>(
+    alloc: Global,
+    world: &mut W,
+    task: &Task<'_>,
+    matched: u32,
+) -> Result<Verdict, AllocError>
+    ghost setup: { Spec → Setup }
+    requires room { W.fired world.old ≤ 2 ^ 63 }
+    requires few { length task.now.trace.now.events ≤ most_events }
+    requires beginning { (spec : Spec) → W.speaks world.old spec
+        → IsBeginning (setup spec) spec (W.limit world.old) task.now.silent task.now.trace.now
+        (W.stack world.old spec) matched }
+    ensures keeps { Keeps W.speaks W.limit world.old world.new }
+    ensures stack { SameStack W.speaks W.stack world.old world.new }
+    ensures grows { W.fired world.old ≤ W.fired world.new }
+    ensures budget { W.fired world.new ≤ W.fired world.old + task.now.budget }
+    ensures size { (spec : Spec) → W.speaks world.old spec
+        → HasMany (IsTrial (setup spec)) (W.fired world.new - W.fired world.old) }
+    ensures verdict { IfOk result (λ verdict. (spec : Spec) → W.speaks world.old spec
+        → IsVerdict (setup spec) task.now.budget verdict) }
+    ensures tried { IfOk result (λ verdict. (spec : Spec) → W.speaks world.old spec
+        → IsWithinTried (setup spec) verdict (W.fired world.new - W.fired world.old)) }
+{
+    let budget = task.budget;
+    let mut walk = Walk::new(alloc, matched);
+    let step = walk_all(alloc, world, task, &mut walk);
+    rewind(world);
+    match step {
+        Ok(step) => answer(alloc, walk, budget, step),
+        Err(error) => {
+            drop(walk);
+            Err(error)
+        }
+    }
+}
+
 // Searches from the start on, which has these events.
 fn search<W: World>(
     alloc: Global,
@@ -125,7 +164,7 @@ fn search<W: World>(
 ) -> Result<Verdict, AllocError>
     ghost setup: { Spec → Setup }
     requires room { W.fired world.old ≤ 2 ^ 63 }
-    requires few { length task.now.trace.now ≤ most_events }
+    requires few { length task.now.trace.now.events ≤ most_events }
     requires start { (spec : Spec) → W.speaks world.old spec
         → IsStarting (setup spec) spec (W.limit world.old) task.now.silent task.now.trace.now
         (W.stack world.old spec) start_outs.now }
@@ -140,7 +179,8 @@ fn search<W: World>(
     ensures tried { IfOk result (λ verdict. (spec : Spec) → W.speaks world.old spec
         → IsWithinTried (setup spec) verdict (W.fired world.new - W.fired world.old)) }
 {
-    let matched = agreed(task.trace, 0, start_outs);
+    let trace = task.trace.events().as_slice();
+    let matched = agreed(trace, 0, start_outs);
     if matched < start_outs.len() {
         return Ok(Verdict::Refused {
             at: matched as u32 + 1,
@@ -148,22 +188,13 @@ fn search<W: World>(
             faulted: None,
         });
     }
-    if matched == task.trace.len() {
+    let whole = ends_at(alloc, world, task.trace, matched)?;
+    if whole {
         return Ok(Verdict::Accepted {
             run: Items::new(alloc),
         });
     }
-    let budget = task.budget;
-    let mut walk = Walk::new(alloc, matched as u32);
-    let step = walk_all(alloc, world, task, &mut walk);
-    rewind(world);
-    match step {
-        Ok(step) => answer(alloc, walk, budget, step),
-        Err(error) => {
-            drop(walk);
-            Err(error)
-        }
-    }
+    search_on(alloc, world, task, matched as u32)
 }
 
 /// Searches the runs of a specification for one that explains the trace. The world stands at the
@@ -200,7 +231,7 @@ pub fn explain<W: World>(
         (W.fired world.new - W.fired world.old)) }
 {
     let task = Task {
-        trace: trace.as_slice(),
+        trace,
         silent: limits.silent,
         budget: limits.budget,
     };

@@ -16,9 +16,11 @@ use crate::agreement::{agreed, silent_with};
 use crate::path::Stage;
 use crate::walk::{Landed, Step, Task, Walk};
 use est_meaning::answers::{Fired, Offers};
+use est_meaning::ending::ends_at;
 use est_meaning::event::Event;
 use est_meaning::firing::Firing;
 use est_meaning::run::Move;
+use est_meaning::trace::Expected;
 use est_meaning::world::World;
 use std::alloc::{AllocError, Global};
 
@@ -50,8 +52,8 @@ fn happen<W: World>(alloc: Global, world: &mut W, event: &Event) -> Result<bool,
     }
 }
 
-// Takes the next event, if it comes from outside. The answer says whether the run then explains
-// the trace.
+// Takes the next event, if it is known and comes from outside. The answer says whether the run then
+// explains the trace.
 fn take_next<W: World>(
     alloc: Global,
     world: &mut W,
@@ -60,7 +62,7 @@ fn take_next<W: World>(
 ) -> Result<bool, AllocError>
     ghost setup: { Spec → Setup }
     requires fresh { walk.old.path.stage ≡ Stage.Fresh }
-    requires few { length task.now.trace.now ≤ most_events }
+    requires few { length task.now.trace.now.events ≤ most_events }
     requires ready { (spec : Spec) → W.speaks world.old spec
         → IsReady (setup spec) spec (W.limit world.old) task.now.silent task.now.trace.now
         (W.stack world.old spec) walk.old }
@@ -69,23 +71,28 @@ fn take_next<W: World>(
     ensures tried { walk.new.tried ≡ walk.old.tried }
     ensures bottom { SameBottom W.speaks W.stack world.old world.new }
     ensures load { IfOk result
-        (λ _. load (length task.now.trace.now) (view_of walk.new.path)
-        < load (length task.now.trace.now) (view_of walk.old.path)) }
+        (λ _. load (length task.now.trace.now.events) (view_of walk.new.path)
+        < load (length task.now.trace.now.events) (view_of walk.old.path)) }
     ensures ok { IfOk result (λ found. (spec : Spec) → W.speaks world.old spec
         → IsFound (setup spec) (W.stack world.new spec) found walk.new) }
 {
+    let trace = task.trace.events().as_slice();
     let matched = walk.path.top.matched;
     walk.path.stage = Stage::Taken;
-    if matched as usize >= task.trace.len() {
+    if matched as usize >= trace.len() {
         return Ok(false);
     }
-    if !happen(alloc, world, &task.trace[matched as usize])? {
+    let Expected::Known(event) = &trace[matched as usize] else {
+        return Ok(false);
+    };
+    if !happen(alloc, world, event)? {
         return Ok(false);
     }
+    let found = ends_at(alloc, world, task.trace, matched as usize + 1)?;
     walk.best
         .reach(walk.path.moves.len(), Move::Take, matched + 1)?;
     walk.path.enter(Move::Take, matched + 1, 0)?;
-    Ok(matched as usize + 1 == task.trace.len())
+    Ok(found)
 }
 
 // Lists the possible firings.
@@ -105,8 +112,8 @@ fn list_options<W: World>(
     ensures tried { walk.new.tried ≡ walk.old.tried }
     ensures bottom { SameBottom W.speaks W.stack world.old world.new }
     ensures load { IfOk result
-        (λ _. load (length task.now.trace.now) (view_of walk.new.path)
-        < load (length task.now.trace.now) (view_of walk.old.path)) }
+        (λ _. load (length task.now.trace.now.events) (view_of walk.new.path)
+        < load (length task.now.trace.now.events) (view_of walk.old.path)) }
     ensures ok { IfOk result (λ _. (spec : Spec) → W.speaks world.old spec
         → IsFound (setup spec) (W.stack world.new spec) false walk.new) }
 {
@@ -126,21 +133,23 @@ fn list_options<W: World>(
 
 // Goes on after a firing that is done, if it leads on.
 fn land(task: &Task<'_>, walk: &mut Walk, firing: Firing) -> Result<Landed, AllocError>
-    requires few { length task.now.trace.now ≤ most_events }
-    requires within { walk.old.path.top.matched ≤ length task.now.trace.now }
+    requires few { length task.now.trace.now.events ≤ most_events }
+    requires within { walk.old.path.top.matched ≤ length task.now.trace.now.events }
     ensures tried { walk.new.tried ≡ walk.old.tried }
     ensures load { IfOk result
-        (λ _. load (length task.now.trace.now) (view_of walk.new.path)
-        < load (length task.now.trace.now) (view_of walk.old.path) + (3 * length task.now.trace.now
-        + 5)) }
+        (λ _. load (length task.now.trace.now.events) (view_of walk.new.path)
+        < load (length task.now.trace.now.events) (view_of walk.old.path)
+        + (3 * length task.now.trace.now.events + 5)) }
     ensures landed { IfOk result
-        (λ landed. HasLanded task.now.trace.now task.now.silent walk.old walk.new firing landed) }
+        (λ landed. HasLanded task.now.trace.now.events task.now.silent walk.old walk.new firing
+        landed) }
 {
     let Some(silent) = silent_with(walk.path.top.silent, &walk.outs, task.silent) else {
         return Ok(Landed::Off);
     };
+    let trace = task.trace.events().as_slice();
     let matched = walk.path.top.matched as usize;
-    let many = agreed(task.trace, matched, &walk.outs);
+    let many = agreed(trace, matched, &walk.outs);
     let yields = (matched + many) as u32;
     walk.best
         .reach(walk.path.moves.len(), Move::Fire(firing), yields)?;
@@ -148,11 +157,7 @@ fn land(task: &Task<'_>, walk: &mut Walk, firing: Firing) -> Result<Landed, Allo
         return Ok(Landed::Off);
     }
     walk.path.enter(Move::Fire(firing), yields, silent)?;
-    if matched + many == task.trace.len() {
-        Ok(Landed::Found)
-    } else {
-        Ok(Landed::On)
-    }
+    Ok(Landed::On)
 }
 
 // Tries a firing. The answer says whether the run then explains the trace.
@@ -166,7 +171,7 @@ fn try_firing<W: World>(
     ghost setup: { Spec → Setup }
     requires budget { walk.old.tried < 2 ^ 32 - 1 }
     requires room { W.fired world.old < 2 ^ 64 - 1 }
-    requires few { length task.now.trace.now ≤ most_events }
+    requires few { length task.now.trace.now.events ≤ most_events }
     requires trying { (spec : Spec) → W.speaks world.old spec
         → IsTrying (setup spec) spec (W.limit world.old) task.now.silent task.now.trace.now
         (W.stack world.old spec) walk.old firing }
@@ -175,9 +180,9 @@ fn try_firing<W: World>(
     ensures tried { walk.new.tried ≡ walk.old.tried + 1 }
     ensures bottom { SameBottom W.speaks W.stack world.old world.new }
     ensures load { IfOk result
-        (λ _. load (length task.now.trace.now) (view_of walk.new.path)
-        < load (length task.now.trace.now) (view_of walk.old.path) + (3 * length task.now.trace.now
-        + 5)) }
+        (λ _. load (length task.now.trace.now.events) (view_of walk.new.path)
+        < load (length task.now.trace.now.events) (view_of walk.old.path)
+        + (3 * length task.now.trace.now.events + 5)) }
     ensures many { OnErr result ((spec : Spec) → W.speaks world.old spec
         → HasMany (IsTrial (setup spec)) walk.new.tried) }
     ensures ok { IfOk result (λ found. (spec : Spec) → W.speaks world.old spec
@@ -200,8 +205,10 @@ fn try_firing<W: World>(
                 world.back();
                 Ok(false)
             }
-            Landed::On => Ok(false),
-            Landed::Found => Ok(true),
+            Landed::On => {
+                let found = ends_at(alloc, world, task.trace, walk.path.top.matched as usize)?;
+                Ok(found)
+            }
         },
     }
 }
@@ -243,7 +250,7 @@ fn try_next<W: World>(
     requires listed { walk.old.path.stage ≡ Stage.Listed }
     requires within { walk.old.tried ≤ task.now.budget }
     requires room { W.fired world.old + task.now.budget < 2 ^ 64 + walk.old.tried }
-    requires few { length task.now.trace.now ≤ most_events }
+    requires few { length task.now.trace.now.events ≤ most_events }
     requires ready { (spec : Spec) → W.speaks world.old spec
         → IsReady (setup spec) spec (W.limit world.old) task.now.silent task.now.trace.now
         (W.stack world.old spec) walk.old }
@@ -253,8 +260,8 @@ fn try_next<W: World>(
     ensures within { walk.new.tried ≤ task.now.budget }
     ensures bottom { SameBottom W.speaks W.stack world.old world.new }
     ensures work { IfOk result (λ step. step ≡ Step.Going
-        → work (length task.now.trace.now) task.now.budget walk.new
-        < work (length task.now.trace.now) task.now.budget walk.old) }
+        → work (length task.now.trace.now.events) task.now.budget walk.new
+        < work (length task.now.trace.now.events) task.now.budget walk.old) }
     ensures over { IfOk result (λ step. step ≡ Step.Over → walk.new.tried ≡ task.now.budget) }
     ensures many { OnErr result ((spec : Spec) → W.speaks world.old spec
         → HasMany (IsTrial (setup spec)) walk.new.tried) }
@@ -284,7 +291,7 @@ pub fn turn<W: World>(
     ghost setup: { Spec → Setup }
     requires within { walk.old.tried ≤ task.now.budget }
     requires room { W.fired world.old + task.now.budget < 2 ^ 64 + walk.old.tried }
-    requires few { length task.now.trace.now ≤ most_events }
+    requires few { length task.now.trace.now.events ≤ most_events }
     requires ready { (spec : Spec) → W.speaks world.old spec
         → IsReady (setup spec) spec (W.limit world.old) task.now.silent task.now.trace.now
         (W.stack world.old spec) walk.old }
@@ -294,8 +301,8 @@ pub fn turn<W: World>(
     ensures within { walk.new.tried ≤ task.now.budget }
     ensures bottom { SameBottom W.speaks W.stack world.old world.new }
     ensures work { IfOk result (λ step. step ≡ Step.Going
-        → work (length task.now.trace.now) task.now.budget walk.new
-        < work (length task.now.trace.now) task.now.budget walk.old) }
+        → work (length task.now.trace.now.events) task.now.budget walk.new
+        < work (length task.now.trace.now.events) task.now.budget walk.old) }
     ensures over { IfOk result (λ step. step ≡ Step.Over → walk.new.tried ≡ task.now.budget) }
     ensures many { OnErr result ((spec : Spec) → W.speaks world.old spec
         → HasMany (IsTrial (setup spec)) walk.new.tried) }

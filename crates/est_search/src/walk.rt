@@ -9,6 +9,7 @@ use est_meaning::event::Event;
 use est_meaning::firing::Firing;
 use est_meaning::mean_blocks::fault::BlockFault;
 use est_meaning::run::{Move, Run};
+use est_meaning::trace::Trace;
 use est_syntax::est_items::Items;
 use std::alloc::{AllocError, Global};
 
@@ -16,7 +17,7 @@ use std::alloc::{AllocError, Global};
 /// in a row, with so many firings tried.
 #[derive(Clone, Copy)]
 pub struct Task<'t> {
-    pub trace: &'t [Event],
+    pub trace: &'t Trace,
     pub silent: u32,
     pub budget: u32,
 }
@@ -48,10 +49,10 @@ pub struct Walk {
     pub outs: Vec<Event>,
 }
 
-/// What comes of a firing that is done: it explains the trace, or it leads on, or it does not.
+/// What comes of a firing that is done: its events agree with the trace, and it leads on, or it does
+/// not.
 #[derive(Clone, Copy, PartialEq, Eq)]
 pub enum Landed {
-    Found,
     On,
     Off,
 }

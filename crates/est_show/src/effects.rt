@@ -1,13 +1,14 @@
 //! What a move sends.
 
 use crate::source::Source;
-use crate::texts::{event_text, item_text};
+use crate::texts::{event_text, expected_text, item_text};
 use advice_lines::sheet::{Effect, EffectKind};
 use est_meaning::event::Event;
 use est_meaning::mean_blocks::situation::Item;
+use est_meaning::trace::{Expected, agrees};
 use est_syntax::est_items::Twin;
 use est_values::Queue;
-use plain_frames::system::Waiting;
+use plain_frames::plain_systems::system::Waiting;
 use std::alloc::{AllocError, Global};
 
 // Adds an item that came to a queue.
@@ -54,14 +55,41 @@ pub(crate) fn push_arrivals(
     Ok(())
 }
 
-// Adds an event that left the system.
+// Whether an event is one of which not every value was seen.
+fn is_seen_partly(expected: &Expected, event: &Event) -> bool {
+    match expected {
+        Expected::Known(_) => false,
+        Expected::Partly { .. } => agrees(expected, event),
+    }
+}
+
+// The text of an event that left the system, and how the trace has it where not every value was
+// seen.
+fn departure_text(
+    alloc: Global,
+    source: &Source,
+    event: &Event,
+    expected: Option<&Expected>,
+) -> Result<String, AllocError> {
+    let text = event_text(alloc, source.ports, event)?;
+    match expected {
+        Some(expected) if is_seen_partly(expected, event) => {
+            let seen = expected_text(alloc, source.ports, expected)?;
+            format!(in alloc; "{text}, seen as {seen}")
+        }
+        _ => Ok(text),
+    }
+}
+
+// Adds an event that left the system, where this is expected.
 fn push_event(
     alloc: Global,
     source: &Source,
     event: &Event,
+    expected: Option<&Expected>,
     effects: &mut Vec<Effect>,
 ) -> Result<(), AllocError> {
-    let text = event_text(alloc, source.ports, event)?;
+    let text = departure_text(alloc, source, event, expected)?;
     effects.push(Effect {
         kind: EffectKind::Leaves,
         instance: 0,
@@ -70,15 +98,16 @@ fn push_event(
     Ok(())
 }
 
-/// Adds the events that left the system.
+/// Adds the events that left the system, where this is left of the trace.
 pub(crate) fn push_departures(
     alloc: Global,
     source: &Source,
     events: &[Event],
+    rest: &[Expected],
     effects: &mut Vec<Effect>,
 ) -> Result<(), AllocError> {
-    for event in events {
-        push_event(alloc, source, event, effects)?;
+    for (index, event) in events.iter().enumerate() {
+        push_event(alloc, source, event, rest.get(index), effects)?;
     }
     Ok(())
 }

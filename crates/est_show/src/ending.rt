@@ -1,16 +1,17 @@
 //! What comes after the moves of a run that yields a part of a trace.
 ghost use Rattle.est_meaning.specs.AllowedEvents.{IsAllowedTrace};
 
-use crate::texts::event_text;
+use crate::texts::{event_text, expected_text};
 use advice_lines::sheet::Ending;
 use call_files::est_check::Checked;
 use est_meaning::answers::Started;
-use est_meaning::event::{Event, Trace};
+use est_meaning::event::Event;
 use est_meaning::run::Limits;
+use est_meaning::trace::{Expected, Trace};
 use est_replay::est_plain::world::PlainWorld;
-use plain_walk::noted::Others;
-use plain_walk::other_events::{End, Found, next_events};
 use rule_ports::ports::Ports;
+use run_notes::noted::Others;
+use run_notes::other_events::{End, Found, next_events};
 use std::alloc::{AllocError, Global};
 
 // So many firings are tried at most to find what could have come.
@@ -71,14 +72,14 @@ fn wanted_of(alloc: Global, ports: &Ports, others: &Others) -> Result<Vec<String
 fn text_of(
     alloc: Global,
     ports: &Ports,
-    trace: &[Event],
+    trace: &[Expected],
     happened: usize,
     word: &str,
 ) -> Result<String, AllocError> {
-    let Some(event) = trace.get(happened) else {
+    let Some(expected) = trace.get(happened) else {
         return format!(in alloc; "{word}: the end of the trace");
     };
-    let text = event_text(alloc, ports, event)?;
+    let text = expected_text(alloc, ports, expected)?;
     let number = happened.saturating_add(1);
     format!(in alloc; "{word}: event {number}, {text}")
 }
@@ -87,7 +88,7 @@ fn text_of(
 fn refused_ending(
     alloc: Global,
     ports: &Ports,
-    trace: &[Event],
+    trace: &[Expected],
     others: &Others,
 ) -> Result<Option<Ending>, AllocError> {
     let event = text_of(alloc, ports, trace, others.happened, "refused")?;
@@ -108,7 +109,7 @@ fn refused_ending(
 fn plain_ending(
     alloc: Global,
     ports: &Ports,
-    trace: &[Event],
+    trace: &[Expected],
     happened: usize,
 ) -> Result<Option<Ending>, AllocError> {
     if happened >= trace.len() {
@@ -144,7 +145,7 @@ pub(crate) fn ending_of(
         statements: limits.statements,
     };
     let found = found_of(alloc, checked, trace, &few)?;
-    let (ports, events) = (checked.ports(), trace.as_slice());
+    let (ports, events) = (checked.ports(), trace.events().as_slice());
     match &found {
         Some(found) if is_refused(found, happened) => {
             refused_ending(alloc, ports, events, &found.others)

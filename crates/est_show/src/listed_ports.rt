@@ -10,7 +10,7 @@ use est_meaning::rule_scope::declaration::{Member, Senders, Side, Sort};
 use est_syntax::channel::Role;
 use est_syntax::kind::Kind;
 use est_syntax::specification::Spec;
-use plain_frames::plain_names::declared::{dims_at, kind_at, places_of};
+use plain_frames::plain_declared::declared::{dims_at, kind_at, places_of};
 use std::alloc::{AllocError, Global};
 
 // Adds kinds of subscripts, or a dash where there are none.

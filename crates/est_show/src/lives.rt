@@ -3,7 +3,7 @@
 use crate::source::{Source, ascii};
 use advice_lines::sheet::{Effect, EffectKind, Life};
 use est_meaning::mean_blocks::situation::Row;
-use plain_frames::system::{Rows, System};
+use plain_frames::plain_systems::system::{Rows, System};
 use std::alloc::{AllocError, Global};
 
 // Adds an instance that begins in the move of a number.

@@ -10,8 +10,9 @@ use est_meaning::answers::Started;
 use est_meaning::event::Event;
 use est_meaning::firing::Firing;
 use est_meaning::run::Move;
-use plain_frames::rows::row_of;
-use plain_frames::system::System;
+use est_meaning::trace::Expected;
+use plain_frames::plain_systems::rows::row_of;
+use plain_frames::plain_systems::system::System;
 use plain_walk::made::Made;
 use plain_walk::walk::Walk;
 use std::alloc::{AllocError, Global};
@@ -76,7 +77,7 @@ fn tell_transition(
     Ok(())
 }
 
-// Tells of a firing that was made, as the move of a number.
+// Tells of a firing that was made, as the move of a number, but for the events that it sends.
 fn tell_firing(
     alloc: Global,
     source: &Source,
@@ -97,7 +98,6 @@ fn tell_firing(
         shown.taken = item_text(alloc, source, item)?;
     }
     let inside = made.sent.inside.get().as_slice();
-    push_departures(alloc, source, made.sent.outs.as_slice(), &mut shown.effects)?;
     push_arrivals(alloc, source, inside, &mut shown.effects)?;
     push_changes(
         alloc,
@@ -110,11 +110,13 @@ fn tell_firing(
     )
 }
 
-// Makes a firing, if it can be made, and answers how many events it sends.
+// Makes a firing, if it can be made, where this is left of the trace, and answers how many events
+// it sends.
 fn show_firing(
     alloc: Global,
     source: &Source,
     walk: &mut Walk,
+    rest: &[Expected],
     number: usize,
     firing: &Firing,
     lives: &mut Vec<Life>,
@@ -124,7 +126,11 @@ fn show_firing(
         return Ok(None);
     };
     let count = made.sent.outs.len();
-    let told = tell_firing(alloc, source, walk, number, firing, &made, lives, shown);
+    let outs = made.sent.outs.as_slice();
+    let told = match push_departures(alloc, source, outs, rest, &mut shown.effects) {
+        Ok(()) => tell_firing(alloc, source, walk, number, firing, &made, lives, shown),
+        Err(error) => Err(error),
+    };
     drop(made);
     told?;
     Ok(Some(count))
@@ -159,13 +165,13 @@ fn show_event(
     Ok(())
 }
 
-// Makes a move, if it can be made, where these events are left of the trace, and answers how many
-// of them happen.
+// Makes a move, if it can be made, where this is left of the trace, and answers how many events
+// happen.
 fn show_move(
     alloc: Global,
     source: &Source,
     walk: &mut Walk,
-    rest: &[Event],
+    rest: &[Expected],
     number: usize,
     next: &Move,
     lives: &mut Vec<Life>,
@@ -173,22 +179,22 @@ fn show_move(
 ) -> Result<Option<usize>, AllocError> {
     match next {
         Move::Take => match rest.first() {
-            None => Ok(None),
-            Some(event) => {
+            Some(Expected::Known(event)) => {
                 show_event(alloc, source, walk, event, shown)?;
                 Ok(Some(1))
             }
+            _ => Ok(None),
         },
-        Move::Fire(firing) => show_firing(alloc, source, walk, number, firing, lives, shown),
+        Move::Fire(firing) => show_firing(alloc, source, walk, rest, number, firing, lives, shown),
     }
 }
 
-// What kind of move it is, where these events are left of the trace.
-fn kind_of(next: &Move, rest: &[Event]) -> MoveKind {
+// What kind of move it is, where this is left of the trace.
+fn kind_of(next: &Move, rest: &[Expected]) -> MoveKind {
     match next {
         Move::Fire(_) => MoveKind::Firing,
         Move::Take => match rest.first() {
-            Some(Event::Passes(_)) => MoveKind::Time,
+            Some(Expected::Known(Event::Passes(_))) => MoveKind::Time,
             _ => MoveKind::Arrival,
         },
     }
@@ -199,7 +205,7 @@ fn push_move(
     alloc: Global,
     source: &Source,
     walk: &mut Walk,
-    rest: &[Event],
+    rest: &[Expected],
     number: usize,
     next: &Move,
     sheet: &mut Sheet,
@@ -223,7 +229,7 @@ fn push_moves(
     alloc: Global,
     source: &Source,
     walk: &mut Walk,
-    trace: &[Event],
+    trace: &[Expected],
     happened: usize,
     moves: &[Move],
     sheet: &mut Sheet,
@@ -240,32 +246,35 @@ fn push_moves(
     Ok(())
 }
 
-// Tells of the start.
+// Tells of the start along a trace.
 fn tell_start(
     alloc: Global,
     source: &Source,
     system: &System,
     outs: &[Event],
+    trace: &[Expected],
     lives: &mut Vec<Life>,
     shown: &mut ShownMove,
 ) -> Result<(), AllocError> {
-    push_departures(alloc, source, outs, &mut shown.effects)?;
+    push_departures(alloc, source, outs, trace, &mut shown.effects)?;
     let waiting = system.queues.get().as_slice();
     push_arrivals(alloc, source, waiting, &mut shown.effects)?;
     push_begun(alloc, source, 0, 0, system, lives)?;
     push_births(alloc, lives, &mut shown.effects)
 }
 
-// Adds the start.
+// Adds the start along a trace.
 fn push_start(
     alloc: Global,
     source: &Source,
     system: &System,
     outs: &[Event],
+    trace: &[Expected],
     sheet: &mut Sheet,
 ) -> Result<(), AllocError> {
     let mut shown = ShownMove::new(alloc, MoveKind::Start);
-    match tell_start(alloc, source, system, outs, &mut sheet.lives, &mut shown) {
+    let lives = &mut sheet.lives;
+    match tell_start(alloc, source, system, outs, trace, lives, &mut shown) {
         Ok(()) => {
             sheet.moves.push(shown)?;
             Ok(())
@@ -283,11 +292,11 @@ fn push_all(
     source: &Source,
     walk: &mut Walk,
     outs: &[Event],
-    trace: &[Event],
+    trace: &[Expected],
     moves: &[Move],
     sheet: &mut Sheet,
 ) -> Result<(), AllocError> {
-    push_start(alloc, source, &walk.system, outs, sheet)?;
+    push_start(alloc, source, &walk.system, outs, trace, sheet)?;
     push_moves(alloc, source, walk, trace, outs.len(), moves, sheet)
 }
 
@@ -298,7 +307,7 @@ pub(crate) fn push_run(
     source: &Source,
     checked: &Checked,
     statements: u32,
-    trace: &[Event],
+    trace: &[Expected],
     moves: &[Move],
     sheet: &mut Sheet,
 ) -> Result<(), AllocError> {

@@ -2,14 +2,14 @@
 
 use crate::source::{Source, ascii};
 use advice_guards::items::append_item;
-use call_files::est_trace::written_trace::append_trace;
+use call_files::est_trace::written_trace::{append_expectation, append_happening};
 use est_meaning::event::Event;
 use est_meaning::mean_blocks::situation::Item;
+use est_meaning::trace::Expected;
 use est_syntax::body::Body;
 use est_syntax::transition::Transition;
 use rule_ports::ports::Ports;
 use std::alloc::{AllocError, Global};
-use std::slice;
 
 /// The text of an interaction at its interaction point, as specifications write names.
 pub(crate) fn item_text(alloc: Global, source: &Source, item: &Item) -> Result<String, AllocError> {
@@ -18,18 +18,26 @@ pub(crate) fn item_text(alloc: Global, source: &Source, item: &Item) -> Result<S
     ascii(alloc, &text)
 }
 
-/// The text of an event, as traces write it: what stands between the first and the last line of the
-/// trace that has it alone.
+/// The text of an event, as traces write it.
 pub(crate) fn event_text(
     alloc: Global,
     ports: &Ports,
     event: &Event,
 ) -> Result<String, AllocError> {
     let mut text = Vec::new(alloc);
-    append_trace(alloc, &mut text, ports, slice::from_ref(event))?;
-    let end = text.len().saturating_sub(b"\nend\n".len());
-    let begin = b"trace 1\n".len().min(end);
-    ascii(alloc, &text[begin..end])
+    append_happening(alloc, &mut text, ports, event)?;
+    ascii(alloc, &text)
+}
+
+/// The text of an event that is expected, as its trace has it.
+pub(crate) fn expected_text(
+    alloc: Global,
+    ports: &Ports,
+    expected: &Expected,
+) -> Result<String, AllocError> {
+    let mut text = Vec::new(alloc);
+    append_expectation(alloc, &mut text, ports, expected)?;
+    ascii(alloc, &text)
 }
 
 /// The transition of a body that has a number, from 1.

@@ -19,8 +19,8 @@ use call_files::status::Status;
 use call_files::trace::trace_in;
 use call_files::words::{Command, read_words};
 use call_files::{Report, Shelf, Sink, Stop, write_whole};
-use est_meaning::event::Trace;
 use est_meaning::run::{Limits, Move};
+use est_meaning::trace::Trace;
 use est_replay::checked::replay;
 use std::alloc::{AllocError, Global};
 
@@ -183,7 +183,7 @@ fn ending_after(
 {
     match answer {
         Replayed::Confirmed { events: claim }
-            if asked.form == Form::Chart && claim as usize <= trace.len() => {
+            if asked.form == Form::Chart && claim as usize <= trace.events().len() => {
             ending_of(alloc, checked, trace, claim as usize, &asked.limits)
         }
         _ => Ok(None),
@@ -214,6 +214,7 @@ fn source_text(
     } = shown;
     let source = Source::new(alloc, text, checked)?;
     let statements = asked.limits.statements;
+    let events = trace.events();
     let mut sheet = Sheet::new(alloc);
     sheet.ending = ending;
     let pushed = push_run(
@@ -221,13 +222,13 @@ fn source_text(
         &source,
         checked,
         statements,
-        trace.as_slice(),
+        events.as_slice(),
         moves,
         &mut sheet,
     );
     drop(source);
     let shown = match pushed {
-        Ok(()) => shown_text(alloc, asked.form, &sheet, answer, trace.len()),
+        Ok(()) => shown_text(alloc, asked.form, &sheet, answer, events.len()),
         Err(error) => Err(error),
     };
     drop(sheet);

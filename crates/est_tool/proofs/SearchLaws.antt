@@ -5,6 +5,7 @@ use Rattle.est_meaning.specs.mean_blocks.GlobalSituation.{Situation}
 use Rattle.est_meaning.specs.mean_blocks.Outcome.{Done}
 use Rattle.est_meaning.specs.mean_blocks.TextByPlace.{text_of}
 use Rattle.est_meaning.specs.declared.event.Event.{Event}
+use Rattle.est_meaning.specs.RecordedTraces.{Recorded}
 use Rattle.est_meaning.specs.FiringSteps.{start_of}
 use Rattle.est_meaning.specs.declared.run.Limits.{Limits}
 use Rattle.est_search.specs.declared.verdict.Verdict.{Verdict}
@@ -14,15 +15,15 @@ use Rattle.est_tool.specs.inside.Searching.{IsSearched}
 use Rattle.est_meaning.specs.Task.{setup_from}
 
 -- a verdict from the start
-pub found_searched : (limits : Limits) (spec : Spec) (events : List Event) (s : Situation)
+pub found_searched : (limits : Limits) (spec : Spec) (trace : Recorded) (s : Situation)
     (outs outs' : List Event) (verdict : Verdict) → outs' ≡ outs
     → start_of limits.statements (text_of spec) ≡ Done outs s
-    → IsVerdict (setup_from limits.statements limits.silent spec events s outs') limits.budget verdict
-    → IsSearched limits spec events (came.Found verdict)
-found_searched limits spec events s outs outs' verdict same begun is = (
+    → IsVerdict (setup_from limits.statements limits.silent spec trace s outs') limits.budget verdict
+    → IsSearched limits spec trace (came.Found verdict)
+found_searched limits spec trace s outs outs' verdict same begun is = (
   s,
   outs,
   begun,
-  subst (λ es. IsVerdict (setup_from limits.statements limits.silent spec events s es) limits.budget
+  subst (λ es. IsVerdict (setup_from limits.statements limits.silent spec trace s es) limits.budget
       verdict) same is,
 )

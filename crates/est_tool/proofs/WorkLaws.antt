@@ -8,7 +8,7 @@ use Rattle.call_files.specs.Pieces.{SameTold}
 use Rattle.call_files.proofs.CountLaws.{AllStay-then, rose_then}
 use Rattle.call_files.proofs.PieceLaws.{SameTold-then}
 use Rattle.est_syntax.specs.declared.specification.Spec.{Spec}
-use Rattle.est_meaning.specs.declared.event.Event.{Event}
+use Rattle.est_meaning.specs.RecordedTraces.{Recorded}
 use Rattle.call_files.specs.est_explanation.declared.explanation.Explanation.{Explanation}
 use Rattle.est_meaning.specs.declared.run.Limits.{Limits}
 use Rattle.est_tool.specs.declared.search.Searched.{Searched}
@@ -115,26 +115,26 @@ module _ (before middle after : Shelved) (same : SameTold before.told middle.tol
       (file_before end at)
   ends_before (explain s t n b m) _ (ends_at_trace spec end holds at) = ends_at_trace spec end
       (text_before s spec holds) (file_before end at)
-  ends_before (explain s t n b m) _ (not_started spec events fault holds traced is) =
-      not_started spec events fault (text_before s spec holds)
-      (holds_before _ (OfTrace spec events) (same t) traced) is
-  ends_before (explain s t n b m) _ (start_over spec events holds traced is) =
-      start_over spec events (text_before s spec holds)
-      (holds_before _ (OfTrace spec events) (same t) traced) is
+  ends_before (explain s t n b m) _ (not_started spec trace fault holds traced is) =
+      not_started spec trace fault (text_before s spec holds)
+      (holds_before _ (OfTrace spec trace) (same t) traced) is
+  ends_before (explain s t n b m) _ (start_over spec trace holds traced is) =
+      start_over spec trace (text_before s spec holds)
+      (holds_before _ (OfTrace spec trace) (same t) traced) is
   ends_before (explain s t n b m) _
-      (searched spec events situation outs verdict holds traced begun is fits) =
-      searched spec events situation outs verdict (text_before s spec holds)
-      (holds_before _ (OfTrace spec events) (same t) traced) begun is fits
+      (searched spec trace situation outs verdict holds traced begun is fits) =
+      searched spec trace situation outs verdict (text_before s spec holds)
+      (holds_before _ (OfTrace spec trace) (same t) traced) begun is fits
   ends_before (replay s t e n m) _ (at_specification end at) = at_specification end
       (file_before end at)
   ends_before (replay s t e n m) _ (at_trace spec end holds at) = at_trace spec end
       (text_before s spec holds) (file_before end at)
-  ends_before (replay s t e n m) _ (at_explanation spec events end holds traced at) =
-      at_explanation spec events end (text_before s spec holds)
-      (holds_before _ (OfTrace spec events) (same t) traced) (file_before end at)
-  ends_before (replay s t e n m) _ (replayed spec events read answer holds traced explained is) =
-      replayed spec events read answer (text_before s spec holds)
-      (holds_before _ (OfTrace spec events) (same t) traced)
+  ends_before (replay s t e n m) _ (at_explanation spec trace end holds traced at) =
+      at_explanation spec trace end (text_before s spec holds)
+      (holds_before _ (OfTrace spec trace) (same t) traced) (file_before end at)
+  ends_before (replay s t e n m) _ (replayed spec trace read answer holds traced explained is) =
+      replayed spec trace read answer (text_before s spec holds)
+      (holds_before _ (OfTrace spec trace) (same t) traced)
       (holds_before _ (OfExplanation read) (same e) explained) is
   ends_before (selfrun s n m) _ (stops_at_its_file end at) = stops_at_its_file end
       (file_before end at)
@@ -145,9 +145,9 @@ module _ (before middle after : Shelved) (same : SameTold before.told middle.tol
       → ReplayStarts (seen middle after) s t e names → ReplayStarts (seen before after) s t e names
   replay_starts_before s t e _ one = one
   replay_starts_before s t e _ (two spec holds) = two spec (text_before s spec holds)
-  replay_starts_before s t e _ (three spec events holds traced) =
-      three spec events (text_before s spec holds)
-      (holds_before _ (OfTrace spec events) (same t) traced)
+  replay_starts_before s t e _ (three spec trace holds traced) =
+      three spec trace (text_before s spec holds)
+      (holds_before _ (OfTrace spec trace) (same t) traced)
 
   explain_starts_before : (s t : List ℕ) (names : List (List ℕ))
       → ExplainStarts (seen middle after) s t names → ExplainStarts (seen before after) s t names
@@ -259,35 +259,35 @@ ends_so shelf s t silent budget statements a b r q same ends =
     (subst (λ z. ExplainEnds shelf s t silent budget statements (reported b z)) (sym same.1) ends)
 
 explain_reports : (shelf : Seen) (s t : List ℕ) (limits : Limits) (spec : Spec)
-    (events : List Event) → HoldsSpecification shelf s spec → HoldsTrace shelf t spec events
-    → (status : Status) (report : List ℕ) (found : Searched) → IsSearched limits spec events found
-    → Tells limits.statements (length events) found status report
+    (trace : Recorded) → HoldsSpecification shelf s spec → HoldsTrace shelf t spec trace
+    → (status : Status) (report : List ℕ) (found : Searched) → IsSearched limits spec trace found
+    → Tells limits.statements (length trace.events) found status report
     → ExplainEnds shelf s t limits.silent limits.budget limits.statements (reported status report)
-explain_reports shelf s t limits spec events holds traced status report (came.Found verdict) is
+explain_reports shelf s t limits spec trace holds traced status report (came.Found verdict) is
     tells = ends_so shelf s t _ _ _ _ _ _ _ (tells.0, tells.1)
-    (searched spec events is.0 is.1 verdict holds traced is.2 is.3 tells.2)
-explain_reports shelf s t limits spec events holds traced status report (came.Fault fault) is
-    tells = ends_so shelf s t _ _ _ _ _ _ _ tells (not_started spec events fault holds traced is)
-explain_reports shelf s t limits spec events holds traced status report came.Limit is tells =
-    ends_so shelf s t _ _ _ _ _ _ _ tells (start_over spec events holds traced is)
+    (searched spec trace is.0 is.1 verdict holds traced is.2 is.3 tells.2)
+explain_reports shelf s t limits spec trace holds traced status report (came.Fault fault) is
+    tells = ends_so shelf s t _ _ _ _ _ _ _ tells (not_started spec trace fault holds traced is)
+explain_reports shelf s t limits spec trace holds traced status report came.Limit is tells =
+    ends_so shelf s t _ _ _ _ _ _ _ tells (start_over spec trace holds traced is)
 
 pub search_reports : (shelf : Seen) (s t : List ℕ) (limits : Limits) (spec : Spec)
-    (events : List Event) → HoldsSpecification shelf s spec → HoldsTrace shelf t spec events
-    → (status : Status) (report : List ℕ) → IsExplained limits spec events status report
+    (trace : Recorded) → HoldsSpecification shelf s spec → HoldsTrace shelf t spec trace
+    → (status : Status) (report : List ℕ) → IsExplained limits spec trace status report
     → ExplainEnds shelf s t limits.silent limits.budget limits.statements (reported status report)
-search_reports shelf s t limits spec events holds traced status report is =
-    explain_reports shelf s t limits spec events holds traced status report is.0 is.1 is.2
+search_reports shelf s t limits spec trace holds traced status report is =
+    explain_reports shelf s t limits spec trace holds traced status report is.0 is.1 is.2
 
 pub replay_reports : (shelf : Seen) (s t e : List ℕ) (silent statements : ℕ) (spec : Spec)
-    (events : List Event) (read : Explanation)
-    → HoldsSpecification shelf s spec → HoldsTrace shelf t spec events
+    (trace : Recorded) (read : Explanation)
+    → HoldsSpecification shelf s spec → HoldsTrace shelf t spec trace
     → HoldsExplanation shelf e read
     → (status : Status) (report : List ℕ)
-    → IsAnswered silent statements spec events read status report
+    → IsAnswered silent statements spec trace read status report
     → ReplayEnds shelf s t e silent statements (reported status report)
-replay_reports shelf s t e silent statements spec events read holds traced explained status report
+replay_reports shelf s t e silent statements spec trace read holds traced explained status report
     is =
     subst (λ z. ReplayEnds shelf s t e silent statements (reported z report)) (sym is.2)
     (subst (λ r. ReplayEnds shelf s t e silent statements (reported (replay_status is.0) r))
     (sym is.3)
-    (replayed spec events read is.0 holds traced explained is.1))
+    (replayed spec trace read is.0 holds traced explained is.1))

@@ -7,6 +7,7 @@ use Rattle.est_meaning.specs.mean_blocks.GlobalSituation.{Situation}
 use Rattle.est_meaning.specs.mean_blocks.Outcome.{Done, Fault, Limit}
 use Rattle.est_meaning.specs.mean_blocks.TextByPlace.{text_of}
 use Rattle.est_meaning.specs.declared.event.Event.{Event}
+use Rattle.est_meaning.specs.RecordedTraces.{Recorded}
 use Rattle.est_meaning.specs.FiringSteps.{start_of}
 use Rattle.est_search.specs.Verdict.{IsVerdict}
 use Rattle.est_search.specs.declared.verdict.Verdict.{Verdict}
@@ -53,16 +54,16 @@ pub data ReplayEnds
   at_trace : (spec : Spec) (end : End) → HoldsSpecification shelf specification spec
       → EndsAt shelf file.Trace trace (RefusesTrace spec) end
       → ReplayEnds shelf specification trace explanation silent statements end
-  at_explanation : (spec : Spec) (events : List Event) (end : End)
-      → HoldsSpecification shelf specification spec → HoldsTrace shelf trace spec events
+  at_explanation : (spec : Spec) (recorded : Recorded) (end : End)
+      → HoldsSpecification shelf specification spec → HoldsTrace shelf trace spec recorded
       → EndsAt shelf file.Explanation explanation RefusesExplanation end
       → ReplayEnds shelf specification trace explanation silent statements end
-  replayed : (spec : Spec) (events : List Event) (read : Explanation) (answer : Replayed)
-      → HoldsSpecification shelf specification spec → HoldsTrace shelf trace spec events
+  replayed : (spec : Spec) (recorded : Recorded) (read : Explanation) (answer : Replayed)
+      → HoldsSpecification shelf specification spec → HoldsTrace shelf trace spec recorded
       → HoldsExplanation shelf explanation read
-      → IsReplay statements silent spec events read.moves read.claim answer
+      → IsReplay statements silent spec recorded read.moves read.claim answer
       → ReplayEnds shelf specification trace explanation silent statements
-      (reported (replay_status answer) (replay_line (length events) answer))
+      (reported (replay_status answer) (replay_line (length recorded.events) answer))
 
 -- `explain` ends at the first of its files that is refused, or at a start that faults or passes its
 -- limit, or tells the verdict, in a report whose numbers an explanation may have
@@ -74,24 +75,25 @@ pub data ExplainEnds (shelf : Seen) (specification trace : List ℕ) (silent bud
   ends_at_trace : (spec : Spec) (end : End) → HoldsSpecification shelf specification spec
       → EndsAt shelf file.Trace trace (RefusesTrace spec) end
       → ExplainEnds shelf specification trace silent budget statements end
-  not_started : (spec : Spec) (events : List Event) (fault : BlockFault)
-      → HoldsSpecification shelf specification spec → HoldsTrace shelf trace spec events
+  not_started : (spec : Spec) (recorded : Recorded) (fault : BlockFault)
+      → HoldsSpecification shelf specification spec → HoldsTrace shelf trace spec recorded
       → start_of statements (text_of spec) ≡ Fault fault
       → ExplainEnds shelf specification trace silent budget statements
       (reported NoStart (no_start_line fault))
-  start_over : (spec : Spec) (events : List Event) → HoldsSpecification shelf specification spec
-      → HoldsTrace shelf trace spec events
+  start_over : (spec : Spec) (recorded : Recorded) → HoldsSpecification shelf specification spec
+      → HoldsTrace shelf trace spec recorded
       → start_of statements (text_of spec) ≡ Limit
       → ExplainEnds shelf specification trace silent budget statements
       (reported OverBudget (over_start_line statements))
-  searched : (spec : Spec) (events : List Event) (s : Situation) (outs : List Event)
+  searched : (spec : Spec) (recorded : Recorded) (s : Situation) (outs : List Event)
       (verdict : Verdict)
-      → HoldsSpecification shelf specification spec → HoldsTrace shelf trace spec events
+      → HoldsSpecification shelf specification spec → HoldsTrace shelf trace spec recorded
       → start_of statements (text_of spec) ≡ Done outs s
-      → IsVerdict (setup_from statements silent spec events s outs) budget verdict
-      → IsReadable statements (length events) verdict
+      → IsVerdict (setup_from statements silent spec recorded s outs) budget verdict
+      → IsReadable statements (length recorded.events) verdict
       → ExplainEnds shelf specification trace silent budget statements
-      (reported (verdict_status verdict) (verdict_report statements (length events) verdict))
+      (reported (verdict_status verdict)
+      (verdict_report statements (length recorded.events) verdict))
 
 -- how what the words ask for ends
 abbrev pub Ends : Seen → Request → End → Type 0

@@ -8,6 +8,7 @@ use Rattle.est_meaning.specs.mean_blocks.GlobalSituation.{Situation}
 use Rattle.est_meaning.specs.mean_blocks.Outcome.{Done}
 use Rattle.est_meaning.specs.mean_blocks.TextByPlace.{text_of}
 use Rattle.est_meaning.specs.declared.event.Event.{Event}
+use Rattle.est_meaning.specs.RecordedTraces.{Recorded}
 use Rattle.est_meaning.specs.FiringSteps.{start_of}
 use Rattle.est_meaning.specs.declared.run.Move.{Move}
 use Rattle.est_search.specs.Verdict.{IsVerdict}
@@ -32,18 +33,18 @@ IsMadeOf spec seed count made =
     recipe.IsMade (recipe.task_of usual_statements usual_silent spec) seed count made
 
 -- the text of a trace of the specification
-abbrev pub written : Spec → List Event → List ℕ
-written spec events = trace_text (ports_of spec) events
+abbrev pub written : Spec → Recorded → List ℕ
+written spec trace = trace_text (ports_of spec) trace
 
--- the report of a trace that was made by a run, and of the search for an explanation of the events
--- that were read
-abbrev pub self_run_report : Spec → List Event → List Move → List Event → Verdict → List ℕ
-self_run_report spec trace run events verdict =
-    made_line (length trace) (length (written spec trace)) (length run)
-    ++ search_line usual_statements (length events) verdict
+-- the report of a trace that was made by a run, and of the search for an explanation of the one
+-- that was read
+abbrev pub self_run_report : Spec → Recorded → List Move → Recorded → Verdict → List ℕ
+self_run_report spec trace run read verdict =
+    made_line (length trace.events) (length (written spec trace)) (length run)
+    ++ search_line usual_statements (length read.events) verdict
 
 -- How a call ends once this was made. The text of a trace is one that is refused, or that of the
--- events that are explained.
+-- trace that is explained.
 pub data MadeEnds (spec : Spec) : Made → End → Type 0 where
   faults : (fault : BlockFault)
       → MadeEnds spec (NoStart fault) (reported status.NoStart (no_start_line fault))
@@ -51,16 +52,16 @@ pub data MadeEnds (spec : Spec) : Made → End → Type 0 where
       (reported status.OverBudget (over_start_line usual_statements))
   passes : (run : List Move)
       → MadeEnds spec (Limit run) (reported status.OverBudget (limit_line (length run)))
-  refuses : (trace : List Event) (run : List Move) (end : End)
+  refuses : (trace : Recorded) (run : List Move) (end : End)
       → EndsAtText file.Trace (written spec trace) (RefusesTrace spec) end
       → MadeEnds spec (Trace trace run) end
-  explains : (trace : List Event) (run : List Move) (events : List Event) (s : Situation)
+  explains : (trace : Recorded) (run : List Move) (read : Recorded) (s : Situation)
       (outs : List Event) (verdict : Verdict)
-      → IsText file.Trace (written spec trace) (OfTrace spec events)
+      → IsText file.Trace (written spec trace) (OfTrace spec read)
       → start_of usual_statements (text_of spec) ≡ Done outs s
-      → IsVerdict (setup_from usual_statements usual_silent spec events s outs) usual_budget verdict
+      → IsVerdict (setup_from usual_statements usual_silent spec read s outs) usual_budget verdict
       → MadeEnds spec (Trace trace run)
-      (reported (verdict_status verdict) (self_run_report spec trace run events verdict))
+      (reported (verdict_status verdict) (self_run_report spec trace run read verdict))
 
 -- `selfrun` ends at its file where that is refused, or by what is made of the specification
 pub data SelfRunEnds (shelf : Seen) (name : List ℕ) (seed count : ℕ) : End → Type 0 where

@@ -1,7 +1,7 @@
 -- Which files a call starts.
 use Rattle.std.specs.Prelude.{◌≡◌, ℕ, List, [], ◌∷◌}
 use Rattle.est_syntax.specs.declared.specification.Spec.{Spec}
-use Rattle.est_meaning.specs.declared.event.Event.{Event}
+use Rattle.est_meaning.specs.RecordedTraces.{Recorded}
 use Rattle.call_files.specs.Seen.{Seen}
 use Rattle.call_files.specs.FileEnds.{HoldsSpecification, HoldsTrace}
 use Rattle.call_files.specs.Requests.{Request, check, print, explain, replay, selfrun}
@@ -12,8 +12,8 @@ pub data ReplayStarts (shelf : Seen) (specification trace explanation : List ℕ
   one : ReplayStarts shelf specification trace explanation (specification ∷ [])
   two : (spec : Spec) → HoldsSpecification shelf specification spec
       → ReplayStarts shelf specification trace explanation (specification ∷ trace ∷ [])
-  three : (spec : Spec) (events : List Event) → HoldsSpecification shelf specification spec
-      → HoldsTrace shelf trace spec events
+  three : (spec : Spec) (recorded : Recorded) → HoldsSpecification shelf specification spec
+      → HoldsTrace shelf trace spec recorded
       → ReplayStarts shelf specification trace explanation
       (specification ∷ trace ∷ explanation ∷ [])
 

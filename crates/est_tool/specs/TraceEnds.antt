@@ -3,7 +3,7 @@ use Rattle.std.specs.Prelude.{ℕ, List, length}
 use Rattle.est_syntax.specs.declared.specification.Spec.{Spec}
 use Rattle.est_meaning.specs.rule_declares.PortList.{ports_of}
 use Rattle.est_meaning.specs.mean_blocks.declared.fault.BlockFault.{BlockFault}
-use Rattle.est_meaning.specs.declared.event.Event.{Event}
+use Rattle.est_meaning.specs.RecordedTraces.{Recorded}
 use Rattle.est_meaning.specs.declared.run.Move.{Move}
 use Rattle.run_make.specs.declared.made.Made.TheVariants as made
 use Rattle.call_files.specs.est_trace.WrittenTraces.{trace_text}
@@ -23,7 +23,7 @@ pub data TraceEnds (shelf : Seen) (specification : List ℕ) (seed count : ℕ) 
   stops_at_its_file : (end : End)
       → EndsAt shelf file.Specification specification RefusesSpecification end
       → TraceEnds shelf specification seed count end
-  written : (spec : Spec) (trace : List Event) (run : List Move)
+  written : (spec : Spec) (trace : Recorded) (run : List Move)
       → HoldsSpecification shelf specification spec
       → IsMadeOf spec seed count (made.Trace trace run)
       → TraceEnds shelf specification seed count

@@ -25,9 +25,9 @@ use call_files::specification::specification_in;
 use call_files::status::Status;
 use call_files::trace::trace_in;
 use call_files::{Report, Shelf, Stop};
-use est_meaning::event::Trace;
 use est_meaning::mean_blocks::fault::BlockFault;
 use est_meaning::run::Limits;
+use est_meaning::trace::Trace;
 use est_print::print_spec;
 use est_replay::checked::replay;
 use std::alloc::Global;
@@ -143,7 +143,12 @@ fn explained(
     ensures { Gives (IsExplained limits.now checked.now trace.now) result }
 {
     let found = search(alloc, checked, trace, limits)?;
-    told(alloc, &found, trace.len() as u32, limits.statements)
+    told(
+        alloc,
+        &found,
+        trace.events().len() as u32,
+        limits.statements,
+    )
 }
 
 // The report of what came of a search on a trace of so many events.
@@ -267,7 +272,7 @@ fn judged(
         checked.now trace.now explanation.now) result }
 {
     let answer = replay(alloc, checked, trace, explanation, limits)?;
-    let text = replay_report(alloc, answer, trace.len() as u32)?;
+    let text = replay_report(alloc, answer, trace.events().len() as u32)?;
     Ok(Report {
         status: replay_status(answer),
         text: text.into_bytes(),

@@ -5,9 +5,9 @@ ghost use Rattle.est_tool.specs.inside.Searching.{IsSearched};
 
 use call_files::est_check::Checked;
 use est_meaning::answers::Started;
-use est_meaning::event::Trace;
 use est_meaning::mean_blocks::fault::BlockFault;
 use est_meaning::run::Limits;
+use est_meaning::trace::Trace;
 use est_replay::est_plain::world::PlainWorld;
 use est_search::explain::explain;
 use est_search::verdict::Verdict;

@@ -22,8 +22,8 @@ use call_files::status::Status;
 use call_files::trace::trace_of_text;
 use call_files::words::USUAL;
 use call_files::{Report, Shelf, Stop};
-use est_meaning::event::Trace;
 use est_meaning::run::Move;
+use est_meaning::trace::Trace;
 use run_make::made::Made;
 use std::alloc::Global;
 
@@ -88,7 +88,7 @@ fn explain_made(
 {
     let text = write_trace(alloc, checked.ports(), trace)?;
     let sizes = Sizes {
-        events: trace.len(),
+        events: trace.events().len(),
         bytes: text.len(),
         moves: run.len(),
     };
@@ -117,7 +117,7 @@ fn explain_read(
 {
     match search(alloc, checked, trace, &USUAL)? {
         Searched::Found(verdict) => {
-            let events = trace.len() as u32;
+            let events = trace.events().len() as u32;
             let text = self_run_report(alloc, sizes, &verdict, events, USUAL.statements)?;
             Ok(Report {
                 status: verdict_status(&verdict),

@@ -1,10 +1,11 @@
 -- From what a reader of a trace does to the answer.
-use Rattle.std.proofs.Common.{◌≡◌, ℕ, ◌≤◌, true, List, length, refl, sym, subst, Result, Ok, Err}
+use Rattle.std.proofs.Common.{All, ◌≡◌, ℕ, ◌≤◌, true, List, length, refl, sym, subst, Result}
+use Rattle.std.proofs.Common.{Ok, Err}
 use Rattle.std.specs.Result.{IsErr, IsErrAnd}
 use Rattle.est_lexer.specs.declared.tokens.Tokens.{Tokens}
 use Rattle.est_lexer.specs.Offsets.{text_of, tokens_of}
 use Rattle.est_syntax.specs.declared.ports.Port.{Port}
-use Rattle.est_meaning.specs.declared.event.Event.{Event}
+use Rattle.est_meaning.specs.RecordedTraces.{Recorded, HasUnseen}
 use Rattle.est_meaning.specs.AllowedEvents.{most_events}
 use Rattle.text_reader.specs.declared.reader.Reader.{Reader}
 use Rattle.text_reader.specs.declared.outcome.Outcome.TheVariants.{Well}
@@ -22,29 +23,44 @@ use Rattle.est_trace.specs.PortNames.{GoodPorts}
 use Rattle.est_trace.specs.TraceShapes.{ShowsTrace}
 use Rattle.est_trace.specs.inside.AtPorts.{AreAtPorts}
 use Rattle.est_trace.specs.inside.Counting.{CountsTrace}
+use Rattle.est_trace.specs.inside.FoundTraces.{recorded}
+use Rattle.est_trace.specs.declared.trace.Found.{Found}
 use Rattle.est_trace.specs.TraceText.{IsFull, IsOnlyTraceText, IsTraceRefusal, ReadsTrace}
 use Rattle.est_trace.proofs.Readings.{shows_only}
 use Rattle.est_trace.proofs.Shown.{one_trace, text_at_ports}
 use Rattle.est_trace.proofs.Fullness.{not_full}
+use Rattle.est_trace.proofs.Unseen.{trace_unseen}
 
-module _ {tokens : Tokens} {ports : List Port} {A B : Reader} (x : List Event)
-    (good : GoodPorts ports) (g : Reads (trace ports) (ShowsTrace ports x) A B)
+module _ {tokens : Tokens} {ports : List Port} {A B : Reader} (x : Found)
+    (good : GoodPorts ports) (g : Reads (trace ports) (ShowsTrace ports (recorded x)) A B)
     (s : Starts tokens most_events A) where
-  pub read : {y : List Event} → Finishes B x (Ok y)
-      → ReadsTrace ports (text_of tokens) (tokens_of tokens) (Ok y)
-  read h =
+  -- what was read, as a trace
+  read_of : {y : Found} → Finishes B x (Ok y)
+      → IsOnlyTraceText ports (text_of tokens) (tokens_of tokens) (recorded y)
+  read_of h =
       let r = whole_read known g.goes s h in
-      let shown = subst (ShowsTrace ports x) (sym (shows_only g.shape r.2)) (g.is h.1) in
-      subst (IsOnlyTraceText ports (text_of tokens) (tokens_of tokens)) (sym h.0) (
+      let shown = subst (λ u. ShowsTrace ports (recorded x) u) (sym (shows_only g.shape r.2))
+      (g.is h.1) in
+      subst (λ f. IsOnlyTraceText ports (text_of tokens) (tokens_of tokens) (recorded f))
+      (sym h.0) (
         (r.0, r.1, shown),
-        λ z q. one_trace ports good z x r.0
-            (subst (ShowsTrace ports z) (r.3 q.0 q.1) q.2) shown,
+        λ z q. one_trace ports good z (recorded x) r.0
+            (subst (λ u. ShowsTrace ports z u) (r.3 q.0 q.1) q.2) shown,
       )
 
-  pub read_at_ports : {y : List Event} → Finishes B x (Ok y)
-      → AreAtPorts ports y × (length y ≤ most_events)
-  read_at_ports {y} h = text_at_ports most_events ports (text_of tokens) (tokens_of tokens) y
-      good (read h).0
+  pub read : {y : Found} (r : Recorded) → Finishes B x (Ok y) → r ≡ recorded y
+      → ReadsTrace ports (text_of tokens) (tokens_of tokens) (Ok r)
+  read r h e = subst (λ t. IsOnlyTraceText ports (text_of tokens) (tokens_of tokens) t) (sym e)
+      (read_of h)
+
+  pub read_at_ports : {y : Found} (r : Recorded) → Finishes B x (Ok y) → r ≡ recorded y
+      → AreAtPorts ports r.events × (length r.events ≤ most_events)
+  read_at_ports r h e =
+      text_at_ports most_events ports (text_of tokens) (tokens_of tokens) r good (read r h e).0
+
+  -- they are known, or not all of them was seen
+  pub read_unseen : {y : Found} → Finishes B x (Ok y) → All HasUnseen y.events
+  read_unseen {y} h = let r = (read_of h).0 in trace_unseen ports (recorded y) r.0 r.2
 
   -- as many events as a trace may have are complete before one too many
   full_before : CountsTrace ports A B → (place : ℕ) → Finishes B x (Err (TooDeep place))
@@ -73,7 +89,7 @@ module _ {tokens : Tokens} {ports : List Port} {A B : Reader} (x : List Event)
   refused c (Memory error) h = tt
 
   -- the answer has this error
-  pub answered : CountsTrace ports A B → (error : Refusal) (r : Result (List Event) TraceError)
+  pub answered : CountsTrace ports A B → (error : Refusal) (r : Result Recorded TraceError)
       → Finishes B x (Err error) → IsErr r × IsErrAnd r (λ e. e ≡ of_refusal error)
       → ReadsTrace ports (text_of tokens) (tokens_of tokens) r
   answered c error (Ok z) h (never, is) = cc

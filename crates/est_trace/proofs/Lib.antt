@@ -18,6 +18,11 @@ pub mod Ordinals
 pub mod Parts
 pub mod Readings
 pub mod SameTests
+pub mod SeenDepartures
+pub mod SeenReading
+pub mod SeenWholes
 pub mod Shown
 pub mod Tuples
+pub mod Unseen
+pub mod Versions
 pub mod WrittenPorts

@@ -1,25 +1,23 @@
 -- What a reader finds of a trace, and what holds of its shape.
-use Rattle.std.proofs.Common.{◌≡◌, ℕ, Bool, true, [], ◌∷◌, refl, sym, ap, subst}
+use Rattle.std.proofs.Common.{◌≡◌, ℕ, Bool, true, [], refl, sym, ap, subst}
 use Rattle.est_lexer.specs.declared.tokens.Tokens.{Tokens}
 use Rattle.est_lexer.specs.Offsets.{text_of, tokens_of}
-use Rattle.text_reader.specs.Grammar.{done, word, seq, nothing, leaf, placed, both, left}
-use Rattle.text_reader.specs.Grammar.{right, some}
+use Rattle.text_reader.specs.Grammar.{word, seq, nothing, leaf, placed, both, left, right}
+use Rattle.text_reader.specs.Grammar.{some}
 use Rattle.text_reader.specs.Marks.{can_begin, can_go_on, disjoint}
 use Rattle.text_reader.specs.Findings.{Found}
 use Rattle.text_reader.specs.Shown.{Shows, node, s_empty, s_kept, s_at, s_pair, s_first, s_second}
 use Rattle.text_reader.specs.Shown.{s_given, s_node}
-use Rattle.text_reader.proofs.GrammarLaws as laws
 use Rattle.text_reader.specs.declared.reader.Reader.{Reader}
 use Rattle.text_reader.specs.declared.outcome.Outcome.{Outcome}
 use Rattle.text_reader.specs.declared.outcome.Outcome.TheVariants.{Well, Wrong, TooDeep, NoMemory}
 use Rattle.text_reader.specs.Tests.{Test, apart}
-use Rattle.text_reader.specs.Moving.{Does, Same, Still, Taken, NotThere, Takes}
+use Rattle.text_reader.specs.Moving.{Does, Same, Still, Takes}
 use Rattle.text_reader.specs.Going.{Shape, View, Finds, Fails, Goes}
-use Rattle.text_reader.proofs.Steps.{onto, after, was_well, same_on}
-use Rattle.text_reader.proofs.Going.{goes_onto, part, take, then, last}
+use Rattle.text_reader.proofs.Steps.{onto}
+use Rattle.text_reader.proofs.Going.{goes_onto, part, take, then, went_well}
 use Rattle.text_values.specs.TraceGrammar.{Rule, marks}
 use Rattle.text_values.specs.ValueReading.{plain, Reads}
-use Rattle.text_values.proofs.Closed.{is_closed}
 use Rattle.text_values.proofs.Known.{known}
 use Rattle.est_trace.specs.TraceText.{traces}
 
@@ -143,25 +141,24 @@ abbrev pub ArePaired : (Shape → Type 0) → (Shape → Type 0) → Shape → T
 ArePaired P Q (both t u) = P t × Q u
 ArePaired P Q _ = ⊥
 
--- one after which nothing goes on, and then the other
+-- one, and then the other
+pub pair_reads : {g h : Rule} {P Q More : Shape → Type 0} {A B C : Reader}
+    → disjoint apart (can_go_on marks g) (can_begin marks h) ≡ true
+    → ((t u : Shape) → P t → Q u → More (both t u)) → Reads g P A B → Reads h Q B C
+    → Reads (seq g h) More A C
+pair_reads j f x y = record {
+  shape = both x.shape y.shape;
+  goes = part refl (then known j x.goes y.goes);
+  is = λ e. f x.shape y.shape (x.is (went_well y.goes e)) (y.is e);
+}
+
+-- where nothing goes on after the first
 pub then_reads : {g h : Rule} {P Q : Shape → Type 0} {A B C : Reader}
     → can_go_on marks g ≡ [] → Reads g P A B → Reads h Q B C
     → Reads (seq g h) (ArePaired P Q) A C
-then_reads {g} {h} {P} {Q} {A} {B} {C} c x y =
-    let tk = A.tokens.now in
-    let F = known.fits (text_of tk) in
-    let D = laws.closed_apart (traces (text_of tk)) marks g (can_begin marks h)
-    (is_closed (text_of tk) g c) in
-    reads_of
-    (after (FindsOne tk g A.levels A.at P) (FindsOne tk h A.levels B.at Q)
-    (FindsOne tk (seq g h) A.levels A.at (ArePaired P Q)) (Fails plain tk g A.levels A.at)
-    (Fails plain tk h A.levels B.at) (Fails plain tk (seq g h) A.levels A.at) A.at B.at C.at
-    A.outcome B.outcome C.outcome
-    (λ e p q. (both p.0 q.0, laws.seq_found F D p.1 q.1, (p.2, q.2)))
-    (λ e z p q. laws.seq_refused F D p.1 q)
-    (λ e z q. laws.seq_refused_first F D q)
-    (moves_of x) (from_reads x.goes.same y))
-    (same_on x.goes.same y.goes.same)
+then_reads {g} {h} c x y =
+    pair_reads (subst (λ ks. disjoint apart ks (can_begin marks h) ≡ true) (sym c) refl)
+    (λ t u p q. (p, q)) x y
 
 -- where memory runs out, nothing is told
 pub spent_reads : {g : Rule} {Is : Shape → Type 0} {A B : Reader} → Still A B
@@ -171,18 +168,6 @@ spent_reads {g} {Is} {A} {B} s n =
     (λ b z. ⊥) (Fails plain A.tokens.now g A.levels A.at) A.at B.at A.outcome B.outcome
     (λ e p. absurd (n p.1)) (λ e z q. absurd q)
     (with_well (λ b. b ≡ A.at) (λ b z. ⊥) A.at B.at A.outcome B.outcome s.stays)) s.same
-
--- g, and then a last token: the shape of g, and nothing
-pub last_reads : {k : Test} {g : Rule} {Is More : Shape → Type 0} {A B C : Reader}
-    → disjoint apart (can_go_on marks g) (k ∷ []) ≡ true
-    → ((t : Shape) → Is t → More (both t nothing)) → Reads g Is A B → Takes k B C
-    → Reads (seq g (word k done)) More A C
-last_reads {k} {A = A} {B} {C} j f x y = record {
-  shape = both x.shape nothing;
-  goes = part refl (then known j x.goes (part refl (last known y)));
-  is = λ e. f x.shape (x.is (was_well (Taken B.tokens.now k B.at) (NotThere B.tokens.now k B.at)
-      B.at C.at B.outcome C.outcome y.takes e));
-}
 
 -- a view of one shape alone
 pub as_shape : {g : Rule} {A B : Reader} {v : View Shape} (t : Shape)

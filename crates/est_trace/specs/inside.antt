@@ -1,7 +1,10 @@
 -- What only the private functions say.
 pub mod AtPorts
 pub mod Counting
+pub mod FoundTraces
 pub mod Listing
 pub mod Lookups
 pub mod Parts
 pub mod Subscripts
+pub mod Versions
+pub mod Wholes

@@ -10,6 +10,7 @@ pub mod hints;
 mod interaction;
 mod lookup;
 pub mod trace;
+mod wholes;
 mod written_ports;
 mod written_subscripts;
 pub mod written_trace;

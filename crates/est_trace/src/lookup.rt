@@ -5,6 +5,7 @@ ghost use Rattle.std.specs.Option.{option_map_or};
 ghost use Rattle.est_meaning.specs.rule_declares.Differing.{HaveDifferentNames};
 ghost use Rattle.text_reader.specs.Moving.{Still};
 ghost use Rattle.text_values.specs.TraceGrammar as grammar;
+ghost use Rattle.text_values.specs.declared.formats.Format.TheVariants as formats;
 ghost use Rattle.est_trace.specs.PortNames.{signal_name};
 ghost use Rattle.est_trace.specs.PortNames as names;
 ghost use Rattle.est_trace.specs.Directories.{IsDirectory};
@@ -47,7 +48,7 @@ pub fn find_head(
 ) -> Option<u32>
     requires { IsDirectory directory.now }
     ensures still { Still reader.old reader.new }
-    ensures found { Finds (grammar.port direction) directory.now.ports.now
+    ensures found { Finds (grammar.port formats.Complete direction) directory.now.ports.now
         reader.old result reader.new }
 {
     let Some(name) = reader.name_here() else {
@@ -75,7 +76,8 @@ pub fn find_signal(
 ) -> Option<u32>
     requires { HaveDifferentNames signal_name signals.now }
     ensures still { Still reader.old reader.new }
-    ensures found { Finds (grammar.signal direction) signals.now reader.old result reader.new }
+    ensures found { Finds (grammar.signal formats.Complete direction) signals.now
+        reader.old result reader.new }
 {
     let Some(name) = reader.name_here() else {
         return None;

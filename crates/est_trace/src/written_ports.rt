@@ -2,19 +2,22 @@
 ghost use Rattle.std.specs.Prelude.{◌≡◌, ◌++◌, OnOk, codes, slice_get};
 ghost use Rattle.text_values.specs.WrittenLists.{separator, bracketed, listed};
 ghost use Rattle.text_values.specs.WrittenOrdinals.{ordinal_text};
-ghost use Rattle.est_trace.specs.WrittenTraces.{interaction_text, signal_text};
-ghost use Rattle.est_trace.specs.WrittenTraces.{name_at, index_at, ordinal_texts};
-ghost use Rattle.est_trace.specs.WrittenTraces.{signals_at, signal_at};
+ghost use Rattle.text_values.specs.WrittenSeen.{seen_texts};
+ghost use Rattle.est_trace.specs.WrittenTraces.{interaction_text, text_at, port_at};
+ghost use Rattle.est_trace.specs.WrittenTraces.{name_at, index_at, ordinal_texts, signals_at};
+ghost use Rattle.est_trace.specs.inside.Parts.{signal_name_of};
 
+use crate::lookup::parameters_at;
 use crate::written_subscripts::{kinds_at, subscripts};
 use est_meaning::event::Interaction;
+use est_seen::seen::Seens;
 use est_syntax::kind::Kind;
 use est_syntax::ports::Signal;
-use est_values::value::Values;
 use rule_ports::ports::Ports;
 use std::alloc::{AllocError, Global};
 use text_values::written_lists::append_separator;
 use text_values::written_ordinals::append_ordinal;
+use text_values::written_seen::append_seens;
 use text_values::written_values::append_values;
 
 /// Adds an interaction to a text: its port, `.`, its signal and its values.
@@ -27,11 +30,47 @@ pub fn append_interaction(
     ensures { OnOk result (text.new.items
         ≡ text.old.items ++ interaction_text ports.now interaction.now) }
 {
-    append_name(text, ports, interaction.port)?;
-    append_index(alloc, text, ports, interaction.port)?;
-    text.extend_from_slice(b".")?;
+    append_signal(alloc, text, ports, interaction.port, interaction.signal)?;
     let signals = signals_at(ports, interaction.port);
-    append_signal(text, signals, interaction.signal, &interaction.values)
+    let kinds = parameters_at(signals, interaction.signal);
+    append_values(text, &interaction.values, kinds)
+}
+
+/// Adds what was seen of a departure to a text: its port, `.`, its signal and what was seen of its
+/// values.
+pub fn append_seen_departure(
+    alloc: Global,
+    text: &mut Vec<u8>,
+    ports: &Ports,
+    port: u32,
+    signal: u32,
+    seen: &Seens,
+) -> Result<(), AllocError>
+    ensures { OnOk result (text.new.items ≡ text.old.items
+        ++ text_at ports.now port signal (λ ks. seen_texts ks seen.now)) }
+{
+    append_signal(alloc, text, ports, port, signal)?;
+    let signals = signals_at(ports, port);
+    let kinds = parameters_at(signals, signal);
+    append_seens(text, seen, kinds)
+}
+
+// Adds a port, `.` and the name of a signal.
+fn append_signal(
+    alloc: Global,
+    text: &mut Vec<u8>,
+    ports: &Ports,
+    port: u32,
+    signal: u32,
+) -> Result<(), AllocError>
+    ensures { OnOk result (text.new.items ≡ text.old.items
+        ++ (port_at (slice_get ports.now port)
+        ++ signal_name_of (slice_get (signals_at (slice_get ports.now port)) signal))) }
+{
+    append_name(text, ports, port)?;
+    append_index(alloc, text, ports, port)?;
+    text.extend_from_slice(b".")?;
+    append_signal_name(text, signals_at(ports, port), signal)
 }
 
 // The signals of the port of this number; none where there is no such port.
@@ -119,31 +158,13 @@ fn append_item(
     append_ordinal(text, kind, *ordinal)
 }
 
-// Adds the signal of this number, if there is one: its name, and the values of its parameters.
-fn append_signal(
-    text: &mut Vec<u8>,
-    signals: &[Signal],
-    signal: u32,
-    values: &Values,
-) -> Result<(), AllocError>
+// Adds the name of the signal of this number, if there is one.
+fn append_signal_name(text: &mut Vec<u8>, signals: &[Signal], signal: u32) -> Result<(), AllocError>
     ensures { OnOk result (text.new.items
-        ≡ text.old.items ++ signal_at values.now (slice_get signals.now signal)) }
+        ≡ text.old.items ++ signal_name_of (slice_get signals.now signal)) }
 {
     match signals.get(signal as usize) {
         None => Ok(()),
-        Some(signal) => append_signal_text(text, signal, values),
+        Some(signal) => text.extend_from_slice(signal.name.bytes.as_slice()),
     }
-}
-
-// Adds a signal: its name, and the values of its parameters.
-fn append_signal_text(
-    text: &mut Vec<u8>,
-    signal: &Signal,
-    values: &Values,
-) -> Result<(), AllocError>
-    ensures { OnOk result (text.new.items
-        ≡ text.old.items ++ signal_text values.now signal.now) }
-{
-    text.extend_from_slice(signal.name.bytes.as_slice())?;
-    append_values(text, values, signal.kinds.as_slice())
 }

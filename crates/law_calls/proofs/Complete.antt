@@ -65,9 +65,9 @@ module _ (words : List (String Global)) (shelf : Seen) (output : Sent) (budget :
       search_of.specification_told.quiet (unread_rose shelf Specification _ _ end is at)
   not_unread _ is (ends_at_trace spec end holds at) =
       search_of.trace_told.quiet (unread_rose shelf Trace _ _ end is at)
-  not_unread _ is (not_started spec events fault holds traced comes) = cc
-  not_unread _ is (start_over spec events holds traced comes) = cc
-  not_unread _ is (searched spec events s outs verdict holds traced begun comes fits) = cc
+  not_unread _ is (not_started spec recorded fault holds traced comes) = cc
+  not_unread _ is (start_over spec recorded holds traced comes) = cc
+  not_unread _ is (searched spec recorded s outs verdict holds traced begun comes fits) = cc
 
   -- what came of the search is a verdict
   is_verdict : (status : Status) (report : List ℕ)

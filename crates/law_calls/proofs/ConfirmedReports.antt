@@ -61,12 +61,12 @@ module _ (status status' : Status) (report report' : List ℕ)
     (f : IsFound b.shelf b.specification b.trace b.silent b.budget b.statements status report) where
   -- the runs that are told of
   abbrev task : Setup
-  task = setup_from b.statements b.silent f.spec f.events f.start f.outs
+  task = setup_from b.statements b.silent f.spec f.recorded f.start f.outs
 
   -- the explanation that is the report of such a search is confirmed
   confirmed : (head : List ℕ) (x : Explanation) → IsHead head → IsWritable x
       → report ≡ head ++ canonical x → Yields task (reverse x.moves) x.claim
-      → (status' ≡ Fine) × (report' ≡ replay_line (length f.events) (Confirmed x.claim))
+      → (status' ≡ Fine) × (report' ≡ replay_line (length f.recorded.events) (Confirmed x.claim))
   confirmed head x is w e yields =
       let text : IsTextOf x report = subst (IsTextOf x) (sym e) (after_head head x is w) in
       let explained : HoldsExplanation b.shelf' b.explanation x =
@@ -80,17 +80,17 @@ module _ (status status' : Status) (report report' : List ℕ)
       let t = b.same_trace in
       let holds : HoldsSpecification b.shelf' b.specification f.spec =
       retold file.Specification _ _ s.0 (OfSpecification f.spec) s.1 s.2 f.holds in
-      let traced : HoldsTrace b.shelf' b.trace f.spec f.events =
-      retold file.Trace _ _ t.0 (OfTrace f.spec f.events) t.1 t.2 f.traced in
+      let traced : HoldsTrace b.shelf' b.trace f.spec f.recorded =
+      retold file.Trace _ _ t.0 (OfTrace f.spec f.recorded) t.1 t.2 f.traced in
       let answers = subst
-      (AnswersFrom b.statements b.silent f.spec f.events x.moves x.claim (Confirmed x.claim))
+      (AnswersFrom b.statements b.silent f.spec f.recorded x.moves x.claim (Confirmed x.claim))
       (sym f.begun) (refl, yields) in
       let end : ReplayEnds b.shelf' b.specification b.trace b.explanation b.silent b.statements
-      (reported Fine (replay_line (length f.events) (Confirmed x.claim))) =
-      replayed f.spec f.events x (Confirmed x.claim) holds traced explained answers in
+      (reported Fine (replay_line (length f.recorded.events) (Confirmed x.claim))) =
+      replayed f.spec f.recorded x (Confirmed x.claim) holds traced explained answers in
       let same = result_one b.shelf' b.shelf'
       (replay b.specification b.trace b.explanation b.silent b.statements) Fine status'
-      (replay_line (length f.events) (Confirmed x.claim)) report'
+      (replay_line (length f.recorded.events) (Confirmed x.claim)) report'
       ((s.0, s.2, s.2), (t.0, t.2, t.2), (report, b.fed, b.fed)) end b.replayed in
       (sym same.0, sym same.1)
 
@@ -98,7 +98,7 @@ module _ (status status' : Status) (report report' : List ℕ)
 
 -- a run that does not explain the trace yields no more than it has
 yields_within : (c : Setup) (run : List Move) (k : ℕ) → (Explains c run → ⊥) → Yields c run k
-    → k ≤ length c.trace
+    → k ≤ length c.trace.events
 yields_within c run k none (inl y) = y.within
 yields_within c run k none (inr y) = absurd (none y.1)
 
@@ -125,14 +125,14 @@ follows_before c (m ∷ earlier) p r follows =
 inner_yields : (c : Setup) (run : List Move) (p : Place) → IsInner c run p
     → Yields c run (length p.events)
 inner_yields c run p inner =
-    let first = first_taken c.trace p.events inner.follows in
+    let first = first_taken c.trace.events p.events inner.follows in
     inl record {
       place = p;
       is_run = inner.is_run;
       before = follows_before c run p inner.is_run inner.follows;
       many = omega arith;
       within = first.0;
-      agree = subst (λ es. AgreeAll (take (length p.events) c.trace) es)
+      agree = subst (λ es. AgreeAll (take (length p.events) c.trace.events) es)
           (sym (take_all (length p.events) p.events (omega arith))) first.1;
     }
 
@@ -178,13 +178,13 @@ line_first k n h = let e : nat_le k n ≡ true = grind (arith, nat_tests) in
 module _ (status status' : Status) (report report' : List ℕ)
     (b : IsFedBack status report status' report')
     (f : IsFound b.shelf b.specification b.trace b.silent b.budget b.statements status report) where
-  accepted_so : (run : List Move) → report ≡ verdict_report b.statements (length f.events)
+  accepted_so : (run : List Move) → report ≡ verdict_report b.statements (length f.recorded.events)
       (verdict.Accepted run)
-      → IsWritable (record { moves = run; claim = length f.events + 1 })
+      → IsWritable (record { moves = run; claim = length f.recorded.events + 1 })
       → Explains (task status status' report report' b f) (reverse run)
       → IsConfirmedWhole report status' report'
   accepted_so run e w explains =
-      let n = length f.events in
+      let n = length f.recorded.events in
       let x : Explanation = record { moves = run; claim = n + 1 } in
       let same = confirmed status status' report report' b f (accepted_line n) x
       (accepted_head n (omega (arith, w.claim))) w e (inr (refl, explains)) in
@@ -196,14 +196,14 @@ module _ (status status' : Status) (report report' : List ℕ)
       }
 
   refused_so : (k : ℕ) (run : List Move) (faulted : Option Faulted)
-      → report ≡ verdict_report b.statements (length f.events) (verdict.Refused (suc k) run faulted)
-      → IsReadable b.statements (length f.events) (verdict.Refused (suc k) run faulted)
+      → report ≡ verdict_report b.statements (length f.recorded.events) (verdict.Refused (suc k) run faulted)
+      → IsReadable b.statements (length f.recorded.events) (verdict.Refused (suc k) run faulted)
       → ((other : List Move)
       → Explains (task status status' report report' b f) other → ⊥)
       → Yields (task status status' report report' b f) (reverse run) k
       → IsConfirmedBefore report status' report'
   refused_so k run faulted e fits none yields =
-      let n = length f.events in
+      let n = length f.recorded.events in
       let c = task status status' report report' b f in
       let x : Explanation = record { moves = run; claim = k } in
       let within : k ≤ n = yields_within c (reverse run) k (none (reverse run)) yields in
@@ -231,15 +231,15 @@ module _ (status status' : Status) (report report' : List ℕ)
       }
 
   over_so : (run : List Move) (reached : ℕ) (firing : Option Firing)
-      → report ≡ verdict_report b.statements (length f.events)
+      → report ≡ verdict_report b.statements (length f.recorded.events)
       (verdict.OverAction run reached firing)
-      → IsReadable b.statements (length f.events) (verdict.OverAction run reached firing)
+      → IsReadable b.statements (length f.recorded.events) (verdict.OverAction run reached firing)
       → ((other : List Move)
       → Explains (task status status' report report' b f) other → ⊥)
       → Yields (task status status' report report' b f) (reverse run) reached
       → IsConfirmedSoFar report status' report'
   over_so run reached firing e fits none yields =
-      let n = length f.events in
+      let n = length f.recorded.events in
       let c = task status status' report report' b f in
       let x : Explanation = record { moves = run; claim = reached } in
       let within : reached ≤ n = yields_within c (reverse run) reached (none (reverse run)) yields
@@ -251,8 +251,8 @@ module _ (status status' : Status) (report report' : List ℕ)
 
   accepted_by : (v : Verdict) → Fine ≡ verdict_status v
       → IsVerdict (task status status' report report' b f) b.budget v
-      → IsReadable b.statements (length f.events) v
-      → report ≡ verdict_report b.statements (length f.events) v
+      → IsReadable b.statements (length f.recorded.events) v
+      → report ≡ verdict_report b.statements (length f.recorded.events) v
       → IsConfirmedWhole report status' report'
   accepted_by (verdict.Accepted run) s is fits e = accepted_so run e fits is.first.has
   accepted_by (verdict.Refused at run faulted) s is fits e = cc
@@ -262,8 +262,8 @@ module _ (status status' : Status) (report report' : List ℕ)
   refused_at : (at : ℕ) (run : List Move) (faulted : Option Faulted)
       → IsRefused (task status status' report report' b f) b.budget at
       (reverse run) faulted
-      → IsReadable b.statements (length f.events) (verdict.Refused at run faulted)
-      → report ≡ verdict_report b.statements (length f.events) (verdict.Refused at run faulted)
+      → IsReadable b.statements (length f.recorded.events) (verdict.Refused at run faulted)
+      → report ≡ verdict_report b.statements (length f.recorded.events) (verdict.Refused at run faulted)
       → IsConfirmedBefore report status' report'
   refused_at zero run faulted is fits e = absurd (is.least.unyielded [] (yields_none _))
   refused_at (suc k) run faulted is fits e =
@@ -271,8 +271,8 @@ module _ (status status' : Status) (report report' : List ℕ)
 
   refused_by : (v : Verdict) → Refused ≡ verdict_status v
       → IsVerdict (task status status' report report' b f) b.budget v
-      → IsReadable b.statements (length f.events) v
-      → report ≡ verdict_report b.statements (length f.events) v
+      → IsReadable b.statements (length f.recorded.events) v
+      → report ≡ verdict_report b.statements (length f.recorded.events) v
       → IsConfirmedBefore report status' report'
   refused_by (verdict.Accepted run) s is fits e = cc
   refused_by (verdict.Refused at run faulted) s is fits e = refused_at at run faulted is fits e
@@ -281,8 +281,8 @@ module _ (status status' : Status) (report report' : List ℕ)
 
   over_at : (run : List Move) (reached : ℕ) (firing : Option Firing)
       → IsOverAction (task status status' report report' b f) b.budget (reverse run) reached firing
-      → IsReadable b.statements (length f.events) (verdict.OverAction run reached firing)
-      → report ≡ verdict_report b.statements (length f.events)
+      → IsReadable b.statements (length f.recorded.events) (verdict.OverAction run reached firing)
+      → report ≡ verdict_report b.statements (length f.recorded.events)
       (verdict.OverAction run reached firing)
       → IsConfirmedSoFar report status' report'
   over_at run reached firing is fits e =
@@ -291,8 +291,8 @@ module _ (status status' : Status) (report report' : List ℕ)
 
   over_by : (v : Verdict) → OverBudget ≡ verdict_status v
       → IsVerdict (task status status' report report' b f) b.budget v
-      → IsReadable b.statements (length f.events) v
-      → report ≡ verdict_report b.statements (length f.events) v
+      → IsReadable b.statements (length f.recorded.events) v
+      → report ≡ verdict_report b.statements (length f.recorded.events) v
       → IsConfirmedSoFar report status' report'
   over_by (verdict.Accepted run) s is fits e = cc
   over_by (verdict.Refused at run faulted) s is fits e = cc

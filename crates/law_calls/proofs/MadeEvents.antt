@@ -1,7 +1,8 @@
 -- Each event of a made trace is fair: drawn, or sent.
-use Rattle.std.proofs.Common.{sym, subst, ℕ, zero, suc, ◌≤◌, arith}
-use Rattle.std.proofs.Common.{List, [], ◌∷◌}
+use Rattle.std.proofs.Common.{◌≡◌, sym, subst, ℕ, zero, suc, ◌≤◌, arith}
+use Rattle.std.proofs.Common.{List, [], ◌∷◌, length, map}
 use Rattle.std.specs.List.{All, AllByRecursion}
+use Rattle.std.proofs.lemmas.List.{length-map}
 use Rattle.rand_core.specs.Stream.{Stream}
 use Rattle.est_syntax.specs.Kinds.{maxint}
 use Rattle.est_syntax.specs.declared.specification.Spec.{Spec}
@@ -9,15 +10,21 @@ use Rattle.rule_declares.specs.PortList.{ports_of}
 use Rattle.mean_blocks.specs.TextByPlace.{text_of}
 use Rattle.est_meaning.specs.declared.event.Event.{Event}
 use Rattle.est_meaning.specs.declared.event.Event.TheVariants as event
-use Rattle.est_meaning.specs.AllowedEvents.{IsReceivable, IsAllowed}
+use Rattle.est_meaning.specs.declared.trace.Expected.TheVariants.{Known}
+use Rattle.est_meaning.specs.Agreement.{AgreeAll}
+use Rattle.est_meaning.specs.AllowedEvents.{IsReceivable, IsAllowed, IsAllowedExpected}
+use Rattle.est_meaning.specs.AllowedEvents.{IsAllowedTrace, most_events}
+use Rattle.est_meaning.specs.RecordedTraces.{Recorded, known_trace}
 use Rattle.est_meaning.specs.SelectionLaws.{IsDeparture}
+use Rattle.est_meaning.specs.declared.run.Move.{Move}
+use Rattle.est_meaning.proofs.AgreementLaws.{agree_self, agree_same}
 use Rattle.est_meaning.proofs.Steps.{only_departures}
 use Rattle.law_runs.proofs.ParentsOlder.{joined_all}
 use Rattle.law_values.specs.SentInteractions.{LeavesAsSent}
 use Rattle.law_values.proofs.AllowedDepartures.{given_departures_are_allowed}
 use Rattle.law_values.proofs.AllowedDepartures.{explained_traces_send}
 use Rattle.run_make.specs.Recipe.{Task, Standing, DrawsOutside, Draws, Leads, first_standing}
-use Rattle.run_make.specs.Recipe.{setup_along}
+use Rattle.run_make.specs.Recipe.{IsMadeTrace, setup_along}
 use Rattle.run_make.specs.Recipe as recipe
 use Rattle.run_make.proofs.Explaining.{made_explained}
 use Rattle.run_make.proofs.Happening.{drawn_arrives}
@@ -45,6 +52,20 @@ both_mapped : {A : Type 0} (P Q R : A → Type 0) (xs : List A) → ((x : A) →
     → AllByRecursion P xs → AllByRecursion Q xs → AllByRecursion R xs
 both_mapped P Q R [] f h g = tt
 both_mapped P Q R (x ∷ xs) f h g = (f x h.0 g.0, both_mapped P Q R xs f h.1 g.1)
+
+onto : {A B : Type 0} (f : A → B) (P : B → Type 0) (xs : List A)
+    → AllByRecursion (λ x. P (f x)) xs → AllByRecursion P (map f xs)
+onto f P [] h = tt
+onto f P (x ∷ xs) h = (h.0, onto f P xs h.1)
+
+-- a trace of known events that may stand in one, and are not too many, is allowed
+pub known_allowed : (spec : Spec) (es : List Event) → AllByRecursion (IsAllowed spec) es
+    → length es ≤ most_events → IsAllowedTrace spec (known_trace es)
+known_allowed spec es each few = record {
+  few = (let n = length-map es Known in omega (arith, few));
+  each = all_of (IsAllowedExpected spec) (map Known es)
+      (onto Known (IsAllowedExpected spec) es each);
+}
 
 -- WHAT IS DRAWN
 
@@ -97,17 +118,29 @@ fair_by spec (event.Arrives i) h g = h
 fair_by spec (event.Leaves i) h g = g
 fair_by spec (event.Passes units) h g = h
 
+-- the events of the run that is made with a trace are the trace
+pub explained_events : (t : Task) (seed count : ℕ) (trace : List Event) (run : List Move)
+    (made : IsMadeTrace t seed count (known_trace trace) run)
+    → (made_explained t seed count (known_trace trace) run made).explains.place.events ≡ trace
+explained_events t seed count trace run made =
+    let e = made_explained t seed count (known_trace trace) run made in
+    agree_same trace e.explains.place.events e.explains.whole.events
+
 pub made_traces_are_fair : MadeTracesAreFair
 made_traces_are_fair t seed count trace run sound made =
     let m = made.makes in
     let h = draws_fair t count (first_standing seed m.start m.outs) made.last m.leads
     (sent_fair t m.outs (only_departures.start t.limit (text_of t.spec) m.start m.outs m.ready))
     in
-    let e = made_explained t seed count trace run made in
+    let same : made.last.events ≡ trace = agree_same trace made.last.events
+    (subst (λ (w : Recorded). AgreeAll w.events made.last.events) (sym made.trace_is)
+    (agree_self made.last.events)) in
+    let e = made_explained t seed count (known_trace trace) run made in
+    let sent = subst (AllByRecursion (LeavesAsSent t.spec)) (explained_events t seed count trace run
+    made) (explained_traces_send (setup_along t (known_trace trace) e.start e.outs) _ sound e.ready
+    e.explains) in
     both_mapped (OutsideFair t.spec) (LeavesAsSent t.spec) (IsFair t.spec) trace
-    (λ x a b. fair_by t.spec x a b)
-    (subst (AllByRecursion (OutsideFair t.spec)) (sym made.trace_is) h)
-    (explained_traces_send (setup_along t trace e.start e.outs) _ sound e.ready e.explains)
+    (λ x a b. fair_by t.spec x a b) (subst (AllByRecursion (OutsideFair t.spec)) same h) sent
 
 allowed_by : (spec : Spec) (e : Event) → IsFair spec e → GivesWhatMayBe spec e → IsAllowed spec e
 allowed_by spec (event.Arrives i) h g = h
@@ -121,8 +154,6 @@ made_events_are_allowed t seed count trace run sound made given =
     (made_traces_are_fair t seed count trace run sound made) given
 
 pub made_traces_are_allowed : MadeTracesAreAllowed
-made_traces_are_allowed t seed count trace run sound made given few = record {
-  few = few;
-  each = all_of (IsAllowed t.spec) trace
-      (made_events_are_allowed t seed count trace run sound made given);
-}
+made_traces_are_allowed t seed count trace run sound made given few =
+    known_allowed t.spec trace
+    (made_events_are_allowed t seed count trace run sound made given) few

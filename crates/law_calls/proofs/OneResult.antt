@@ -1,7 +1,7 @@
 -- What is told of its files determines what a call reports.
 use Rattle.std.proofs.Common.{◌≡◌, ◌∙◌, ℕ, List, length, sym, ap, refl}
 use Rattle.est_syntax.specs.declared.specification.Spec.{Spec}
-use Rattle.est_meaning.specs.declared.event.Event.{Event}
+use Rattle.est_meaning.specs.RecordedTraces.{Recorded}
 use Rattle.est_explanation.specs.declared.explanation.Explanation.{Explanation}
 use Rattle.est_explanation.proofs.Checks.{answer_one}
 use Rattle.est_meaning.specs.declared.run.Limits.{Limits}
@@ -38,22 +38,22 @@ one_counted spec r r' x y = x ∙ sym y
 one_printed : SaysOnce IsPrintedText
 one_printed spec r r' x y = one_text spec spec r r' (same_self spec r x) x y
 
-one_answered : (silent statements : ℕ) (spec : Spec) (events : List Event) (read : Explanation)
-    (s s' : Status) (r r' : List ℕ) → IsAnswered silent statements spec events read s r
-    → IsAnswered silent statements spec events read s' r' → AreSame s s' r r'
-one_answered silent statements spec events read s s' r r' x y =
-    let same : x.0 ≡ y.0 = answer_one statements silent spec events read.moves read.claim x.0 y.0
+one_answered : (silent statements : ℕ) (spec : Spec) (recorded : Recorded) (read : Explanation)
+    (s s' : Status) (r r' : List ℕ) → IsAnswered silent statements spec recorded read s r
+    → IsAnswered silent statements spec recorded read s' r' → AreSame s s' r r'
+one_answered silent statements spec recorded read s s' r r' x y =
+    let same : x.0 ≡ y.0 = answer_one statements silent spec recorded read.moves read.claim x.0 y.0
     x.1 y.1 in (
       x.2 ∙ ap replay_status same ∙ sym y.2,
-      x.3 ∙ ap (λ a. replay_line (length events) a) same
+      x.3 ∙ ap (λ a. replay_line (length recorded.events) a) same
           ∙ sym y.3,
     )
 
 -- the stages of a replay
 abbrev Runs : Seen → List ℕ → List ℕ → ℕ → ℕ → Spec → Status → List ℕ → Type 0
 Runs shelf trace explanation silent statements spec =
-    AtTrace shelf trace spec (λ events. AtExplanation shelf explanation
-    (IsAnswered silent statements spec events))
+    AtTrace shelf trace spec (λ recorded. AtExplanation shelf explanation
+    (IsAnswered silent statements spec recorded))
 
 abbrev Replays : Seen → List ℕ → List ℕ → List ℕ → ℕ → ℕ → Status → List ℕ → Type 0
 Replays shelf specification trace explanation silent statements =
@@ -69,20 +69,20 @@ replay_stages shelf specification trace explanation silent statements _
     (at_trace spec (reported s r) holds x) = goes_on spec holds
     (stops (stopped shelf Trace trace (RefusesTrace spec) (reported s r) x))
 replay_stages shelf specification trace explanation silent statements _
-    (at_explanation spec events (reported s r) holds traced x) =
+    (at_explanation spec recorded (reported s r) holds traced x) =
     goes_on spec holds
-    (goes_on events traced (stops (stopped shelf Explaining explanation RefusesExplanation
+    (goes_on recorded traced (stops (stopped shelf Explaining explanation RefusesExplanation
     (reported s r) x)))
 replay_stages shelf specification trace explanation silent statements _
     (at_specification unread x) = tt
 replay_stages shelf specification trace explanation silent statements _
     (at_trace spec unread holds x) = tt
 replay_stages shelf specification trace explanation silent statements _
-    (at_explanation spec events unread holds traced x) = tt
+    (at_explanation spec recorded unread holds traced x) = tt
 replay_stages shelf specification trace explanation silent statements _
-    (replayed spec events read answer holds traced explained is) =
+    (replayed spec recorded read answer holds traced explained is) =
     goes_on spec holds
-    (goes_on events traced (goes_on read explained (answer, is, refl, refl)))
+    (goes_on recorded traced (goes_on read explained (answer, is, refl, refl)))
 
 one_check : (Says : Spec → List ℕ → Type 0) → SaysOnce Says → (shelf shelf' : Seen)
     (name : List ℕ) (s s' : Status) (r r' : List ℕ) → TellAlike shelf shelf' name
@@ -109,20 +109,20 @@ one_replay shelf shelf' specification trace explanation silent statements s s' r
     one_stage Specification specification told.0 RefusesSpecification OfSpecification
     specifications_decided shelf shelf' told.1 told.2 _ _ at_trace_one s s' r r' x y
   where
-    at_explanation_one : (spec : Spec) (events : List Event) (s s' : Status) (r r' : List ℕ)
-        → AtExplanation shelf explanation (IsAnswered silent statements spec events) s r
-        → AtExplanation shelf' explanation (IsAnswered silent statements spec events) s' r'
+    at_explanation_one : (spec : Spec) (recorded : Recorded) (s s' : Status) (r r' : List ℕ)
+        → AtExplanation shelf explanation (IsAnswered silent statements spec recorded) s r
+        → AtExplanation shelf' explanation (IsAnswered silent statements spec recorded) s' r'
         → AreSame s s' r r'
-    at_explanation_one spec events s s' r r' x y =
+    at_explanation_one spec recorded s s' r r' x y =
         one_stage Explaining explanation explained.0 RefusesExplanation OfExplanation
         explanations_decided shelf shelf' explained.1 explained.2 _ _
-        (one_answered silent statements spec events) s s' r r' x y
+        (one_answered silent statements spec recorded) s s' r r' x y
 
     at_trace_one : (spec : Spec) (s s' : Status) (r r' : List ℕ)
-        → AtTrace shelf trace spec (λ events. AtExplanation shelf explanation
-        (IsAnswered silent statements spec events)) s r
-        → AtTrace shelf' trace spec (λ events. AtExplanation shelf' explanation
-        (IsAnswered silent statements spec events)) s' r' → AreSame s s' r r'
+        → AtTrace shelf trace spec (λ recorded. AtExplanation shelf explanation
+        (IsAnswered silent statements spec recorded)) s r
+        → AtTrace shelf' trace spec (λ recorded. AtExplanation shelf' explanation
+        (IsAnswered silent statements spec recorded)) s' r' → AreSame s s' r r'
     at_trace_one spec s s' r r' x y =
         one_stage Trace trace traced.0 (RefusesTrace spec) (OfTrace spec) (traces_decided spec)
         shelf shelf' traced.1 traced.2 _ _

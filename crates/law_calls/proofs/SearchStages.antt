@@ -5,6 +5,7 @@ use Rattle.mean_blocks.specs.GlobalSituation.{Situation}
 use Rattle.mean_blocks.specs.Outcome.{Outcome, Done, Fault, Limit}
 use Rattle.mean_blocks.specs.TextByPlace.{text_of}
 use Rattle.est_meaning.specs.declared.event.Event.{Event}
+use Rattle.est_meaning.specs.RecordedTraces.{Recorded}
 use Rattle.est_meaning.specs.FiringSteps.{start_of}
 use Rattle.est_meaning.specs.declared.run.Limits.{Limits}
 use Rattle.est_search.specs.declared.verdict.Verdict.{Verdict}
@@ -53,15 +54,15 @@ explain_stages shelf specification trace silent budget statements _
 explain_stages shelf specification trace silent budget statements _
     (ends_at_trace spec unread holds x) = tt
 explain_stages shelf specification trace silent budget statements _
-    (not_started spec events fault holds traced is) =
-    goes_on spec holds (goes_on events traced (came.Fault fault, is, (refl, refl)))
+    (not_started spec recorded fault holds traced is) =
+    goes_on spec holds (goes_on recorded traced (came.Fault fault, is, (refl, refl)))
 explain_stages shelf specification trace silent budget statements _
-    (start_over spec events holds traced is) =
-    goes_on spec holds (goes_on events traced (came.Limit, is, (refl, refl)))
+    (start_over spec recorded holds traced is) =
+    goes_on spec holds (goes_on recorded traced (came.Limit, is, (refl, refl)))
 explain_stages shelf specification trace silent budget statements _
-    (searched spec events s outs verdict holds traced begun is fits) =
+    (searched spec recorded s outs verdict holds traced begun is fits) =
     goes_on spec holds
-    (goes_on events traced (came.Found verdict, (s, outs, begun, is), (refl, refl, fits)))
+    (goes_on recorded traced (came.Found verdict, (s, outs, begun, is), (refl, refl, fits)))
 
 -- a start that is ready is so in one way
 one_start : (o : Outcome Situation (List Event)) (s t : Situation) (outs outs' : List Event)
@@ -69,54 +70,56 @@ one_start : (o : Outcome Situation (List Event)) (s t : Situation) (outs outs' :
 one_start o s t outs outs' x y = let same : Done outs s ≡ Done outs' t = sym x ∙ y in (cc, cc)
 
 -- from one start one verdict comes
-pub verdict_at : (limits : Limits) (spec : Spec) (events : List Event) (s t : Situation)
+pub verdict_at : (limits : Limits) (spec : Spec) (recorded : Recorded) (s t : Situation)
     (outs outs' : List Event) (verdict : Verdict)
     → start_of limits.statements (text_of spec) ≡ Done outs s
     → start_of limits.statements (text_of spec) ≡ Done outs' t
-    → IsVerdict (setup_from limits.statements limits.silent spec events s outs) limits.budget verdict
-    → IsVerdict (setup_from limits.statements limits.silent spec events t outs') limits.budget verdict
-verdict_at limits spec events s t outs outs' verdict x y is =
+    → IsVerdict (setup_from limits.statements limits.silent spec recorded s outs) limits.budget
+    verdict
+    → IsVerdict (setup_from limits.statements limits.silent spec recorded t outs') limits.budget
+    verdict
+verdict_at limits spec recorded s t outs outs' verdict x y is =
     let same = one_start (start_of limits.statements (text_of spec)) s t outs outs' x y in
-    subst (λ z. IsVerdict (setup_from limits.statements limits.silent spec events t z) limits.budget
-    verdict) same.1
-    (subst (λ z. IsVerdict (setup_from limits.statements limits.silent spec events z outs)
+    subst (λ z. IsVerdict (setup_from limits.statements limits.silent spec recorded t z)
+    limits.budget verdict) same.1
+    (subst (λ z. IsVerdict (setup_from limits.statements limits.silent spec recorded z outs)
     limits.budget verdict) same.0 is)
 
 -- one thing comes of a search
-pub one_found : (limits : Limits) (spec : Spec) (events : List Event) (a b : Searched)
-    → IsSearched limits spec events a → IsSearched limits spec events b → a ≡ b
-one_found limits spec events (came.Found v) (came.Found w) x y =
+pub one_found : (limits : Limits) (spec : Spec) (recorded : Recorded) (a b : Searched)
+    → IsSearched limits spec recorded a → IsSearched limits spec recorded b → a ≡ b
+one_found limits spec recorded (came.Found v) (came.Found w) x y =
     ap (λ z. came.Found z)
-    (verdict_unique (setup_from limits.statements limits.silent spec events y.0 y.1)
-    limits.budget v w (verdict_at limits spec events x.0 y.0 x.1 y.1 v x.2 y.2 x.3) y.3)
-one_found limits spec events (came.Found v) (came.Fault fault) x y =
+    (verdict_unique (setup_from limits.statements limits.silent spec recorded y.0 y.1)
+    limits.budget v w (verdict_at limits spec recorded x.0 y.0 x.1 y.1 v x.2 y.2 x.3) y.3)
+one_found limits spec recorded (came.Found v) (came.Fault fault) x y =
     let e : Done x.1 x.0 ≡ Fault fault = sym x.2 ∙ y in absurd cc
-one_found limits spec events (came.Found v) came.Limit x y =
+one_found limits spec recorded (came.Found v) came.Limit x y =
     let e : Done x.1 x.0 ≡ Limit = sym x.2 ∙ y in absurd cc
-one_found limits spec events (came.Fault fault) (came.Found w) x y =
+one_found limits spec recorded (came.Fault fault) (came.Found w) x y =
     let e : Done y.1 y.0 ≡ Fault fault = sym y.2 ∙ x in absurd cc
-one_found limits spec events (came.Fault fault) (came.Fault other) x y =
+one_found limits spec recorded (came.Fault fault) (came.Fault other) x y =
     let e : Fault fault ≡ Fault other = sym x ∙ y in
     let same : fault ≡ other = cc in ap (λ z. came.Fault z) same
-one_found limits spec events (came.Fault fault) came.Limit x y =
+one_found limits spec recorded (came.Fault fault) came.Limit x y =
     let e : Fault fault ≡ Limit = sym x ∙ y in absurd cc
-one_found limits spec events came.Limit (came.Found w) x y =
+one_found limits spec recorded came.Limit (came.Found w) x y =
     let e : Done y.1 y.0 ≡ Limit = sym y.2 ∙ x in absurd cc
-one_found limits spec events came.Limit (came.Fault fault) x y =
+one_found limits spec recorded came.Limit (came.Fault fault) x y =
     let e : Fault fault ≡ Limit = sym y ∙ x in absurd cc
-one_found limits spec events came.Limit came.Limit x y = refl
+one_found limits spec recorded came.Limit came.Limit x y = refl
 
 -- and one report of it
-one_told : (limit events : ℕ) (found : Searched) (s s' : Status) (r r' : List ℕ)
-    → Tells limit events found s r → Tells limit events found s' r' → AreSame s s' r r'
-one_told limit events (came.Found v) s s' r r' x y = (x.0 ∙ sym y.0, x.1 ∙ sym y.1)
-one_told limit events (came.Fault fault) s s' r r' x y = (x.0 ∙ sym y.0, x.1 ∙ sym y.1)
-one_told limit events came.Limit s s' r r' x y = (x.0 ∙ sym y.0, x.1 ∙ sym y.1)
+one_told : (limit recorded : ℕ) (found : Searched) (s s' : Status) (r r' : List ℕ)
+    → Tells limit recorded found s r → Tells limit recorded found s' r' → AreSame s s' r r'
+one_told limit recorded (came.Found v) s s' r r' x y = (x.0 ∙ sym y.0, x.1 ∙ sym y.1)
+one_told limit recorded (came.Fault fault) s s' r r' x y = (x.0 ∙ sym y.0, x.1 ∙ sym y.1)
+one_told limit recorded came.Limit s s' r r' x y = (x.0 ∙ sym y.0, x.1 ∙ sym y.1)
 
-pub one_explained : (limits : Limits) (spec : Spec) (events : List Event) (s s' : Status)
-    (r r' : List ℕ) → IsExplained limits spec events s r → IsExplained limits spec events s' r'
+pub one_explained : (limits : Limits) (spec : Spec) (recorded : Recorded) (s s' : Status)
+    (r r' : List ℕ) → IsExplained limits spec recorded s r → IsExplained limits spec recorded s' r'
     → AreSame s s' r r'
-one_explained limits spec events s s' r r' x y =
-    one_told limits.statements (length events) y.0 s s' r r'
-    (subst (λ z. Tells limits.statements (length events) z s r)
-    (one_found limits spec events x.0 y.0 x.1 y.1) x.2) y.2
+one_explained limits spec recorded s s' r r' x y =
+    one_told limits.statements (length recorded.events) y.0 s s' r r'
+    (subst (λ z. Tells limits.statements (length recorded.events) z s r)
+    (one_found limits spec recorded x.0 y.0 x.1 y.1) x.2) y.2

@@ -6,6 +6,7 @@ use Rattle.mean_blocks.specs.GlobalSituation.{Situation}
 use Rattle.mean_blocks.specs.Outcome.{Done}
 use Rattle.mean_blocks.specs.TextByPlace.{text_of}
 use Rattle.est_meaning.specs.declared.event.Event.{Event}
+use Rattle.est_meaning.specs.RecordedTraces.{Recorded}
 use Rattle.est_meaning.specs.FiringSteps.{start_of}
 use Rattle.est_search.specs.declared.verdict.Verdict.{Verdict}
 use Rattle.est_search.specs.Verdict.{IsVerdict}
@@ -88,17 +89,17 @@ ends_not shelf file name Refuses so _ status report e (failed x) d = cc
 pub record IsFound (shelf : Seen) (specification trace : List ℕ) (silent budget statements : ℕ)
     (status : Status) (report : List ℕ) : Type 0 where
   pub spec : Spec
-  pub events : List Event
+  pub recorded : Recorded
   pub start : Situation
   pub outs : List Event
   pub verdict : Verdict
   pub holds : HoldsSpecification shelf specification spec
-  pub traced : HoldsTrace shelf trace spec events
+  pub traced : HoldsTrace shelf trace spec recorded
   pub begun : start_of statements (text_of spec) ≡ Done outs start
-  pub is : IsVerdict (setup_from statements silent spec events start outs) budget verdict
-  pub fits : IsReadable statements (length events) verdict
+  pub is : IsVerdict (setup_from statements silent spec recorded start outs) budget verdict
+  pub fits : IsReadable statements (length recorded.events) verdict
   pub status_is : status ≡ verdict_status verdict
-  pub report_is : report ≡ verdict_report statements (length events) verdict
+  pub report_is : report ≡ verdict_report statements (length recorded.events) verdict
 
 -- such a search found something, or the start passed the limit
 pub data Found (shelf : Seen) (specification trace : List ℕ) (silent budget statements : ℕ)
@@ -119,14 +120,14 @@ module _ (shelf : Seen) (specification trace : List ℕ) (silent budget statemen
   found_at _ e (ends_at_trace spec end holds at) =
       absurd (ends_not shelf file.Trace trace (RefusesTrace spec) (refuses_trace spec) end status
       report e at d)
-  found_at _ e (not_started spec events fault holds traced is) =
+  found_at _ e (not_started spec recorded fault holds traced is) =
       let same : status ≡ NoStart = cc in absurd (subst IsDecision same d)
-  found_at _ e (start_over spec events holds traced is) =
+  found_at _ e (start_over spec recorded holds traced is) =
       let same : status ≡ OverBudget = cc in
       let line : report ≡ over_start_line statements = cc in start_passed same line
-  found_at _ e (searched spec events s outs verdict holds traced begun is fits) = found_so (record {
+  found_at _ e (searched spec recorded s outs verdict holds traced begun is fits) = found_so (record {
     spec = spec;
-    events = events;
+    recorded = recorded;
     start = s;
     outs = outs;
     verdict = verdict;

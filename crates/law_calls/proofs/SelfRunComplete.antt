@@ -64,7 +64,7 @@ made_is_told spec _ _ is start_passes = cc
 made_is_told spec _ _ is (passes run) = cc
 made_is_told spec _ _ is (refuses trace run end at) =
     text_is_read (written spec trace) _ end is at
-made_is_told spec _ _ is (explains trace run events s outs verdict reads begun judged) = cc
+made_is_told spec _ _ is (explains trace run read s outs verdict reads begun judged) = cc
 
 module _ (words : List (String Global)) (shelf : Seen) (output : Sent) (seed count : ℕ)
     (spec : Spec) (of : IsSelfRunOf words shelf output seed count spec) where

@@ -1,7 +1,7 @@
 -- What the specification, the seed and the number of events of a trace that is made determine.
 use Rattle.std.proofs.Common.{◌≡◌, ℕ, List, [], length, Some, sym, subst, refl, arith}
 use Rattle.est_syntax.specs.declared.specification.Spec.{Spec}
-use Rattle.est_meaning.specs.declared.event.Event.{Event}
+use Rattle.est_meaning.specs.RecordedTraces.{Recorded}
 use Rattle.est_meaning.specs.declared.run.Limits.{Limits}
 use Rattle.est_search.specs.declared.verdict.Verdict.{Verdict}
 use Rattle.run_make.specs.declared.made.Made.{Made}
@@ -64,16 +64,16 @@ module _ (spec : Spec) (text : List ℕ) where
       λ i. reported (same.0 i) (same.1 i)
 
   -- a text that ends a call is that of no trace
-  not_refused : (events : List Event) (end : End) → EndsAtText Trace text (RefusesTrace spec) end
-      → IsText Trace text (OfTrace spec events) → ⊥
-  not_refused events _ (text_longer a) is = omega (arith, a, is.short)
-  not_refused events _ (text_refused s r x) is =
+  not_refused : (read : Recorded) (end : End) → EndsAtText Trace text (RefusesTrace spec) end
+      → IsText Trace text (OfTrace spec read) → ⊥
+  not_refused read _ (text_longer a) is = omega (arith, a, is.short)
+  not_refused read _ (text_refused s r x) is =
       at_once Trace {told = Some text} {told' = Some text} {bytes = text}
-      (IsReported Trace (RefusesTrace spec) s r) (OfTrace spec events) refl refl x is
-      (λ tokens n g. (traces_decided spec).not_both events text tokens s n.place n.why g n.refused)
+      (IsReported Trace (RefusesTrace spec) s r) (OfTrace spec read) refl refl x is
+      (λ tokens n g. (traces_decided spec).not_both read text tokens s n.place n.why g n.refused)
 
   -- a text is that of one trace
-  one_trace : (xs ys : List Event) → IsText Trace text (OfTrace spec xs)
+  one_trace : (xs ys : Recorded) → IsText Trace text (OfTrace spec xs)
       → IsText Trace text (OfTrace spec ys) → xs ≡ ys
   one_trace xs ys x y =
       at_once Trace {told = Some text} {told' = Some text} {bytes = text}
@@ -88,12 +88,12 @@ usual_limits =
     record { silent = usual_silent; budget = usual_budget; statements = usual_statements }
 
 -- one verdict comes of a search
-one_verdict : (spec : Spec) (events : List Event) (v w : Verdict)
-    → IsSearched usual_limits spec events (came.Found v)
-    → IsSearched usual_limits spec events (came.Found w) → v ≡ w
-one_verdict spec events v w x y =
+one_verdict : (spec : Spec) (read : Recorded) (v w : Verdict)
+    → IsSearched usual_limits spec read (came.Found v)
+    → IsSearched usual_limits spec read (came.Found w) → v ≡ w
+one_verdict spec read v w x y =
     let same : came.Found v ≡ came.Found w =
-    one_found usual_limits spec events (came.Found v) (came.Found w) x y in cc
+    one_found usual_limits spec read (came.Found v) (came.Found w) x y in cc
 
 module _ (spec : Spec) where
   -- a trace that was made ends a call in one way
@@ -104,20 +104,20 @@ module _ (spec : Spec) where
   ends_one _ _ _ _ same (faults f) start_passes = absurd cc
   ends_one _ _ _ _ same (faults f) (passes run) = absurd cc
   ends_one _ _ _ _ same (faults f) (refuses t run end at) = absurd cc
-  ends_one _ _ _ _ same (faults f) (explains t run events s outs verdict reads begun is) =
+  ends_one _ _ _ _ same (faults f) (explains t run read s outs verdict reads begun is) =
       absurd cc
   ends_one _ _ _ _ same start_passes (faults f) = absurd cc
   ends_one _ _ _ _ same start_passes start_passes = refl
   ends_one _ _ _ _ same start_passes (passes run) = absurd cc
   ends_one _ _ _ _ same start_passes (refuses t run end at) = absurd cc
-  ends_one _ _ _ _ same start_passes (explains t run events s outs verdict reads begun is) =
+  ends_one _ _ _ _ same start_passes (explains t run read s outs verdict reads begun is) =
       absurd cc
   ends_one _ _ _ _ same (passes run) (faults f) = absurd cc
   ends_one _ _ _ _ same (passes run) start_passes = absurd cc
   ends_one _ _ _ _ same (passes run) (passes run') =
       let one : run ≡ run' = cc in λ i. reported OverBudget (limit_line (length (one i)))
   ends_one _ _ _ _ same (passes run) (refuses t run' end at) = absurd cc
-  ends_one _ _ _ _ same (passes run) (explains t run' events s outs verdict reads begun is) =
+  ends_one _ _ _ _ same (passes run) (explains t run' read s outs verdict reads begun is) =
       absurd cc
   ends_one _ _ _ _ same (refuses t run end at) (faults f) = absurd cc
   ends_one _ _ _ _ same (refuses t run end at) start_passes = absurd cc
@@ -127,21 +127,21 @@ module _ (spec : Spec) where
       one_at_text spec (written spec t) end end' at
       (subst (λ x. EndsAtText Trace (written spec x) (RefusesTrace spec) end') one at')
   ends_one _ _ _ _ same (refuses t run end at)
-      (explains t' run' events s outs verdict reads begun is) =
+      (explains t' run' read s outs verdict reads begun is) =
       let one : t' ≡ t = cc in
-      absurd (not_refused spec (written spec t) events end at
-      (subst (λ x. IsText Trace (written spec x) (OfTrace spec events)) one reads))
-  ends_one _ _ _ _ same (explains t run events s outs verdict reads begun is) (faults f) =
+      absurd (not_refused spec (written spec t) read end at
+      (subst (λ x. IsText Trace (written spec x) (OfTrace spec read)) one reads))
+  ends_one _ _ _ _ same (explains t run read s outs verdict reads begun is) (faults f) =
       absurd cc
-  ends_one _ _ _ _ same (explains t run events s outs verdict reads begun is) start_passes =
+  ends_one _ _ _ _ same (explains t run read s outs verdict reads begun is) start_passes =
       absurd cc
-  ends_one _ _ _ _ same (explains t run events s outs verdict reads begun is) (passes run') =
+  ends_one _ _ _ _ same (explains t run read s outs verdict reads begun is) (passes run') =
       absurd cc
-  ends_one _ _ _ _ same (explains t' run' events s outs verdict reads begun is)
+  ends_one _ _ _ _ same (explains t' run' read s outs verdict reads begun is)
       (refuses t run end at) =
       let one : t' ≡ t = cc in
-      absurd (not_refused spec (written spec t) events end at
-      (subst (λ x. IsText Trace (written spec x) (OfTrace spec events)) one reads))
+      absurd (not_refused spec (written spec t) read end at
+      (subst (λ x. IsText Trace (written spec x) (OfTrace spec read)) one reads))
   ends_one _ _ _ _ same (explains t run xs s outs v reads begun is)
       (explains t' run' ys s' outs' w reads' begun' is') =
       let one : t ≡ t' = cc in

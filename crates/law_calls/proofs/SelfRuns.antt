@@ -1,8 +1,10 @@
 -- A self-run explains the trace that it makes.
-use Rattle.std.proofs.Common.{◌≡◌, ◌≢◌, ◌≤◌, ◌∙◌, ℕ, List, length, sym, subst, refl, arith}
+use Rattle.std.proofs.Common.{◌≡◌, ◌≢◌, ◌≤◌, ◌∙◌, ℕ, List, length, sym, ap, subst, refl}
+use Rattle.std.proofs.Common.{arith}
 use Rattle.std.proofs.Common.{Err, Some}
 use Rattle.std.specs.Prelude.{String, Option}
 use Rattle.std.specs.Global.{Global}
+use Rattle.std.proofs.lemmas.List.{length-map}
 use Rattle.est_lexer.specs.declared.kind.Token.{Token}
 use Rattle.est_lexer.specs.TokenList.{IsTokenList}
 use Rattle.est_lexer.proofs.TokenLaws.{tokens_few}
@@ -13,7 +15,9 @@ use Rattle.mean_blocks.specs.GlobalSituation.{Situation}
 use Rattle.mean_blocks.specs.Outcome.{Done}
 use Rattle.mean_blocks.specs.TextByPlace.{text_of}
 use Rattle.est_meaning.specs.declared.event.Event.{Event}
+use Rattle.est_meaning.specs.declared.trace.Expected.TheVariants.{Known}
 use Rattle.est_meaning.specs.AllowedEvents.{most_events}
+use Rattle.est_meaning.specs.RecordedTraces.{Recorded, known_trace}
 use Rattle.est_meaning.specs.FiringSteps.{start_of}
 use Rattle.est_check.specs.SentenceOf.{IsSentence}
 use Rattle.est_meaning.specs.declared.run.Limits.{Limits}
@@ -81,10 +85,14 @@ sentence_held bytes spec is =
 -- TRACES
 
 -- what was made of a sentence that breaks no rule: a trace that is not too long
-module _ (spec : Spec) (seed count : ℕ) (trace : List Event) (run : List Move)
+module _ (spec : Spec) (seed count : ℕ) (es : List Event) (run : List Move)
     (sentence : IsSentence spec) (good : IsGood spec)
-    (is_made : IsMadeOf spec seed count (made.Trace trace run))
-    (few : length trace ≤ most_events) where
+    (is_made : IsMadeOf spec seed count (made.Trace (known_trace es) run))
+    (few : length es ≤ most_events) where
+  -- the trace of these events
+  abbrev trace : Recorded
+  trace = known_trace es
+
   -- what it is made by
   abbrev task : recipe.Task
   task = recipe.task_of usual_statements usual_silent spec
@@ -95,18 +103,18 @@ module _ (spec : Spec) (seed count : ℕ) (trace : List Event) (run : List Move)
       → IsTraceRefusal (ports_of spec) (written spec trace) tokens error
       → SaysOfTrace error status place why → ⊥
   not_refused tokens (trace_error.BadToken at) status place why list refusal says =
-      made_traces_are_read task seed count trace run tokens (Err (trace_error.BadToken at)) sentence
+      made_traces_are_read task seed count es run tokens (Err (trace_error.BadToken at)) sentence
       good is_made few list refusal
   not_refused tokens (trace_error.TooMany at) status place why list refusal says =
-      made_traces_are_read task seed count trace run tokens (Err (trace_error.TooMany at)) sentence
+      made_traces_are_read task seed count es run tokens (Err (trace_error.TooMany at)) sentence
       good is_made few list refusal
   not_refused tokens (trace_error.Memory error) status place why list refusal says = says
 
   -- it is the text of this trace alone
-  same_events : (events : List Event) → IsText Trace (written spec trace) (OfTrace spec events)
-      → trace ≡ events
-  same_events events is = is.is.1 trace
-      (made_traces_are_texts task seed count trace run is.tokens sentence good is_made few is.list)
+  same_trace : (read : Recorded) → IsText Trace (written spec trace) (OfTrace spec read)
+      → trace ≡ read
+  same_trace read is = is.is.1 trace
+      (made_traces_are_texts task seed count es run is.tokens sentence good is_made few is.list)
 
   -- a verdict on it explains it, or is over the budget
   judged : (outs : List Event) (s : Situation) (v : Verdict)
@@ -153,13 +161,13 @@ module _ (spec : Spec) (seed count : ℕ) (trace : List Event) (run : List Move)
       let one : t ≡ trace = cc in
       text_agrees end
       (subst (λ x. EndsAtText Trace (written spec x) (RefusesTrace spec) end) one at)
-  ends_agree _ _ same (explains t other events s outs v reads begun is) =
+  ends_agree _ _ same (explains t other read s outs v reads begun is) =
       let one : t ≡ trace = cc in
-      let held : IsText Trace (written spec trace) (OfTrace spec events) =
-      subst (λ x. IsText Trace (written spec x) (OfTrace spec events)) one reads in
+      let held : IsText Trace (written spec trace) (OfTrace spec read) =
+      subst (λ x. IsText Trace (written spec x) (OfTrace spec read)) one reads in
       status_agrees v (judged outs s v begun
       (subst (λ es. IsVerdict (setup_from usual_statements usual_silent spec es s outs) usual_budget v)
-      (sym (same_events events held)) is))
+      (sym (same_trace read held)) is))
 
   -- what is told of it
   told_agrees : (output : Sent) (status : Status) → TellsMade output status seed count spec
@@ -189,6 +197,11 @@ pub self_runs_agree : SelfRunsAgree
 self_runs_agree words shelf output status seed count spec trace run of is_made few result =
     let held : IsText Specification of.named.bytes (OfSpecification spec) =
     subst (λ t. Holds Specification t (OfSpecification spec)) of.named.told of.good in
-    agrees spec seed count trace run (sentence_held of.named.bytes spec held) held.is.good is_made
-    few output status
-    (λ memory. self_run_complete words shelf output status seed count spec of result memory)
+    let es = is_made.last.events in
+    let many : length trace.events ≡ length es =
+    ap (λ (w : Recorded). length w.events) is_made.trace_is ∙ length-map es Known in
+    subst (λ w. Agrees spec w status) (sym is_made.trace_is)
+    (agrees spec seed count es run (sentence_held of.named.bytes spec held) held.is.good
+    (subst (λ w. IsMadeOf spec seed count (made.Trace w run)) is_made.trace_is is_made)
+    (omega arith) output status
+    (λ memory. self_run_complete words shelf output status seed count spec of result memory))

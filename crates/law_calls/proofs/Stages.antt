@@ -23,7 +23,7 @@ use Rattle.text_reader.specs.Grammar.{rule}
 use Rattle.text_reader.specs.Sentences.{HasPartial, IsFirstBadPlace}
 use Rattle.text_productions.specs.Productions.{specification as specification_rule}
 use Rattle.rule_declares.specs.PortList.{ports_of}
-use Rattle.est_meaning.specs.declared.event.Event.{Event}
+use Rattle.est_meaning.specs.RecordedTraces.{Recorded}
 use Rattle.est_meaning.specs.AllowedEvents.{most_events}
 use Rattle.est_check.specs.SpecificationText.{IsNoSpecification}
 use Rattle.est_check.specs.LeastFault.{IsGood, IsLeastFault}
@@ -285,19 +285,19 @@ module _ (spec : Spec) (text : List ℕ) (tokens : List Token) where
   traces_alike (trace.Memory error) b s s' place place' why why' x e y f = absurd e
   traces_alike a (trace.Memory error) s s' place place' why why' x e y f = absurd f
 
-  trace_not_refused : (events : List Event) (error : TraceError) (s : Status) (place : Option ℕ)
-      (why : List ℕ) → IsOnlyTraceText (ports_of spec) text tokens events
+  trace_not_refused : (recorded : Recorded) (error : TraceError) (s : Status) (place : Option ℕ)
+      (why : List ℕ) → IsOnlyTraceText (ports_of spec) text tokens recorded
       → IsTraceRefusal (ports_of spec) text tokens error → SaysOfTrace error s place why → ⊥
-  trace_not_refused events (trace.BadToken at) s place why is x e = x.0.no_tree _ is.0.1
-  trace_not_refused events (trace.TooMany at) s place why is x e = x.0.no_tree _ is.0.1
-  trace_not_refused events (trace.Memory error) s place why is x e = e
+  trace_not_refused recorded (trace.BadToken at) s place why is x e = x.0.no_tree _ is.0.1
+  trace_not_refused recorded (trace.TooMany at) s place why is x e = x.0.no_tree _ is.0.1
+  trace_not_refused recorded (trace.Memory error) s place why is x e = e
 
 pub traces_decided : (spec : Spec) → IsDecided (RefusesTrace spec) (OfTrace spec)
 traces_decided spec = record {
   one_refusal = λ text tokens s s' place place' why why' x y. traces_alike spec text tokens x.0 y.0
       s s' place place' why why' x.1 x.2 y.1 y.2;
-  not_both = λ events text tokens s place why is x. trace_not_refused spec text tokens events x.0 s
-      place why is x.1 x.2;
+  not_both = λ recorded text tokens s place why is x.
+      trace_not_refused spec text tokens recorded x.0 s place why is x.1 x.2;
   one_value = λ a b text tokens x y. y.1 a x.0;
 }
 
@@ -452,7 +452,7 @@ abbrev pub AtSpecification : Seen → List ℕ → (Spec → Status → List ℕ
 AtSpecification shelf name Next = Stage shelf Specification name RefusesSpecification
     OfSpecification Next
 
-abbrev pub AtTrace : Seen → List ℕ → Spec → (List Event → Status → List ℕ → Type 0) → Status
+abbrev pub AtTrace : Seen → List ℕ → Spec → (Recorded → Status → List ℕ → Type 0) → Status
     → List ℕ → Type 0
 AtTrace shelf name spec Next = Stage shelf Trace name (RefusesTrace spec) (OfTrace spec) Next
 

@@ -5,4 +5,3 @@ pub mod MadeEventLaws
 pub mod PrintedCalls
 pub mod SelfRunLaws
 pub mod SoundTraceLaws
-pub mod WritableLaws

@@ -2,8 +2,8 @@
 use Rattle.std.specs.Prelude.{ℕ, ◌≤◌, ◌<◌, List, length, String}
 use Rattle.std.specs.Global.{Global}
 use Rattle.est_syntax.specs.declared.specification.Spec.{Spec}
-use Rattle.est_meaning.specs.declared.event.Event.{Event}
 use Rattle.est_meaning.specs.AllowedEvents.{most_events}
+use Rattle.est_meaning.specs.RecordedTraces.{Recorded}
 use Rattle.est_meaning.specs.declared.run.Move.{Move}
 use Rattle.est_meaning.specs.Run.{Setup, Explains}
 use Rattle.est_search.specs.Verdict.{IsVerdict}
@@ -33,7 +33,7 @@ ExplainedTracesAreNotRefused = (c : Setup) (budget : ℕ) (run : List Move) (ver
 
 -- The trace is explained, or the search is over its budget; or its text is longer than a trace file
 -- may be, or memory ran out.
-abbrev pub Agrees : Spec → List Event → Status → Type 0
+abbrev pub Agrees : Spec → Recorded → Status → Type 0
 Agrees spec trace Fine = Unit {0}
 Agrees spec trace OverBudget = Unit {0}
 Agrees spec trace TooLong = limit_of file.Trace < length (written spec trace)
@@ -45,7 +45,7 @@ Agrees spec trace _ = ⊥
 abbrev pub SelfRunsAgree : Type 0
 SelfRunsAgree =
     (words : List (String Global)) (shelf : Seen) (output : Sent) (status : Status)
-    (seed count : ℕ) (spec : Spec) (trace : List Event) (run : List Move)
+    (seed count : ℕ) (spec : Spec) (trace : Recorded) (run : List Move)
     → IsSelfRunOf words shelf output seed count spec
-    → IsMadeOf spec seed count (made.Trace trace run) → length trace ≤ most_events
+    → IsMadeOf spec seed count (made.Trace trace run) → length trace.events ≤ most_events
     → IsResult words shelf output status → Agrees spec trace status

@@ -1,6 +1,6 @@
 //! Laws of calls: what words ask for, what is reported, what a search decides; what `explain`
-//! reports, `replay` confirms; numbers are those that an explanation may have; made traces are
-//! allowed, read back, and never refused; and what is printed, printed again, stays.
+//! reports, `replay` confirms; made traces are allowed, read back, and never refused; and what is
+//! printed, printed again, stays.
 #![tactic(auto)]
 
 pub mod confirmed;
@@ -9,4 +9,3 @@ pub mod made_events;
 pub mod printed;
 pub mod self_runs;
 pub mod sound_traces;
-pub mod writable;

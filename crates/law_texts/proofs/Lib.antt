@@ -7,6 +7,7 @@ pub mod PlainTrees
 pub mod PlainWalk
 pub mod ReadBack
 pub mod Scalars
+pub mod SeenValues
 pub mod Sentences
 pub mod SoundKinds
 pub mod SoundNames
@@ -23,5 +24,6 @@ pub mod SpeltTexts
 pub mod Traces
 pub mod Values
 pub mod WellFormed
+pub mod WholeValues
 pub mod Wholes
 pub mod Writing

@@ -101,6 +101,11 @@ unfolding opening symbols
 underscore_stands rest =
     symbol_stands 95 (Symbol sign.Underscore) rest refl refl refl refl refl
 
+pub question_stands : (rest : List ℕ) → Stands (Symbol sign.QuestionMark) (63 ∷ []) rest
+unfolding opening symbols
+question_stands rest =
+    symbol_stands 63 (Symbol sign.QuestionMark) rest refl refl refl refl refl
+
 -- a symbol, and blanks
 abbrev pub marked : mark.Symbol → ℕ → List ℕ → Written
 marked s b gap = record { kind = Symbol s; bytes = b ∷ []; gap = gap }

@@ -15,12 +15,15 @@ use Rattle.rule_declares.specs.PortList.{ports_of}
 use Rattle.est_trace.proofs.GoodPorts.{good_ports}
 use Rattle.est_meaning.specs.declared.event.Event.{Event}
 use Rattle.est_meaning.specs.declared.event.Event.TheVariants.{Arrives, Leaves, Passes}
-use Rattle.est_meaning.specs.AllowedEvents.{IsReceivable, IsSendable, IsAllowed, most_events}
-use Rattle.est_meaning.specs.AllowedEvents.{IsAllowedTrace}
+use Rattle.est_meaning.specs.declared.trace.Expected.{Expected}
+use Rattle.est_meaning.specs.declared.trace.Expected.TheVariants.{Known, Partly}
+use Rattle.est_meaning.specs.RecordedTraces.{Recorded}
+use Rattle.est_meaning.specs.AllowedEvents.{IsReceivable, IsSendable, IsAllowed, IsAllowedExpected}
+use Rattle.est_meaning.specs.AllowedEvents.{most_events, IsAllowedTrace}
 use Rattle.text_values.specs.TraceGrammar.{trace}
 use Rattle.est_trace.specs.declared.error.TraceError.{TraceError}
 use Rattle.est_trace.specs.declared.error.TraceError.TheVariants.{BadToken, TooMany, Memory}
-use Rattle.est_trace.specs.inside.AtPorts.{IsAtPorts, AreAtPorts}
+use Rattle.est_trace.specs.inside.AtPorts.{IsAtPorts, IsExpectedAt, AreAtPorts}
 use Rattle.est_trace.specs.TraceShapes.{ShowsTrace}
 use Rattle.est_trace.specs.TraceText.{traces, IsTraceText, ReadsTrace}
 use Rattle.est_trace.specs.WrittenTraces.{trace_text}
@@ -37,10 +40,10 @@ none_left : (text : List ℕ) (ts : List Token) → AreWritten text ts [] → le
 none_left text [] h = refl
 none_left text (t ∷ ts) h = elim h [ ]
 
-all_read : (ports : List Port) (text : List ℕ) (s : List Token) (events : List Event)
-    → Parsed text s (trace ports) most_events (λ t. ShowsTrace ports events t) 0 []
-    → IsTraceText ports text s events
-all_read ports text s events r =
+all_read : (ports : List Port) (text : List ℕ) (s : List Token) (recorded : Recorded)
+    → Parsed text s (trace ports) most_events (λ t. ShowsTrace ports recorded t) 0 []
+    → IsTraceText ports text s recorded
+all_read ports text s recorded r =
     let left = none_left text (drop r.last s) r.rest in
     let within = tree_inside (traces text) s (length s) r.tree (omega arith) in
     let end : r.last ≡ length s = omega (arith, length-drop r.last s) in (
@@ -49,27 +52,28 @@ all_read ports text s events r =
       r.is,
     )
 
-module _ (ports : List Port) (events : List Event)
-    (w : Writes NoStar (length events) (trace ports) (λ t. ShowsTrace ports events t)
-    (trace_text ports events)) (few : length events ≤ most_events) where
+module _ (ports : List Port) (recorded : Recorded)
+    (w : Writes NoStar (length recorded.events) (trace ports)
+    (λ t. ShowsTrace ports recorded t) (trace_text ports recorded))
+    (few : length recorded.events ≤ most_events) where
   -- the tokens of the words are a text of the trace
-  words_are_text : IsTraceText ports (text_of w.words) (tokens_at 0 w.words) events
+  words_are_text : IsTraceText ports (text_of w.words) (tokens_at 0 w.words) recorded
   words_are_text =
       let text = text_of w.words in
       let s = tokens_at 0 w.words in
       let h = are_written text 0 w.words refl in
-      all_read ports text s events (w.read text s most_events 0 [] few
+      all_read ports text s recorded (w.read text s most_events 0 [] few
       (subst (λ ws. AreWritten text s ws) (sym (append-nil w.words)) h))
 
-  pub written_text : (tokens : List Token) → IsTokenList (trace_text ports events) tokens
-      → IsTraceText ports (trace_text ports events) tokens events
+  pub written_text : (tokens : List Token) → IsTokenList (trace_text ports recorded) tokens
+      → IsTraceText ports (trace_text ports recorded) tokens recorded
   written_text tokens h =
       let text = text_of w.words in
       let list = are_tokens text 0 0 w.words (nothing 0) (omega arith) refl
       (all_whole w.words (w.whole [] refl)) in
       let mine = subst (λ bytes. IsTokenList bytes tokens) (sym w.spelled) h in
-      subst (λ bytes. IsTraceText ports bytes tokens events) w.spelled
-      (subst (λ ts. IsTraceText ports text ts events)
+      subst (λ bytes. IsTraceText ports bytes tokens recorded) w.spelled
+      (subst (λ ts. IsTraceText ports text ts recorded)
       (tokens_unique text 0 (tokens_at 0 w.words) tokens list mine) words_are_text)
 
 -- an event that may stand in a trace stands at a port
@@ -93,32 +97,47 @@ at_ports spec (Leaves i) (port, signal, is, sends) = record {
 }
 at_ports spec (Passes units) h = h
 
-pub texts : (spec : Spec) (events : List Event) (tokens : List Token)
-    → AreReadablePorts (ports_of spec) → IsAllowedTrace spec events
-    → IsTokenList (trace_text (ports_of spec) events) tokens
-    → IsTraceText (ports_of spec) (trace_text (ports_of spec) events) tokens events
-texts spec events tokens readable allowed h =
+expected_at : (spec : Spec) (x : Expected) → IsAllowedExpected spec x
+    → IsExpectedAt (ports_of spec) x
+expected_at spec (Known e) h = at_ports spec e h
+expected_at spec (Partly port signal seen) h = (
+  record {
+    port = h.at;
+    signal = h.sent;
+    port_is = h.port_is;
+    signal_is = h.signal_is;
+    direction_is = h.sends;
+    fits = h.may_fit;
+  },
+  h.partly,
+)
+
+pub texts : (spec : Spec) (recorded : Recorded) (tokens : List Token)
+    → AreReadablePorts (ports_of spec) → IsAllowedTrace spec recorded
+    → IsTokenList (trace_text (ports_of spec) recorded) tokens
+    → IsTraceText (ports_of spec) (trace_text (ports_of spec) recorded) tokens recorded
+texts spec recorded tokens readable allowed h =
     let ports = ports_of spec in
-    let at : AreAtPorts ports events = λ i d l. at_ports spec (get_or events i d)
-    (allowed.each i d l) in
-    let w = trace_written ports (good_ports spec) readable events at in
-    written_text ports events w allowed.few tokens h
+    let at : AreAtPorts ports recorded.events = λ i d l.
+    expected_at spec (get_or recorded.events i d) (allowed.each i d l) in
+    let w = trace_written ports (good_ports spec) readable recorded at in
+    written_text ports recorded w allowed.few tokens h
 
 -- the answer to a text of the trace
-answered : (ports : List Port) (text : List ℕ) (tokens : List Token) (events : List Event)
-    (answer : Result (List Event) TraceError) → IsTraceText ports text tokens events
-    → ReadsTrace ports text tokens answer → AreReadBack events answer
-answered ports text tokens events (Ok other) h r = sym (r.1 events h)
-answered ports text tokens events (Err (BadToken place)) h r = r.0.no_tree h.0 h.1
-answered ports text tokens events (Err (TooMany place)) h r = r.0.no_tree h.0 h.1
-answered ports text tokens events (Err (Memory error)) h r = tt
+answered : (ports : List Port) (text : List ℕ) (tokens : List Token) (recorded : Recorded)
+    (answer : Result Recorded TraceError) → IsTraceText ports text tokens recorded
+    → ReadsTrace ports text tokens answer → AreReadBack recorded answer
+answered ports text tokens recorded (Ok other) h r = sym (r.1 recorded h)
+answered ports text tokens recorded (Err (BadToken place)) h r = r.0.no_tree h.0 h.1
+answered ports text tokens recorded (Err (TooMany place)) h r = r.0.no_tree h.0 h.1
+answered ports text tokens recorded (Err (Memory error)) h r = tt
 
-pub read_back : (spec : Spec) (events : List Event) (tokens : List Token)
-    (answer : Result (List Event) TraceError)
-    → AreReadablePorts (ports_of spec) → IsAllowedTrace spec events
-    → IsTokenList (trace_text (ports_of spec) events) tokens
-    → ReadsTrace (ports_of spec) (trace_text (ports_of spec) events) tokens answer
-    → AreReadBack events answer
-read_back spec events tokens answer readable allowed h r =
-    answered (ports_of spec) (trace_text (ports_of spec) events) tokens events answer
-    (texts spec events tokens readable allowed h) r
+pub read_back : (spec : Spec) (recorded : Recorded) (tokens : List Token)
+    (answer : Result Recorded TraceError)
+    → AreReadablePorts (ports_of spec) → IsAllowedTrace spec recorded
+    → IsTokenList (trace_text (ports_of spec) recorded) tokens
+    → ReadsTrace (ports_of spec) (trace_text (ports_of spec) recorded) tokens answer
+    → AreReadBack recorded answer
+read_back spec recorded tokens answer readable allowed h r =
+    answered (ports_of spec) (trace_text (ports_of spec) recorded) tokens recorded answer
+    (texts spec recorded tokens readable allowed h) r

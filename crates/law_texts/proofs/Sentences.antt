@@ -58,9 +58,9 @@ pub ports_formed : PortKindsAreWellFormed
 ports_formed spec i port h at = readable_port port (ports_readable spec h i port at)
 
 pub texts : TracesOfSentencesAreTexts
-texts spec events written h allowed listed =
-    read.texts spec events written (ports_readable spec h) allowed listed
+texts spec recorded written h allowed listed =
+    read.texts spec recorded written (ports_readable spec h) allowed listed
 
 pub read_back : TracesOfSentencesAreRead
-read_back spec events written answer h allowed listed reads =
-    read.read_back spec events written answer (ports_readable spec h) allowed listed reads
+read_back spec recorded written answer h allowed listed reads =
+    read.read_back spec recorded written answer (ports_readable spec h) allowed listed reads

@@ -1,36 +1,48 @@
 -- Whole traces, as they are written.
-use Rattle.std.proofs.Common.{◌≡◌, ℕ, zero, suc, ◌≤◌, true, List, [], ◌∷◌, ◌++◌, length, drop, refl}
-use Rattle.std.proofs.Common.{sym, ap, subst, ◌∙◌, arith, append_assoc, flat_map}
+use Rattle.std.proofs.Common.{◌≡◌, ℕ, zero, suc, ◌≤◌, Bool, true, false, List, [], ◌∷◌, ◌++◌, length}
+use Rattle.std.proofs.Common.{drop, refl, sym, ap, subst, ◌∙◌, arith, append_assoc, flat_map, eqb}
+use Rattle.std.proofs.Common.{if◌then◌else◌}
 use Rattle.std.specs.List.{list_all}
 use Rattle.std.specs.Prelude.{codes}
+use Rattle.std.proofs.lemmas.Bool.{and_parts}
 use Rattle.std.proofs.lemmas.List.Elements.{All-head, All-tail}
 use Rattle.std.proofs.lemmas.List.Folds.{list_all-append}
 use Rattle.est_lexer.specs.declared.kind.Token.{Token}
 use Rattle.est_lexer.specs.declared.kind.TokenKind.TheVariants.{Number}
 use Rattle.est_lexer.specs.Between.{is_blank}
-use Rattle.est_lexer.specs.Spellings.{word_kind}
+use Rattle.est_lexer.specs.Spellings.{is_number, word_kind}
 use Rattle.est_lexer.specs.Words.{words}
 use Rattle.text_reader.specs.Grammar.{done, word, deeper, rule, t_done, t_opt_out, t_deeper}
-use Rattle.text_reader.specs.Grammar.{t_rule, nothing, both, some}
+use Rattle.text_reader.specs.Grammar.{t_rule, nothing, right, some}
 use Rattle.est_syntax.specs.declared.ports.Port.{Port}
 use Rattle.est_meaning.specs.declared.event.Event.{Event}
 use Rattle.est_meaning.specs.declared.event.Event.TheVariants.{Arrives, Leaves, Passes}
-use Rattle.text_reader.specs.Tests.{said, number}
+use Rattle.est_meaning.specs.declared.trace.Expected.{Expected}
+use Rattle.est_meaning.specs.declared.trace.Expected.TheVariants.{Known, Partly}
+use Rattle.est_meaning.specs.RecordedTraces.{Recorded}
+use Rattle.text_reader.specs.Tests.{said}
 use Rattle.text_reader.specs.Going.{Shape}
+use Rattle.text_values.specs.declared.formats.Format.{Format}
+use Rattle.text_values.specs.declared.formats.Format.TheVariants.{Complete, Partial}
 use Rattle.text_values.specs.TraceGrammar as grammar
-use Rattle.text_values.specs.TraceGrammar.{Rule, events_at, event}
+use Rattle.text_values.specs.declared.formats.Version.{Version}
+use Rattle.text_values.specs.declared.formats.Version.TheVariants.{First, Second, Third}
+use Rattle.text_values.specs.TraceGrammar.{Rule, events_at, version, ending, versioned, format_of}
 use Rattle.est_trace.specs.PortNames.{GoodPorts}
-use Rattle.est_trace.specs.TraceShapes.{ShowsEvents, ShowsTrace}
-use Rattle.est_trace.specs.inside.AtPorts.{IsAtPorts, AreAtPorts}
-use Rattle.est_trace.specs.WrittenTraces.{happening, event_line, trace_text}
+use Rattle.est_trace.specs.TraceShapes.{ShowsEvents, ShowsQuiet, ShowsRest, ShowsTrace}
+use Rattle.est_trace.specs.inside.AtPorts.{IsExpectedAt, AreAtPorts}
+use Rattle.est_trace.specs.WrittenTraces.{happening, expectation, event_line, is_known}
+use Rattle.est_trace.specs.WrittenTraces.{trace_text}
 use Rattle.law_texts.specs.ReadablePorts.{AreReadablePorts}
 use Rattle.est_explanation.proofs.Words.{Written, IsWhole, text_of, AreWritten}
 use Rattle.text_printer.proofs.Standing.{number_stands}
-use Rattle.law_texts.proofs.Wholes.{Ends, AreWholeBefore, standing_whole}
-use Rattle.law_texts.proofs.Writing.{Parsed, Writes, nothing_written, word_written}
-use Rattle.law_texts.proofs.Writing.{both_written, some_written, rule_written}
+use Rattle.law_texts.proofs.Wholes as wholes
+use Rattle.law_texts.proofs.Wholes.{AreWholeBefore, standing_whole}
+use Rattle.law_texts.proofs.Writing.{Meets, Parsed, Writes, nothing_written, word_written}
+use Rattle.law_texts.proofs.Writing.{both_written, first_written, second_written, some_written}
+use Rattle.law_texts.proofs.Writing.{rule_written}
 use Rattle.law_texts.proofs.Marks.{NoStar}
-use Rattle.law_texts.proofs.Events.{keyword_written, event_written}
+use Rattle.law_texts.proofs.Events.{keyword_written, MayStand, event_written}
 
 -- LINES
 
@@ -77,12 +89,12 @@ unfed text (t ∷ ts) (w ∷ []) vs h =
 unfed text [] (w ∷ v ∷ ws) vs h = elim h [ ]
 unfed text (t ∷ ts) (w ∷ v ∷ ws) vs h = (h.0, unfed text ts (v ∷ ws) vs h.1)
 
-feed_ends : (rest : List ℕ) → Ends (10 ∷ rest)
+feed_ends : (rest : List ℕ) → wholes.Ends (10 ∷ rest)
 feed_ends rest = record { no_part = refl; no_star = refl }
 
 -- a text and a line feed, where the text is not empty
 line_written : {g : Rule} {Is : Shape → Type 0} {bytes : List ℕ} (least : ℕ) → (bytes ≡ [] → ⊥)
-    → Writes Ends 0 g Is bytes → Writes NoStar least g Is (bytes ++ codes "\n")
+    → Writes wholes.Ends 0 g Is bytes → Writes NoStar least g Is (bytes ++ codes "\n")
 line_written {g} {Is} {bytes} least filled x = record {
   words = with_feed x.words;
   spelled = spelled x.words x.spelled;
@@ -124,46 +136,124 @@ deeper_written {least = least} {g} {Is} x = record {
           rest = r.rest;
         }
 
-event_some : (ports : List Port) (e : Event) → happening ports e ≡ [] → ⊥
-event_some ports (Passes units) h = absurd cc
-event_some ports (Arrives x) h = absurd cc
-event_some ports (Leaves x) h = absurd cc
+happening_some : (ports : List Port) (e : Event) → happening ports e ≡ [] → ⊥
+happening_some ports (Passes units) h = absurd cc
+happening_some ports (Arrives x) h = absurd cc
+happening_some ports (Leaves x) h = absurd cc
+
+event_some : (ports : List Port) (x : Expected) → expectation ports x ≡ [] → ⊥
+event_some ports (Known e) h = happening_some ports e h
+event_some ports (Partly port signal seen) h = absurd cc
+
+-- each of the events may stand in a trace of this format
+abbrev EachMayStand : Format → List Expected → Type 0
+EachMayStand Complete xs = list_all is_known xs ≡ true
+EachMayStand Partial xs = Unit {0}
+
+may_stand : (f : Format) (x : Expected) (xs : List Expected) → EachMayStand f (x ∷ xs)
+    → MayStand f x × EachMayStand f xs
+may_stand Complete x xs h = and_parts (is_known x) (list_all is_known xs) h
+may_stand Partial x xs h = (tt, tt)
+
+-- the digit of a version
+record IsDigit (v : Version) (digit : ℕ) : Type 0 where
+  meets : Meets (record { kind = Number; bytes = digit ∷ []; gap = 10 ∷ [] }) (version v)
+  is : is_number (digit ∷ []) ≡ true
+  no_star : eqb digit 42 ≡ false
+
+one : IsDigit First 49
+one = record { meets = λ text t w. rw (w.kind, w.spelled) refl; is = refl; no_star = refl }
+
+two : IsDigit Second 50
+two = record { meets = λ text t w. rw (w.kind, w.spelled) refl; is = refl; no_star = refl }
+
+three : IsDigit Third 51
+three = record { meets = λ text t w. rw (w.kind, w.spelled) refl; is = refl; no_star = refl }
 
 module _ (ports : List Port) (good : GoodPorts ports) (readable : AreReadablePorts ports) where
-  events_written : (es : List Event) → AreAtPorts ports es
-      → Writes NoStar (length es) (rule (events_at ports)) (λ t. ShowsEvents ports es t)
-      (flat_map (event_line ports) es)
-  events_written [] h =
-      nothing_written (rule (events_at ports)) (λ t. ShowsEvents ports [] t) (λ rest e. e) tt
+  events_written : (f : Format) (xs : List Expected) → AreAtPorts ports xs → EachMayStand f xs
+      → Writes NoStar (length xs) (rule (events_at f ports)) (λ t. ShowsEvents f ports xs t)
+      (flat_map (event_line ports) xs)
+  events_written f [] h s =
+      nothing_written (rule (events_at f ports)) (λ t. ShowsEvents f ports [] t) (λ rest e. e) tt
       (λ text s d a. t_rule t_opt_out)
-  events_written (e ∷ es) h =
-      let more = events_written es (All-tail (IsAtPorts ports) e es h) in
-      rule_written (events_at ports)
-      (some_written (λ t. ShowsEvents ports (e ∷ es) t)
+  events_written f (x ∷ xs) h s =
+      let stand = may_stand f x xs s in
+      let more = events_written f xs (All-tail (IsExpectedAt ports) x xs h) stand.1 in
+      rule_written (events_at f ports)
+      (some_written (λ t. ShowsEvents f ports (x ∷ xs) t)
       (deeper_written
-      (both_written (λ t. ShowsEvents ports (e ∷ es) (some t))
-      (line_written (length es) (event_some ports e)
-      (event_written ports good readable e (All-head (IsAtPorts ports) e es h)))
+      (both_written (λ t. ShowsEvents f ports (x ∷ xs) (some t))
+      (line_written (length xs) (event_some ports x)
+      (event_written ports good readable f x (All-head (IsExpectedAt ports) x xs h) stand.0))
       more (λ rest n. more.no_star rest n) (λ t u i j. (i, j)))) (λ t i. i))
 
-  -- nothing more after the last line
-  end_written : (least : ℕ) → Writes NoStar least (word (said "end") done) (λ t. t ≡ nothing)
-      (codes "end\n")
+  -- the last line
+  end_written : (least : ℕ) (quiet : Bool) → quiet ≡ false
+      → Writes NoStar least (word (said "end") done) (λ t. ShowsQuiet quiet t) (codes "end\n")
   unfolding word_kind words
-  end_written least =
+  end_written least quiet e =
       keyword_written (codes "end") 10 refl refl refl
-      (nothing_written done (λ t. t ≡ nothing) (λ rest e. e) refl (λ text s d a. t_done))
+      (nothing_written done (λ t. ShowsQuiet quiet t) (λ rest n. n)
+      (subst (λ q. ShowsQuiet q nothing) (sym e) tt) (λ text s d a. t_done))
 
-  pub trace_written : (es : List Event) → AreAtPorts ports es
-      → Writes NoStar (length es) (grammar.trace ports) (λ t. ShowsTrace ports es t)
-      (trace_text ports es)
+  quiet_written : (least : ℕ) (quiet : Bool) → quiet ≡ true
+      → Writes NoStar least (word (said "end") (ending Third)) (λ t. ShowsQuiet quiet t)
+      (codes "end quiet\n")
   unfolding word_kind words
-  trace_written es h =
+  quiet_written least quiet e =
+      keyword_written (codes "end") 32 refl refl refl
+      (some_written (λ t. ShowsQuiet quiet t)
+      (keyword_written (codes "quiet") 10 refl refl refl
+      (nothing_written done (λ t. ShowsQuiet quiet (some t)) (λ rest n. n)
+      (subst (λ q. ShowsQuiet q (some nothing)) (sym e) tt) (λ text s d a. t_done)))
+      (λ t i. i))
+
+  -- a version, the lines of the events and the last line
+  versioned_written : (v : Version) (digit : ℕ) (r : Recorded) (last : List ℕ) → IsDigit v digit
+      → AreAtPorts ports r.events → EachMayStand (format_of v) r.events
+      → Writes NoStar (length r.events) (word (said "end") (ending v))
+      (λ t. ShowsQuiet r.quiet t) last
+      → Writes NoStar (length r.events) (versioned v ports)
+      (λ t. ShowsRest (format_of v) ports r t)
+      (digit ∷ 10 ∷ (flat_map (event_line ports) r.events ++ last))
+  versioned_written v digit r last n h s x =
+      word_written (version v) (record { kind = Number; bytes = digit ∷ []; gap = 10 ∷ [] })
+      (both_written (λ t. ShowsRest (format_of v) ports r t)
+      (events_written (format_of v) r.events h s) x (λ rest e. x.no_star rest e)
+      (λ t u i j. (i, j))) n.meets
+      (λ rest e. let more = 10 ∷ ((flat_map (event_line ports) r.events ++ last) ++ rest) in
+      standing_whole Number (digit ∷ []) (10 ∷ []) more refl
+      (number_stands (digit ∷ []) more n.is refl))
+      (λ rest. n.no_star)
+
+  by_version : (r : Recorded) → AreAtPorts ports r.events → (quiet all : Bool) → r.quiet ≡ quiet
+      → list_all is_known r.events ≡ all
+      → Writes NoStar (length r.events) (grammar.trace ports) (λ t. ShowsTrace ports r t)
+      ((if quiet then codes "trace 3\n"
+      else (if all then codes "trace 1\n" else codes "trace 2\n"))
+      ++ flat_map (event_line ports) r.events
+      ++ (if quiet then codes "end quiet\n" else codes "end\n"))
+  unfolding word_kind words
+  by_version r h true all q e =
       keyword_written (codes "trace") 32 refl refl refl
-      (word_written (number 1 1) (record { kind = Number; bytes = 49 ∷ []; gap = 10 ∷ [] })
-      (both_written (λ t. ShowsTrace ports es t) (events_written es h) (end_written (length es))
-      (λ rest n. refl) (λ t u i j. subst (λ v. ShowsTrace ports es (both t v)) (sym j) i))
-      (λ text t w. rw (w.kind, w.spelled) refl)
-      (λ rest n. let more = 10 ∷ ((flat_map (event_line ports) es ++ codes "end\n") ++ rest) in
-      standing_whole Number (49 ∷ []) (10 ∷ []) more refl (number_stands (49 ∷ []) more refl refl))
-      (λ rest. refl))
+      (second_written (λ t. ShowsTrace ports r t)
+      (second_written (λ t. ShowsTrace ports r (right t))
+      (versioned_written Third 51 r (codes "end quiet\n") three h tt
+      (quiet_written (length r.events) r.quiet q)) _ (λ t i. i)) _ (λ t i. i))
+  by_version r h false true q e =
+      keyword_written (codes "trace") 32 refl refl refl
+      (first_written (λ t. ShowsTrace ports r t)
+      (versioned_written First 49 r (codes "end\n") one h e
+      (end_written (length r.events) r.quiet q)) _ (λ t i. i))
+  by_version r h false false q e =
+      keyword_written (codes "trace") 32 refl refl refl
+      (second_written (λ t. ShowsTrace ports r t)
+      (first_written (λ t. ShowsTrace ports r (right t))
+      (versioned_written Second 50 r (codes "end\n") two h tt
+      (end_written (length r.events) r.quiet q)) _ (λ t i. i)) _ (λ t i. i))
+
+  pub trace_written : (r : Recorded) → AreAtPorts ports r.events
+      → Writes NoStar (length r.events) (grammar.trace ports) (λ t. ShowsTrace ports r t)
+      (trace_text ports r)
+  trace_written r h = by_version r h r.quiet (list_all is_known r.events) refl refl

@@ -1,13 +1,15 @@
 -- Values, as they are written.
 use Rattle.std.proofs.Common.{◌≡◌, ℕ, zero, suc, ℤ, pos, negsuc, ◌≤ℤ◌, List, [], ◌∷◌, length, refl}
 use Rattle.std.proofs.Common.{sym, ap, subst, ◌∙◌, arith, true, false, IsTrue, replicate, Some}
-use Rattle.std.proofs.Common.{slice_get}
+use Rattle.std.proofs.Common.{slice_get, eqb}
 use Rattle.std.specs.List.{AllZip}
 use Rattle.std.specs.Prelude.{codes}
 use Rattle.std.proofs.lemmas.Int.{ints}
 use Rattle.std.proofs.lemmas.List.{length-map, length-replicate}
 use Rattle.est_lexer.specs.declared.kind.TokenKind.TheVariants.{Symbol}
+use Rattle.est_lexer.specs.declared.kind.Symbol as mark
 use Rattle.est_lexer.specs.declared.kind.Symbol.TheVariants as symbols
+use Rattle.est_lexer.specs.TokenKinds.{is_same}
 use Rattle.text_reader.specs.Grammar.{done, nothing, both, right}
 use Rattle.est_syntax.specs.declared.kind.Kind.{Kind, out-Kind}
 use Rattle.est_syntax.specs.declared.kind.Kind.TheOpen as kinds
@@ -20,11 +22,10 @@ use Rattle.est_values.specs.FittingValues.{ordinal_count, first_of, last_of}
 use Rattle.text_reader.specs.Tests.{kind}
 use Rattle.text_reader.specs.Going.{Shape}
 use Rattle.text_values.specs.TraceGrammar as grammar
-use Rattle.text_values.specs.TraceGrammar.{a_value, value_by, value_of, field_kinds}
-use Rattle.text_values.specs.ValueShapes.{AreEnclosed, ShowsOrdinal, ShowsSet, ShowsValue}
-use Rattle.text_values.specs.ValueShapes.{ShowsValues}
+use Rattle.text_values.specs.TraceGrammar.{Rule, formed, a_value, value_by, value_of, field_kinds}
+use Rattle.text_values.specs.ValueShapes.{ShowsOrdinal, ShowsSet, ShowsValue, ShowsValues}
 use Rattle.text_values.specs.ValueShapes as shapes
-use Rattle.text_values.proofs.Groups.{shown_values}
+use Rattle.text_values.proofs.Groups.{enclosed_as, shown_values}
 use Rattle.text_values.proofs.Places.{mapped_at, some_same}
 use Rattle.text_values.specs.WrittenLists.{enclosed}
 use Rattle.text_values.specs.WrittenOrdinals.{ordinal_text}
@@ -33,6 +34,7 @@ use Rattle.text_values.specs.WrittenValues.{value_text, value_texts, set_text, g
 use Rattle.text_values.proofs.ValueTexts.{undefined_text, ordinal_is, set_is, group_is}
 use Rattle.law_texts.specs.ReadableKinds.{IsReadableOrdinal, IsReadable, ordinals, sets, arrays}
 use Rattle.law_texts.specs.ReadableKinds.{records}
+use Rattle.text_printer.proofs.Standing.{Stands}
 use Rattle.law_texts.proofs.Wholes.{Ends, standing_whole}
 use Rattle.law_texts.proofs.Writing.{Writes, first_written, second_written, shown_written}
 use Rattle.law_texts.proofs.Writing.{rule_written, word_written}
@@ -43,7 +45,7 @@ use Rattle.law_texts.proofs.Lists.{enclosed_written, zipped, set_written}
 
 -- WHAT IS KNOWN OF A KIND
 
-readable_set : (k base : Kind) → out-Kind k ≡ kinds.SetOf base → IsReadable k
+pub readable_set : (k base : Kind) → out-Kind k ≡ kinds.SetOf base → IsReadable k
     → IsReadableOrdinal base
 readable_set k base e (ordinals r) =
     let no : false ≡ true = rw e at r.ordinal in absurd cc
@@ -52,7 +54,7 @@ readable_set k base e (sets other f r) =
 readable_set k base e (arrays index of f i r) = absurd cc
 readable_set k base e (records fs f r) = absurd cc
 
-readable_array : (k index of : Kind) → out-Kind k ≡ kinds.ArrayOf index of → IsReadable k
+pub readable_array : (k index of : Kind) → out-Kind k ≡ kinds.ArrayOf index of → IsReadable k
     → IsReadable of
 readable_array k index of e (ordinals r) =
     let no : false ≡ true = rw e at r.ordinal in absurd cc
@@ -61,7 +63,7 @@ readable_array k index of e (arrays other part f i r) =
     let q : part ≡ of = cc in subst (λ (j : Kind). IsReadable j) q r
 readable_array k index of e (records fs f r) = absurd cc
 
-readable_field : (k : Kind) (fs : List FieldKind) → out-Kind k ≡ kinds.Fields fs → IsReadable k
+pub readable_field : (k : Kind) (fs : List FieldKind) → out-Kind k ≡ kinds.Fields fs → IsReadable k
     → (i : ℕ) (field : FieldKind) → slice_get fs i ≡ Some field → IsReadable field.kind
 readable_field k fs e (ordinals r) i field g =
     let no : false ≡ true = rw e at r.ordinal in absurd cc
@@ -79,51 +81,53 @@ module _ (k : Kind) (z : ℤ) (o : IsOrdinalOf k z) where
       let high : z ≤ℤ negsuc 0 = subst (λ y. z ≤ℤ y) g b.1 in
       absurd (omega (arith, ints, low, high))
 
-  readable_ordinal : IsReadable k → IsReadableOrdinal k
+  pub readable_ordinal : IsReadable k → IsReadableOrdinal k
   readable_ordinal (ordinals r) = r
   readable_ordinal (sets base e r) = no_ordinals (kinds.SetOf base) e refl refl
   readable_ordinal (arrays index of e i r) = no_ordinals (kinds.ArrayOf index of) e refl refl
   readable_ordinal (records fs e r) = no_ordinals (kinds.Fields fs) e refl refl
 
-  by_ordinal : (l : KindLayer) → out-Kind k ≡ l
-      → value_by l k ≡ grammar.scalar (grammar.ordinal k)
-  by_ordinal kinds.Integer e = refl
-  by_ordinal kinds.Boolean e = refl
-  by_ordinal kinds.Char e = refl
-  by_ordinal (kinds.Enumeration declared names) e = refl
-  by_ordinal (kinds.Part host low high) e = refl
-  by_ordinal (kinds.SetOf base) e = no_ordinals (kinds.SetOf base) e refl refl
-  by_ordinal (kinds.ArrayOf index of) e = no_ordinals (kinds.ArrayOf index of) e refl refl
-  by_ordinal (kinds.Fields fs) e = no_ordinals (kinds.Fields fs) e refl refl
+  pub by_ordinal : (part : Kind → Rule) (l : KindLayer) → out-Kind k ≡ l
+      → formed part l k ≡ grammar.scalar (grammar.ordinal k)
+  by_ordinal part kinds.Integer e = refl
+  by_ordinal part kinds.Boolean e = refl
+  by_ordinal part kinds.Char e = refl
+  by_ordinal part (kinds.Enumeration declared names) e = refl
+  by_ordinal part (kinds.Part host low high) e = refl
+  by_ordinal part (kinds.SetOf base) e = no_ordinals (kinds.SetOf base) e refl refl
+  by_ordinal part (kinds.ArrayOf index of) e = no_ordinals (kinds.ArrayOf index of) e refl refl
+  by_ordinal part (kinds.Fields fs) e = no_ordinals (kinds.Fields fs) e refl refl
 
 -- SCALARS
 
-undefined_word : Writes Ends 0 (grammar.symbol symbols.Underscore done) (λ t. t ≡ nothing)
-    (codes "_")
-undefined_word =
-    word_written (kind (Symbol symbols.Underscore)) (marked symbols.Underscore 95 []) done_written
-    (mark_meets symbols.Underscore 95 [] refl)
-    (λ rest h. standing_whole (Symbol symbols.Underscore) (95 ∷ []) [] rest refl
-    (underscore_stands rest)) (λ rest. refl)
+-- a symbol that stands before any text
+pub sign_written : (s : mark.Symbol) (b : ℕ)
+    → ((rest : List ℕ) → Stands (Symbol s) (b ∷ []) rest)
+    → is_same (Symbol s) (Symbol s) ≡ true → eqb b 42 ≡ false
+    → Writes Ends 0 (grammar.symbol s done) (λ t. t ≡ nothing) (b ∷ [])
+sign_written s b stands same star =
+    word_written (kind (Symbol s)) (marked s b []) done_written (mark_meets s b [] same)
+    (λ rest h. standing_whole (Symbol s) (b ∷ []) [] rest refl (stands rest)) (λ rest. star)
 
-undefined_scalar : (g : grammar.Rule)
+undefined_scalar : (g : Rule)
     → Writes Ends 0 (grammar.scalar g) (λ t. t ≡ right nothing) (codes "_")
 undefined_scalar g =
-    second_written (λ t. t ≡ right nothing) undefined_word g (λ t i. ap right i)
+    second_written (λ t. t ≡ right nothing)
+    (sign_written symbols.Underscore 95 underscore_stands refl refl) g (λ t i. ap right i)
 
-undefined_written : (l : KindLayer) (k : Kind) → IsTrue (scalar_of l)
-    → Writes Ends 0 (value_by l k) (λ t. t ≡ right nothing) (codes "_")
-undefined_written kinds.Integer k s = undefined_scalar (grammar.ordinal k)
-undefined_written kinds.Boolean k s = undefined_scalar (grammar.ordinal k)
-undefined_written kinds.Char k s = undefined_scalar (grammar.ordinal k)
-undefined_written (kinds.Enumeration declared names) k s = undefined_scalar (grammar.ordinal k)
-undefined_written (kinds.Part host low high) k s = undefined_scalar (grammar.ordinal k)
-undefined_written (kinds.SetOf base) k s = undefined_scalar (grammar.set base)
-undefined_written (kinds.ArrayOf index of) k s = absurd cc
-undefined_written (kinds.Fields fs) k s = absurd cc
+pub undefined_written : (part : Kind → Rule) (l : KindLayer) (k : Kind) → IsTrue (scalar_of l)
+    → Writes Ends 0 (formed part l k) (λ t. t ≡ right nothing) (codes "_")
+undefined_written part kinds.Integer k s = undefined_scalar (grammar.ordinal k)
+undefined_written part kinds.Boolean k s = undefined_scalar (grammar.ordinal k)
+undefined_written part kinds.Char k s = undefined_scalar (grammar.ordinal k)
+undefined_written part (kinds.Enumeration declared names) k s = undefined_scalar (grammar.ordinal k)
+undefined_written part (kinds.Part host low high) k s = undefined_scalar (grammar.ordinal k)
+undefined_written part (kinds.SetOf base) k s = undefined_scalar (grammar.set base)
+undefined_written part (kinds.ArrayOf index of) k s = absurd cc
+undefined_written part (kinds.Fields fs) k s = absurd cc
 
 -- a value whose form gives this right side and this text
-as_value : (k : Kind) (v : Value) (g : grammar.Rule) (bytes : List ℕ) → grammar.value k ≡ g
+as_value : (k : Kind) (v : Value) (g : Rule) (bytes : List ℕ) → grammar.value k ≡ g
     → bytes ≡ value_text k v → Writes Ends 0 g (λ t. ShowsValue k v t) bytes
     → Writes Ends 0 (a_value k) (λ t. ShowsValue k v t) (value_text k v)
 as_value k v g bytes e f w =
@@ -131,13 +135,6 @@ as_value k v g bytes e f w =
     (sym e) (subst (λ b. Writes Ends 0 g (λ t. ShowsValue k v t) b) f w))
 
 -- GROUPS
-
--- the group of values that have a shape
-grouped : (k : Kind) (v : Value) (ks : List Kind) (vs : List Value) (t : Shape)
-    → ((u : Shape) → ShowsValues ks vs u → ShowsValue k v (both u nothing))
-    → AreEnclosed ShowsValue ks vs t → ShowsValue k v t
-grouped k v ks vs (both t nothing) f h = f t (shown_values ks vs t h)
-grouped k v ks vs _ f h = absurd h
 
 -- a value that is written
 abbrev pub IsWrittenValue : Kind → Value → Type 0
@@ -153,9 +150,10 @@ group_written k v ks vs e f s z =
     (shown_written (λ t. ShowsValue k v t)
     (enclosed_written a_value ShowsValue value_text symbols.LeftParenthesis
     symbols.RightParenthesis 40 41 left_parenthesis right_parenthesis ks vs z)
-    (λ t h. grouped k v ks vs t s h))
+    (λ t h. enclosed_as ShowsValue ks vs (ShowsValue k v)
+    (λ u i. s u (shown_values ks vs u i)) t h))
 
-replicated : (n i : ℕ) (x y : Kind) → slice_get (replicate n x) i ≡ Some y → x ≡ y
+pub replicated : (n i : ℕ) (x y : Kind) → slice_get (replicate n x) i ≡ Some y → x ≡ y
 replicated zero i x y e = absurd cc
 replicated (suc n) zero x y e = some_same e
 replicated (suc n) (suc i) x y e = replicated n i x y e
@@ -187,11 +185,11 @@ fields_text k fs parts v e f =
 pub value_written : (k : Kind) (v : Value) → IsReadable k → Fits k v → IsWrittenValue k v
 value_written k v r (fitting.undefined e s) =
     as_value k v (grammar.value k) (codes "_") refl (undefined_text k v e)
-    (shown_written (λ t. ShowsValue k v t) (undefined_written (out-Kind k) k s)
+    (shown_written (λ t. ShowsValue k v t) (undefined_written a_value (out-Kind k) k s)
     (λ t i. subst (λ u. ShowsValue k v u) (sym i) (shapes.undefined s e)))
 value_written k v r (fitting.ordinal z e o) =
     as_value k v (grammar.scalar (grammar.ordinal k)) (ordinal_text k z)
-    (by_ordinal k z o (out-Kind k) refl) (ordinal_is k v z e)
+    (by_ordinal k z o a_value (out-Kind k) refl) (ordinal_is k v z e)
     (first_written (λ t. ShowsValue k v t) (ordinal_written k z o (readable_ordinal k z o r)) _
     (λ t h. shapes.ordinal z e h))
 value_written k v r (fitting.set base zs e f m) =

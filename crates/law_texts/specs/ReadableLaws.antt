@@ -5,7 +5,7 @@ use Rattle.est_lexer.specs.TokenList.{IsTokenList}
 use Rattle.est_syntax.specs.declared.specification.Spec.{Spec}
 use Rattle.est_check.specs.SentenceOf.{IsSentence}
 use Rattle.rule_declares.specs.PortList.{ports_of}
-use Rattle.est_meaning.specs.declared.event.Event.{Event}
+use Rattle.est_meaning.specs.RecordedTraces.{Recorded}
 use Rattle.est_meaning.specs.AllowedEvents.{IsAllowedTrace}
 use Rattle.est_trace.specs.declared.error.TraceError.{TraceError}
 use Rattle.est_trace.specs.TraceText.{IsTraceText, ReadsTrace}
@@ -19,16 +19,16 @@ PortsOfSentencesAreReadable = (spec : Spec) → IsSentence spec → AreReadableP
 
 -- the text that is written of an allowed trace of a sentence is a text of this trace
 abbrev pub TracesOfSentencesAreTexts : Type 0
-TracesOfSentencesAreTexts = (spec : Spec) (events : List Event) (written : List Token)
-    → IsSentence spec → IsAllowedTrace spec events
-    → IsTokenList (trace_text (ports_of spec) events) written
-    → IsTraceText (ports_of spec) (trace_text (ports_of spec) events) written events
+TracesOfSentencesAreTexts = (spec : Spec) (recorded : Recorded) (written : List Token)
+    → IsSentence spec → IsAllowedTrace spec recorded
+    → IsTokenList (trace_text (ports_of spec) recorded) written
+    → IsTraceText (ports_of spec) (trace_text (ports_of spec) recorded) written recorded
 
--- what is read of it are its events, or memory runs out
+-- what is read of it is this trace, or memory runs out
 abbrev pub TracesOfSentencesAreRead : Type 0
-TracesOfSentencesAreRead = (spec : Spec) (events : List Event) (written : List Token)
-    (answer : Result (List Event) TraceError)
-    → IsSentence spec → IsAllowedTrace spec events
-    → IsTokenList (trace_text (ports_of spec) events) written
-    → ReadsTrace (ports_of spec) (trace_text (ports_of spec) events) written answer
-    → AreReadBack events answer
+TracesOfSentencesAreRead = (spec : Spec) (recorded : Recorded) (written : List Token)
+    (answer : Result Recorded TraceError)
+    → IsSentence spec → IsAllowedTrace spec recorded
+    → IsTokenList (trace_text (ports_of spec) recorded) written
+    → ReadsTrace (ports_of spec) (trace_text (ports_of spec) recorded) written answer
+    → AreReadBack recorded answer

@@ -16,7 +16,7 @@ pub fn ports_of_sentences_are_readable()
 {}
 
 /// So the text that is written of an allowed trace of a sentence is a text of it, and what is read
-/// of this text are its events, or memory runs out.
+/// of this text is this trace, or memory runs out.
 pub fn traces_of_sentences_are_read()
     ensures texts { TracesOfSentencesAreTexts }
     ensures answers { TracesOfSentencesAreRead }

@@ -2,7 +2,7 @@
 use Rattle.std.proofs.Common.{◌≡◌, refl, sym, subst, arith, ℤ, pos, ◌+ℤ◌, ◌≤ℤ◌, Bool, true, false}
 use Rattle.std.proofs.Common.{List, [], ◌∷◌, Ok, Err}
 use Rattle.std.specs.Prelude.{int_le, if◌then◌else◌}
-use Rattle.std.specs.List.{AllByRecursion, AllZip, list_all}
+use Rattle.std.specs.List.{AllZip, list_all}
 use Rattle.std.proofs.lemmas.Int.{ints}
 use Rattle.est_syntax.specs.declared.kind.Kind.{Kind, out-Kind}
 use Rattle.est_syntax.specs.declared.kind.Kind.TheOpen as seen
@@ -15,9 +15,8 @@ use Rattle.mean_blocks.specs.declared.fault.BlockFault.TheVariants.{Range}
 use Rattle.mean_blocks.specs.TakenValues.{is_within, are_within, taken}
 use Rattle.mean_blocks.proofs.FittingTaken.{taken_fit}
 use Rattle.est_meaning.specs.AllowedEvents.{IsSendable}
-use Rattle.est_meaning.proofs.AgreementLaws.{agree_same}
 use Rattle.est_meaning.proofs.RunLaws.{bounded_is_run}
-use Rattle.law_values.specs.SentInteractions.{Takes, LeavesAsSent}
+use Rattle.law_values.specs.SentInteractions.{Takes}
 use Rattle.law_values.specs.DepartureLaws.{MayBeGiven, WhatIsTakenFits}
 use Rattle.law_values.specs.DepartureLaws.{FittingDeparturesAreAllowed}
 use Rattle.law_values.specs.DepartureLaws.{GivenDeparturesAreAllowed, ExplainedTracesSend}
@@ -104,6 +103,4 @@ given_departures_are_allowed spec i sent h =
 
 pub explained_traces_send : ExplainedTracesSend
 explained_traces_send c run sound begun e =
-    subst (AllByRecursion (LeavesAsSent c.spec))
-    (agree_same c.trace e.place.events e.whole.events)
     (runs_send c run e.place sound begun (bounded_is_run c run e.place e.is_run)).departures

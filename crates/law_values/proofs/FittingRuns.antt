@@ -44,11 +44,11 @@ use Rattle.est_meaning.specs.FiringSteps.{taking_point, without_awaited, block_f
 use Rattle.est_meaning.specs.FiringSteps.{performed_in, with_next_state, completed, finished}
 use Rattle.est_meaning.specs.FiringSteps.{fired_in, fired_by, outcome, start_of}
 use Rattle.est_meaning.specs.declared.event.Event.TheVariants as event
+use Rattle.est_meaning.specs.declared.trace.Expected.TheVariants.{Known}
 use Rattle.est_meaning.proofs.Options.{then_some, map_some, by_option}
 use Rattle.est_meaning.proofs.Outside.{ports_go_both_ways}
 use Rattle.est_meaning.specs.declared.run.Move.TheVariants.{Take, Fire}
 use Rattle.est_meaning.specs.Run.{Place, IsFromOutside}
-use Rattle.est_meaning.proofs.AgreementLaws.{agree_same}
 use Rattle.est_meaning.proofs.RunLaws.{bounded_is_run}
 use Rattle.law_runs.specs.UpkeepLaws.{OnDone}
 use Rattle.law_runs.proofs.GivenThings.{Gives}
@@ -63,8 +63,8 @@ use Rattle.law_values.specs.FittingStates.{FrameFits, FramesFit, ItemFits, Situa
 use Rattle.law_values.specs.FittingStates.{StateFits}
 use Rattle.law_values.specs.ValuesOfTypes.{IsYielded}
 use Rattle.law_values.specs.SoundnessLaws.{IsTyped, ExpressionsFit, FitsSoFar, StartsFit}
-use Rattle.law_values.specs.SoundnessLaws.{FiringsFit, MayCome, EventsFit, RunsFit}
-use Rattle.law_values.specs.SoundnessLaws.{ExplainedTracesAreAllowed}
+use Rattle.law_values.specs.SoundnessLaws.{FiringsFit, MayCome, MayComeAsExpected, EventsFit}
+use Rattle.law_values.specs.SoundnessLaws.{RunsFit, ExplainedTracesAreAllowed}
 use Rattle.law_values.proofs.FittingFrames.{OnSome, found_one}
 use Rattle.law_values.proofs.FittingArguments.{unset_fits}
 use Rattle.law_values.proofs.FittingExpressions.{expr_yields}
@@ -378,8 +378,8 @@ runs_fit c [] p typed begun came r =
     (starts_fit c.limit c.spec c.start c.start_outs typed begun)
 runs_fit c (Take ∷ run) p typed begun came r = let x = r.2 in
     let h = runs_fit c run r.0 typed begun came r.1 in
-    let k = in_whole (MayCome c.spec) x.front x.event x.rest
-    (subst (AllByRecursion (MayCome c.spec)) x.next came) in
+    let k : MayCome c.spec x.event = in_whole (MayComeAsExpected c.spec) x.front (Known x.event)
+    x.rest (subst (AllByRecursion (MayComeAsExpected c.spec)) x.next came) in
     let sent = runs_send c (Take ∷ run) p (sound c.spec typed) begun r in
     subst (λ (w : Place). FitsSoFar c.spec w.situation w.events) (sym x.leads) record {
       attachments = subst (λ (w : Place). JoinOneSide (outline_of c.spec) w.situation) x.leads
@@ -400,5 +400,4 @@ runs_fit c (Fire f ∷ run) p typed begun came r = let x = r.2 in
 
 pub explained_traces_are_allowed : ExplainedTracesAreAllowed
 explained_traces_are_allowed c run typed begun came e =
-    subst (AllByRecursion (IsAllowed c.spec)) (agree_same c.trace e.place.events e.whole.events)
     (runs_fit c run e.place typed begun came (bounded_is_run c run e.place e.is_run)).allowed

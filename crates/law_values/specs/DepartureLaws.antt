@@ -64,10 +64,10 @@ abbrev pub SentencesSend : Type 0
 SentencesSend = (c : Setup) (run : List Move) (p : Place) → IsSentence c.spec → IsGood c.spec
     → IsBegun c → IsRun c run p → HasSent c.spec p.situation p.events
 
--- so it is in a trace that a run of a sound specification explains
+-- so it is with the events of a run of a sound specification that explains a trace
 abbrev pub ExplainedTracesSend : Type 0
-ExplainedTracesSend = (c : Setup) (run : List Move) → IsSound c.spec → IsBegun c → Explains c run
-    → AllByRecursion (LeavesAsSent c.spec) c.trace
+ExplainedTracesSend = (c : Setup) (run : List Move) → IsSound c.spec → IsBegun c
+    → (e : Explains c run) → AllByRecursion (LeavesAsSent c.spec) e.place.events
 
 -- ALLOWED EVENTS
 

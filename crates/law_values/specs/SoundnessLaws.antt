@@ -23,6 +23,8 @@ use Rattle.est_meaning.specs.AllowedEvents.{IsReceivable, IsAllowed}
 use Rattle.est_meaning.specs.FiringSteps.{outcome, start_of}
 use Rattle.est_meaning.specs.OutsideEvents.{after_event}
 use Rattle.est_meaning.specs.declared.event.Event.TheVariants as event
+use Rattle.est_meaning.specs.declared.trace.Expected.{Expected}
+use Rattle.est_meaning.specs.declared.trace.Expected.TheVariants.{Known, Partly}
 use Rattle.est_meaning.specs.declared.run.Move.{Move}
 use Rattle.est_meaning.specs.Run.{Setup, Place, IsBegun, IsRun, Explains}
 use Rattle.law_sentences.specs.FullExpressions.{IsWhole}
@@ -82,7 +84,12 @@ MayCome spec (event.Arrives i) = IsReceivable spec i
 MayCome spec (event.Leaves i) = Unit {0}
 MayCome spec (event.Passes units) = units ≤ maxint
 
--- it leaves values that fit
+-- what the outside does, where it is expected, may stand in a trace
+abbrev pub MayComeAsExpected : Spec → Expected → Type 0
+MayComeAsExpected spec (Known e) = MayCome spec e
+MayComeAsExpected spec (Partly port signal seen) = Unit {0}
+
+-- what comes leaves values that fit
 abbrev pub EventsFit : Type 0
 EventsFit = (spec : Spec) (s : Situation) (e : Event) → MayCome spec e
     → SituationFits (outline_of spec) s
@@ -94,11 +101,11 @@ EventsFit = (spec : Spec) (s : Situation) (e : Event) → MayCome spec e
 -- outside does along it may
 abbrev pub RunsFit : Type 0
 RunsFit = (c : Setup) (run : List Move) (p : Place) → IsTyped c.spec → IsBegun c
-    → AllByRecursion (MayCome c.spec) c.trace → IsRun c run p
+    → AllByRecursion (MayComeAsExpected c.spec) c.trace.events → IsRun c run p
     → FitsSoFar c.spec p.situation p.events
 
--- and so a trace is allowed that a run explains
+-- and so the events of a run are allowed that explains a trace
 abbrev pub ExplainedTracesAreAllowed : Type 0
 ExplainedTracesAreAllowed = (c : Setup) (run : List Move) → IsTyped c.spec → IsBegun c
-    → AllByRecursion (MayCome c.spec) c.trace → Explains c run
-    → AllByRecursion (IsAllowed c.spec) c.trace
+    → AllByRecursion (MayComeAsExpected c.spec) c.trace.events → (e : Explains c run)
+    → AllByRecursion (IsAllowed c.spec) e.place.events

@@ -9,7 +9,7 @@ use Rattle.est_meaning.specs.declared.run.Move.{Move}
 use Rattle.est_meaning.specs.Run.{Setup, Place, IsBegun, IsRun, Explains}
 use Rattle.est_check.specs.SentenceOf.{IsSentence}
 use Rattle.law_values.specs.SteadyOutlines.{IsSteady}
-use Rattle.law_values.specs.SoundnessLaws.{IsTyped, FitsSoFar, MayCome}
+use Rattle.law_values.specs.SoundnessLaws.{IsTyped, FitsSoFar, MayComeAsExpected}
 
 -- of the outline of a sentence parameters are variables, and enumerations are known by their places
 abbrev pub SentencesAreSteady : Type 0
@@ -23,11 +23,11 @@ SentencesAreTyped = (spec : Spec) → IsSentence spec → IsGood spec → IsType
 -- outside does along them may
 abbrev pub RunsOfSentencesFit : Type 0
 RunsOfSentencesFit = (c : Setup) (run : List Move) (p : Place) → IsSentence c.spec → IsGood c.spec
-    → IsBegun c → AllByRecursion (MayCome c.spec) c.trace → IsRun c run p
+    → IsBegun c → AllByRecursion (MayComeAsExpected c.spec) c.trace.events → IsRun c run p
     → FitsSoFar c.spec p.situation p.events
 
--- and so a trace is allowed that a run explains
+-- and so the events of a run are allowed that explains a trace
 abbrev pub TracesOfSentencesAreAllowed : Type 0
 TracesOfSentencesAreAllowed = (c : Setup) (run : List Move) → IsSentence c.spec → IsGood c.spec
-    → IsBegun c → AllByRecursion (MayCome c.spec) c.trace → Explains c run
-    → AllByRecursion (IsAllowed c.spec) c.trace
+    → IsBegun c → AllByRecursion (MayComeAsExpected c.spec) c.trace.events
+    → (e : Explains c run) → AllByRecursion (IsAllowed c.spec) e.place.events

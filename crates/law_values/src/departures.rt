@@ -13,7 +13,7 @@ pub fn steps_send()
     ensures firings { FiringsSend }
 {}
 
-/// So it is for all events of a run, and for those of each trace that a run explains.
+/// So it is for all events of a run, and so of each run that explains a trace.
 pub fn runs_send()
     ensures events { RunsSend }
     ensures traces { ExplainedTracesSend }

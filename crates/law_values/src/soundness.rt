@@ -38,8 +38,8 @@ pub fn steps_fit()
     ensures events { EventsFit }
 {}
 
-/// So it is in each run, and each trace that a run explains is allowed where what comes from
-/// outside is.
+/// So it is in each run, and the events of a run that explains a trace are allowed where what comes
+/// from outside is.
 pub fn runs_fit()
     ensures situations { RunsFit }
     ensures traces { ExplainedTracesAreAllowed }

@@ -9,8 +9,8 @@ pub fn sentences_are_typed()
     ensures typed { SentencesAreTyped }
 {}
 
-/// So in each run of a sentence that breaks no rule values fit what holds them, and each trace that
-/// a run explains is allowed where what comes from outside is.
+/// So in each run of a sentence that breaks no rule values fit what holds them, and the events of a
+/// run that explains a trace are allowed where what comes from outside is.
 pub fn runs_of_sentences_fit()
     ensures situations { RunsOfSentencesFit }
     ensures traces { TracesOfSentencesAreAllowed }

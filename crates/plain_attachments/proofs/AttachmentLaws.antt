@@ -4,13 +4,13 @@ use Rattle.std.proofs.Common.{Bool, true, false, cond, List, [], ◌∷◌, Opti
 use Rattle.std.specs.Prelude.{find, option_and_then}
 use Rattle.std.specs.List.{list_any}
 use Rattle.std.specs.Option.{option_map, option_map_or}
-use Rattle.plain_points.specs.mean_blocks.declared.situation.InteractionPoint.{InteractionPoint}
-use Rattle.plain_points.specs.mean_blocks.TextByPlace.{Text}
-use Rattle.plain_points.specs.mean_blocks.GlobalSituation.{is_point, Situation}
-use Rattle.plain_points.specs.mean_blocks.InstancePoints.{external_of}
-use Rattle.plain_points.specs.mean_blocks.Attachments.{leads_to, parent_of, above, follow}
-use Rattle.plain_frames.specs.declared.system.Link.{Link}
-use Rattle.plain_frames.specs.HeldSystems.{is_from, linked}
+use Rattle.plain_texts.specs.mean_blocks.declared.situation.InteractionPoint.{InteractionPoint}
+use Rattle.plain_texts.specs.mean_blocks.TextByPlace.{Text}
+use Rattle.plain_texts.specs.mean_blocks.GlobalSituation.{is_point, Situation}
+use Rattle.plain_texts.specs.mean_blocks.InstancePoints.{external_of}
+use Rattle.plain_texts.specs.mean_blocks.Attachments.{leads_to, parent_of, above, follow}
+use Rattle.plain_systems.specs.declared.system.Link.{Link}
+use Rattle.plain_systems.specs.HeldSystems.{is_from, linked}
 
 -- A POINT THAT IS ATTACHED TO NONE
 

@@ -4,14 +4,14 @@ use Rattle.std.proofs.Common.{[], ◌∷◌, ◌++◌, Option, Some, None}
 use Rattle.std.specs.Prelude.{find, if◌then◌else◌}
 use Rattle.std.specs.List.{filter}
 use Rattle.std.specs.Option.{option_map, option_or}
-use Rattle.plain_points.specs.mean_blocks.declared.situation.InteractionPoint.{InteractionPoint}
-use Rattle.plain_points.specs.mean_blocks.GlobalSituation.{Map, is_point}
-use Rattle.plain_points.specs.mean_blocks.LinkEffects.{with_point}
-use Rattle.plain_frames.specs.declared.system.Link.{Link}
-use Rattle.plain_frames.specs.HeldSystems.{is_from, linked}
+use Rattle.plain_texts.specs.mean_blocks.declared.situation.InteractionPoint.{InteractionPoint}
+use Rattle.plain_texts.specs.mean_blocks.GlobalSituation.{Map, is_point}
+use Rattle.plain_texts.specs.mean_blocks.LinkEffects.{with_point}
+use Rattle.plain_systems.specs.declared.system.Link.{Link}
+use Rattle.plain_systems.specs.HeldSystems.{is_from, linked}
 use Rattle.plain_attachments.specs.LinksOfPoints.{link_between}
-use Rattle.plain_points.proofs.FirstPlaces.{found_kept, found_none, found_in_both}
-use Rattle.plain_points.proofs.SamePoints.{point_same, point_self}
+use Rattle.plain_systems.proofs.FirstPlaces.{found_kept, found_none, found_in_both}
+use Rattle.plain_systems.proofs.SamePoints.{point_same, point_self}
 
 abbrev Target : Link → InteractionPoint
 Target l = l.to

@@ -5,15 +5,15 @@ use Rattle.std.specs.Prelude.{find, if◌then◌else◌, option_and_then}
 use Rattle.std.specs.List.{filter, list_any}
 use Rattle.std.specs.Option.{option_map}
 use Rattle.std.proofs.lemmas.Option.{same_Some}
-use Rattle.plain_points.specs.mean_blocks.declared.situation.InteractionPoint.{InteractionPoint}
-use Rattle.plain_points.specs.mean_blocks.GlobalSituation.{Map, is_point}
-use Rattle.plain_points.specs.mean_blocks.InstanceEffects.{is_among, point_without, links_without}
-use Rattle.plain_frames.specs.declared.system.Link.{Link}
-use Rattle.plain_frames.specs.HeldSystems.{is_from, linked}
+use Rattle.plain_texts.specs.mean_blocks.declared.situation.InteractionPoint.{InteractionPoint}
+use Rattle.plain_texts.specs.mean_blocks.GlobalSituation.{Map, is_point}
+use Rattle.plain_texts.specs.mean_blocks.InstanceEffects.{is_among, point_without, links_without}
+use Rattle.plain_systems.specs.declared.system.Link.{Link}
+use Rattle.plain_systems.specs.HeldSystems.{is_from, linked}
 use Rattle.plain_attachments.specs.LostLinks.{is_lost, is_stray, strays}
-use Rattle.plain_points.proofs.FirstPlaces.{found_passes}
+use Rattle.plain_systems.proofs.FirstPlaces.{found_passes}
 use Rattle.plain_attachments.proofs.LinkLaws.{kept_links, other_way}
-use Rattle.plain_points.proofs.SamePoints.{point_same}
+use Rattle.plain_systems.proofs.SamePoints.{point_same}
 
 same_tests : (a b : Bool) → (a ≡ true → b ≡ true) → (b ≡ true → a ≡ true) → a ≡ b
 same_tests true b f g = sym (f refl)

@@ -1,11 +1,11 @@
 -- Links between interaction points, and those that attach them.
-use Rattle.plain_points.specs.mean_blocks.declared.situation.InteractionPoint.{InteractionPoint}
-use Rattle.plain_frames.specs.declared.system.Link.{Link}
+use Rattle.plain_texts.specs.mean_blocks.declared.situation.InteractionPoint.{InteractionPoint}
+use Rattle.plain_systems.specs.declared.system.Link.{Link}
 use Rattle.std.specs.Prelude.{ℕ, find, Option}
-use Rattle.plain_points.specs.mean_blocks.TextByPlace.{Text}
-use Rattle.plain_points.specs.mean_blocks.GlobalSituation.{Situation}
-use Rattle.plain_points.specs.mean_blocks.InstancePoints.{external_of}
-use Rattle.plain_points.specs.mean_blocks.Attachments.{leads_to}
+use Rattle.plain_texts.specs.mean_blocks.TextByPlace.{Text}
+use Rattle.plain_texts.specs.mean_blocks.GlobalSituation.{Situation}
+use Rattle.plain_texts.specs.mean_blocks.InstancePoints.{external_of}
+use Rattle.plain_texts.specs.mean_blocks.Attachments.{leads_to}
 
 -- a link between two interaction points
 abbrev pub link_between : InteractionPoint → InteractionPoint → Link

@@ -2,10 +2,10 @@
 use Rattle.std.specs.Prelude.{ℕ, Bool, false, ◌&&◌, List, map, Option}
 use Rattle.std.specs.List.{filter}
 use Rattle.std.specs.Option.{option_map_or}
-use Rattle.plain_points.specs.mean_blocks.declared.situation.InteractionPoint.{InteractionPoint}
-use Rattle.plain_points.specs.mean_blocks.InstanceEffects.{is_among}
-use Rattle.plain_frames.specs.declared.system.Link.{Link}
-use Rattle.plain_frames.specs.HeldSystems.{linked}
+use Rattle.plain_texts.specs.mean_blocks.declared.situation.InteractionPoint.{InteractionPoint}
+use Rattle.plain_texts.specs.mean_blocks.InstanceEffects.{is_among}
+use Rattle.plain_systems.specs.declared.system.Link.{Link}
+use Rattle.plain_systems.specs.HeldSystems.{linked}
 
 -- whether an interaction point, if there is one, is of one of these instances
 abbrev pub is_lost : List ℕ → Option InteractionPoint → Bool

@@ -1,19 +1,19 @@
 //! Attachments of interaction points of parents to those of children.
 ghost use Rattle.std.specs.Prelude.{◌≡◌, find, option_copied, IfOk};
 ghost use Rattle.std.specs.List.{list_any};
-ghost use Rattle.plain_points.specs.mean_blocks.GlobalSituation.{is_point};
-ghost use Rattle.plain_points.specs.mean_blocks.Attachments.{leads_to, above, follow, up, bottom};
-ghost use Rattle.plain_frames.specs.HeldSystems.{linked, situation_of};
+ghost use Rattle.plain_texts.specs.mean_blocks.GlobalSituation.{is_point};
+ghost use Rattle.plain_texts.specs.mean_blocks.Attachments.{leads_to, above, follow, up, bottom};
+ghost use Rattle.plain_systems.specs.HeldSystems.{linked, situation_of};
 ghost use Rattle.plain_attachments.specs.LinksOfPoints.{above_in};
 
 use crate::instances::external_of;
 use crate::links::linked;
 use est_syntax::est_items::Twin;
-use plain_frames::rows::row_of;
-use plain_frames::system::{Links, System};
-use plain_points::mean_blocks::situation::InteractionPoint;
-use plain_points::plain_names::text::Text;
-use plain_points::points::is_point;
+use plain_systems::points::is_point;
+use plain_systems::rows::row_of;
+use plain_systems::system::{Links, System};
+use plain_texts::mean_blocks::situation::InteractionPoint;
+use plain_texts::text::Text;
 use std::alloc::{AllocError, Global};
 
 // Whether a link leads to an interaction point.

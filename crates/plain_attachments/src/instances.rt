@@ -1,17 +1,17 @@
 //! The interaction points and the children of living instances.
 ghost use Rattle.std.specs.Prelude.{◌≡◌, IfOk, Some, None, false};
-ghost use Rattle.plain_points.specs.mean_blocks.InstancePoints.{points_of, header_of, external_of};
-ghost use Rattle.plain_points.specs.mean_blocks.InstancePoints.{is_child};
-ghost use Rattle.plain_points.specs.mean_blocks.InstancePoints.{children_of};
-ghost use Rattle.plain_frames.specs.HeldSystems.{situation_of};
+ghost use Rattle.plain_texts.specs.mean_blocks.InstancePoints.{points_of, header_of, external_of};
+ghost use Rattle.plain_texts.specs.mean_blocks.InstancePoints.{is_child};
+ghost use Rattle.plain_texts.specs.mean_blocks.InstancePoints.{children_of};
+ghost use Rattle.plain_systems.specs.HeldSystems.{situation_of};
 
 use est_syntax::est_items::Items;
-use plain_frames::rows::row_of;
-use plain_frames::system::System;
 use plain_points::declared::{Points, points_of};
-use plain_points::mean_blocks::situation::Row;
-use plain_points::plain_names::declared::header_at;
-use plain_points::rule_scope::outline::Outline;
+use plain_systems::rows::row_of;
+use plain_systems::system::System;
+use plain_texts::mean_blocks::situation::Row;
+use plain_texts::plain_declared::declared::header_at;
+use plain_texts::rule_scope::outline::Outline;
 use std::alloc::{AllocError, Global};
 
 /// The header of a living instance.

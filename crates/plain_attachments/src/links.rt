@@ -1,13 +1,13 @@
 //! Links from interaction points.
 ghost use Rattle.std.specs.Prelude.{◌≡◌, IfOk, OnOk, option_copied, Some, None};
-ghost use Rattle.plain_points.specs.mean_blocks.LinkEffects.{with_point};
-ghost use Rattle.plain_frames.specs.HeldSystems.{linked};
+ghost use Rattle.plain_texts.specs.mean_blocks.LinkEffects.{with_point};
+ghost use Rattle.plain_systems.specs.HeldSystems.{linked};
 ghost use Rattle.plain_attachments.specs.LinksOfPoints.{link_between};
 
 use est_syntax::est_items::{Shared, Twin};
-use plain_frames::system::{Link, Links};
-use plain_points::mean_blocks::situation::InteractionPoint;
-use plain_points::points::is_point;
+use plain_systems::points::is_point;
+use plain_systems::system::{Link, Links};
+use plain_texts::mean_blocks::situation::InteractionPoint;
 use std::alloc::{AllocError, Global};
 
 /// Where links lead from an interaction point.

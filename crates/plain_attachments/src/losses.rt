@@ -1,17 +1,17 @@
 //! Links of instances that are released.
 ghost use Rattle.std.specs.Prelude.{◌≡◌, not, IfOk, OnOk};
 ghost use Rattle.std.specs.List.{filter, list_any};
-ghost use Rattle.plain_points.specs.mean_blocks.GlobalSituation.{is_point};
-ghost use Rattle.plain_points.specs.mean_blocks.InstanceEffects.{is_among, links_without};
-ghost use Rattle.plain_frames.specs.HeldSystems.{linked};
+ghost use Rattle.plain_texts.specs.mean_blocks.GlobalSituation.{is_point};
+ghost use Rattle.plain_texts.specs.mean_blocks.InstanceEffects.{is_among, links_without};
+ghost use Rattle.plain_systems.specs.HeldSystems.{linked};
 ghost use Rattle.plain_attachments.specs.LostLinks.{is_lost, is_stray, strays};
 
 use crate::links::linked;
 use est_syntax::est_items::{Items, Shared, Twin};
-use plain_frames::system::{Link, Links};
 use plain_points::declared::Points;
-use plain_points::mean_blocks::situation::InteractionPoint;
-use plain_points::points::{is_among, is_point};
+use plain_systems::points::{is_among, is_point};
+use plain_systems::system::{Link, Links};
+use plain_texts::mean_blocks::situation::InteractionPoint;
 use std::alloc::{AllocError, Global};
 
 // Whether links lead from an interaction point to one of these instances.

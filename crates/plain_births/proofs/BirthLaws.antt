@@ -4,9 +4,9 @@ use Rattle.std.proofs.Common.{Option, Some, None, slice_get, slice_set, get_or, 
 use Rattle.std.specs.Prelude.{find, if◌then◌else◌}
 use Rattle.std.specs.List.{position}
 use Rattle.std.proofs.lemmas.Option.{slice_get_read, slice_get_within}
-use Rattle.plain_points.specs.mean_blocks.declared.situation.Row.{Row}
-use Rattle.plain_points.specs.mean_blocks.GlobalSituation.{first_changed, Situation}
-use Rattle.plain_frames.proofs.FirstFound.{none_found, first_there, changed_at}
+use Rattle.plain_texts.specs.mean_blocks.declared.situation.Row.{Row}
+use Rattle.plain_texts.specs.mean_blocks.GlobalSituation.{first_changed, Situation}
+use Rattle.plain_frames.proofs.of_plain_systems.FirstFound.{none_found, first_there, changed_at}
 
 -- a situation with other rows
 abbrev pub with_rows : Situation → List Row → Situation

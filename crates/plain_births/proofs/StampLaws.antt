@@ -5,12 +5,12 @@ use Rattle.std.specs.Prelude.{if◌then◌else◌}
 use Rattle.std.specs.List.{filter}
 use Rattle.std.specs.Option.{option_map}
 use Rattle.std.proofs.lemmas.Bool.{eqb-true}
-use Rattle.plain_points.specs.mean_blocks.GlobalSituation.{Clocked}
-use Rattle.plain_points.specs.mean_blocks.InstanceEffects.{is_among}
-use Rattle.plain_frames.specs.declared.system.Stamp.{Stamp}
-use Rattle.plain_frames.specs.HeldSystems.{is_stamp, stamped}
+use Rattle.plain_texts.specs.mean_blocks.GlobalSituation.{Clocked}
+use Rattle.plain_texts.specs.mean_blocks.InstanceEffects.{is_among}
+use Rattle.plain_frames.specs.plain_systems.declared.system.Stamp.{Stamp}
+use Rattle.plain_frames.specs.plain_systems.HeldSystems.{is_stamp, stamped}
 use Rattle.plain_births.specs.LostRows.{stamps_without}
-use Rattle.plain_points.proofs.FirstPlaces.{found_kept, found_none}
+use Rattle.plain_frames.proofs.of_plain_systems.FirstPlaces.{found_kept, found_none}
 
 first_of : (a b : Bool) → (a && b) ≡ true → a ≡ true
 first_of true b e = refl

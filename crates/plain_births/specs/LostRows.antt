@@ -1,9 +1,9 @@
 -- Rows and stamps that are left where instances are released.
 use Rattle.std.specs.Prelude.{ℕ, not, List, None, if◌then◌else◌}
 use Rattle.std.specs.List.{filter}
-use Rattle.plain_points.specs.mean_blocks.declared.situation.Row.{Row}
-use Rattle.plain_points.specs.mean_blocks.GlobalSituation.{Map, Clocked}
-use Rattle.plain_points.specs.mean_blocks.InstanceEffects.{is_among}
+use Rattle.plain_texts.specs.mean_blocks.declared.situation.Row.{Row}
+use Rattle.plain_texts.specs.mean_blocks.GlobalSituation.{Map, Clocked}
+use Rattle.plain_texts.specs.mean_blocks.InstanceEffects.{is_among}
 
 -- the rows of others than these instances
 abbrev pub rows_without : List ℕ → List Row → List Row

@@ -1,13 +1,13 @@
 -- Instances that begin.
 use Rattle.std.specs.Prelude.{ℕ, List}
 use Rattle.std.specs.List.{flat_map}
-use Rattle.plain_points.specs.rule_scope.Outline.{Outline}
-use Rattle.plain_points.specs.mean_blocks.declared.situation.Element.{Element}
-use Rattle.plain_points.specs.mean_blocks.declared.situation.Holding.{Holding}
-use Rattle.plain_points.specs.mean_blocks.GlobalSituation.{Frame, Situation, with_row}
-use Rattle.plain_points.specs.mean_blocks.NamesInRuns.{places_of}
-use Rattle.plain_points.specs.mean_blocks.InstanceEffects.{empty_elements, with_next, holds}
-use Rattle.plain_points.specs.rule_scope.declared.declaration.Sort.TheVariants as sort
+use Rattle.plain_texts.specs.rule_scope.Outline.{Outline}
+use Rattle.plain_texts.specs.mean_blocks.declared.situation.Element.{Element}
+use Rattle.plain_texts.specs.mean_blocks.declared.situation.Holding.{Holding}
+use Rattle.plain_texts.specs.mean_blocks.GlobalSituation.{Frame, Situation, with_row}
+use Rattle.plain_texts.specs.mean_blocks.NamesInRuns.{places_of}
+use Rattle.plain_texts.specs.mean_blocks.InstanceEffects.{empty_elements, with_next, holds}
+use Rattle.plain_texts.specs.rule_scope.declared.declaration.Sort.TheVariants as sort
 
 -- the elements of module variables at some places, which hold nothing
 abbrev pub elements_at : Outline → List ℕ → List Holding

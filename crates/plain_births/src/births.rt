@@ -1,24 +1,24 @@
 //! Instances that are begun.
 ghost use Rattle.std.specs.Prelude.{◌≡◌, ◌++◌, map, Some, IfOk, OnOk};
 ghost use Rattle.std.specs.List.{position};
-ghost use Rattle.plain_points.specs.mean_blocks.GlobalSituation.{is_holding, holding, with_row};
-ghost use Rattle.plain_points.specs.mean_blocks.InstanceEffects.{empty_element, empty_elements};
-ghost use Rattle.plain_points.specs.mean_blocks.InstanceEffects.{new_row};
-ghost use Rattle.plain_points.specs.mean_blocks.InstanceEffects.{with_next, holds, in_state};
-ghost use Rattle.plain_frames.specs.HeldSystems.{situation_of};
+ghost use Rattle.plain_texts.specs.mean_blocks.GlobalSituation.{is_holding, holding, with_row};
+ghost use Rattle.plain_texts.specs.mean_blocks.InstanceEffects.{empty_element, empty_elements};
+ghost use Rattle.plain_texts.specs.mean_blocks.InstanceEffects.{new_row};
+ghost use Rattle.plain_texts.specs.mean_blocks.InstanceEffects.{with_next, holds, in_state};
+ghost use Rattle.plain_frames.specs.plain_systems.HeldSystems.{situation_of};
 ghost use Rattle.plain_births.specs.NewInstances.{elements_at, elements_of, placed};
 
 use est_syntax::est_items::{Items, Shared, Twin};
 use est_syntax::kind::Ordinals;
 use plain_frames::children::is_element;
-use plain_frames::rows::row_position;
-use plain_frames::system::System;
-use plain_points::mean_blocks::frame::Frame;
-use plain_points::mean_blocks::situation::{Element, Holding, Holdings, Row};
-use plain_points::plain_names::declared::places_of;
-use plain_points::rule_scope::declaration::Sort;
-use plain_points::rule_scope::outline::Outline;
+use plain_frames::plain_systems::rows::row_position;
+use plain_frames::plain_systems::system::System;
 use plain_points::subscripts::indices_of;
+use plain_texts::mean_blocks::frame::Frame;
+use plain_texts::mean_blocks::situation::{Element, Holding, Holdings, Row};
+use plain_texts::plain_declared::declared::places_of;
+use plain_texts::rule_scope::declaration::Sort;
+use plain_texts::rule_scope::outline::Outline;
 use std::alloc::{AllocError, Global};
 
 // Adds the elements of a module variable with these subscripts, which hold nothing.

@@ -1,24 +1,24 @@
 //! Instances that are begun by statements.
 ghost use Rattle.std.specs.Prelude.{◌≡◌, ◌++◌, IfOk, OnOk};
-ghost use Rattle.plain_points.specs.mean_blocks.AnswersOfCalls.{Says};
-ghost use Rattle.plain_points.specs.mean_blocks.FunctionCalls.{frame_of};
-ghost use Rattle.plain_points.specs.mean_blocks.InstanceEffects.{header_variables, variables_of};
-ghost use Rattle.plain_points.specs.mean_blocks.InstanceEffects.{born};
-ghost use Rattle.plain_frames.specs.HeldSystems.{situation_of};
+ghost use Rattle.plain_texts.specs.mean_blocks.AnswersOfCalls.{Says};
+ghost use Rattle.plain_texts.specs.mean_blocks.FunctionCalls.{frame_of};
+ghost use Rattle.plain_texts.specs.mean_blocks.InstanceEffects.{header_variables, variables_of};
+ghost use Rattle.plain_texts.specs.mean_blocks.InstanceEffects.{born};
+ghost use Rattle.plain_frames.specs.plain_systems.HeldSystems.{situation_of};
 ghost use Rattle.plain_frames.specs.HeldFrames.{Leaves};
 
 use crate::births::place;
 use est_syntax::est_items::Items;
+use plain_frames::plain_systems::system::System;
 use plain_frames::routines::{Slots, frame_of};
-use plain_frames::system::System;
-use plain_points::mean_blocks::fault::BlockFault;
-use plain_points::mean_blocks::frame::Frame;
-use plain_points::mean_blocks::situation::Element;
-use plain_points::mean_blocks::stop::Stop;
-use plain_points::plain_names::declared::{Places, header_at, places_of};
-use plain_points::plain_names::text::Text;
-use plain_points::rule_scope::declaration::Sort;
-use plain_points::rule_scope::outline::Outline;
+use plain_texts::mean_blocks::fault::BlockFault;
+use plain_texts::mean_blocks::frame::Frame;
+use plain_texts::mean_blocks::situation::Element;
+use plain_texts::mean_blocks::stop::Stop;
+use plain_texts::plain_declared::declared::{Places, header_at, places_of};
+use plain_texts::rule_scope::declaration::Sort;
+use plain_texts::rule_scope::outline::Outline;
+use plain_texts::text::Text;
 use std::alloc::{AllocError, Global};
 
 /// The greatest number of an instance.

@@ -1,12 +1,12 @@
 //! Rows and stamps of instances that are released.
 ghost use Rattle.std.specs.Prelude.{◌≡◌, ◌∷◌, [], IfOk, OnOk};
-ghost use Rattle.plain_points.specs.mean_blocks.InstanceEffects.{is_among, descendants};
-ghost use Rattle.plain_frames.specs.HeldSystems.{stamped};
+ghost use Rattle.plain_texts.specs.mean_blocks.InstanceEffects.{is_among, descendants};
+ghost use Rattle.plain_frames.specs.plain_systems.HeldSystems.{stamped};
 ghost use Rattle.plain_births.specs.LostRows.{rows_without, stamps_without};
 
 use est_syntax::est_items::{Items, Shared};
-use plain_frames::system::{Rows, Stamps};
-use plain_points::points::is_among;
+use plain_frames::plain_systems::points::is_among;
+use plain_frames::plain_systems::system::{Rows, Stamps};
 use std::alloc::{AllocError, Global};
 
 /// Numbers of instances.

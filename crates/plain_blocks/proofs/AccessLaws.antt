@@ -17,7 +17,7 @@ use Rattle.mean_blocks.specs.StatementEffects.{initialized}
 use Rattle.mean_blocks.specs.TextByPlace.{body_at}
 use Rattle.mean_blocks.specs.WorkingState.{State, Site, View, Counts, changes}
 use Rattle.mean_blocks.proofs.Answering.{answers_by, answers_stop}
-use Rattle.plain_blocks.specs.SystemSteps.{begun_by}
+use Rattle.plain_effects.specs.SystemSteps.{begun_by}
 
 -- what is declared under a name, with its subscripts
 pub accessed_runs : {A : Type 0} (a : Access) (go : ℕ → List ℤ → Counts A) (v : View) (n m p : ℕ)

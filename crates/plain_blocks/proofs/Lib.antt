@@ -1,13 +1,11 @@
 pub mod AccessLaws
 pub mod CallingLaws
-pub mod FrameValues
 pub mod LoneOperands
 pub mod LoopSteps
 pub mod OperatorSteps
 pub mod Spans
 pub mod StatementSteps
 pub mod StatementWeights
-pub mod SubscriptSteps
 pub mod SystemLaws
 pub mod Turns
 pub mod Weights

@@ -17,8 +17,9 @@ use Rattle.mean_blocks.specs.WorkingState.{View}
 use Rattle.mean_blocks.specs.ExpressionValues.{value_of, simple_of, term_of, factor_of}
 use Rattle.mean_blocks.specs.ExpressionValues.{related_in, sums_in, products_in}
 use Rattle.mean_blocks.proofs.ExpressionLayers.{value_at, simple_at, term_at}
-use Rattle.plain_blocks.specs.LoneOperands.{lone_product, lone_term, lone_sum, lone_by}
-use Rattle.plain_blocks.specs.LoneOperands.{lone_operand}
+use Rattle.plain_effects.specs.plain_operands.LoneOperands.{lone_product, lone_term, lone_sum}
+use Rattle.plain_effects.specs.plain_operands.LoneOperands.{lone_by}
+use Rattle.plain_effects.specs.plain_operands.LoneOperands.{lone_operand}
 use Rattle.plain_blocks.proofs.Weights.{expr_weight, simple_weight, term_weight, factor_weight}
 use Rattle.plain_blocks.proofs.Weights.{expr_weighs, simple_weighs, term_weighs}
 

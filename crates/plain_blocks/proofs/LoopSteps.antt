@@ -3,8 +3,8 @@ use Rattle.std.proofs.Common.{◌≡◌, refl, sym, ap, ◌∙◌, subst, ℕ, z
 use Rattle.std.proofs.Common.{◌∷◌}
 use Rattle.std.proofs.Common.{length, get_or, drop, Option, Ok, Err, arith}
 use Rattle.std.specs.Prelude.{ℤ}
-use Rattle.plain_outputs.specs.plain_frames.declared.system.Working.{Working}
-use Rattle.plain_outputs.specs.plain_frames.HeldSystems.{LooksSame}
+use Rattle.plain_effects.specs.plain_systems.declared.system.Working.{Working}
+use Rattle.plain_effects.specs.plain_systems.HeldSystems.{LooksSame}
 use Rattle.est_syntax.specs.declared.expression.Expr.{Expr}
 use Rattle.est_syntax.specs.declared.expression.Member.{Member}
 use Rattle.est_syntax.specs.declared.kind.Kind.{Kind}
@@ -18,8 +18,8 @@ use Rattle.mean_blocks.specs.ReachedVariables.{Reached, with_component, with_sub
 use Rattle.mean_blocks.specs.ValueOperators.{ordinal_in, ordinal}
 use Rattle.mean_blocks.specs.WorkingState.{View, Counts}
 use Rattle.mean_blocks.proofs.Answering.{answers_by, answers_stop}
-use Rattle.plain_blocks.specs.declared.site.Site.{Site}
-use Rattle.plain_blocks.specs.ExecutionSites.{view_of}
+use Rattle.plain_effects.specs.plain_operands.declared.site.Site.{Site}
+use Rattle.plain_effects.specs.plain_operands.ExecutionSites.{view_of}
 
 -- an expression sees the same where everything looks the same
 pub view_same : (s : Site) (w u : Working) → LooksSame w u → view_of s u ≡ view_of s w

@@ -11,7 +11,7 @@ use Rattle.mean_blocks.specs.ExpressionValues.{related, with_term, simple_of, te
 use Rattle.mean_blocks.specs.Outcome.{onward, give, lift}
 use Rattle.mean_blocks.specs.WorkingState.{View}
 use Rattle.mean_blocks.proofs.ExpressionLayers.{related_at, with_term_at}
-use Rattle.plain_blocks.specs.ExpressionSteps.{with_factor}
+use Rattle.plain_effects.specs.plain_operands.ExpressionSteps.{with_factor}
 
 pub related_step : (r : Relation) (a : Value) (v : View) (n : ℕ) → related r a v n
     ≡ onward (lift (stops (out-Relation r).operator a) n) (λ t. if t then give a

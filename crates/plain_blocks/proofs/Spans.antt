@@ -4,7 +4,7 @@ use Rattle.std.specs.Prelude.{ℤ, pos, negsuc, ◌+ℤ◌, ◌≤ℤ◌}
 use Rattle.std.specs.Int.{int_gap}
 use Rattle.std.proofs.lemmas.Int.{ints}
 use Rattle.mean_blocks.specs.LoopEffects.{step}
-use Rattle.plain_blocks.specs.TurnsOfLoops.{turn_at}
+use Rattle.plain_effects.specs.plain_operands.TurnsOfLoops.{turn_at}
 
 below : (b : ℤ) (n : ℕ) (a : ℤ) → n < int_gap a b → (a +ℤ pos (n + 1)) ≤ℤ b
 below (pos b) n (pos a) h = omega (arith, ints)

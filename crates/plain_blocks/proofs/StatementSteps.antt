@@ -3,8 +3,8 @@ use Rattle.std.proofs.Common.{◌≡◌, refl, sym, ap, ◌∙◌, ℕ, suc, ◌
 use Rattle.std.proofs.Common.{length, get_or, drop, Bool, true, Ok, Err}
 use Rattle.std.specs.Prelude.{ℤ, map, if◌then◌else◌}
 use Rattle.std.specs.List.{range_with_len}
-use Rattle.plain_outputs.specs.plain_frames.declared.system.Working.{Working}
-use Rattle.plain_outputs.specs.plain_frames.HeldSystems.{state_of, LooksSame}
+use Rattle.plain_effects.specs.plain_systems.declared.system.Working.{Working}
+use Rattle.plain_effects.specs.plain_systems.HeldSystems.{state_of, LooksSame}
 use Rattle.est_syntax.specs.declared.expression.Expr.{Expr}
 use Rattle.est_syntax.specs.declared.name.Used.{Used}
 use Rattle.est_syntax.specs.declared.statement.Arm.{Arm}
@@ -26,7 +26,7 @@ use Rattle.mean_blocks.specs.ValueOperators.{ordinal_in, ordinal}
 use Rattle.mean_blocks.specs.WorkingState.{State, Site, Does, view, counting}
 use Rattle.mean_blocks.specs.WriteEffects.{stored, ordinal_of, opened, closed, framed}
 use Rattle.mean_blocks.proofs.Answering.{answers_by, answers_stop}
-use Rattle.plain_blocks.specs.TurnsOfLoops.{valued_turn, counted_turn}
+use Rattle.plain_effects.specs.plain_operands.TurnsOfLoops.{valued_turn, counted_turn}
 use Rattle.plain_blocks.proofs.LoopSteps.{drop_item}
 
 -- a state is the same where everything looks the same

@@ -29,7 +29,7 @@ use Rattle.est_syntax.specs.declared.statement.Statement.TheVariants as statemen
 use Rattle.est_syntax.specs.declared.type_text.TypeText.{TypeText}
 use Rattle.mean_blocks.specs.TextByPlace.{Text, parts_of, routine_in, body_in, routine_at}
 use Rattle.mean_blocks.specs.TextByPlace.{statements_of, body_at, first_statements}
-use Rattle.plain_blocks.specs.declared.site.Site.{Site}
+use Rattle.plain_effects.specs.plain_operands.declared.site.Site.{Site}
 use Rattle.plain_blocks.proofs.Weights.{weighed, option_weight, expr_weight, exprs_weight}
 use Rattle.plain_blocks.proofs.Weights.{path_weight}
 

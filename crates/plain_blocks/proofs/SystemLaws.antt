@@ -1,8 +1,8 @@
 -- Statements that evaluate and then change the system.
 use Rattle.std.proofs.Common.{◌≡◌, refl, sym, ap, ◌∙◌, subst, ℕ, suc, ◌<◌, List, [], length}
 use Rattle.std.proofs.Common.{get_or, drop, Bool, false, Some, Result, Ok, Err}
-use Rattle.plain_outputs.specs.plain_frames.declared.system.Working.{Working}
-use Rattle.plain_outputs.specs.plain_frames.HeldSystems.{state_of, LooksSame}
+use Rattle.plain_effects.specs.plain_systems.declared.system.Working.{Working}
+use Rattle.plain_effects.specs.plain_systems.HeldSystems.{state_of, LooksSame}
 use Rattle.est_syntax.specs.declared.body.FirstPart.{FirstPart}
 use Rattle.est_syntax.specs.declared.statement.Sending.{Sending}
 use Rattle.mean_blocks.specs.rule_scope.declared.declaration.Sort.TheVariants as sort
@@ -20,9 +20,9 @@ use Rattle.mean_blocks.specs.WorkingState.{changes}
 use Rattle.mean_blocks.specs.WorkingState as semantics
 use Rattle.mean_blocks.specs.WriteEffects.{acts, framed}
 use Rattle.mean_blocks.proofs.Answering.{answers_by, answers_stop}
-use Rattle.plain_blocks.specs.declared.site.Site.{Site}
-use Rattle.plain_blocks.specs.ExecutionSites.{site_of, view_of}
-use Rattle.plain_blocks.specs.SystemSteps.{sent_one}
+use Rattle.plain_effects.specs.plain_operands.declared.site.Site.{Site}
+use Rattle.plain_effects.specs.plain_operands.ExecutionSites.{site_of, view_of}
+use Rattle.plain_effects.specs.SystemSteps.{sent_one}
 use Rattle.plain_blocks.proofs.LoopSteps.{drop_item, view_same, looks_after}
 use Rattle.plain_blocks.proofs.StatementSteps.{state_same}
 

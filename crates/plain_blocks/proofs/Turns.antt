@@ -9,7 +9,7 @@ use Rattle.mean_blocks.specs.Outcome.{Outcome, Done, Fault, Limit, onward, ◌>>
 use Rattle.mean_blocks.specs.ValueOperators.{choose}
 use Rattle.mean_blocks.specs.WorkingState.{State, Does, enter}
 use Rattle.mean_blocks.proofs.Answering.{answers_stop, answers_by}
-use Rattle.plain_blocks.specs.TurnsOfLoops.{ended}
+use Rattle.plain_effects.specs.plain_operands.TurnsOfLoops.{ended}
 
 module _ (k : ℕ) (condition : State → Outcome State ℤ) (turn : Does) (s t : State) where
   pub turns_on : turn_of condition turn s ≡ Done true t

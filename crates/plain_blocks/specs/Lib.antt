@@ -1,8 +1,3 @@
-pub mod ChosenConstants
-pub mod ExecutionSites
-pub mod ExpressionSteps
-pub mod HeldVariables
-pub mod LoneOperands
 pub mod RunningCalls
-pub mod SystemSteps
-pub mod TurnsOfLoops
+pub use Rattle.plain_effects.specs.plain_systems
+pub use Rattle.plain_effects.specs.plain_operands

@@ -2,7 +2,7 @@
 #![tactic(auto, using(mean_blocks::proofs::Answering::answers_stop, mean_blocks::proofs::Answering::says_answers, mean_blocks::proofs::ExpressionLayers::value_at, mean_blocks::proofs::ExpressionLayers::simple_at, mean_blocks::proofs::ExpressionLayers::term_at, mean_blocks::proofs::ExpressionLayers::member_at))]
 
 ghost use Rattle.std.specs.Prelude.{◌≡◌, ◌+◌, ℤ, true, false, List, [], ◌∷◌, OnOk, option_copied};
-ghost use Rattle.plain_outputs.specs.plain_frames.HeldSystems.{state_of, LooksSame};
+ghost use Rattle.plain_effects.specs.plain_systems.HeldSystems.{state_of, LooksSame};
 ghost use Rattle.mean_blocks.specs.rule_scope.Outline.{entry_at};
 ghost use Rattle.mean_blocks.specs.AnswersOfCalls.{Answers};
 ghost use Rattle.mean_blocks.specs.ExpressionValues.{value_of, related, simple_of, with_term};
@@ -21,27 +21,20 @@ ghost use Rattle.mean_blocks.specs.StatementEffects.{performed, body_of, stateme
 ghost use Rattle.mean_blocks.specs.StatementEffects.{statements_in, arms_in};
 ghost use Rattle.mean_blocks.specs.WriteEffects.{acts, ordinal_of, framed, assigned};
 ghost use Rattle.est_values.specs.OrdinalTuples.{ordinals_of};
-ghost use Rattle.plain_blocks.specs.ExecutionSites.{site_of, view_of};
-ghost use Rattle.plain_blocks.specs.ExpressionSteps.{opposite, set_made, stored_value, module_at};
-ghost use Rattle.plain_blocks.specs.ExpressionSteps.{called_with, with_factor, Gathers};
-ghost use Rattle.plain_blocks.specs.ExpressionSteps.{answer_of, result_begun, function_part};
-ghost use Rattle.plain_blocks.specs.ExpressionSteps.{function_value};
-ghost use Rattle.plain_blocks.specs.HeldVariables.{reached_of, reached_in};
+ghost use Rattle.plain_effects.specs.plain_operands.ExecutionSites.{site_of, view_of};
+ghost use Rattle.plain_effects.specs.plain_operands.ExpressionSteps.{opposite, set_made};
+ghost use Rattle.plain_effects.specs.plain_operands.ExpressionSteps.{stored_value, module_at};
+ghost use Rattle.plain_effects.specs.plain_operands.ExpressionSteps.{called_with, with_factor};
+ghost use Rattle.plain_effects.specs.plain_operands.ExpressionSteps.{Gathers};
+ghost use Rattle.plain_effects.specs.plain_operands.ExpressionSteps.{answer_of, result_begun};
+ghost use Rattle.plain_effects.specs.plain_operands.ExpressionSteps.{function_part};
+ghost use Rattle.plain_effects.specs.plain_operands.ExpressionSteps.{function_value};
+ghost use Rattle.plain_effects.specs.plain_operands.HeldVariables.{reached_of, reached_in};
 ghost use Rattle.plain_blocks.specs.RunningCalls.{ran};
 ghost use Rattle.plain_values.specs.GatheredMembers.{IsGathered};
-ghost use Rattle.plain_blocks.specs.TurnsOfLoops.{for_turn, counted_turn, ended, branched, chosen};
+ghost use Rattle.plain_effects.specs.plain_operands.TurnsOfLoops.{for_turn, counted_turn, ended};
+ghost use Rattle.plain_effects.specs.plain_operands.TurnsOfLoops.{branched, chosen};
 
-use crate::calls::{frame_with, open_naming, result_of, routine_of, store};
-use crate::chosen::is_chosen;
-use crate::lone::lone_operand;
-use crate::loops::{children_of, distance, head_of_all, header_of, nth_slot, turn_value};
-use crate::operands::{add_span, add_value, join, negate, number, put_set, put_sign};
-use crate::reached::{
-    Reached, begun, loaded, placed, result_begun, take_part, with_component, with_field,
-    with_subscript,
-};
-use crate::required::required_by;
-use crate::site::{Site, declared_of, dims_of, head_at, is_given_place, meaning_at};
 use crate::statements::statements_in;
 use est_syntax::est_items::Boxed;
 use est_syntax::expression::{
@@ -58,11 +51,29 @@ use mean_blocks::rule_declares::variables::bare;
 use mean_blocks::rule_scope::declaration::Meant;
 use mean_blocks::rule_scope::predeclared::PredeclaredName;
 use mean_blocks::stop::Stop;
-use plain_outputs::plain_frames::routines::Slots;
-use plain_outputs::plain_frames::rows::lives;
-use plain_outputs::plain_frames::system::{Frames, Outs, Working};
-use plain_outputs::plain_frames::writing::{close, open};
-use plain_outputs::plain_names::heads::Head;
+use plain_effects::effects::children_of;
+use plain_effects::plain_declared::heads::Head;
+use plain_effects::plain_frames::routines::Slots;
+use plain_effects::plain_frames::writing::{close, open};
+use plain_effects::plain_operands::calls::{frame_with, open_naming, result_of, routine_of, store};
+use plain_effects::plain_operands::chosen::is_chosen;
+use plain_effects::plain_operands::lone::lone_operand;
+use plain_effects::plain_operands::loops::{
+    distance, head_of_all, header_of, nth_slot, turn_value,
+};
+use plain_effects::plain_operands::operands::{
+    add_span, add_value, join, negate, number, put_set, put_sign,
+};
+use plain_effects::plain_operands::reached::{
+    Reached, begun, loaded, placed, result_begun, take_part, with_component, with_field,
+    with_subscript,
+};
+use plain_effects::plain_operands::site::{
+    Site, declared_of, dims_of, head_at, is_given_place, meaning_at,
+};
+use plain_effects::plain_systems::rows::lives;
+use plain_effects::plain_systems::system::{Frames, Outs, Working};
+use plain_effects::required::required_by;
 use plain_values::ordinals::is_true;
 use plain_values::sets::Gathered;
 use plain_values::values::{decides, ordinal, unsigned_integer};

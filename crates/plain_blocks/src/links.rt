@@ -2,7 +2,7 @@
 #![tactic(auto, using(mean_blocks::proofs::Answering::answers_stop, mean_blocks::proofs::Answering::says_answers))]
 
 ghost use Rattle.std.specs.Prelude.{◌≡◌, [], OnOk};
-ghost use Rattle.plain_outputs.specs.plain_frames.HeldSystems.{state_of, LooksSame};
+ghost use Rattle.plain_effects.specs.plain_systems.HeldSystems.{state_of, LooksSame};
 ghost use Rattle.mean_blocks.specs.AnswersOfCalls.{Answers};
 ghost use Rattle.mean_blocks.specs.ExpressionValues.{subscripts_in};
 ghost use Rattle.mean_blocks.specs.InstancePoints.{own_point, child, child_point, end_of};
@@ -12,17 +12,13 @@ ghost use Rattle.mean_blocks.specs.NamesInRuns.{dims_at};
 ghost use Rattle.mean_blocks.specs.StatementEffects.{element_of, item_of, all_sent, init_done};
 ghost use Rattle.mean_blocks.specs.StatementEffects.{initialized, let_go, linked, unlinked};
 ghost use Rattle.mean_blocks.specs.WriteEffects.{acts};
-ghost use Rattle.plain_blocks.specs.ExecutionSites.{site_of, view_of};
-ghost use Rattle.plain_blocks.specs.SystemSteps.{ends_named, sent_one, begun_by, point_by};
-ghost use Rattle.plain_blocks.specs.SystemSteps.{item_at};
+ghost use Rattle.plain_effects.specs.plain_operands.ExecutionSites.{site_of, view_of};
+ghost use Rattle.plain_effects.specs.SystemSteps.{ends_named, sent_one, begun_by, point_by};
+ghost use Rattle.plain_effects.specs.SystemSteps.{item_at};
 
-use crate::effects::{
-    Points, birth, body_of_name, declared_by_header, external_points, first_frame, free,
-    held_child, item_with, link, loosen, means_modules, one_point, reach_first, send, tie, unlink,
-};
 use crate::expressions::{subscripts_in, values_in};
-use crate::site::{Site, declared_of, dims_of};
 use crate::statements::deepen;
+use crate::ties::{free, link, loosen, tie, unlink};
 use est_syntax::body::FirstPart;
 use est_syntax::expression::{Access, EndPoint, Expr, Exprs};
 use est_syntax::kind::Ordinals;
@@ -31,8 +27,13 @@ use est_syntax::statement::Sending;
 use mean_blocks::fault::BlockFault;
 use mean_blocks::situation::{Element, InteractionPoint, Item};
 use mean_blocks::stop::Stop;
-use plain_outputs::plain_frames::routines::Slots;
-use plain_outputs::plain_frames::system::Working;
+use plain_effects::effects::{
+    Points, birth, body_of_name, declared_by_header, external_points, first_frame, held_child,
+    item_with, means_modules, one_point, reach_first, send,
+};
+use plain_effects::plain_frames::routines::Slots;
+use plain_effects::plain_operands::site::{Site, declared_of, dims_of};
+use plain_effects::plain_systems::system::Working;
 use std::alloc::Global;
 
 // The subscripts of what is declared at a place.

@@ -2,7 +2,7 @@
 #![tactic(auto, using(mean_blocks::proofs::Answering::answers_stop, mean_blocks::proofs::Answering::says_answers, mean_blocks::proofs::ExpressionLayers::value_at, mean_blocks::proofs::ExpressionLayers::simple_at, mean_blocks::proofs::ExpressionLayers::term_at, mean_blocks::proofs::ExpressionLayers::member_at))]
 
 ghost use Rattle.std.specs.Prelude.{◌≡◌, ◌+◌, ℤ, true, false, List, [], ◌∷◌, OnOk, option_copied};
-ghost use Rattle.plain_outputs.specs.plain_frames.HeldSystems.{state_of, LooksSame};
+ghost use Rattle.plain_effects.specs.plain_systems.HeldSystems.{state_of, LooksSame};
 ghost use Rattle.mean_blocks.specs.rule_scope.Outline.{entry_at};
 ghost use Rattle.mean_blocks.specs.AnswersOfCalls.{Answers};
 ghost use Rattle.mean_blocks.specs.ExpressionValues.{value_of, related, simple_of, with_term};
@@ -20,22 +20,19 @@ ghost use Rattle.mean_blocks.specs.StatementEffects.{performed, body_of, stateme
 ghost use Rattle.mean_blocks.specs.StatementEffects.{statements_in, arms_in};
 ghost use Rattle.mean_blocks.specs.WriteEffects.{acts, ordinal_of, framed, assigned};
 ghost use Rattle.est_values.specs.OrdinalTuples.{ordinals_of};
-ghost use Rattle.plain_blocks.specs.ExecutionSites.{site_of, view_of};
-ghost use Rattle.plain_blocks.specs.ExpressionSteps.{opposite, set_made, stored_value, module_at};
-ghost use Rattle.plain_blocks.specs.ExpressionSteps.{called_with, with_factor, Gathers};
-ghost use Rattle.plain_blocks.specs.HeldVariables.{reached_of, reached_in};
+ghost use Rattle.plain_effects.specs.plain_operands.ExecutionSites.{site_of, view_of};
+ghost use Rattle.plain_effects.specs.plain_operands.ExpressionSteps.{opposite, set_made};
+ghost use Rattle.plain_effects.specs.plain_operands.ExpressionSteps.{stored_value, module_at};
+ghost use Rattle.plain_effects.specs.plain_operands.ExpressionSteps.{called_with, with_factor};
+ghost use Rattle.plain_effects.specs.plain_operands.ExpressionSteps.{Gathers};
+ghost use Rattle.plain_effects.specs.plain_operands.HeldVariables.{reached_of, reached_in};
 ghost use Rattle.plain_blocks.specs.RunningCalls.{ran};
 ghost use Rattle.plain_values.specs.GatheredMembers.{IsGathered};
-ghost use Rattle.plain_blocks.specs.TurnsOfLoops.{for_turn, counted_turn, ended, branched, chosen};
+ghost use Rattle.plain_effects.specs.plain_operands.TurnsOfLoops.{for_turn, counted_turn, ended};
+ghost use Rattle.plain_effects.specs.plain_operands.TurnsOfLoops.{branched, chosen};
 
-use crate::calls::{frame_with, open_naming, result_of, routine_of, store};
-use crate::chosen::is_chosen;
 use crate::expressions::{arguments_in, value_of, variable_of};
 use crate::links::{attach, connect, detach, disconnect, init, output, release};
-use crate::loops::{children_of, distance, head_of_all, header_of, nth_slot, turn_value};
-use crate::operands::{enter, number};
-use crate::reached::{Reached, begun, loaded, placed, with_component, with_field, with_subscript};
-use crate::site::{Site, declared_of, dims_of, head_at, is_given_place, meaning_at};
 use est_syntax::est_items::Boxed;
 use est_syntax::expression::{
     Expr, Factor, Member, ProductStep, Relation, Selector, Simple, SumStep, Term,
@@ -51,11 +48,24 @@ use mean_blocks::rule_declares::variables::bare;
 use mean_blocks::rule_scope::declaration::Meant;
 use mean_blocks::rule_scope::predeclared::PredeclaredName;
 use mean_blocks::stop::Stop;
-use plain_outputs::plain_frames::routines::Slots;
-use plain_outputs::plain_frames::rows::lives;
-use plain_outputs::plain_frames::system::{Frames, Outs, Working};
-use plain_outputs::plain_frames::writing::{close, open};
-use plain_outputs::plain_names::heads::Head;
+use plain_effects::effects::children_of;
+use plain_effects::plain_declared::heads::Head;
+use plain_effects::plain_frames::routines::Slots;
+use plain_effects::plain_frames::writing::{close, open};
+use plain_effects::plain_operands::calls::{frame_with, open_naming, result_of, routine_of, store};
+use plain_effects::plain_operands::chosen::is_chosen;
+use plain_effects::plain_operands::loops::{
+    distance, head_of_all, header_of, nth_slot, turn_value,
+};
+use plain_effects::plain_operands::operands::{enter, number};
+use plain_effects::plain_operands::reached::{
+    Reached, begun, loaded, placed, with_component, with_field, with_subscript,
+};
+use plain_effects::plain_operands::site::{
+    Site, declared_of, dims_of, head_at, is_given_place, meaning_at,
+};
+use plain_effects::plain_systems::rows::lives;
+use plain_effects::plain_systems::system::{Frames, Outs, Working};
 use plain_values::ordinals::is_true;
 use plain_values::sets::{Gathered, set_of};
 use plain_values::values::{decides, joined, negated, signed, unsigned_integer};

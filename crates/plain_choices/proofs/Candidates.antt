@@ -18,9 +18,9 @@ use Rattle.est_meaning.specs.TransitionSelection.{is_offered_choice, is_due_choi
 use Rattle.est_meaning.proofs.Options.{some_is, then_some, map_some}
 use Rattle.plain_guards.specs.plain_transitions.FittingTransitions.{IsFitting}
 use Rattle.plain_guards.specs.plain_transitions.WrittenTransitions.{IsWritten}
-use Rattle.plain_guards.specs.declared.candidate.Candidate.{Candidate}
-use Rattle.plain_guards.specs.declared.verdict.Verdict.{Verdict}
-use Rattle.plain_guards.specs.JudgedGuards.{IsOf, IsVerdict, says_nothing}
+use Rattle.plain_guards.specs.plain_clauses.declared.candidate.Candidate.{Candidate}
+use Rattle.plain_guards.specs.plain_clauses.declared.verdict.Verdict.{Verdict}
+use Rattle.plain_guards.specs.plain_clauses.JudgedGuards.{IsOf, IsVerdict, says_nothing}
 use Rattle.est_meaning.specs.FiringOrder.{FiringBefore}
 use Rattle.plain_choices.specs.declared.offers.Instance.{Instance}
 use Rattle.plain_choices.specs.declared.offers.Offer.{Offer}

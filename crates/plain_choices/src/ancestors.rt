@@ -2,14 +2,14 @@
 ghost use Rattle.std.specs.Prelude.{◌≡◌, ◌↔◌, [], IsTrue, IfOk, OnOk};
 ghost use Rattle.est_syntax.specs.Least.{IsIn};
 ghost use Rattle.est_meaning.specs.mean_blocks.KeepingLaws.{AreNumbered};
-ghost use Rattle.plain_guards.specs.plain_frames.HeldSystems.{situation_of};
+ghost use Rattle.plain_guards.specs.plain_systems.HeldSystems.{situation_of};
 ghost use Rattle.est_meaning.specs.FiringOrder.{IsAscending};
 ghost use Rattle.plain_choices.specs.inside.SystemOffers.{AreSorted, IsPreceded, IsKept};
 
 use crate::found::Found;
 use est_meaning::firing::Firing;
-use plain_guards::plain_frames::rows::row_of;
-use plain_guards::plain_frames::system::System;
+use plain_guards::plain_systems::rows::row_of;
+use plain_guards::plain_systems::system::System;
 use std::alloc::AllocError;
 
 // Whether an instance is one of these.

@@ -4,7 +4,7 @@ ghost use Rattle.std.specs.List.{filter};
 ghost use Rattle.est_meaning.specs.mean_blocks.KeepingLaws.{AreNumbered};
 ghost use Rattle.est_meaning.specs.mean_blocks.TextByPlace.{Text};
 ghost use Rattle.est_meaning.specs.mean_blocks.GlobalSituation.{Situation};
-ghost use Rattle.plain_guards.specs.plain_frames.HeldSystems.{situation_of};
+ghost use Rattle.plain_guards.specs.plain_systems.HeldSystems.{situation_of};
 ghost use Rattle.est_meaning.specs.TransitionSelection.{outranks};
 ghost use Rattle.plain_choices.specs.inside.InstanceOffers.{IsLiving, IsSurvey, IsFiringOf};
 ghost use Rattle.plain_choices.specs.inside.InstanceOffers.{firings_of, IsBestDue, is_better};
@@ -14,7 +14,7 @@ ghost use Rattle.plain_choices.specs.inside.SystemOffers.{IsFound, IsFoundBelow,
 use crate::offers::{Instance, Offer, gather, instance_at};
 use est_meaning::answers::Offers;
 use est_meaning::firing::Firing;
-use plain_guards::plain_frames::system::Working;
+use plain_guards::plain_systems::system::Working;
 use plain_guards::plain_transitions::behaviour::Behaviour;
 use std::alloc::{AllocError, Global};
 

@@ -5,12 +5,12 @@ use Rattle.std.specs.Prelude.{if◌then◌else◌}
 use Rattle.std.specs.List.{position}
 use Rattle.std.specs.Option.{option_map, option_or}
 use Rattle.std.proofs.lemmas.Option.{none-some, same_Some, get_or_from_slice_get}
-use Rattle.plain_names.specs.mean_blocks.declared.frame.Binding.{Binding}
-use Rattle.plain_names.specs.mean_blocks.declared.frame.Slot.{Slot}
-use Rattle.plain_names.specs.mean_blocks.GlobalSituation.{Frame}
-use Rattle.plain_names.specs.mean_blocks.Frames.{is_declared, slot_of, innermost}
-use Rattle.plain_names.specs.mean_blocks.Frames.{numbered, found_in, found}
-use Rattle.plain_frames.proofs.FirstFound.{first_found, none_found}
+use Rattle.plain_declared.specs.mean_blocks.declared.frame.Binding.{Binding}
+use Rattle.plain_declared.specs.mean_blocks.declared.frame.Slot.{Slot}
+use Rattle.plain_declared.specs.mean_blocks.GlobalSituation.{Frame}
+use Rattle.plain_declared.specs.mean_blocks.Frames.{is_declared, slot_of, innermost}
+use Rattle.plain_declared.specs.mean_blocks.Frames.{numbered, found_in, found}
+use Rattle.plain_systems.proofs.FirstFound.{first_found, none_found}
 
 -- IN A FRAME
 

@@ -4,20 +4,20 @@ use Rattle.std.proofs.Common.{length, append_assoc, Result, Ok, Err, slice_get, 
 use Rattle.std.proofs.lemmas.List.{append-nil}
 use Rattle.std.proofs.Math.ListN.{drop_of_length-le}
 use Rattle.est_syntax.specs.declared.kind.Kind.{Kind}
-use Rattle.plain_names.specs.rule_scope.Outline.{Outline}
-use Rattle.plain_names.specs.mean_blocks.declared.fault.BlockFault.{BlockFault}
-use Rattle.plain_names.specs.mean_blocks.declared.frame.Binding.{Binding}
-use Rattle.plain_names.specs.mean_blocks.declared.frame.Slot.{Slot}
-use Rattle.plain_names.specs.mean_blocks.declared.stop.Stop.{Stop}
-use Rattle.plain_names.specs.mean_blocks.declared.stop.Stop.TheVariants as stop
-use Rattle.plain_names.specs.mean_blocks.Outcome.{on_ok}
-use Rattle.plain_names.specs.mean_blocks.AnswersOfCalls.{Says}
-use Rattle.plain_names.specs.mean_blocks.GlobalSituation.{Frame}
-use Rattle.plain_names.specs.mean_blocks.NamesInRuns.{kind_at}
-use Rattle.plain_names.specs.mean_blocks.FunctionCalls.{bound, frame_of}
+use Rattle.plain_declared.specs.rule_scope.Outline.{Outline}
+use Rattle.plain_declared.specs.mean_blocks.declared.fault.BlockFault.{BlockFault}
+use Rattle.plain_declared.specs.mean_blocks.declared.frame.Binding.{Binding}
+use Rattle.plain_declared.specs.mean_blocks.declared.frame.Slot.{Slot}
+use Rattle.plain_declared.specs.mean_blocks.declared.stop.Stop.{Stop}
+use Rattle.plain_declared.specs.mean_blocks.declared.stop.Stop.TheVariants as stop
+use Rattle.plain_declared.specs.mean_blocks.Outcome.{on_ok}
+use Rattle.plain_declared.specs.mean_blocks.AnswersOfCalls.{Says}
+use Rattle.plain_declared.specs.mean_blocks.GlobalSituation.{Frame}
+use Rattle.plain_declared.specs.mean_blocks.NamesInRuns.{kind_at}
+use Rattle.plain_declared.specs.mean_blocks.FunctionCalls.{bound, frame_of}
 use Rattle.plain_frames.specs.inside.RoutineFrames.{given_first}
 use Rattle.est_values.proofs.QueueLaws.{drop_more, head_behind_taken}
-use Rattle.plain_frames.proofs.FirstFound.{drop_here}
+use Rattle.plain_systems.proofs.FirstFound.{drop_here}
 
 -- the names before, and then those of a frame
 abbrev pub after : Frame → Result Frame BlockFault → Result Frame BlockFault

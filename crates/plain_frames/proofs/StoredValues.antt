@@ -2,20 +2,20 @@
 use Rattle.std.proofs.Common.{◌≡◌, refl, ap, ◌∙◌, ℕ, Bool, true, false, List, Result, Ok, Err}
 use Rattle.est_syntax.specs.declared.kind.Kind.{Kind}
 use Rattle.est_values.specs.declared.value.Value.{Value}
-use Rattle.plain_names.specs.mean_blocks.declared.fault.BlockFault.{BlockFault}
-use Rattle.plain_names.specs.mean_blocks.declared.frame.Holder.TheVariants as holder
-use Rattle.plain_names.specs.mean_blocks.declared.frame.Place.{Place}
-use Rattle.plain_names.specs.mean_blocks.declared.situation.Row.{Row}
-use Rattle.plain_names.specs.mean_blocks.declared.stop.Stop.{Stop}
-use Rattle.plain_names.specs.mean_blocks.declared.stop.Stop.TheVariants as stop
-use Rattle.plain_names.specs.mean_blocks.Outcome.{Outcome, Done, Fault, onward, lift, on_ok}
-use Rattle.plain_names.specs.mean_blocks.AnswersOfCalls.{Answers}
-use Rattle.plain_names.specs.mean_blocks.GlobalSituation.{Frame}
-use Rattle.plain_names.specs.mean_blocks.Frames.{held_by, frame_written}
-use Rattle.plain_names.specs.mean_blocks.ReachedVariables.{Component}
-use Rattle.plain_names.specs.mean_blocks.TakenValues.{taken}
-use Rattle.plain_names.specs.mean_blocks.WorkingState.{State}
-use Rattle.plain_names.specs.mean_blocks.WriteEffects.{given_names, stored}
+use Rattle.plain_declared.specs.mean_blocks.declared.fault.BlockFault.{BlockFault}
+use Rattle.plain_declared.specs.mean_blocks.declared.frame.Holder.TheVariants as holder
+use Rattle.plain_declared.specs.mean_blocks.declared.frame.Place.{Place}
+use Rattle.plain_declared.specs.mean_blocks.declared.situation.Row.{Row}
+use Rattle.plain_declared.specs.mean_blocks.declared.stop.Stop.{Stop}
+use Rattle.plain_declared.specs.mean_blocks.declared.stop.Stop.TheVariants as stop
+use Rattle.plain_declared.specs.mean_blocks.Outcome.{Outcome, Done, Fault, onward, lift, on_ok}
+use Rattle.plain_declared.specs.mean_blocks.AnswersOfCalls.{Answers}
+use Rattle.plain_declared.specs.mean_blocks.GlobalSituation.{Frame}
+use Rattle.plain_declared.specs.mean_blocks.Frames.{held_by, frame_written}
+use Rattle.plain_declared.specs.mean_blocks.ReachedVariables.{Component}
+use Rattle.plain_declared.specs.mean_blocks.TakenValues.{taken}
+use Rattle.plain_declared.specs.mean_blocks.WorkingState.{State}
+use Rattle.plain_declared.specs.mean_blocks.WriteEffects.{given_names, stored}
 use Rattle.plain_frames.specs.HeldFrames.{Leaves}
 use Rattle.plain_frames.specs.inside.WrittenLists.{given_variables, variables_written}
 use Rattle.plain_frames.specs.inside.WrittenLists.{instance_written}

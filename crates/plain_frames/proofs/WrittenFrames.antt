@@ -5,22 +5,22 @@ use Rattle.std.specs.List.{position}
 use Rattle.est_values.specs.declared.value.Value.{Value}
 use Rattle.est_values.specs.PartsOfValues.{with_part}
 use Rattle.est_values.proofs.WrittenValues.{set_twice}
-use Rattle.plain_names.specs.mean_blocks.declared.fault.BlockFault.{BlockFault}
-use Rattle.plain_names.specs.mean_blocks.declared.fault.BlockFault.TheVariants.{Undefined}
-use Rattle.plain_names.specs.mean_blocks.declared.frame.Binding.{Binding}
-use Rattle.plain_names.specs.mean_blocks.declared.frame.Slot.{Slot}
-use Rattle.plain_names.specs.mean_blocks.declared.frame.Slot.TheVariants as slot
-use Rattle.plain_names.specs.mean_blocks.declared.situation.Row.{Row}
-use Rattle.plain_names.specs.mean_blocks.declared.stop.Stop.{Stop}
-use Rattle.plain_names.specs.mean_blocks.declared.stop.Stop.TheVariants as stop
-use Rattle.plain_names.specs.mean_blocks.AnswersOfCalls.{Says}
-use Rattle.plain_names.specs.mean_blocks.Outcome.{on_ok}
-use Rattle.plain_names.specs.mean_blocks.GlobalSituation.{Frame}
-use Rattle.plain_names.specs.mean_blocks.Frames.{is_declared, slot_of, given_value, with_value}
-use Rattle.plain_names.specs.mean_blocks.Frames.{existing, value_in, frame_written}
+use Rattle.plain_declared.specs.mean_blocks.declared.fault.BlockFault.{BlockFault}
+use Rattle.plain_declared.specs.mean_blocks.declared.fault.BlockFault.TheVariants.{Undefined}
+use Rattle.plain_declared.specs.mean_blocks.declared.frame.Binding.{Binding}
+use Rattle.plain_declared.specs.mean_blocks.declared.frame.Slot.{Slot}
+use Rattle.plain_declared.specs.mean_blocks.declared.frame.Slot.TheVariants as slot
+use Rattle.plain_declared.specs.mean_blocks.declared.situation.Row.{Row}
+use Rattle.plain_declared.specs.mean_blocks.declared.stop.Stop.{Stop}
+use Rattle.plain_declared.specs.mean_blocks.declared.stop.Stop.TheVariants as stop
+use Rattle.plain_declared.specs.mean_blocks.AnswersOfCalls.{Says}
+use Rattle.plain_declared.specs.mean_blocks.Outcome.{on_ok}
+use Rattle.plain_declared.specs.mean_blocks.GlobalSituation.{Frame}
+use Rattle.plain_declared.specs.mean_blocks.Frames.{is_declared, slot_of, given_value, with_value}
+use Rattle.plain_declared.specs.mean_blocks.Frames.{existing, value_in, frame_written}
 use Rattle.plain_frames.specs.HeldFrames.{Leaves}
 use Rattle.plain_frames.specs.inside.WrittenLists.{rewritten}
-use Rattle.plain_frames.proofs.FirstFound.{changed_at}
+use Rattle.plain_systems.proofs.FirstFound.{changed_at}
 use Rattle.plain_frames.proofs.NamesFound.{slot_in, slot_by, no_slot}
 
 -- what follows a thing that follows another

@@ -4,20 +4,21 @@ use Rattle.std.proofs.Common.{Some, None, Result, Ok, Err, slice_get, slice_set,
 use Rattle.std.specs.List.{position}
 use Rattle.est_syntax.specs.declared.kind.Kind.{Kind}
 use Rattle.est_values.specs.declared.value.Value.{Value}
-use Rattle.plain_names.specs.mean_blocks.declared.fault.BlockFault.{BlockFault}
-use Rattle.plain_names.specs.mean_blocks.declared.fault.BlockFault.TheVariants.{NoModule, Undefined}
-use Rattle.plain_names.specs.mean_blocks.declared.frame.Place.{Place}
-use Rattle.plain_names.specs.mean_blocks.declared.situation.Row.{Row}
-use Rattle.plain_names.specs.mean_blocks.declared.stop.Stop.{Stop}
-use Rattle.plain_names.specs.mean_blocks.Outcome.{on_ok}
-use Rattle.plain_names.specs.mean_blocks.GlobalSituation.{Frame, first_changed, is_numbered}
-use Rattle.plain_names.specs.mean_blocks.Frames.{variables_in, frame_written}
-use Rattle.plain_names.specs.mean_blocks.TakenValues.{taken}
+use Rattle.plain_declared.specs.mean_blocks.declared.fault.BlockFault.{BlockFault}
+use Rattle.plain_declared.specs.mean_blocks.declared.fault.BlockFault.TheVariants.{NoModule}
+use Rattle.plain_declared.specs.mean_blocks.declared.fault.BlockFault.TheVariants.{Undefined}
+use Rattle.plain_declared.specs.mean_blocks.declared.frame.Place.{Place}
+use Rattle.plain_declared.specs.mean_blocks.declared.situation.Row.{Row}
+use Rattle.plain_declared.specs.mean_blocks.declared.stop.Stop.{Stop}
+use Rattle.plain_declared.specs.mean_blocks.Outcome.{on_ok}
+use Rattle.plain_declared.specs.mean_blocks.GlobalSituation.{Frame, first_changed, is_numbered}
+use Rattle.plain_declared.specs.mean_blocks.Frames.{variables_in, frame_written}
+use Rattle.plain_declared.specs.mean_blocks.TakenValues.{taken}
 use Rattle.plain_frames.specs.HeldFrames.{Leaves}
 use Rattle.plain_frames.specs.inside.WrittenLists.{with_names, rows_written, row_written}
 use Rattle.plain_frames.specs.inside.WrittenLists.{given_variables}
 use Rattle.plain_frames.specs.inside.WrittenLists.{instance_written}
-use Rattle.plain_frames.proofs.FirstFound.{first_found, first_there, none_found, changed_at}
+use Rattle.plain_systems.proofs.FirstFound.{first_found, first_there, none_found, changed_at}
 use Rattle.plain_frames.proofs.WrittenFrames.{undefined_written}
 
 -- WHAT IS LEFT

@@ -4,20 +4,21 @@ use Rattle.std.specs.Option.{option_map}
 use Rattle.std.specs.Borrow.{Bor}
 use Rattle.est_syntax.specs.declared.kind.Kind.{Kind}
 use Rattle.est_values.specs.declared.value.Value.{Value}
-use Rattle.plain_names.specs.mean_blocks.declared.fault.BlockFault.{BlockFault}
-use Rattle.plain_names.specs.mean_blocks.declared.frame.Place.{Place}
-use Rattle.plain_names.specs.mean_blocks.declared.frame.Slot.{Slot}
-use Rattle.plain_names.specs.mean_blocks.declared.stop.Stop.{Stop}
-use Rattle.plain_names.specs.mean_blocks.declared.stop.Stop.TheVariants as stop
-use Rattle.plain_names.specs.mean_blocks.GlobalSituation.{Frame, Situation}
-use Rattle.plain_names.specs.mean_blocks.Frames.{found, slot_of, frame_at, value_in}
-use Rattle.plain_names.specs.mean_blocks.Outcome.{on_ok}
-use Rattle.plain_names.specs.mean_blocks.ValueOperators.{defined_in}
-use Rattle.plain_names.specs.mean_blocks.AnswersOfCalls.{Answers}
-use Rattle.plain_names.specs.mean_blocks.ReachedVariables.{Component, instance_by, living, held_in}
-use Rattle.plain_names.specs.mean_blocks.WriteEffects.{stored}
-use Rattle.plain_frames.specs.declared.system.Working.{Working}
-use Rattle.plain_frames.specs.HeldSystems.{state_of}
+use Rattle.plain_declared.specs.mean_blocks.declared.fault.BlockFault.{BlockFault}
+use Rattle.plain_declared.specs.mean_blocks.declared.frame.Place.{Place}
+use Rattle.plain_declared.specs.mean_blocks.declared.frame.Slot.{Slot}
+use Rattle.plain_declared.specs.mean_blocks.declared.stop.Stop.{Stop}
+use Rattle.plain_declared.specs.mean_blocks.declared.stop.Stop.TheVariants as stop
+use Rattle.plain_declared.specs.mean_blocks.GlobalSituation.{Frame, Situation}
+use Rattle.plain_declared.specs.mean_blocks.Frames.{found, slot_of, frame_at, value_in}
+use Rattle.plain_declared.specs.mean_blocks.Outcome.{on_ok}
+use Rattle.plain_declared.specs.mean_blocks.ValueOperators.{defined_in}
+use Rattle.plain_declared.specs.mean_blocks.AnswersOfCalls.{Answers}
+use Rattle.plain_declared.specs.mean_blocks.ReachedVariables.{Component, instance_by, living}
+use Rattle.plain_declared.specs.mean_blocks.ReachedVariables.{held_in}
+use Rattle.plain_declared.specs.mean_blocks.WriteEffects.{stored}
+use Rattle.plain_systems.specs.declared.system.Working.{Working}
+use Rattle.plain_systems.specs.HeldSystems.{state_of}
 
 -- READING
 

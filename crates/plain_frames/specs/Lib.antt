@@ -1,3 +1,3 @@
 pub mod HeldFrames
-pub mod HeldSystems
 pub mod inside
+pub use Rattle.plain_systems.specs as plain_systems

@@ -1,19 +1,19 @@
 //! The children that module variables hold.
 ghost use Rattle.std.specs.Prelude.{◌≡◌, ℕ, Option, find, option_copied};
 ghost use Rattle.std.specs.Option.{option_or};
-ghost use Rattle.plain_names.specs.mean_blocks.GlobalSituation.{is_element, is_holding, held};
-ghost use Rattle.plain_names.specs.mean_blocks.Frames.{found};
-ghost use Rattle.plain_names.specs.mean_blocks.ReachedVariables.{instance_by, living, held_in};
-ghost use Rattle.plain_frames.specs.HeldSystems.{situation_of};
+ghost use Rattle.plain_declared.specs.mean_blocks.GlobalSituation.{is_element, is_holding, held};
+ghost use Rattle.plain_declared.specs.mean_blocks.Frames.{found};
+ghost use Rattle.plain_declared.specs.mean_blocks.ReachedVariables.{instance_by, living, held_in};
+ghost use Rattle.plain_systems.specs.HeldSystems.{situation_of};
 ghost use Rattle.plain_frames.specs.HeldFrames.{child_in};
 
 use crate::names::found;
-use crate::rows::{lives, row_of};
-use crate::system::System;
 use est_syntax::kind::Ordinals;
-use plain_names::mean_blocks::fault::BlockFault;
-use plain_names::mean_blocks::frame::{Frame, Slot};
-use plain_names::mean_blocks::situation::{Element, Holding};
+use plain_declared::mean_blocks::fault::BlockFault;
+use plain_declared::mean_blocks::frame::{Frame, Slot};
+use plain_declared::mean_blocks::situation::{Element, Holding};
+use plain_systems::rows::{lives, row_of};
+use plain_systems::system::System;
 
 /// Whether an element is that of a module variable with these subscripts.
 pub fn is_element(declared: u32, index: &Ordinals, element: &Element) -> bool

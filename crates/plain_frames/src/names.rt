@@ -1,12 +1,12 @@
 //! Names in frames.
 ghost use Rattle.std.specs.Prelude.{◌≡◌, Ok, Err, Some, option_copied, MatchResult};
 ghost use Rattle.std.specs.List.{position};
-ghost use Rattle.plain_names.specs.mean_blocks.Frames.{is_declared, slot_of, value_in, found};
+ghost use Rattle.plain_declared.specs.mean_blocks.Frames.{is_declared, slot_of, value_in, found};
 ghost use Rattle.plain_frames.specs.HeldFrames.{seen};
 
 use est_values::value::Value;
-use plain_names::mean_blocks::fault::BlockFault;
-use plain_names::mean_blocks::frame::{Frame, Slot};
+use plain_declared::mean_blocks::fault::BlockFault;
+use plain_declared::mean_blocks::frame::{Frame, Slot};
 
 /// Where a name stands in a frame, by the number of its binding.
 pub fn position_of(declared: u32, frame: &Frame) -> Option<usize>

@@ -1,18 +1,19 @@
 //! Places of variables, and the values there.
 ghost use Rattle.std.specs.Prelude.{◌≡◌, Ok, Err, IfOk, MatchResult};
-ghost use Rattle.plain_names.specs.mean_blocks.Outcome.{on_ok};
-ghost use Rattle.plain_names.specs.mean_blocks.Frames.{slot_of, value_in, held_by, whole, place_of};
-ghost use Rattle.plain_names.specs.mean_blocks.Frames.{read_at};
-ghost use Rattle.plain_frames.specs.HeldSystems.{situation_of};
+ghost use Rattle.plain_declared.specs.mean_blocks.Outcome.{on_ok};
+ghost use Rattle.plain_declared.specs.mean_blocks.Frames.{slot_of, value_in, held_by, whole};
+ghost use Rattle.plain_declared.specs.mean_blocks.Frames.{place_of};
+ghost use Rattle.plain_declared.specs.mean_blocks.Frames.{read_at};
+ghost use Rattle.plain_systems.specs.HeldSystems.{situation_of};
 
 use crate::names::{found, value_in};
-use crate::rows::row_of;
-use crate::system::System;
 use est_syntax::est_items::{Items, Twin};
 use est_values::parts::part_at;
 use est_values::value::Value;
-use plain_names::mean_blocks::fault::BlockFault;
-use plain_names::mean_blocks::frame::{Frame, Holder, Place, Slot};
+use plain_declared::mean_blocks::fault::BlockFault;
+use plain_declared::mean_blocks::frame::{Frame, Holder, Place, Slot};
+use plain_systems::rows::row_of;
+use plain_systems::system::System;
 use std::alloc::{AllocError, Global};
 
 /// The place of a whole variable.

@@ -1,11 +1,11 @@
 //! Frames of routines, and what a function gives back.
 ghost use Rattle.std.specs.Prelude.{◌≡◌, IfOk, ◌++◌, Some, option_copied};
-ghost use Rattle.plain_names.specs.rule_scope.declared.declaration.Sort.TheVariants as sort;
-ghost use Rattle.plain_names.specs.mean_blocks.AnswersOfCalls.{Says};
-ghost use Rattle.plain_names.specs.mean_blocks.FunctionCalls.{given, frame_of, results_of};
-ghost use Rattle.plain_names.specs.mean_blocks.FunctionCalls.{routine_frame};
-ghost use Rattle.plain_names.specs.mean_blocks.LoopEffects.{naming};
-ghost use Rattle.plain_names.specs.mean_blocks.NamesInRuns.{places_of};
+ghost use Rattle.plain_declared.specs.rule_scope.declared.declaration.Sort.TheVariants as sort;
+ghost use Rattle.plain_declared.specs.mean_blocks.AnswersOfCalls.{Says};
+ghost use Rattle.plain_declared.specs.mean_blocks.FunctionCalls.{given, frame_of, results_of};
+ghost use Rattle.plain_declared.specs.mean_blocks.FunctionCalls.{routine_frame};
+ghost use Rattle.plain_declared.specs.mean_blocks.LoopEffects.{naming};
+ghost use Rattle.plain_declared.specs.mean_blocks.NamesInRuns.{places_of};
 ghost use Rattle.plain_frames.specs.inside.RoutineFrames.{given_first};
 ghost use Rattle.plain_frames.specs.HeldFrames.{result_in};
 
@@ -13,12 +13,12 @@ use crate::names::value_in;
 use est_syntax::est_items::{Items, Twin};
 use est_syntax::kind::Kind;
 use est_values::value::Value;
-use plain_names::declared::{kind_at, places_of};
-use plain_names::mean_blocks::fault::BlockFault;
-use plain_names::mean_blocks::frame::{Binding, Frame, Slot};
-use plain_names::mean_blocks::stop::Stop;
-use plain_names::rule_scope::declaration::Sort;
-use plain_names::rule_scope::outline::Outline;
+use plain_declared::declared::{kind_at, places_of};
+use plain_declared::mean_blocks::fault::BlockFault;
+use plain_declared::mean_blocks::frame::{Binding, Frame, Slot};
+use plain_declared::mean_blocks::stop::Stop;
+use plain_declared::rule_scope::declaration::Sort;
+use plain_declared::rule_scope::outline::Outline;
 use plain_values::taking::{first_value, taken};
 use plain_values::values::defined;
 use std::alloc::{AllocError, Global};

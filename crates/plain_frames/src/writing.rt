@@ -1,24 +1,24 @@
 //! Values that are written to variables, and frames that are opened and closed.
 ghost use Rattle.std.specs.Prelude.{◌≡◌, ℕ, ◌<◌, length, Some};
-ghost use Rattle.plain_names.specs.mean_blocks.AnswersOfCalls.{Answers, Says};
-ghost use Rattle.plain_names.specs.mean_blocks.Outcome.{Done};
-ghost use Rattle.plain_names.specs.mean_blocks.Frames.{frame_written};
-ghost use Rattle.plain_names.specs.mean_blocks.WriteEffects.{opened, closed};
-ghost use Rattle.plain_frames.specs.HeldSystems.{state_of};
+ghost use Rattle.plain_declared.specs.mean_blocks.AnswersOfCalls.{Answers, Says};
+ghost use Rattle.plain_declared.specs.mean_blocks.Outcome.{Done};
+ghost use Rattle.plain_declared.specs.mean_blocks.Frames.{frame_written};
+ghost use Rattle.plain_declared.specs.mean_blocks.WriteEffects.{opened, closed};
+ghost use Rattle.plain_systems.specs.HeldSystems.{state_of};
 ghost use Rattle.plain_frames.specs.HeldFrames.{Leaves, Stores};
 ghost use Rattle.plain_frames.specs.inside.WrittenLists.{rewritten, frames_written, rows_written};
 ghost use Rattle.plain_frames.specs.inside.WrittenLists.{instance_written};
 
 use crate::names::position_of;
-use crate::rows::row_position;
-use crate::system::{Frames, Rows, Working};
 use est_syntax::est_items::Shared;
 use est_syntax::kind::Kind;
 use est_values::parts::with_part;
 use est_values::value::Value;
-use plain_names::mean_blocks::fault::BlockFault;
-use plain_names::mean_blocks::frame::{Binding, Frame, Holder, Place, Slot};
-use plain_names::mean_blocks::stop::Stop;
+use plain_declared::mean_blocks::fault::BlockFault;
+use plain_declared::mean_blocks::frame::{Binding, Frame, Holder, Place, Slot};
+use plain_declared::mean_blocks::stop::Stop;
+use plain_systems::rows::row_position;
+use plain_systems::system::{Frames, Rows, Working};
 use plain_values::taking::taken;
 use std::alloc::Global;
 

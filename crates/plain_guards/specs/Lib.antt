@@ -1,4 +1,3 @@
-pub mod JudgedGuards
-pub mod inside
-pub use Rattle.plain_queues.specs.plain_frames
-pub use Rattle.plain_transitions.specs as plain_transitions
+pub use Rattle.plain_clauses.specs.plain_systems
+pub use Rattle.plain_clauses.specs.plain_transitions
+pub use Rattle.plain_clauses.specs as plain_clauses

@@ -1,37 +1,18 @@
 //! What is provided.
-ghost use Rattle.std.specs.Prelude.{◌≡◌, IfOk, ◌&&◌, ◌||◌};
-ghost use Rattle.plain_transitions.specs.WrittenTransitions.{provided_of, referred};
+ghost use Rattle.std.specs.Prelude.{IfOk};
+ghost use Rattle.plain_clauses.specs.plain_transitions.WrittenTransitions.{provided_of, referred};
 ghost use Rattle.est_meaning.specs.ClauseContexts.{Otherwise};
-ghost use Rattle.plain_blocks.specs.ExecutionSites.{view_of};
-ghost use Rattle.plain_guards.specs.inside.EvaluatedParts.{is_past, is_held_unmet};
-ghost use Rattle.plain_guards.specs.inside.JudgedClauses.{IsMet};
+ghost use Rattle.plain_blocks.specs.plain_operands.ExecutionSites.{view_of};
+ghost use Rattle.plain_clauses.specs.JudgedClauses.{IsMet};
 
-use crate::parts::{Evaluated, is_met, is_past, is_unmet, part_of};
+use crate::parts::part_of;
 use est_syntax::expression::Expr;
-use plain_blocks::site::Site;
-use plain_queues::plain_frames::system::Working;
-use plain_transitions::written::Provision;
+use plain_blocks::plain_operands::site::Site;
+use plain_clauses::evaluated::{is_met, is_past};
+use plain_clauses::met::{Met, with_unmet};
+use plain_clauses::plain_systems::system::Working;
+use plain_clauses::plain_transitions::written::Provision;
 use std::alloc::{AllocError, Global};
-
-/// Whether what is provided holds, and whether a condition passes its limit.
-#[derive(Clone, Copy)]
-pub struct Met {
-    pub holds: bool,
-    pub passes: bool,
-}
-
-// What an `otherwise` says that refers to one condition more.
-fn with_unmet(met: Met, part: Evaluated) -> Met
-    ensures { result ≡ record {
-      holds = met.holds && is_held_unmet part;
-      passes = met.passes || is_past part;
-    } }
-{
-    Met {
-        holds: met.holds && is_unmet(part),
-        passes: met.passes || is_past(part),
-    }
-}
 
 // Whether each of these conditions is false or has a fault.
 fn all_unmet(

@@ -1,47 +1,18 @@
-//! Delays, and for how long transitions have been enabled.
-ghost use Rattle.std.specs.Prelude.{◌≡◌, IfOk, find, option_copied};
+//! Delays.
+ghost use Rattle.std.specs.Prelude.{IfOk, Some};
 ghost use Rattle.std.specs.Option.{option_map};
-ghost use Rattle.plain_queues.specs.plain_frames.HeldSystems.{situation_of, is_stamp};
-ghost use Rattle.plain_transitions.specs.WrittenTransitions.{bounds_of};
-ghost use Rattle.est_meaning.specs.TransitionSelection.{age_of};
-ghost use Rattle.plain_blocks.specs.ExecutionSites.{view_of};
-ghost use Rattle.plain_guards.specs.inside.JudgedClauses.{IsWaited};
+ghost use Rattle.plain_clauses.specs.plain_transitions.WrittenTransitions.{bounds_of};
+ghost use Rattle.plain_blocks.specs.plain_operands.ExecutionSites.{view_of};
+ghost use Rattle.plain_clauses.specs.JudgedClauses.{IsWaited};
 
-use crate::parts::{is_past, is_reached, ordinal_held, part_of};
+use crate::parts::part_of;
 use est_syntax::transition::Most;
-use plain_blocks::site::Site;
-use plain_queues::plain_frames::system::{Stamp, System, Working};
-use plain_transitions::written::Bounds;
+use plain_blocks::plain_operands::site::Site;
+use plain_clauses::ages::Waited;
+use plain_clauses::evaluated::{is_past, is_reached, ordinal_held};
+use plain_clauses::plain_systems::system::Working;
+use plain_clauses::plain_transitions::written::Bounds;
 use std::alloc::{AllocError, Global};
-
-/// Whether the bounds of a delay have values, whether each is reached, and whether one passes its
-/// limit.
-#[derive(Clone, Copy)]
-pub struct Waited {
-    pub valued: bool,
-    pub least: bool,
-    pub most: bool,
-    pub passes: bool,
-}
-
-// The first stamp of a transition.
-fn stamp_of(stamps: &[Stamp], instance: u32, transition: u32) -> Option<&Stamp>
-    ensures { option_copied result ≡ find
-        (is_stamp (record { instance = instance; transition = transition })) stamps.now }
-{
-    stamps.iter().find(|stamp| instance == stamp.instance && transition == stamp.transition)
-}
-
-/// For how long a transition has been enabled, if it has a stamp.
-pub fn age_of(system: &System, instance: u32, transition: u32) -> Option<u64>
-    ensures { result ≡ age_of (situation_of system.now)
-        (record { instance = instance; transition = transition }) }
-{
-    match stamp_of(system.stamps.get().as_slice(), instance, transition) {
-        None => None,
-        Some(stamp) => Some(system.clock.saturating_sub(stamp.since)),
-    }
-}
 
 // Whether the bounds of a delay are reached.
 fn is_waited(

@@ -1,39 +1,21 @@
 //! The evaluation of guards.
-ghost use Rattle.std.specs.Prelude.{◌≡◌, ◌&&◌, ◌||◌, IfOk, OnOk};
-ghost use Rattle.plain_queues.specs.plain_frames.HeldSystems.{situation_of};
+ghost use Rattle.std.specs.Prelude.{◌≡◌, IfOk, OnOk};
+ghost use Rattle.plain_clauses.specs.plain_systems.HeldSystems.{situation_of};
 ghost use Rattle.est_meaning.specs.TransitionChoices.{Choice};
-ghost use Rattle.plain_guards.specs.JudgedGuards.{IsOf, IsVerdict};
-ghost use Rattle.plain_guards.specs.inside.JudgedClauses.{AreJudged};
+ghost use Rattle.plain_clauses.specs.JudgedGuards.{IsOf, IsVerdict};
+ghost use Rattle.plain_clauses.specs.JudgedClauses.{AreJudged};
 
-use crate::candidate::Candidate;
-use crate::conditions::{Met, is_provided};
-use crate::delays::{Waited, age_of, delay_waited};
-use crate::parts::site_at;
+use crate::conditions::is_provided;
+use crate::delays::delay_waited;
 use crate::sight::look;
-use crate::verdict::Verdict;
 use est_meaning::mean_blocks::frame::Frame;
-use plain_points::plain_names::text::Text;
-use plain_queues::plain_frames::system::Working;
+use plain_clauses::ages::age_of;
+use plain_clauses::candidate::Candidate;
+use plain_clauses::evaluated::site_at;
+use plain_clauses::plain_systems::system::Working;
+use plain_clauses::plain_texts::text::Text;
+use plain_clauses::verdict::{Verdict, joined};
 use std::alloc::{AllocError, Global};
-
-// What a condition and a delay say together, where some part may have passed its limit before.
-fn joined(passed: bool, met: Met, waited: Waited) -> Verdict
-    ensures { result ≡ record {
-      passes = passed || (met.passes || waited.passes);
-      enabled = met.holds && waited.valued;
-      offered = (met.holds && waited.valued) && waited.least;
-      due = ((met.holds && waited.valued) && waited.least) && waited.most;
-    } }
-{
-    let enabled = met.holds && waited.valued;
-    let offered = enabled && waited.least;
-    Verdict {
-        passes: passed || met.passes || waited.passes,
-        enabled,
-        offered,
-        due: offered && waited.most,
-    }
-}
 
 // What the condition and the delay of a choice say, whose `from` and `when` hold.
 fn judge_seen(

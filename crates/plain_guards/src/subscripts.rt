@@ -1,17 +1,17 @@
 //! The subscripts of a `when`, each of which is evaluated.
 ghost use Rattle.std.specs.Prelude.{◌≡◌, IfOk, [], map, unwrap_or};
-ghost use Rattle.std.specs.List.{list_any};
 ghost use Rattle.est_meaning.specs.mean_blocks.NamesInRuns.{dims_at};
 ghost use Rattle.est_meaning.specs.GuardParts.{subscript_of, subscripts_of};
-ghost use Rattle.plain_blocks.specs.ExecutionSites.{view_of};
-ghost use Rattle.plain_guards.specs.inside.EvaluatedParts.{held, is_past, ordinals_held};
+ghost use Rattle.plain_blocks.specs.plain_operands.ExecutionSites.{view_of};
+ghost use Rattle.plain_clauses.specs.EvaluatedParts.{held};
 
-use crate::parts::{Evaluated, is_past, ordinal_held, part_of, within};
+use crate::parts::part_of;
 use est_syntax::est_items::Items;
 use est_syntax::expression::Expr;
-use est_syntax::kind::{Kind, Ordinals};
-use plain_blocks::site::{Site, dims_of};
-use plain_queues::plain_frames::system::Working;
+use est_syntax::kind::Kind;
+use plain_blocks::plain_operands::site::{Site, dims_of};
+use plain_clauses::evaluated::{Evaluated, within};
+use plain_clauses::plain_systems::system::Working;
 use std::alloc::{AllocError, Global};
 
 /// What comes of parts, in their order.
@@ -73,26 +73,4 @@ pub fn subscripts_at(
         None => Ok(Items::new(alloc)),
         Some(kinds) => subscripts_of(alloc, site, limit, kinds, index, working),
     }
-}
-
-/// Whether one of these parts passes its limit.
-pub fn is_some_past(parts: &[Evaluated]) -> bool
-    ensures { result ≡ list_any is_past parts.now }
-{
-    parts.iter().any(|part| is_past(*part))
-}
-
-/// The ordinals of parts, if each has one.
-pub fn ordinals_held(alloc: Global, parts: &[Evaluated]) -> Result<Option<Ordinals>, AllocError>
-    ensures { IfOk result (λ ordinals. ordinals ≡ ordinals_held parts.now) }
-{
-    let mut ordinals = Items::new(alloc);
-    for part in parts {
-        let Some(z) = ordinal_held(*part) else {
-            drop(ordinals);
-            return Ok(None);
-        };
-        ordinals.push(z)?;
-    }
-    Ok(Some(ordinals))
 }

@@ -1,16 +1,17 @@
 -- What is left where instances are released.
 use Rattle.std.proofs.Common.{◌≡◌, ℕ, List, ap, ◌∙◌, Some, None}
-use Rattle.plain_points.specs.mean_blocks.declared.situation.InteractionPoint.{InteractionPoint}
-use Rattle.plain_points.specs.mean_blocks.declared.situation.Item.{Item}
-use Rattle.plain_points.specs.mean_blocks.declared.situation.Row.{Row}
-use Rattle.plain_points.specs.mean_blocks.GlobalSituation.{Map, QueueName, Clocked, Situation}
-use Rattle.plain_points.specs.mean_blocks.InstanceEffects.{links_without, without}
+use Rattle.plain_queues.specs.mean_blocks.declared.situation.InteractionPoint.{InteractionPoint}
+use Rattle.plain_queues.specs.mean_blocks.declared.situation.Item.{Item}
+use Rattle.plain_queues.specs.mean_blocks.declared.situation.Row.{Row}
+use Rattle.plain_queues.specs.mean_blocks.GlobalSituation.{Map, QueueName, Clocked}
+use Rattle.plain_queues.specs.mean_blocks.GlobalSituation.{Situation}
+use Rattle.plain_queues.specs.mean_blocks.InstanceEffects.{links_without, without}
 use Rattle.plain_births.specs.LostRows.{rows_without, stamps_without}
 use Rattle.plain_queues.specs.LostQueues.{queues_without}
-use Rattle.plain_points.specs.mean_blocks.TextByPlace.{Text}
-use Rattle.plain_points.specs.mean_blocks.Attachments.{bottom}
-use Rattle.plain_points.specs.mean_blocks.QueueEffects.{queue_of, moved}
-use Rattle.plain_points.specs.mean_blocks.LinkEffects.{with_point}
+use Rattle.plain_queues.specs.mean_blocks.TextByPlace.{Text}
+use Rattle.plain_queues.specs.mean_blocks.Attachments.{bottom}
+use Rattle.plain_queues.specs.mean_blocks.QueueEffects.{queue_of, moved}
+use Rattle.plain_queues.specs.mean_blocks.LinkEffects.{with_point}
 use Rattle.plain_links.specs.ChangedSystems.{fastened, unfastened}
 use Rattle.plain_queues.specs.ChangedQueues.{transferred}
 

@@ -1,13 +1,13 @@
 -- Changes of a system that are parts of statements on links and of releases.
 use Rattle.std.specs.Prelude.{Some, None, ℕ}
-use Rattle.plain_points.specs.mean_blocks.declared.situation.InteractionPoint.{InteractionPoint}
-use Rattle.plain_points.specs.mean_blocks.TextByPlace.{Text}
-use Rattle.plain_points.specs.mean_blocks.GlobalSituation.{Situation}
-use Rattle.plain_points.specs.mean_blocks.Attachments.{bottom}
-use Rattle.plain_points.specs.mean_blocks.QueueEffects.{moved}
-use Rattle.plain_points.specs.mean_blocks.LinkEffects.{with_point, each}
-use Rattle.plain_points.specs.mean_blocks.InstancePoints.{external_of}
-use Rattle.plain_points.specs.mean_blocks.InstanceEffects.{untied}
+use Rattle.plain_queues.specs.mean_blocks.declared.situation.InteractionPoint.{InteractionPoint}
+use Rattle.plain_queues.specs.mean_blocks.TextByPlace.{Text}
+use Rattle.plain_queues.specs.mean_blocks.GlobalSituation.{Situation}
+use Rattle.plain_queues.specs.mean_blocks.Attachments.{bottom}
+use Rattle.plain_queues.specs.mean_blocks.QueueEffects.{moved}
+use Rattle.plain_queues.specs.mean_blocks.LinkEffects.{with_point, each}
+use Rattle.plain_queues.specs.mean_blocks.InstancePoints.{external_of}
+use Rattle.plain_queues.specs.mean_blocks.InstanceEffects.{untied}
 
 -- two interaction points are connected, whatever ties they have
 abbrev pub tied : InteractionPoint → InteractionPoint → Situation → Situation

@@ -1,24 +1,25 @@
 //! Connections and attachments that statements make and undo.
 ghost use Rattle.std.specs.Prelude.{◌≡◌, IfOk, OnOk};
-ghost use Rattle.plain_points.specs.mean_blocks.QueueEffects.{moved};
-ghost use Rattle.plain_points.specs.mean_blocks.LinkEffects.{is_taken, connected, attached};
-ghost use Rattle.plain_points.specs.mean_blocks.LinkEffects.{disconnected};
-ghost use Rattle.plain_points.specs.mean_blocks.LinkEffects.{detached, detached_above};
-ghost use Rattle.plain_points.specs.mean_blocks.LinkEffects.{detached_end, each};
-ghost use Rattle.plain_queues.specs.plain_frames.HeldSystems.{situation_of};
-ghost use Rattle.plain_queues.specs.plain_frames.HeldFrames.{Leaves};
+ghost use Rattle.plain_queues.specs.mean_blocks.QueueEffects.{moved};
+ghost use Rattle.plain_queues.specs.mean_blocks.LinkEffects.{is_taken, connected};
+ghost use Rattle.plain_queues.specs.mean_blocks.LinkEffects.{attached};
+ghost use Rattle.plain_queues.specs.mean_blocks.LinkEffects.{disconnected};
+ghost use Rattle.plain_queues.specs.mean_blocks.LinkEffects.{detached, detached_above};
+ghost use Rattle.plain_queues.specs.mean_blocks.LinkEffects.{detached_end, each};
+ghost use Rattle.plain_queues.specs.plain_systems.HeldSystems.{situation_of};
+ghost use Rattle.plain_births.specs.plain_frames.HeldFrames.{Leaves};
 ghost use Rattle.plain_links.specs.ChangedSystems.{tied, fastened, unfastened};
 
 use est_syntax::est_items::Twin;
 use plain_attachments::attachments::{above, bottom};
 use plain_attachments::links::{link, linked, unlink};
-use plain_points::mean_blocks::fault::BlockFault;
-use plain_points::mean_blocks::situation::InteractionPoint;
-use plain_points::mean_blocks::stop::Stop;
-use plain_points::plain_names::text::Text;
-use plain_points::points::is_point;
 use plain_queues::keys::queue_of;
-use plain_queues::plain_frames::system::System;
+use plain_queues::mean_blocks::fault::BlockFault;
+use plain_queues::mean_blocks::situation::InteractionPoint;
+use plain_queues::mean_blocks::stop::Stop;
+use plain_queues::plain_systems::points::is_point;
+use plain_queues::plain_systems::system::System;
+use plain_queues::plain_texts::text::Text;
 use plain_queues::queues::transfer;
 use std::alloc::{AllocError, Global};
 

@@ -3,6 +3,3 @@
 
 pub mod connections;
 pub mod releases;
-
-pub use plain_attachments;
-pub use plain_births;

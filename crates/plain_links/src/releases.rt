@@ -1,19 +1,20 @@
 //! Instances that are released.
 ghost use Rattle.std.specs.Prelude.{◌≡◌, OnOk};
-ghost use Rattle.plain_points.specs.mean_blocks.LinkEffects.{each};
-ghost use Rattle.plain_points.specs.mean_blocks.InstanceEffects.{descendants, without, untied};
-ghost use Rattle.plain_points.specs.mean_blocks.InstanceEffects.{released};
-ghost use Rattle.plain_queues.specs.plain_frames.HeldSystems.{situation_of};
+ghost use Rattle.plain_queues.specs.mean_blocks.LinkEffects.{each};
+ghost use Rattle.plain_queues.specs.mean_blocks.InstanceEffects.{descendants, without};
+ghost use Rattle.plain_queues.specs.mean_blocks.InstanceEffects.{untied};
+ghost use Rattle.plain_queues.specs.mean_blocks.InstanceEffects.{released};
+ghost use Rattle.plain_queues.specs.plain_systems.HeldSystems.{situation_of};
 ghost use Rattle.plain_links.specs.ChangedSystems.{all_untied};
 
 use crate::connections::{detach_above, disconnect};
 use plain_attachments::instances::external_of;
 use plain_attachments::losses::keep_links;
 use plain_births::losses::{descendants, keep_rows, keep_stamps};
-use plain_points::mean_blocks::situation::InteractionPoint;
-use plain_points::plain_names::text::Text;
 use plain_queues::losses::keep_queues;
-use plain_queues::plain_frames::system::System;
+use plain_queues::mean_blocks::situation::InteractionPoint;
+use plain_queues::plain_systems::system::System;
+use plain_queues::plain_texts::text::Text;
 use std::alloc::{AllocError, Global};
 
 // These instances go, with their queues, links and stamps.

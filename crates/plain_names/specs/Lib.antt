@@ -1,5 +1,1 @@
-pub mod KnownNames
-pub mod PartIndices
-pub mod ShownNames
-pub use Rattle.mean_blocks.specs.rule_scope
-pub use Rattle.mean_blocks.specs as mean_blocks
+pub mod HostSubjects

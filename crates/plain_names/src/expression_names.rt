@@ -2,10 +2,10 @@
 
 ghost use Rattle.std.specs.Prelude.{◌≡◌, OnOk};
 
-use crate::known::KnownNames;
 use est_syntax::expression::{
     Access, Expr, Factor, Member, ProductStep, Selector, Simple, SumStep, Term,
 };
+use plain_texts::known::KnownNames;
 use std::alloc::AllocError;
 
 /// Keeps the names of an expression.

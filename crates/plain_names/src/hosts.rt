@@ -12,11 +12,8 @@ ghost use Rattle.mean_blocks.specs.OperandHosts.{field_subject, selected_subject
 ghost use Rattle.mean_blocks.specs.OperandHosts.{subject_host, predeclared_host, named_host};
 ghost use Rattle.mean_blocks.specs.OperandHosts.{required_host, call_host, factor_host, host_of};
 ghost use Rattle.mean_blocks.proofs.HostLayers.{first_host};
-ghost use Rattle.plain_names.specs.ShownNames.{shown, subject_in};
+ghost use Rattle.plain_names.specs.HostSubjects.{shown, subject_in};
 
-use crate::declared::{declared_in_header, kind_at};
-use crate::kinds::{array_in, field_in};
-use crate::text::Text;
 use est_syntax::expression::{Expr, Factor, Selector};
 use est_syntax::kind::Kind;
 use est_syntax::name::Used;
@@ -25,6 +22,9 @@ use mean_blocks::rule_declares::required::{Required, required_function};
 use mean_blocks::rule_scope::declaration::{Meant, Sort};
 use mean_blocks::rule_scope::outline::Outline;
 use mean_blocks::rule_scope::predeclared::PredeclaredName;
+use plain_texts::plain_declared::declared::{declared_in_header, kind_at};
+use plain_texts::plain_declared::kinds::{array_in, field_in};
+use plain_texts::text::Text;
 
 /// What a name with some selectors is of: a kind, or module variables.
 #[derive(Clone, Copy)]

@@ -1,17 +1,12 @@
-//! What names stand for while blocks run (ISO 7185, 6.2.2; ISO 9074, scope of identifiers).
+//! Looks the names of a text up once, before its blocks run, and tells the host of an operand by
+//! its form (ISO 7185, 6.2.2 and 6.6.6.4; ISO 9074, scope of identifiers).
 #![tactic(auto)]
 
-pub mod declared;
 mod expression_names;
-pub mod heads;
 pub mod hosts;
-mod indices;
-pub mod kinds;
-mod known;
-pub mod names;
 mod part_names;
+pub mod prepared;
 mod statement_names;
-pub mod text;
 
-pub use mean_blocks;
-pub use mean_blocks::rule_scope;
+pub use plain_texts;
+pub use plain_texts::plain_declared;

@@ -3,11 +3,11 @@
 ghost use Rattle.std.specs.Prelude.{◌≡◌, OnOk, IfOk};
 
 use crate::expression_names::{access, expr};
-use crate::known::KnownNames;
 use crate::statement_names::statements;
 use est_syntax::body::{Block, Body, FirstPart, Part};
 use est_syntax::transition::{Clause, Group, Most, Transition};
 use mean_blocks::rule_scope::outline::Outline;
+use plain_texts::known::KnownNames;
 use std::alloc::{AllocError, Global};
 
 // Keeps the names of the greatest delay, where there is one.

@@ -3,10 +3,10 @@
 ghost use Rattle.std.specs.Prelude.{◌≡◌, OnOk};
 
 use crate::expression_names::{access, expr, exprs, selectors};
-use crate::known::KnownNames;
 use est_syntax::est_items::Boxed;
 use est_syntax::expression::Expr;
 use est_syntax::statement::{Arm, Sending, Statement};
+use plain_texts::known::KnownNames;
 use std::alloc::AllocError;
 
 // Keeps the names of sendings.

@@ -1,12 +1,12 @@
 -- Systems in whose queues an item goes down.
 use Rattle.std.proofs.Common.{◌≡◌, ap, ◌∙◌, List, [], ◌∷◌, ◌++◌}
-use Rattle.plain_points.specs.mean_blocks.declared.situation.InteractionPoint.{InteractionPoint}
-use Rattle.plain_points.specs.mean_blocks.declared.situation.Item.{Item}
-use Rattle.plain_points.specs.mean_blocks.TextByPlace.{Text}
-use Rattle.plain_points.specs.mean_blocks.GlobalSituation.{QueueName, Situation}
-use Rattle.plain_points.specs.mean_blocks.Attachments.{bottom}
-use Rattle.plain_points.specs.mean_blocks.QueueEffects.{queue_of, appended, passed_to}
-use Rattle.plain_points.specs.mean_blocks.OutputEffects.{delivered_at}
+use Rattle.plain_queues.specs.mean_blocks.declared.situation.InteractionPoint.{InteractionPoint}
+use Rattle.plain_queues.specs.mean_blocks.declared.situation.Item.{Item}
+use Rattle.plain_queues.specs.mean_blocks.TextByPlace.{Text}
+use Rattle.plain_queues.specs.mean_blocks.GlobalSituation.{QueueName, Situation}
+use Rattle.plain_queues.specs.mean_blocks.Attachments.{bottom}
+use Rattle.plain_queues.specs.mean_blocks.QueueEffects.{queue_of, appended, passed_to}
+use Rattle.plain_queues.specs.mean_blocks.OutputEffects.{delivered_at}
 use Rattle.plain_queues.specs.ChangedQueues.{with_items}
 
 abbrev with_queues : (QueueName → List Item) → Situation → Situation

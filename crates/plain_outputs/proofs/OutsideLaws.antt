@@ -3,15 +3,15 @@ use Rattle.std.proofs.Common.{◌≡◌, refl, sym, ap, ◌∙◌, ℕ, nat_eq, 
 use Rattle.std.specs.Prelude.{Result, Ok, Err, IfOk, Option, None, unwrap_or}
 use Rattle.std.specs.List.{list_any}
 use Rattle.std.specs.Option.{option_map}
-use Rattle.plain_points.specs.mean_blocks.declared.situation.InteractionPoint.{InteractionPoint}
-use Rattle.plain_points.specs.mean_blocks.GlobalSituation.{is_point, Situation}
-use Rattle.plain_points.specs.mean_blocks.InstancePoints.{points_of, header_of}
-use Rattle.plain_points.specs.mean_blocks.OutputEffects.{is_outside}
-use Rattle.plain_points.specs.mean_blocks.TextByPlace.{Text}
-use Rattle.plain_points.specs.mean_blocks.NamesInRuns.{places_of}
+use Rattle.plain_queues.specs.mean_blocks.declared.situation.InteractionPoint.{InteractionPoint}
+use Rattle.plain_queues.specs.mean_blocks.GlobalSituation.{is_point, Situation}
+use Rattle.plain_queues.specs.mean_blocks.InstancePoints.{points_of, header_of}
+use Rattle.plain_queues.specs.mean_blocks.OutputEffects.{is_outside}
+use Rattle.plain_queues.specs.mean_blocks.TextByPlace.{Text}
+use Rattle.plain_queues.specs.mean_blocks.NamesInRuns.{places_of}
 use Rattle.plain_points.specs.PointsOfHeaders.{is_at}
 use Rattle.plain_points.proofs.DeclaredLaws.{point_elsewhere, point_here}
-use Rattle.plain_points.specs.rule_scope.declared.declaration.Sort.TheVariants as sort
+use Rattle.plain_queues.specs.rule_scope.declared.declaration.Sort.TheVariants as sort
 
 -- no point of another instance is an external one of the root
 pub outside_elsewhere : (t : Text) (s : Situation) (p : InteractionPoint)

@@ -3,5 +3,5 @@
 
 pub mod outputs;
 
-pub use plain_points::plain_names;
-pub use plain_queues::plain_frames;
+pub use plain_attachments;
+pub use plain_queues::{plain_systems, plain_texts};

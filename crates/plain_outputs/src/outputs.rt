@@ -1,9 +1,10 @@
 //! What outputs do.
 ghost use Rattle.std.specs.Prelude.{◌≡◌, ◌∷◌, [], None, IfOk, OnOk};
-ghost use Rattle.plain_points.specs.mean_blocks.QueueEffects.{appended};
-ghost use Rattle.plain_points.specs.mean_blocks.OutputEffects.{is_outside, delivered_at, crossed};
-ghost use Rattle.plain_points.specs.mean_blocks.OutputEffects.{sent};
-ghost use Rattle.plain_queues.specs.plain_frames.HeldSystems.{linked, situation_of};
+ghost use Rattle.plain_queues.specs.mean_blocks.QueueEffects.{appended};
+ghost use Rattle.plain_queues.specs.mean_blocks.OutputEffects.{is_outside};
+ghost use Rattle.plain_queues.specs.mean_blocks.OutputEffects.{delivered_at, crossed};
+ghost use Rattle.plain_queues.specs.mean_blocks.OutputEffects.{sent};
+ghost use Rattle.plain_queues.specs.plain_systems.HeldSystems.{linked, situation_of};
 ghost use Rattle.plain_outputs.specs.SentItems.{sent_of};
 
 use est_syntax::est_items::Twin;
@@ -11,10 +12,10 @@ use plain_attachments::attachments::{bottom, up};
 use plain_attachments::instances::header_of;
 use plain_attachments::links::linked;
 use plain_points::declared::is_declared;
-use plain_points::mean_blocks::situation::{InteractionPoint, Item};
-use plain_points::plain_names::text::Text;
 use plain_queues::keys::queue_of;
-use plain_queues::plain_frames::system::{System, Working};
+use plain_queues::mean_blocks::situation::{InteractionPoint, Item};
+use plain_queues::plain_systems::system::{System, Working};
+use plain_queues::plain_texts::text::Text;
 use plain_queues::queues::{at_point, put};
 use std::alloc::{AllocError, Global};
 

@@ -12,16 +12,16 @@ use Rattle.std.proofs.lemmas.List.Concat.{flat_map-cons}
 use Rattle.std.proofs.lemmas.Option.{same_Some}
 use Rattle.std.proofs.lemmas.List.Folds.{list_any-append}
 use Rattle.est_syntax.specs.declared.kind.Kind.{Kind}
-use Rattle.plain_names.specs.rule_scope.Outline.{Outline}
+use Rattle.plain_declared.specs.rule_scope.Outline.{Outline}
 use Rattle.est_values.specs.FittingValues.{first_ordinal, last_ordinal, ordinal_count}
 use Rattle.est_values.specs.OrdinalTuples.{ordinals_of, ordinal_tuples}
 use Rattle.est_values.proofs.Gaps.{gap_counted, gap_none}
-use Rattle.plain_names.specs.mean_blocks.declared.situation.InteractionPoint.{InteractionPoint}
-use Rattle.plain_names.specs.mean_blocks.GlobalSituation.{is_point}
-use Rattle.plain_names.specs.mean_blocks.InstancePoints.{point, indices_of, points_of}
-use Rattle.plain_names.specs.mean_blocks.NamesInRuns.{places_of}
+use Rattle.plain_declared.specs.mean_blocks.declared.situation.InteractionPoint.{InteractionPoint}
+use Rattle.plain_declared.specs.mean_blocks.GlobalSituation.{is_point}
+use Rattle.plain_declared.specs.mean_blocks.InstancePoints.{point, indices_of, points_of}
+use Rattle.plain_declared.specs.mean_blocks.NamesInRuns.{places_of}
 use Rattle.plain_points.specs.PointsOfHeaders.{is_at}
-use Rattle.plain_names.specs.rule_scope.declared.declaration.Sort.TheVariants as sort
+use Rattle.plain_declared.specs.rule_scope.declared.declaration.Sort.TheVariants as sort
 
 -- TESTS OF LISTS
 

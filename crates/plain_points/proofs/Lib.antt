@@ -1,5 +1,2 @@
 pub mod DeclaredLaws
-pub mod FirstPlaces
-pub mod SamePoints
 pub mod TupleLaws
-pub use Rattle.plain_names.proofs.of_mean_blocks

@@ -6,9 +6,9 @@ use Rattle.std.specs.Cmp.Lexicographic.{pointwise}
 use Rattle.std.specs.List.{flat_map, list_any}
 use Rattle.est_syntax.specs.declared.kind.Kind.{Kind}
 use Rattle.est_values.specs.OrdinalTuples.{ordinal_tuples}
-use Rattle.plain_names.specs.rule_scope.Outline.{Outline}
-use Rattle.plain_names.specs.mean_blocks.declared.situation.InteractionPoint.{InteractionPoint}
-use Rattle.plain_names.specs.mean_blocks.InstancePoints.{point, indices_of}
+use Rattle.plain_declared.specs.rule_scope.Outline.{Outline}
+use Rattle.plain_declared.specs.mean_blocks.declared.situation.InteractionPoint.{InteractionPoint}
+use Rattle.plain_declared.specs.mean_blocks.InstancePoints.{point, indices_of}
 
 -- the interaction points of an instance that are declared at some places
 abbrev pub points_at : Outline → ℕ → List ℕ → List InteractionPoint

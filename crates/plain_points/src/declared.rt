@@ -1,18 +1,18 @@
 //! The interaction points that headers declare.
 ghost use Rattle.std.specs.Prelude.{◌≡◌, ◌++◌, map, IfOk, OnOk};
 ghost use Rattle.std.specs.List.{list_any};
-ghost use Rattle.plain_names.specs.mean_blocks.NamesInRuns.{places_of};
-ghost use Rattle.plain_names.specs.mean_blocks.InstancePoints.{point, indices_of, points_of};
+ghost use Rattle.plain_declared.specs.mean_blocks.NamesInRuns.{places_of};
+ghost use Rattle.plain_declared.specs.mean_blocks.InstancePoints.{point, indices_of, points_of};
 ghost use Rattle.plain_points.specs.PointsOfHeaders.{points_at, is_at};
-ghost use Rattle.plain_names.specs.rule_scope.declared.declaration.Sort.TheVariants as sort;
+ghost use Rattle.plain_declared.specs.rule_scope.declared.declaration.Sort.TheVariants as sort;
 
 use crate::subscripts::{indices_of, is_index};
 use est_syntax::est_items::{Items, Twin};
 use est_syntax::kind::Ordinals;
-use plain_names::declared::places_of;
-use plain_names::mean_blocks::situation::InteractionPoint;
-use plain_names::rule_scope::declaration::Sort;
-use plain_names::rule_scope::outline::Outline;
+use plain_declared::declared::places_of;
+use plain_declared::mean_blocks::situation::InteractionPoint;
+use plain_declared::rule_scope::declaration::Sort;
+use plain_declared::rule_scope::outline::Outline;
 use std::alloc::{AllocError, Global};
 
 /// Interaction points in order.

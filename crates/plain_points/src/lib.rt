@@ -2,8 +2,4 @@
 #![tactic(auto)]
 
 pub mod declared;
-pub mod points;
 pub mod subscripts;
-
-pub use plain_names;
-pub use plain_names::{mean_blocks, rule_scope};

@@ -7,14 +7,14 @@ ghost use Rattle.est_values.specs.FittingValues.{ordinal_count};
 ghost use Rattle.est_values.specs.OrdinalTuples.{first_tuple, next_tuple};
 ghost use Rattle.est_values.specs.OrdinalTuples.{ordinal_tuples};
 ghost use Rattle.est_values.specs.OrdinalTuples.{ordinals_of};
-ghost use Rattle.plain_names.specs.mean_blocks.InstancePoints.{indices_of};
+ghost use Rattle.plain_declared.specs.mean_blocks.InstancePoints.{indices_of};
 
 use est_syntax::est_items::{Items, Twin};
 use est_syntax::kind::{Kind, Ordinals};
 use est_values::ordinals::{first_ordinal, last_ordinal, ordinal_count};
 use est_values::tuples::next_tuple;
-use plain_names::declared::dims_at;
-use plain_names::rule_scope::outline::Outline;
+use plain_declared::declared::dims_at;
+use plain_declared::rule_scope::outline::Outline;
 use std::alloc::{AllocError, Global};
 
 /// Tuples of ordinals in order.

@@ -1,10 +1,10 @@
 -- Systems of which the head of a queue is taken.
 use Rattle.std.proofs.Common.{◌≡◌, ap, ◌∙◌, List, drop}
-use Rattle.plain_points.specs.mean_blocks.declared.situation.InteractionPoint.{InteractionPoint}
-use Rattle.plain_points.specs.mean_blocks.declared.situation.Item.{Item}
-use Rattle.plain_points.specs.mean_blocks.TextByPlace.{Text}
-use Rattle.plain_points.specs.mean_blocks.GlobalSituation.{QueueName, Situation}
-use Rattle.plain_points.specs.mean_blocks.QueueEffects.{queue_of, without_head}
+use Rattle.plain_texts.specs.mean_blocks.declared.situation.InteractionPoint.{InteractionPoint}
+use Rattle.plain_texts.specs.mean_blocks.declared.situation.Item.{Item}
+use Rattle.plain_texts.specs.mean_blocks.TextByPlace.{Text}
+use Rattle.plain_texts.specs.mean_blocks.GlobalSituation.{QueueName, Situation}
+use Rattle.plain_texts.specs.mean_blocks.QueueEffects.{queue_of, without_head}
 use Rattle.plain_queues.specs.ChangedQueues.{with_items}
 
 abbrev with_queues : (QueueName → List Item) → Situation → Situation

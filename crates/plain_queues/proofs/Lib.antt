@@ -1,3 +1,3 @@
 pub mod HeadLaws
 pub mod QueueLaws
-pub use Rattle.plain_frames.proofs as of_plain_frames
+pub use Rattle.plain_systems.proofs as of_plain_systems

@@ -8,17 +8,17 @@ use Rattle.std.proofs.lemmas.Option.{same_Some, slice_get_read, slice_get_within
 use Rattle.std.specs.Prelude.{find, if◌then◌else◌, drop}
 use Rattle.std.specs.List.{filter, position}
 use Rattle.std.specs.Option.{option_map_or, option_or}
-use Rattle.plain_points.specs.mean_blocks.declared.situation.InteractionPoint.{InteractionPoint}
-use Rattle.plain_points.specs.mean_blocks.declared.situation.Item.{Item}
-use Rattle.plain_points.specs.mean_blocks.GlobalSituation.{QueueName, is_queue, first_changed}
-use Rattle.plain_points.specs.mean_blocks.QueueEffects.{belongs, passed_to}
-use Rattle.plain_points.proofs.of_mean_blocks.FirstChanged.{found_changed, others_found}
-use Rattle.plain_frames.specs.declared.system.Waiting.{Waiting}
-use Rattle.plain_frames.specs.HeldSystems.{queue_of, is_waiting, waiting_in}
-use Rattle.plain_frames.proofs.FirstFound.{first_found, first_there, changed_at}
+use Rattle.plain_texts.specs.mean_blocks.declared.situation.InteractionPoint.{InteractionPoint}
+use Rattle.plain_texts.specs.mean_blocks.declared.situation.Item.{Item}
+use Rattle.plain_texts.specs.mean_blocks.GlobalSituation.{QueueName, is_queue, first_changed}
+use Rattle.plain_texts.specs.mean_blocks.QueueEffects.{belongs, passed_to}
+use Rattle.plain_texts.proofs.of_mean_blocks.FirstChanged.{found_changed, others_found}
+use Rattle.plain_systems.specs.declared.system.Waiting.{Waiting}
+use Rattle.plain_systems.specs.HeldSystems.{queue_of, is_waiting, waiting_in}
+use Rattle.plain_systems.proofs.FirstFound.{first_found, first_there, changed_at}
 use Rattle.plain_queues.specs.ChangedQueues.{IsParted, with_items, transferred}
-use Rattle.plain_points.proofs.FirstPlaces.{found_in_both, found_kept, found_none}
-use Rattle.plain_points.proofs.SamePoints.{queue_same, queue_self}
+use Rattle.plain_systems.proofs.FirstPlaces.{found_in_both, found_kept, found_none}
+use Rattle.plain_systems.proofs.SamePoints.{queue_same, queue_self}
 
 abbrev Held : Waiting → List Item
 Held w = w.items

@@ -1,10 +1,10 @@
 -- Lists of queues that are changed.
 use Rattle.std.specs.Prelude.{◌≡◌, List, ◌++◌, map, not, if◌then◌else◌}
 use Rattle.std.specs.List.{filter}
-use Rattle.plain_points.specs.mean_blocks.declared.situation.InteractionPoint.{InteractionPoint}
-use Rattle.plain_points.specs.mean_blocks.declared.situation.Item.{Item}
-use Rattle.plain_points.specs.mean_blocks.GlobalSituation.{QueueName, is_queue}
-use Rattle.plain_points.specs.mean_blocks.QueueEffects.{belongs, passed_to}
+use Rattle.plain_texts.specs.mean_blocks.declared.situation.InteractionPoint.{InteractionPoint}
+use Rattle.plain_texts.specs.mean_blocks.declared.situation.Item.{Item}
+use Rattle.plain_texts.specs.mean_blocks.GlobalSituation.{QueueName, is_queue}
+use Rattle.plain_texts.specs.mean_blocks.QueueEffects.{belongs, passed_to}
 
 -- queues of which one has these items
 abbrev pub with_items : QueueName → List Item → (QueueName → List Item) → QueueName → List Item

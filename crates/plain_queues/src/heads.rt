@@ -1,17 +1,17 @@
 //! The heads of queues.
 ghost use Rattle.std.specs.Prelude.{◌≡◌, IfOk, OnOk, find, option_copied};
-ghost use Rattle.plain_points.specs.mean_blocks.GlobalSituation.{is_queue};
-ghost use Rattle.plain_points.specs.mean_blocks.QueueEffects.{queue_by, head_at, without_head};
-ghost use Rattle.plain_frames.specs.HeldSystems.{queue_of as queue_of_key, is_waiting};
-ghost use Rattle.plain_frames.specs.HeldSystems.{situation_of};
+ghost use Rattle.plain_texts.specs.mean_blocks.GlobalSituation.{is_queue};
+ghost use Rattle.plain_texts.specs.mean_blocks.QueueEffects.{queue_by, head_at, without_head};
+ghost use Rattle.plain_systems.specs.HeldSystems.{queue_of as queue_of_key, is_waiting};
+ghost use Rattle.plain_systems.specs.HeldSystems.{situation_of};
 
 use crate::keys::queue_of;
 use crate::queues::take;
 use est_syntax::header::Queue;
-use plain_frames::system::{QueueKey, Queues, System, Waiting};
-use plain_points::mean_blocks::situation::{InteractionPoint, Item};
-use plain_points::plain_names::text::Text;
-use plain_points::points::is_point;
+use plain_systems::points::is_point;
+use plain_systems::system::{QueueKey, Queues, System, Waiting};
+use plain_texts::mean_blocks::situation::{InteractionPoint, Item};
+use plain_texts::text::Text;
 use std::alloc::{AllocError, Global};
 
 // Whether a queue is that of an interaction point of this discipline.

@@ -1,15 +1,15 @@
 //! Queues that are one, and the queues of interaction points.
 ghost use Rattle.std.specs.Prelude.{◌≡◌, IfOk};
-ghost use Rattle.plain_points.specs.mean_blocks.GlobalSituation.{is_point, is_queue};
-ghost use Rattle.plain_points.specs.mean_blocks.QueueEffects.{queue_of};
-ghost use Rattle.plain_frames.specs.HeldSystems.{queue_of as queue_by};
+ghost use Rattle.plain_texts.specs.mean_blocks.GlobalSituation.{is_point, is_queue};
+ghost use Rattle.plain_texts.specs.mean_blocks.QueueEffects.{queue_of};
+ghost use Rattle.plain_systems.specs.HeldSystems.{queue_of as queue_by};
 
 use est_syntax::est_items::Twin;
 use est_syntax::header::Queue;
-use plain_frames::system::QueueKey;
-use plain_points::mean_blocks::situation::InteractionPoint;
-use plain_points::plain_names::text::Text;
-use plain_points::points::is_point;
+use plain_systems::points::is_point;
+use plain_systems::system::QueueKey;
+use plain_texts::mean_blocks::situation::InteractionPoint;
+use plain_texts::text::Text;
 use std::alloc::{AllocError, Global};
 
 /// Whether both are one queue.

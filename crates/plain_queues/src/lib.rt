@@ -6,4 +6,6 @@ pub mod keys;
 pub mod losses;
 pub mod queues;
 
-pub use plain_frames;
+pub use plain_systems;
+pub use plain_texts;
+pub use plain_texts::{mean_blocks, plain_declared, rule_scope};

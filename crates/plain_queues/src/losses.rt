@@ -1,12 +1,12 @@
 //! Queues of instances that are released.
 ghost use Rattle.std.specs.Prelude.{◌≡◌, OnOk};
-ghost use Rattle.plain_points.specs.mean_blocks.InstanceEffects.{is_among, owner};
-ghost use Rattle.plain_frames.specs.HeldSystems.{queue_of, waiting_in};
+ghost use Rattle.plain_texts.specs.mean_blocks.InstanceEffects.{is_among, owner};
+ghost use Rattle.plain_systems.specs.HeldSystems.{queue_of, waiting_in};
 ghost use Rattle.plain_queues.specs.LostQueues.{queues_without};
 
 use est_syntax::est_items::Shared;
-use plain_frames::system::{QueueKey, Queues};
-use plain_points::points::is_among;
+use plain_systems::points::is_among;
+use plain_systems::system::{QueueKey, Queues};
 use std::alloc::{AllocError, Global};
 
 // The instance of a queue.

@@ -2,16 +2,16 @@
 ghost use Rattle.std.specs.Prelude.{◌≡◌, ◌∷◌, [], ◌++◌, IfOk, OnOk, Some, map, not, drop};
 ghost use Rattle.std.specs.Prelude.{slice_get};
 ghost use Rattle.std.specs.List.{filter, position};
-ghost use Rattle.plain_points.specs.mean_blocks.QueueEffects.{belongs, passed_to};
-ghost use Rattle.plain_frames.specs.HeldSystems.{queue_of, is_waiting, waiting_in};
+ghost use Rattle.plain_texts.specs.mean_blocks.QueueEffects.{belongs, passed_to};
+ghost use Rattle.plain_systems.specs.HeldSystems.{queue_of, is_waiting, waiting_in};
 ghost use Rattle.plain_queues.specs.ChangedQueues.{transferred, with_items};
 
 use crate::keys::is_queue;
 use est_syntax::est_items::{Items, Shared, Twin};
 use est_values::Queue;
-use plain_frames::system::{QueueKey, Queues, Waiting};
-use plain_points::mean_blocks::situation::{InteractionPoint, Item};
-use plain_points::points::is_point;
+use plain_systems::points::is_point;
+use plain_systems::system::{QueueKey, Queues, Waiting};
+use plain_texts::mean_blocks::situation::{InteractionPoint, Item};
 use std::alloc::{AllocError, Global};
 
 // Where a queue stands.

@@ -1,10 +1,10 @@
 -- How a start answers: exactly as its specification says, unless memory runs out.
 use Rattle.std.specs.Prelude.{◌≡◌, Result, Ok, Err}
-use Rattle.plain_frames.specs.HeldSystems.{situation_of}
-use Rattle.plain_names.specs.mean_blocks.declared.stop.Stop.{Stop}
-use Rattle.plain_names.specs.mean_blocks.declared.stop.Stop.TheVariants as stop
-use Rattle.plain_names.specs.mean_blocks.Outcome.{Outcome, Done, Fault, Limit}
-use Rattle.plain_names.specs.mean_blocks.OutputEffects.{Sent}
+use Rattle.plain_blocks.specs.plain_systems.HeldSystems.{situation_of}
+use Rattle.mean_blocks.specs.declared.stop.Stop.{Stop}
+use Rattle.mean_blocks.specs.declared.stop.Stop.TheVariants as stop
+use Rattle.mean_blocks.specs.Outcome.{Outcome, Done, Fault, Limit}
+use Rattle.mean_blocks.specs.OutputEffects.{Sent}
 use Rattle.plain_starts.specs.declared.starting.Started.{Started}
 
 -- what a start leaves

@@ -1,11 +1,11 @@
 //! The system before its first instance is begun.
 
 ghost use Rattle.std.specs.Prelude.{◌≡◌, IfOk};
-ghost use Rattle.plain_frames.specs.HeldSystems.{situation_of};
-ghost use Rattle.plain_names.specs.mean_blocks.StartMeaning.{no_instances};
+ghost use Rattle.plain_blocks.specs.plain_systems.HeldSystems.{situation_of};
+ghost use Rattle.mean_blocks.specs.StartMeaning.{no_instances};
 
 use est_syntax::est_items::{Items, Shared};
-use plain_frames::system::System;
+use plain_blocks::plain_systems::system::System;
 use std::alloc::{AllocError, Global};
 
 /// The system without instances, at the clock 0.

@@ -1,16 +1,16 @@
 //! The start of a system.
 
 ghost use Rattle.std.specs.Prelude.{◌≡◌};
-ghost use Rattle.plain_names.specs.mean_blocks.StartMeaning.{start_before};
+ghost use Rattle.mean_blocks.specs.StartMeaning.{start_before};
 ghost use Rattle.plain_starts.specs.StartedSystems.{Starts};
 
 use crate::before::no_instances;
 use est_syntax::est_items::Items;
-use plain_blocks::site::Site;
+use mean_blocks::stop::Stop;
+use plain_blocks::plain_operands::site::Site;
+use plain_blocks::plain_systems::system::{Outs, System, Working};
+use plain_blocks::plain_texts::text::Text;
 use plain_blocks::statements::statement_of;
-use plain_frames::system::{Outs, System, Working};
-use plain_names::mean_blocks::stop::Stop;
-use plain_names::text::Text;
 use std::alloc::Global;
 
 // How many levels calls and initialize parts may open within one another.

@@ -20,8 +20,8 @@ use Rattle.est_meaning.specs.mean_blocks.QueueEffects.{without_head}
 use Rattle.est_meaning.specs.mean_blocks.KeepingLaws.{AreNumbered}
 use Rattle.est_meaning.specs.mean_blocks.StartMeaning.{start_before}
 use Rattle.est_meaning.proofs.of_mean_blocks.OrderlyStarts.{starts_are_orderly}
-use Rattle.plain_frames.specs.declared.system.Working.{Working}
-use Rattle.plain_frames.specs.HeldSystems.{situation_of}
+use Rattle.plain_frames.specs.plain_systems.declared.system.Working.{Working}
+use Rattle.plain_frames.specs.plain_systems.HeldSystems.{situation_of}
 use Rattle.est_meaning.specs.declared.firing.Firing.{Firing}
 use Rattle.est_meaning.specs.ClauseContexts.{FullTransition, transitions_of}
 use Rattle.est_meaning.specs.TransitionChoices.{Choice, numbered, any_tuples, any_frame, choice_by}
@@ -35,9 +35,9 @@ use Rattle.est_meaning.proofs.Options.{map_some}
 use Rattle.est_meaning.proofs.Steps.{firings_are_orderly}
 use Rattle.plain_guards.specs.plain_transitions.declared.written.Written.{Written}
 use Rattle.plain_guards.specs.plain_transitions.WrittenTransitions.{IsWritten}
-use Rattle.plain_guards.specs.declared.candidate.Candidate.{Candidate}
-use Rattle.plain_guards.specs.declared.sight.Sight.{Sight}
-use Rattle.plain_guards.specs.JudgedGuards.{IsOf, IsView, IsTaking, IsSight}
+use Rattle.plain_guards.specs.plain_clauses.declared.candidate.Candidate.{Candidate}
+use Rattle.plain_guards.specs.plain_clauses.declared.sights.Sight.{Sight}
+use Rattle.plain_guards.specs.plain_clauses.JudgedGuards.{IsOf, IsView, IsTaking, IsSight}
 use Rattle.plain_starts.specs.declared.starting.Started.{Started}
 use Rattle.plain_starts.specs.StartedSystems.{Starts}
 use Rattle.plain_steps.specs.declared.step.Stepped.{Stepped}

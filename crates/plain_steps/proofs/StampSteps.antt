@@ -11,8 +11,8 @@ use Rattle.est_meaning.specs.mean_blocks.declared.situation.Row.{Row}
 use Rattle.est_meaning.specs.mean_blocks.TextByPlace.{Text}
 use Rattle.est_meaning.specs.mean_blocks.GlobalSituation.{Map, Situation, Clocked, row_of}
 use Rattle.est_meaning.proofs.of_mean_blocks.MutualPeers.{eq_self}
-use Rattle.plain_frames.specs.declared.system.Stamp.{Stamp}
-use Rattle.plain_frames.specs.HeldSystems.{is_stamp, stamped}
+use Rattle.plain_frames.specs.plain_systems.declared.system.Stamp.{Stamp}
+use Rattle.plain_frames.specs.plain_systems.HeldSystems.{is_stamp, stamped}
 use Rattle.est_meaning.specs.declared.firing.Firing.{Firing}
 use Rattle.est_meaning.specs.ClauseContexts.{FullTransition, transitions_of, from_of, when_of}
 use Rattle.est_meaning.specs.ClauseContexts.{delay_of}

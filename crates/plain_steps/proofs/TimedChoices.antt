@@ -12,9 +12,9 @@ use Rattle.est_meaning.specs.TransitionSelection.{is_enabled_choice}
 use Rattle.est_meaning.specs.DelayStamps.{is_waiting}
 use Rattle.est_meaning.proofs.Options.{map_some}
 use Rattle.plain_guards.specs.plain_transitions.WrittenTransitions.{IsWritten, bounds_of}
-use Rattle.plain_guards.specs.declared.candidate.Candidate.{Candidate}
-use Rattle.plain_guards.specs.declared.verdict.Verdict.{Verdict}
-use Rattle.plain_guards.specs.JudgedGuards.{IsOf, IsVerdict}
+use Rattle.plain_guards.specs.plain_clauses.declared.candidate.Candidate.{Candidate}
+use Rattle.plain_guards.specs.plain_clauses.declared.verdict.Verdict.{Verdict}
+use Rattle.plain_guards.specs.plain_clauses.JudgedGuards.{IsOf, IsVerdict}
 
 some_mapped : {A B : Type 0} (go : A → B) (o : Option A) → is_some (option_map go o) ≡ is_some o
 some_mapped go None = refl

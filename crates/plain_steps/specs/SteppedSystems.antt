@@ -1,6 +1,6 @@
 -- How a firing and a start answer: exactly as their definitions say, unless memory runs out.
 use Rattle.std.specs.Prelude.{◌≡◌, List, Result, Ok, Err}
-use Rattle.plain_frames.specs.HeldSystems.{situation_of}
+use Rattle.plain_frames.specs.plain_systems.HeldSystems.{situation_of}
 use Rattle.est_meaning.specs.mean_blocks.declared.stop.Stop.{Stop}
 use Rattle.est_meaning.specs.mean_blocks.declared.stop.Stop.TheVariants as stop
 use Rattle.est_meaning.specs.mean_blocks.GlobalSituation.{Situation}

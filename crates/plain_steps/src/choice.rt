@@ -8,14 +8,14 @@ ghost use Rattle.est_meaning.specs.mean_blocks.AnswersOfCalls.{Says};
 ghost use Rattle.est_meaning.specs.mean_blocks.BlockLevels.{block_meaning};
 ghost use Rattle.est_meaning.specs.mean_blocks.Outcome.{Fault};
 ghost use Rattle.est_meaning.specs.mean_blocks.QueueEffects.{without_head};
-ghost use Rattle.plain_frames.specs.HeldSystems.{situation_of};
+ghost use Rattle.plain_frames.specs.plain_systems.HeldSystems.{situation_of};
 ghost use Rattle.est_meaning.specs.declared.firing.Firing.{Firing};
 ghost use Rattle.est_meaning.specs.ClauseContexts.{FullTransition};
 ghost use Rattle.est_meaning.specs.DelayStamps.{restamped};
 ghost use Rattle.est_meaning.specs.FiringSteps.{fired_by};
 ghost use Rattle.est_meaning.specs.TransitionChoices.{Choice, choice_by};
 ghost use Rattle.plain_guards.specs.plain_transitions.WrittenTransitions.{IsWritten};
-ghost use Rattle.plain_guards.specs.JudgedGuards.{IsOf};
+ghost use Rattle.plain_guards.specs.plain_clauses.JudgedGuards.{IsOf};
 ghost use Rattle.plain_steps.specs.inside.FiredChoices.{own_frame, Ends, Begins, Leads};
 
 use est_meaning::mean_blocks::fault::BlockFault;
@@ -27,16 +27,16 @@ use est_meaning::rule_scope::outline::Outline;
 use est_syntax::body::Block;
 use est_syntax::est_items::Items;
 use plain_births::births::set_state;
-use plain_frames::plain_names::declared::places_of;
-use plain_frames::plain_names::text::Text;
+use plain_frames::plain_declared::declared::places_of;
+use plain_frames::plain_systems::system::{System, Working};
 use plain_frames::routines::frame_of;
-use plain_frames::system::{System, Working};
-use plain_guards::candidate::Candidate;
-use plain_guards::plain_blocks::site::Site;
 use plain_guards::plain_blocks::statements::statements_in;
+use plain_guards::plain_clauses::candidate::Candidate;
+use plain_guards::plain_operands::site::Site;
 use plain_guards::plain_transitions::choices::choice_frame;
 use plain_guards::sight::look;
 use plain_queues::heads::take_head;
+use plain_queues::plain_texts::text::Text;
 use std::alloc::{AllocError, Global};
 
 // How many levels calls and initialize parts may open within one another.

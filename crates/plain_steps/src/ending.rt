@@ -1,7 +1,7 @@
 //! How firings and starts are brought to an end.
 ghost use Rattle.std.specs.Prelude.{◌≡◌, IfOk, OnOk};
 ghost use Rattle.est_meaning.specs.mean_blocks.KeepingLaws.{AreNumbered};
-ghost use Rattle.plain_frames.specs.HeldSystems.{situation_of};
+ghost use Rattle.plain_frames.specs.plain_systems.HeldSystems.{situation_of};
 ghost use Rattle.est_meaning.specs.DelayStamps.{restamped};
 ghost use Rattle.est_meaning.specs.OutsideEvents.{departures};
 
@@ -9,7 +9,7 @@ use crate::stamping::restamp;
 use crate::step::Stepped;
 use est_meaning::event::Events;
 use est_meaning::firing::Firing;
-use plain_frames::system::Working;
+use plain_frames::plain_systems::system::Working;
 use plain_guards::plain_transitions::behaviour::Behaviour;
 use plain_outside::outside::Outside;
 use std::alloc::{AllocError, Global};

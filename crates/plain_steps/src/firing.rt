@@ -1,7 +1,7 @@
 //! Firings.
 ghost use Rattle.std.specs.Prelude.{◌≡◌, Some};
 ghost use Rattle.est_meaning.specs.mean_blocks.KeepingLaws.{AreNumbered};
-ghost use Rattle.plain_frames.specs.HeldSystems.{situation_of};
+ghost use Rattle.plain_frames.specs.plain_systems.HeldSystems.{situation_of};
 ghost use Rattle.est_meaning.specs.DelayStamps.{restamped};
 ghost use Rattle.est_meaning.specs.FiringSteps.{outcome};
 ghost use Rattle.plain_steps.specs.SteppedSystems.{Steps};
@@ -14,9 +14,9 @@ use est_meaning::firing::Firing;
 use est_meaning::mean_blocks::fault::BlockFault;
 use est_meaning::mean_blocks::stop::Stop;
 use est_syntax::est_items::Items;
-use plain_frames::rows::row_of;
-use plain_frames::system::{System, Working};
-use plain_guards::candidate::Candidate;
+use plain_frames::plain_systems::rows::row_of;
+use plain_frames::plain_systems::system::{System, Working};
+use plain_guards::plain_clauses::candidate::Candidate;
 use plain_guards::plain_transitions::behaviour::Behaviour;
 use plain_outside::outside::Outside;
 use std::alloc::{AllocError, Global};

@@ -1,11 +1,11 @@
 //! Living instances, as stamps look at them.
 ghost use Rattle.std.specs.Prelude.{◌≡◌, slice_get};
 ghost use Rattle.std.specs.Option.{option_map};
-ghost use Rattle.plain_frames.specs.HeldSystems.{situation_of};
+ghost use Rattle.plain_frames.specs.plain_systems.HeldSystems.{situation_of};
 ghost use Rattle.plain_steps.specs.inside.StampLists.{living};
 
 use est_meaning::mean_blocks::situation::Row;
-use plain_frames::system::System;
+use plain_frames::plain_systems::system::System;
 
 /// A living instance: its number, its body and its state.
 #[derive(Clone, Copy)]

@@ -7,7 +7,7 @@ use crate::ending::{end, stepped};
 use crate::step::Stepped;
 use est_meaning::mean_blocks::stop::Stop;
 use est_syntax::est_items::Items;
-use plain_frames::system::Working;
+use plain_frames::plain_systems::system::Working;
 use plain_guards::plain_transitions::behaviour::Behaviour;
 use plain_outside::outside::Outside;
 use plain_starts::starting::{Started, start};

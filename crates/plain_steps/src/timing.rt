@@ -2,7 +2,7 @@
 ghost use Rattle.std.specs.Prelude.{◌≡◌, Some, IfOk, OnOk, false};
 ghost use Rattle.std.specs.Option.{option_map_or};
 ghost use Rattle.est_meaning.specs.mean_blocks.declared.situation.Row.{Row};
-ghost use Rattle.plain_frames.specs.HeldSystems.{stamped, situation_of};
+ghost use Rattle.plain_frames.specs.plain_systems.HeldSystems.{stamped, situation_of};
 ghost use Rattle.est_meaning.specs.ClauseContexts.{FullTransition};
 ghost use Rattle.est_meaning.specs.TransitionChoices.{choice_by};
 ghost use Rattle.est_meaning.specs.DelayStamps.{is_waiting, is_fired, since};
@@ -10,11 +10,11 @@ ghost use Rattle.plain_guards.specs.plain_transitions.WrittenTransitions.{IsWrit
 ghost use Rattle.plain_steps.specs.inside.StampLists.{clocked};
 
 use est_meaning::firing::Firing;
-use plain_frames::plain_names::text::Text;
-use plain_frames::system::{Stamps, System, Working};
-use plain_guards::candidate::Candidate;
+use plain_frames::plain_systems::system::{Stamps, System, Working};
 use plain_guards::judging::judge;
+use plain_guards::plain_clauses::candidate::Candidate;
 use plain_guards::plain_transitions::choices::choice_frame;
+use plain_queues::plain_texts::text::Text;
 use std::alloc::{AllocError, Global};
 
 // Whether it is this transition that fired.

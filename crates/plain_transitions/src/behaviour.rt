@@ -13,8 +13,9 @@ use est_meaning::mean_blocks::frame::Frame;
 use est_meaning::rule_scope::outline::Outline;
 use est_syntax::est_items::Twin;
 use est_syntax::specification::Spec;
-use plain_names::declared::Places;
-use plain_names::text::Text;
+use plain_names::plain_declared::declared::Places;
+use plain_names::plain_texts::text::Text;
+use plain_names::prepared::text_of;
 use std::alloc::{AllocError, Global};
 use std::marker::Model;
 
@@ -68,7 +69,7 @@ impl<'t> Behaviour<'t> {
         ensures { IfOk result
             (λ behaviour. behaviour ≡ record { spec = spec.now; outline = outline.now }) }
     {
-        let text = Text::new(alloc, spec, outline)?;
+        let text = text_of(alloc, spec, outline)?;
         let tables = match tables_of(alloc, &text) {
             Ok(tables) => tables,
             Err(error) => {

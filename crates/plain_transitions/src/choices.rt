@@ -18,7 +18,7 @@ use est_syntax::est_items::Items;
 use est_syntax::kind::Kind;
 use est_values::Chunks;
 use est_values::value::Value;
-use plain_names::declared::{Places, kind_at, places_of};
+use plain_names::plain_declared::declared::{Places, kind_at, places_of};
 use std::alloc::{AllocError, Global};
 
 /// The places of the variables of a region, if there is one.

@@ -16,7 +16,7 @@ use crate::written::Written;
 use est_meaning::rule_scope::outline::Outline;
 use est_syntax::body::Body;
 use est_syntax::specification::Spec;
-use plain_names::text::Text;
+use plain_names::plain_texts::text::Text;
 use std::alloc::{AllocError, Global};
 use std::marker::Model;
 

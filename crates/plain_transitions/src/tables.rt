@@ -7,7 +7,7 @@ use crate::bodies::bodies_of;
 use crate::table::Table;
 use est_syntax::body::Body;
 use indexmap::IndexMap;
-use plain_names::text::Text;
+use plain_names::plain_texts::text::Text;
 use std::alloc::{AllocError, Global};
 
 /// Tables, each by the place of the name of its body.

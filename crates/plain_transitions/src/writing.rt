@@ -30,7 +30,7 @@ use est_syntax::body::Block;
 use est_syntax::est_items::Items;
 use est_syntax::name::Used;
 use est_syntax::transition::{Clause, Group, Transition};
-use plain_names::declared::{declared_at, interaction_of};
+use plain_names::plain_declared::declared::{declared_at, interaction_of};
 use std::alloc::{AllocError, Global};
 
 // The states of the state set that is declared at a place.

@@ -5,7 +5,7 @@ use est_syntax::est_items::Items;
 use est_syntax::expression::{Access, Expr};
 use est_syntax::name::Used;
 use est_syntax::transition::Most;
-use plain_names::declared::Places;
+use plain_names::plain_declared::declared::Places;
 
 /// The interaction that a `when` awaits, and at which interaction point.
 #[derive(Clone, Copy)]

@@ -9,9 +9,10 @@ use Rattle.est_meaning.specs.mean_blocks.Outcome.{Outcome, Done}
 use Rattle.est_meaning.specs.mean_blocks.TextByPlace.{Text}
 use Rattle.est_meaning.specs.mean_blocks.GlobalSituation.{QueueName, Situation, is_queue}
 use Rattle.est_meaning.specs.mean_blocks.QueueEffects.{queue_of}
-use Rattle.plain_frames.specs.declared.system.System.{System}
-use Rattle.plain_frames.specs.declared.system.Waiting.{Waiting}
-use Rattle.plain_frames.specs.HeldSystems.{queue_of as queue_by, situation_of, waiting_in}
+use Rattle.plain_frames.specs.plain_systems.declared.system.System.{System}
+use Rattle.plain_frames.specs.plain_systems.declared.system.Waiting.{Waiting}
+use Rattle.plain_frames.specs.plain_systems.HeldSystems.{queue_of as queue_by, situation_of}
+use Rattle.plain_frames.specs.plain_systems.HeldSystems.{waiting_in}
 use Rattle.est_meaning.specs.declared.event.Event.{Event}
 use Rattle.est_meaning.specs.declared.firing.Firing.{Firing}
 use Rattle.est_meaning.specs.FiringSteps.{outcome}

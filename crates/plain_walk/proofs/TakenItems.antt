@@ -19,9 +19,9 @@ use Rattle.est_meaning.specs.GuardParts.{view_of}
 use Rattle.est_meaning.specs.FiringSteps.{taking_point}
 use Rattle.est_meaning.proofs.Options.{map_some, then_some, some_is}
 use Rattle.est_plain.specs.plain_guards.plain_transitions.WrittenTransitions.{IsWritten}
-use Rattle.est_plain.specs.plain_guards.declared.candidate.Candidate.{Candidate}
-use Rattle.est_plain.specs.plain_guards.declared.sight.Sight.{Sight}
-use Rattle.est_plain.specs.plain_guards.JudgedGuards.{IsOf, IsView, IsTaking, IsSight}
+use Rattle.est_plain.specs.plain_guards.plain_clauses.declared.candidate.Candidate.{Candidate}
+use Rattle.est_plain.specs.plain_guards.plain_clauses.declared.sights.Sight.{Sight}
+use Rattle.est_plain.specs.plain_guards.plain_clauses.JudgedGuards.{IsOf, IsView, IsTaking, IsSight}
 use Rattle.plain_walk.specs.TakenItems.{IsTaken, IsTakenOf}
 use Rattle.plain_walk.specs.inside.TakenHeads.{IsTakenAt, IsTakenBy}
 

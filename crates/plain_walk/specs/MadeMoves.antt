@@ -4,7 +4,7 @@ use Rattle.est_syntax.specs.declared.specification.Spec.{Spec}
 use Rattle.est_meaning.specs.mean_blocks.Outcome.{Done, Fault, Limit}
 use Rattle.est_meaning.specs.mean_blocks.TextByPlace.{text_of}
 use Rattle.est_meaning.specs.mean_blocks.declared.situation.Item.{Item}
-use Rattle.plain_frames.specs.HeldSystems.{situation_of, waiting_in}
+use Rattle.plain_frames.specs.plain_systems.HeldSystems.{situation_of, waiting_in}
 use Rattle.est_meaning.specs.declared.event.Event.{Event}
 use Rattle.est_meaning.specs.declared.firing.Firing.{Firing}
 use Rattle.est_meaning.specs.FiringSteps.{IsStep, outcome, start_of}

@@ -3,7 +3,7 @@
 use est_meaning::event::Events;
 use est_meaning::mean_blocks::situation::Item;
 use est_syntax::est_items::Shared;
-use plain_frames::system::{Queues, System};
+use plain_frames::plain_systems::system::{Queues, System};
 
 /// The interaction that is taken out of a queue, if one is, and the system without it.
 #[derive(Drop)]

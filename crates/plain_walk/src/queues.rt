@@ -1,15 +1,15 @@
 //! Queues in which little waits.
 ghost use Rattle.std.specs.Prelude.{◌≡◌, ◌∷◌, [], IfOk};
 ghost use Rattle.est_meaning.specs.mean_blocks.QueueEffects.{queue_of};
-ghost use Rattle.plain_frames.specs.HeldSystems.{queue_of as queue_by, waiting_in};
+ghost use Rattle.plain_frames.specs.plain_systems.HeldSystems.{queue_of as queue_by, waiting_in};
 ghost use Rattle.plain_walk.specs.SentItems.{queue_with};
 
 use est_meaning::mean_blocks::situation::Item;
 use est_syntax::est_items::{Items, Shared, Twin};
 use est_values::Queue;
-use plain_frames::plain_names::text::Text;
-use plain_frames::system::{Queues, System, Waiting};
+use plain_frames::plain_systems::system::{Queues, System, Waiting};
 use plain_queues::keys::queue_of;
+use plain_queues::plain_texts::text::Text;
 use std::alloc::{AllocError, Global};
 
 // The queue of an item, in which it waits alone.

@@ -1,23 +1,23 @@
 //! What a firing takes out of a queue.
 ghost use Rattle.std.specs.Prelude.{◌≡◌, IfOk, OnOk};
-ghost use Rattle.plain_frames.specs.HeldSystems.{situation_of};
+ghost use Rattle.plain_frames.specs.plain_systems.HeldSystems.{situation_of};
 ghost use Rattle.est_meaning.specs.TransitionChoices.{Choice};
-ghost use Rattle.est_plain.specs.plain_guards.JudgedGuards.{IsOf};
+ghost use Rattle.est_plain.specs.plain_guards.plain_clauses.JudgedGuards.{IsOf};
 ghost use Rattle.plain_walk.specs.TakenItems.{IsTaken, IsTakenOf};
 ghost use Rattle.plain_walk.specs.inside.TakenHeads.{IsTakenAt, IsTakenBy};
 
 use est_meaning::firing::Firing;
 use est_meaning::mean_blocks::frame::Frame;
 use est_meaning::mean_blocks::situation::{InteractionPoint, Item};
-use est_plain::plain_guards::candidate::Candidate;
+use est_plain::plain_guards::plain_clauses::candidate::Candidate;
 use est_plain::plain_guards::plain_transitions::behaviour::Behaviour;
 use est_plain::plain_guards::plain_transitions::choices::choice_frame;
 use est_plain::plain_guards::sight::look;
 use est_syntax::est_items::Items;
-use plain_frames::plain_names::text::Text;
-use plain_frames::rows::row_of;
-use plain_frames::system::{System, Working};
+use plain_frames::plain_systems::rows::row_of;
+use plain_frames::plain_systems::system::{System, Working};
 use plain_queues::heads::take_head;
+use plain_queues::plain_texts::text::Text;
 use std::alloc::{AllocError, Global};
 
 // Takes the first item of the queue of an interaction point, where one is given.

@@ -2,7 +2,7 @@
 ghost use Rattle.std.specs.Prelude.{◌≡◌, IfOk, IfSome, IsTrue};
 ghost use Rattle.est_syntax.specs.Least.{IsIn};
 ghost use Rattle.est_meaning.specs.mean_blocks.KeepingLaws.{AreNumbered};
-ghost use Rattle.plain_frames.specs.HeldSystems.{situation_of, waiting_in};
+ghost use Rattle.plain_frames.specs.plain_systems.HeldSystems.{situation_of, waiting_in};
 ghost use Rattle.est_plain.specs.inside.NumberedSystems.{AreNumbered-prop};
 
 use crate::made::{Made, Sent, Taken};
@@ -21,7 +21,7 @@ use est_plain::plain_steps::firing;
 use est_plain::plain_steps::start::start_of;
 use est_plain::plain_steps::step::Stepped;
 use est_syntax::est_items::{Items, Shared, Twin};
-use plain_frames::system::{Queues, System, Working};
+use plain_frames::plain_systems::system::{Queues, System, Working};
 use std::alloc::{AllocError, Global};
 
 /// A run of a specification with the system to which its moves have led.

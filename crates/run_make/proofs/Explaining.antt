@@ -1,7 +1,7 @@
 -- What is made is a bounded run that explains its own events.
 use Rattle.std.proofs.Common.{◌≡◌, refl, sym, subst, ◌∙◌, ℕ, ◌+◌, ◌*◌, ◌<◌, ◌≤◌}
 use Rattle.std.proofs.Common.{arith}
-use Rattle.std.proofs.Common.{List, [], ◌∷◌, ◌++◌, length, append_assoc}
+use Rattle.std.proofs.Common.{List, [], ◌∷◌, ◌++◌, length, map, ap}
 use Rattle.std.proofs.lemmas.List.{append-nil, length-append}
 use Rattle.rand_core.specs.Stream.{Stream}
 use Rattle.est_syntax.specs.declared.ports.Port.{Port}
@@ -9,11 +9,15 @@ use Rattle.est_meaning.specs.mean_blocks.GlobalSituation.{Situation}
 use Rattle.est_meaning.specs.mean_blocks.Outcome.{Done}
 use Rattle.est_meaning.specs.mean_blocks.TextByPlace.{text_of}
 use Rattle.est_meaning.specs.declared.event.Event.{Event}
+use Rattle.est_meaning.specs.declared.trace.Expected.{Expected}
+use Rattle.est_meaning.specs.declared.trace.Expected.TheVariants.{Known}
 use Rattle.est_meaning.specs.rule_declares.PortList.{ports_of}
 use Rattle.est_meaning.specs.Agreement.{AgreeAll}
 use Rattle.est_meaning.specs.FiringSteps.{start_of}
 use Rattle.est_meaning.specs.OutsideEvents.{after_event, units_of}
+use Rattle.est_meaning.specs.RecordedTraces.{Recorded}
 use Rattle.est_meaning.proofs.AgreementLaws.{agree_self}
+use Rattle.est_meaning.proofs.Endings.{not_true}
 use Rattle.est_meaning.proofs.Outside.{events_are_outside}
 use Rattle.est_meaning.proofs.Steps.{firings_are_orderly}
 use Rattle.est_meaning.specs.declared.run.Move.{Move}
@@ -22,6 +26,7 @@ use Rattle.run_make.specs.Recipe.{Task, Standing, Draws, DrawsOutside, Leads, Ma
 use Rattle.run_make.specs.Recipe.{first_standing, setup_along}
 use Rattle.run_make.specs.Recipe.{MadeTracesAreExplained}
 use Rattle.run_make.specs.Recipe as recipe
+use Rattle.run_make.proofs.KnownEvents.{known_on}
 
 -- SILENT FIRINGS
 
@@ -49,13 +54,8 @@ record Reaches (t : Task) (p : Standing) : Type 0 where
   start : Situation
   outs : List Event
   ready : start_of t.limit (text_of t.spec) ≡ Done outs start
-  along : (trace rest : List Event) → trace ≡ p.events ++ rest
+  along : (trace : Recorded) (rest : List Expected) → trace.events ≡ map Known p.events ++ rest
       → RunsTo (setup_along t trace start outs) p
-
--- an event from outside goes on along the trace
-next_event : (trace events rest : List Event) (e : Event) → trace ≡ (events ++ e ∷ []) ++ rest
-    → trace ≡ events ++ e ∷ rest
-next_event trace events rest e is = is ∙ append_assoc events (e ∷ []) rest
 
 from_outside : (ports : List Port) (words left : Stream) (e : Event)
     → DrawsOutside ports words e left → IsFromOutside e
@@ -68,7 +68,8 @@ reaches_on t p q (recipe.fires w left f s outs drawn chosen step) r = record {
   outs = r.outs;
   ready = r.ready;
   along = λ trace rest is.
-      (let before = r.along trace (outs ++ rest) (is ∙ append_assoc p.events outs rest) in
+      (let before = r.along trace (map Known outs ++ rest)
+      (known_on trace.events p.events outs rest is) in
       record {
         row = silent_after before.row outs;
         few = silent_fewer before.row p.idle outs before.few;
@@ -101,8 +102,8 @@ reaches_on t p q (recipe.happens w next left e drawn held draws) r = record {
   outs = r.outs;
   ready = r.ready;
   along = λ trace rest is.
-      (let on = next_event trace p.events rest e is in
-      let before = r.along trace (e ∷ rest) on in
+      (let on = known_on trace.events p.events (e ∷ []) rest is in
+      let before = r.along trace (Known e ∷ rest) on in
       record {
         row = 0;
         few = omega arith;
@@ -115,7 +116,7 @@ reaches_on t p q (recipe.happens w next left e drawn held draws) r = record {
           before.is_run,
           record {
             event = e;
-            front = p.events;
+            front = map Known p.events;
             rest = rest;
             outside = from_outside (ports_of t.spec) next left e draws;
             agree = agree_self p.events;
@@ -145,7 +146,8 @@ makes_reaches t seed count p m =
 pub made_explained : MadeTracesAreExplained
 made_explained t seed count trace run made =
     let r = makes_reaches t seed count made.last made.makes in
-    let to = r.along trace [] (made.trace_is ∙ sym (append-nil made.last.events)) in
+    let to = r.along trace [] (ap (λ (w : Recorded). w.events) made.trace_is
+    ∙ sym (append-nil (map Known made.last.events))) in
     let c : Setup = setup_along t trace r.start r.outs in
     let place : Place = record {
       situation = made.last.situation;
@@ -161,8 +163,10 @@ made_explained t seed count trace run made =
         is_run = subst (λ (moves : List Move). IsBoundedRun c moves place) (sym made.run_is)
             to.is_run;
         whole = record {
-          events = subst (λ es. AgreeAll es made.last.events) (sym made.trace_is)
+          events = subst (λ (w : Recorded). AgreeAll w.events made.last.events) (sym made.trace_is)
               (agree_self made.last.events);
+          quiet = λ q. absurd
+              (not_true (sym (ap (λ (w : Recorded). w.quiet) made.trace_is) ∙ q));
         };
       };
     }

@@ -5,6 +5,7 @@ pub mod DrawnOnce
 pub mod Draws
 pub mod Explaining
 pub mod Happening
+pub mod KnownEvents
 pub mod OneMade
 pub mod Receiving
 pub mod Turning

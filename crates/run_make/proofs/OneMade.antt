@@ -18,6 +18,7 @@ use Rattle.est_meaning.specs.declared.event.Event.TheVariants as event
 use Rattle.est_meaning.specs.declared.event.Interaction.{Interaction}
 use Rattle.est_meaning.specs.declared.firing.Firing.{Firing}
 use Rattle.est_meaning.specs.FiringSteps.{outcome}
+use Rattle.est_meaning.specs.RecordedTraces.{known_trace}
 use Rattle.est_meaning.specs.TransitionSelection.{IsSettled}
 use Rattle.est_meaning.proofs.Steps.{possible_settled, steps_unique}
 use Rattle.est_meaning.specs.FiringOrder.{FiringBefore, IsBeforeAll, IsAscending}
@@ -335,7 +336,8 @@ pub one_made : OneIsMade
 one_made t seed count (made.Trace trace run) (made.Trace other more) a b =
     let e = makes_once t seed count a.last b.last a.makes b.makes
     (enough_ends t count a.last a.enough) (enough_ends t count b.last b.enough) in
-    let traces : trace ≡ other = a.trace_is ∙ ap (λ (x : Standing). x.events) e ∙ sym b.trace_is in
+    let traces : trace ≡ other = a.trace_is ∙ ap (λ (x : Standing). known_trace x.events) e
+    ∙ sym b.trace_is in
     let runs : run ≡ more = run_same run more a.last b.last a.run_is b.run_is e in
     λ i. made.Trace (traces i) (runs i)
 one_made t seed count (made.Limit run) (made.Limit more) a b =

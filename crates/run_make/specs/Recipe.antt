@@ -19,6 +19,7 @@ use Rattle.est_meaning.specs.declared.event.Interaction.{Interaction}
 use Rattle.est_meaning.specs.declared.firing.Firing.{Firing}
 use Rattle.est_meaning.specs.FiringSteps.{IsStep, outcome, start_of}
 use Rattle.est_meaning.specs.OutsideEvents.{after_event}
+use Rattle.est_meaning.specs.RecordedTraces.{Recorded, known_trace}
 use Rattle.est_meaning.specs.TransitionSelection.{IsSettled}
 use Rattle.est_meaning.specs.PossibleFirings.{AreOptions}
 use Rattle.est_meaning.specs.declared.run.Move.{Move}
@@ -167,12 +168,12 @@ pub record Makes (t : Task) (seed count : ℕ) (p : Standing) : Type 0 where
 -- WHAT IS MADE
 
 -- the draws end with this trace and this run, as there are as many events as were asked for
-pub record IsMadeTrace (t : Task) (seed count : ℕ) (trace : List Event) (run : List Move)
+pub record IsMadeTrace (t : Task) (seed count : ℕ) (trace : Recorded) (run : List Move)
     : Type 0 where
   pub last : Standing
   pub makes : Makes t seed count last
   pub enough : count ≤ length last.events
-  pub trace_is : trace ≡ last.events
+  pub trace_is : trace ≡ known_trace last.events
   pub run_is : reverse run ≡ last.run
 
 -- the draws end after this run, as the next one passes a limit
@@ -193,11 +194,11 @@ IsMade t seed count (made.Limit run) = EndsByLimit t seed count run
 -- LAWS
 
 -- the runs of a task along a trace
-abbrev pub setup_along : Task → List Event → Situation → List Event → Setup
+abbrev pub setup_along : Task → Recorded → Situation → List Event → Setup
 setup_along t trace start outs = setup_from t.limit t.silent t.spec trace start outs
 
 -- from the start of the specification the run is bounded, and it explains the trace
-pub record IsExplained (t : Task) (trace : List Event) (run : List Move) : Type 0 where
+pub record IsExplained (t : Task) (trace : Recorded) (run : List Move) : Type 0 where
   pub start : Situation
   pub outs : List Event
   pub ready : start_of t.limit (text_of t.spec) ≡ Done outs start
@@ -212,7 +213,7 @@ IsMadeExplained t (made.Limit run) = Unit {0}
 
 -- a trace that is made is explained by the run that is made with it
 abbrev pub MadeTracesAreExplained : Type 0
-MadeTracesAreExplained = (t : Task) (seed count : ℕ) (trace : List Event) (run : List Move)
+MadeTracesAreExplained = (t : Task) (seed count : ℕ) (trace : Recorded) (run : List Move)
     → IsMadeTrace t seed count trace run → IsExplained t trace run
 
 -- of one seed and one number of events one thing is made

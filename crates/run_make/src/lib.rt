@@ -5,5 +5,6 @@ mod arrivals;
 pub mod laws;
 pub mod made;
 pub mod making;
+mod recorded;
 mod values;
 mod words;

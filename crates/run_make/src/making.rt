@@ -19,10 +19,11 @@ ghost use Rattle.run_make.specs.inside.Standings.{MadeOf};
 
 use crate::arrivals::{Arrival, arrivals};
 use crate::made::Made;
+use crate::recorded::known;
 use crate::values::draw_values;
 use crate::words::{draw, generator};
 use est_meaning::answers::{Fired, Offers};
-use est_meaning::event::{Event, Events, Interaction, Trace};
+use est_meaning::event::{Event, Events, Interaction};
 use est_meaning::firing::Firing;
 use est_meaning::run::{Move, Run};
 use est_meaning::world::World;
@@ -54,7 +55,7 @@ pub struct Asked {
 pub struct Making {
     pub rng: Lcg64Xsh32,
     pub run: Run,
-    pub events: Trace,
+    pub events: Events,
     pub idle: u32,
 }
 
@@ -327,8 +328,8 @@ fn make_on<W: World>(
 }
 
 // What is made, where the draws ended so.
-fn made_of(turn: Turn, making: Making) -> Made
-    ensures { MadeOf turn making result }
+fn made_of(alloc: Global, turn: Turn, making: Making) -> Result<Made, AllocError>
+    ensures { IfOk result (λ made. MadeOf turn making made) }
 {
     let Making {
         rng: _,
@@ -337,10 +338,13 @@ fn made_of(turn: Turn, making: Making) -> Made
         idle: _,
     } = making;
     match turn {
-        Turn::Made => Made::Trace { trace: events, run },
+        Turn::Made => {
+            let trace = known(alloc, events)?;
+            Ok(Made::Trace { trace, run })
+        }
         Turn::Limit => {
             drop(events);
-            Made::Limit { run }
+            Ok(Made::Limit { run })
         }
     }
 }
@@ -380,7 +384,7 @@ pub fn make_in<W: World>(
         idle: 0,
     };
     match make_on(alloc, world, &recipe, &mut making, asked.count) {
-        Ok(turn) => Ok(made_of(turn, making)),
+        Ok(turn) => made_of(alloc, turn, making),
         Err(error) => {
             drop(making);
             Err(error)

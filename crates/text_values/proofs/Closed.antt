@@ -1,9 +1,10 @@
--- Nothing goes on after an ordinal, a value or an event.
+-- Nothing goes on after an ordinal, a value, what was seen of one, or an event.
 use Rattle.std.proofs.Common.{◌≡◌, ℕ, ℤ, pos, negsuc, Bool, true, false, not, ◌&&◌, List, []}
 use Rattle.std.proofs.Common.{◌∷◌, ◌++◌, take, refl, ap₂, subst, Option, Some, None, slice_get}
 use Rattle.std.proofs.Common.{bytes_eq}
 use Rattle.std.specs.List.{list_any}
 use Rattle.est_lexer.specs.declared.kind.Symbol.{Symbol}
+use Rattle.est_lexer.specs.declared.kind.Symbol.TheVariants as symbols
 use Rattle.text_reader.specs.Grammar.{done, word, seq, when, one_of}
 use Rattle.text_reader.specs.Marks.{MeetsOne, can_go_on}
 use Rattle.text_reader.proofs.GrammarLaws.{IsClosed}
@@ -16,12 +17,14 @@ use Rattle.est_syntax.specs.declared.ports.Signal.{Signal}
 use Rattle.est_values.specs.FittingValues.{first_ordinal, last_ordinal, KindLayer}
 use Rattle.est_values.specs.OrdinalTuples.{ordinals_of}
 use Rattle.text_reader.specs.Tests.{named, holds, language}
+use Rattle.text_values.specs.declared.formats.Format.{Format}
+use Rattle.text_values.specs.declared.formats.Format.TheVariants.{Complete, Partial}
 use Rattle.text_values.specs.TraceGrammar.{Rule, bracketed, integers, characters, constant}
 use Rattle.text_values.specs.TraceGrammar.{numbered_constant, constants, boolean_names}
-use Rattle.text_values.specs.TraceGrammar.{bytes_of, host_by, ordinal_by, ordinal, scalar}
-use Rattle.text_values.specs.TraceGrammar.{value_by, value, passes, some_pass, parameters}
-use Rattle.text_values.specs.TraceGrammar.{subscripts, signal, dot_signal, is_head, port}
-use Rattle.text_values.specs.TraceGrammar.{event, production, marks}
+use Rattle.text_values.specs.TraceGrammar.{bytes_of, host_by, ordinal_by, ordinal, scalar, formed}
+use Rattle.text_values.specs.TraceGrammar.{a_value, value, a_seen, seen, passes, some_pass}
+use Rattle.text_values.specs.TraceGrammar.{brackets, subscripts, signal, dot_signal, is_head}
+use Rattle.text_values.specs.TraceGrammar.{port, event, production, marks}
 
 -- where the list of tests is empty, no token meets one
 pub is_closed : (text : List ℕ) (g : Rule) → can_go_on marks g ≡ []
@@ -80,49 +83,63 @@ pub bracketed_closed : {A : Type 0} (first last : Symbol) (f : A → Rule) (xs :
 bracketed_closed first last f [] = refl
 bracketed_closed first last f (x ∷ xs) = refl
 
--- values of parameters, and subscripts
-pub parameters_closed : (ks : List Kind) → can_go_on marks (parameters ks) ≡ []
-parameters_closed [] = refl
-parameters_closed (k ∷ ks) = refl
+-- parameters, and subscripts
+pub brackets_closed : (direction : Direction) (f : Format) (ks : List Kind)
+    → can_go_on marks (brackets direction f ks) ≡ []
+brackets_closed Receives f ks =
+    bracketed_closed symbols.LeftParenthesis symbols.RightParenthesis a_value ks
+brackets_closed Sends Complete ks =
+    bracketed_closed symbols.LeftParenthesis symbols.RightParenthesis a_value ks
+brackets_closed Sends Partial ks =
+    bracketed_closed symbols.LeftParenthesis symbols.RightParenthesis a_seen ks
 
 pub subscripts_closed : (ks : List Kind) → can_go_on marks (subscripts ks) ≡ []
-subscripts_closed [] = refl
-subscripts_closed (k ∷ ks) = refl
+subscripts_closed ks =
+    bracketed_closed symbols.LeftBracket symbols.RightBracket ordinal ks
 
 scalar_closed : (g : Rule) → can_go_on marks g ≡ [] → can_go_on marks (scalar g) ≡ []
 scalar_closed g e = ap₂ (λ a b. a ++ b) e refl
 
-value_by_closed : (l : KindLayer) (k : Kind) → can_go_on marks (value_by l k) ≡ []
-value_by_closed kinds.Integer k = scalar_closed (ordinal k) (ordinal_closed k)
-value_by_closed kinds.Boolean k = scalar_closed (ordinal k) (ordinal_closed k)
-value_by_closed kinds.Char k = scalar_closed (ordinal k) (ordinal_closed k)
-value_by_closed (kinds.Enumeration declared names) k = scalar_closed (ordinal k) (ordinal_closed k)
-value_by_closed (kinds.Part host low high) k = scalar_closed (ordinal k) (ordinal_closed k)
-value_by_closed (kinds.SetOf base) k = refl
-value_by_closed (kinds.ArrayOf index of) k = refl
-value_by_closed (kinds.Fields fields) k = refl
+formed_closed : (part : Kind → Rule) (l : KindLayer) (k : Kind)
+    → can_go_on marks (formed part l k) ≡ []
+formed_closed part kinds.Integer k = scalar_closed (ordinal k) (ordinal_closed k)
+formed_closed part kinds.Boolean k = scalar_closed (ordinal k) (ordinal_closed k)
+formed_closed part kinds.Char k = scalar_closed (ordinal k) (ordinal_closed k)
+formed_closed part (kinds.Enumeration declared names) k =
+    scalar_closed (ordinal k) (ordinal_closed k)
+formed_closed part (kinds.Part host low high) k = scalar_closed (ordinal k) (ordinal_closed k)
+formed_closed part (kinds.SetOf base) k = refl
+formed_closed part (kinds.ArrayOf index of) k = refl
+formed_closed part (kinds.Fields fields) k = refl
 
 -- a value
 pub value_closed : (k : Kind) → can_go_on marks (value k) ≡ []
-value_closed k = value_by_closed (out-Kind k) k
+value_closed k = formed_closed a_value (out-Kind k) k
+
+-- what was seen of one
+pub seen_closed : (k : Kind) → can_go_on marks (seen k) ≡ []
+seen_closed k = formed_closed a_seen (out-Kind k) k
 
 -- a signal, a port and an event
-pub signal_closed : (direction : Direction) (x : Signal)
-    → can_go_on marks (signal direction x) ≡ []
-signal_closed direction x = when_closed (passes direction x)
-    (word (named x.name.bytes) (parameters x.kinds)) (parameters_closed x.kinds)
+pub signal_closed : (f : Format) (direction : Direction) (x : Signal)
+    → can_go_on marks (signal f direction x) ≡ []
+signal_closed f direction x = when_closed (passes direction x)
+    (word (named x.name.bytes) (brackets direction f x.kinds))
+    (brackets_closed direction f x.kinds)
 
-pub dot_signal_closed : (direction : Direction) (xs : List Signal)
-    → can_go_on marks (dot_signal direction xs) ≡ []
-dot_signal_closed direction xs = one_of_closed (signal direction) xs (signal_closed direction)
+pub dot_signal_closed : (f : Format) (direction : Direction) (xs : List Signal)
+    → can_go_on marks (dot_signal f direction xs) ≡ []
+dot_signal_closed f direction xs =
+    one_of_closed (signal f direction) xs (signal_closed f direction)
 
-pub port_closed : (direction : Direction) (p : Port) → can_go_on marks (port direction p) ≡ []
-port_closed direction p = when_closed (is_head p && some_pass direction p.signals)
+pub port_closed : (f : Format) (direction : Direction) (p : Port)
+    → can_go_on marks (port f direction p) ≡ []
+port_closed f direction p = when_closed (is_head p && some_pass direction p.signals)
     (word (named p.name.bytes)
-    (seq (subscripts p.index_kinds) (dot_signal direction p.signals)))
-    (ap₂ (λ a b. a ++ b) (dot_signal_closed direction p.signals) refl)
+    (seq (subscripts p.index_kinds) (dot_signal f direction p.signals)))
+    (ap₂ (λ a b. a ++ b) (dot_signal_closed f direction p.signals) refl)
 
-pub event_closed : (ports : List Port) → can_go_on marks (event ports) ≡ []
-event_closed ports =
-    ap₂ (λ a b. a ++ b) (one_of_closed (port Receives) ports (port_closed Receives))
-    (one_of_closed (port Sends) ports (port_closed Sends))
+pub event_closed : (f : Format) (ports : List Port) → can_go_on marks (event f ports) ≡ []
+event_closed f ports =
+    ap₂ (λ a b. a ++ b) (one_of_closed (port f Receives) ports (port_closed f Receives))
+    (one_of_closed (port f Sends) ports (port_closed f Sends))

@@ -1,13 +1,16 @@
 -- What a tree of a value shows fits the kind.
-use Rattle.std.proofs.Common.{◌≡◌, ℕ, zero, suc, ◌≤◌, ℤ, pos, negsuc, neg_ℤ, ◌≤ℤ◌, max, true}
-use Rattle.std.proofs.Common.{List, [], ◌∷◌, length, replicate, refl, sym, ap, ◌∙◌, subst}
-use Rattle.std.proofs.Common.{arith, Option, Some, None, slice_get}
+use Rattle.std.proofs.Common.{◌≡◌, ℕ, suc, ◌≤◌, ℤ, pos, negsuc, neg_ℤ, ◌≤ℤ◌, max, true, List}
+use Rattle.std.proofs.Common.{[], ◌∷◌, replicate, refl, sym, ap, ◌∙◌, subst, arith, Option, Some}
+use Rattle.std.proofs.Common.{None, slice_get}
 use Rattle.std.specs.List.{AllZip}
 use Rattle.std.proofs.lemmas.Int.{ints}
 use Rattle.est_lexer.specs.declared.kind.Token.{Token}
 use Rattle.est_lexer.specs.declared.kind.TokenKind.{TokenKind}
 use Rattle.est_lexer.specs.declared.kind.TokenKind.TheVariants.{Identifier, Reserved, LeftOut}
-use Rattle.est_lexer.specs.declared.kind.TokenKind.TheVariants.{Number, Character, Symbol, Bad}
+use Rattle.est_lexer.specs.declared.kind.TokenKind.TheVariants.{Number, Character, Bad}
+use Rattle.est_lexer.specs.declared.kind.TokenKind.TheVariants as token_kind
+use Rattle.est_lexer.specs.declared.kind.Symbol.{Symbol}
+use Rattle.est_lexer.specs.declared.kind.Symbol.TheVariants as symbols
 use Rattle.est_lexer.specs.TokenKinds.{is_same}
 use Rattle.est_lexer.specs.Spans.{spelling}
 use Rattle.text_reader.specs.Grammar.{Tree, t_done, t_word, t_token, t_seq, t_left, t_right, t_rule}
@@ -15,9 +18,7 @@ use Rattle.text_reader.specs.Grammar.{meets, KeptOf, leaf, both, left, right, no
 use Rattle.text_reader.proofs.Members.{and_left}
 use Rattle.est_syntax.specs.declared.kind.Kind.{Kind, out-Kind}
 use Rattle.est_syntax.specs.declared.kind.Kind.TheOpen as kinds
-use Rattle.est_syntax.specs.declared.kind.FieldKind.{FieldKind}
-use Rattle.est_values.specs.declared.value.Value.{Value, out-Value}
-use Rattle.est_values.specs.declared.value.Value.TheOpen as seen
+use Rattle.est_values.specs.declared.value.Value.{Value}
 use Rattle.est_values.specs.FittingValues as fit
 use Rattle.est_values.specs.FittingValues.{Fits, KindLayer, ordinal_count, IsOrdinalOf}
 use Rattle.est_values.specs.FittingValues.{first_ordinal, last_ordinal}
@@ -28,8 +29,9 @@ use Rattle.text_reader.proofs.Apart.{within, coded}
 use Rattle.text_reader.proofs.Single.{kept_number}
 use Rattle.text_values.specs.TraceGrammar as grammar
 use Rattle.text_values.specs.TraceGrammar.{Production, Rule, to_natural, numbers, integers}
-use Rattle.text_values.specs.TraceGrammar.{characters, host_by, ordinal_by, value_by, a_value}
-use Rattle.text_values.specs.TraceGrammar.{listed, more, group, field_kinds, production}
+use Rattle.text_values.specs.TraceGrammar.{characters, host_by, ordinal_by, a_value, formed}
+use Rattle.text_values.specs.TraceGrammar.{listed, more, bracketed, group_of, field_kinds}
+use Rattle.text_values.specs.TraceGrammar.{production}
 use Rattle.text_values.specs.ValueShapes.{AreShown, AreBracketed, ShowsInteger, ShowsCharacter}
 use Rattle.text_values.specs.ValueShapes.{ShowsOrdinalBy, ShowsOrdinal, ShowsValue, ShowsValues}
 use Rattle.text_values.specs.ValueShapes.{undefined, ordinal, set, array, fields, no_values}
@@ -38,6 +40,7 @@ use Rattle.text_values.specs.inside.Scalars.{ShowsNumber}
 use Rattle.text_values.proofs.Numbering.{ordinal_here}
 use Rattle.text_values.proofs.Numbers.{below_zero}
 use Rattle.text_values.proofs.OneValue.{no_ordinal_set, no_ordinal_array, no_ordinal_record}
+use Rattle.text_values.proofs.FittingGroups.{array_fits, record_fits}
 
 -- what is kept of a character
 kept_character : (k : TokenKind) (bytes : List ℕ) → is_same k Character ≡ true
@@ -47,7 +50,7 @@ kept_character (Reserved w) bytes e = cc
 kept_character (LeftOut w) bytes e = cc
 kept_character Number bytes e = cc
 kept_character Character bytes e = refl
-kept_character (Symbol mark) bytes e = cc
+kept_character (token_kind.Symbol mark) bytes e = cc
 kept_character Bad bytes e = cc
 
 module _ (text : List ℕ) where
@@ -160,92 +163,47 @@ module _ (text : List ℕ) (s : List Token) (n : ℕ) where
   ordinal_fits k z x e = ordinal_by_fits (out-Kind (host_by (out-Kind k) k)) k z x e
 
   -- VALUES
-  scalar_fits : (l : KindLayer) (k : Kind) (z : ℤ) {d a b : ℕ} {t : Shape} → out-Kind k ≡ l
-      → T (value_by l k) d a b (left t) → ShowsOrdinal k z t → IsOrdinalOf k z
-  scalar_fits kinds.Integer k z e (t_left x) h = ordinal_fits k z x h
-  scalar_fits kinds.Boolean k z e (t_left x) h = ordinal_fits k z x h
-  scalar_fits kinds.Char k z e (t_left x) h = ordinal_fits k z x h
-  scalar_fits (kinds.Enumeration declared names) k z e (t_left x) h = ordinal_fits k z x h
-  scalar_fits (kinds.Part host low high) k z e (t_left x) h = ordinal_fits k z x h
-  scalar_fits (kinds.SetOf base) k z {t = t} e x h = absurd (no_ordinal_set k base z t e h)
-  scalar_fits (kinds.ArrayOf index of) k z {t = t} e x h =
-      absurd (no_ordinal_array k index of z t e h)
-  scalar_fits (kinds.Fields fs) k z {t = t} e x h = absurd (no_ordinal_record k fs z t e h)
+  module _ (part : Kind → Rule) where
+    pub scalar_fits : (l : KindLayer) (k : Kind) (z : ℤ) {d a b : ℕ} {t : Shape} → out-Kind k ≡ l
+        → T (formed part l k) d a b (left t) → ShowsOrdinal k z t → IsOrdinalOf k z
+    scalar_fits kinds.Integer k z e (t_left x) h = ordinal_fits k z x h
+    scalar_fits kinds.Boolean k z e (t_left x) h = ordinal_fits k z x h
+    scalar_fits kinds.Char k z e (t_left x) h = ordinal_fits k z x h
+    scalar_fits (kinds.Enumeration declared names) k z e (t_left x) h = ordinal_fits k z x h
+    scalar_fits (kinds.Part host low high) k z e (t_left x) h = ordinal_fits k z x h
+    scalar_fits (kinds.SetOf base) k z {t = t} e x h = absurd (no_ordinal_set k base z t e h)
+    scalar_fits (kinds.ArrayOf index of) k z {t = t} e x h =
+        absurd (no_ordinal_array k index of z t e h)
+    scalar_fits (kinds.Fields fs) k z {t = t} e x h = absurd (no_ordinal_record k fs z t e h)
 
-  -- the tree in the brackets of a group
-  record InBrackets (ks : List Kind) (t : Shape) : Type 0 where
-    levels : ℕ
-    from : ℕ
-    to : ℕ
-    tree : T (listed a_value ks) levels from to t
+    -- the tree in the brackets of a group
+    abbrev pub InBrackets : List Kind → Shape → Type 0
+    InBrackets ks t = (d : ℕ) × (a : ℕ) × (b : ℕ) × T (listed part ks) d a b t
 
-  bracketed_tree : (ks : List Kind) {d a b : ℕ} {t : Shape} → T (group ks) d a b (both t nothing)
-      → InBrackets ks t
-  bracketed_tree ks (t_word k l w (t_seq x y)) = record { levels = _; from = _; to = _; tree = x }
+    bracketed_tree : (ks : List Kind) {d a b : ℕ} {t : Shape}
+        → T (group_of part ks) d a b (both t nothing) → InBrackets ks t
+    bracketed_tree ks (t_word k l w (t_seq x y)) = (_, _, _, x)
 
-  group_tree : (l : KindLayer) (k : Kind) (ks : List Kind) {d a b : ℕ} {t : Shape} → out-Kind k ≡ l
-      → value_by l k ≡ group ks → T (a_value k) d a b (both t nothing) → InBrackets ks t
-  group_tree l k ks {t = t} e f (t_rule {d = d} {a} {b} x) = bracketed_tree ks
-      (subst (λ g. T g d a b (both t nothing)) (ap (λ m. value_by m k) e ∙ f) x)
-
-  -- values that fit one by one
-  each_replicated : (m : ℕ) (of : Kind) (vs : List Value) → AllZip Fits (replicate m of) vs
-      → (length vs ≡ m)
-      × ((i : ℕ) (part : Value) → slice_get vs i ≡ Some part → Fits of part)
-  each_replicated zero of [] h = (refl, λ i part e. cc)
-  each_replicated zero of (v ∷ vs) h = absurd h
-  each_replicated (suc m) of [] h = absurd h
-  each_replicated (suc m) of (v ∷ vs) h =
-      let r = each_replicated m of vs h.1 in (ap suc r.0, at r.1)
-    where
-      at : ((i : ℕ) (part : Value) → slice_get vs i ≡ Some part → Fits of part) → (i : ℕ)
-          (part : Value) → slice_get (v ∷ vs) i ≡ Some part → Fits of part
-      at r zero part e = let q : v ≡ part = cc in subst (Fits of) q h.0
-      at r (suc i) part e = r i part e
-
-  each_field : (fs : List FieldKind) (vs : List Value) → AllZip Fits (field_kinds fs) vs
-      → (length vs ≡ length fs)
-      × ((i : ℕ) (field : FieldKind) (part : Value) → slice_get fs i ≡ Some field
-      → slice_get vs i ≡ Some part → Fits field.kind part)
-  each_field [] [] h = (refl, λ i field part e f. cc)
-  each_field [] (v ∷ vs) h = absurd h
-  each_field (f ∷ fs) [] h = absurd h
-  each_field (f ∷ fs) (v ∷ vs) h =
-      let r = each_field fs vs h.1 in (ap suc r.0, at r.1)
-    where
-      at : ((i : ℕ) (field : FieldKind) (part : Value) → slice_get fs i ≡ Some field
-          → slice_get vs i ≡ Some part → Fits field.kind part) → (i : ℕ) (field : FieldKind)
-          (part : Value) → slice_get (f ∷ fs) i ≡ Some field → slice_get (v ∷ vs) i ≡ Some part
-          → Fits field.kind part
-      at r zero field part e g =
-          let p : f ≡ field = cc in
-          let q : v ≡ part = cc in
-          subst (λ (j : FieldKind). Fits j.kind part) p (subst (Fits f.kind) q h.0)
-      at r (suc i) field part e g = r i field part e g
-
-  array_fits : (k index of : Kind) (v : Value) (vs : List Value) → out-Kind k ≡ kinds.ArrayOf index of
-      → out-Value v ≡ seen.Group vs → AllZip Fits (replicate (ordinal_count index) of) vs → Fits k v
-  array_fits k index of v vs i e h =
-      let r = each_replicated (ordinal_count index) of vs h in fit.array index of vs i e r.0 r.1
-
-  record_fits : (k : Kind) (fs : List FieldKind) (v : Value) (vs : List Value)
-      → out-Kind k ≡ kinds.Fields fs → out-Value v ≡ seen.Group vs
-      → AllZip Fits (field_kinds fs) vs → Fits k v
-  record_fits k fs v vs i e h = let r = each_field fs vs h in fit.fields fs vs i e r.0 r.1
+    pub group_tree : (l : KindLayer) (k : Kind) (ks : List Kind) {d a b : ℕ} {t : Shape}
+        → out-Kind k ≡ l → formed part l k ≡ group_of part ks
+        → T (formed part (out-Kind k) k) d a b (both t nothing) → InBrackets ks t
+    group_tree l k ks {d} {a} {b} {t} e f x = bracketed_tree ks
+        (subst (λ g. T g d a b (both t nothing)) (ap (λ m. formed part m k) e ∙ f) x)
 
   mutual
     pub value_fits : (k : Kind) (v : Value) (t : Shape) {d a b : ℕ} → ShowsValue k v t
         → T (a_value k) d a b t → Fits k v
     value_fits k v _ (undefined s e) x = fit.undefined e s
     value_fits k v _ (ordinal z e h) (t_rule x) =
-        fit.ordinal z e (scalar_fits (out-Kind k) k z refl x h)
+        fit.ordinal z e (scalar_fits a_value (out-Kind k) k z refl x h)
     value_fits k v _ (set base zs i e h) x = fit.set base zs i e h.0
-    value_fits k v _ (array {t = t} index of vs i e h) x =
-        let g = group_tree (kinds.ArrayOf index of) k (replicate (ordinal_count index) of) i refl x in
-        array_fits k index of v vs i e (listed_fit (replicate (ordinal_count index) of) vs t h g.tree)
-    value_fits k v _ (fields {t = t} fs vs i e h) x =
-        let g = group_tree (kinds.Fields fs) k (field_kinds fs) i refl x in
-        record_fits k fs v vs i e (listed_fit (field_kinds fs) vs t h g.tree)
+    value_fits k v _ (array {t = t} index of vs i e h) (t_rule x) =
+        let ks = replicate (ordinal_count index) of in
+        let g = group_tree a_value (kinds.ArrayOf index of) k ks i refl x in
+        array_fits k index of v vs i e (listed_fit ks vs t h g.3)
+    value_fits k v _ (fields {t = t} fs vs i e h) (t_rule x) =
+        let g = group_tree a_value (kinds.Fields fs) k (field_kinds fs) i refl x in
+        record_fits k fs v vs i e (listed_fit (field_kinds fs) vs t h g.3)
 
     listed_fit : (ks : List Kind) (vs : List Value) (t : Shape) {d a b : ℕ} → ShowsValues ks vs t
         → T (listed a_value ks) d a b t → AllZip Fits ks vs
@@ -278,19 +236,23 @@ module _ (text : List ℕ) (s : List Token) (n : ℕ) where
     listed_good (k ∷ ks) [] x h = absurd h
     listed_good (k ∷ ks) (v ∷ vs) (t_seq x y) h = (good k v _ _ _ _ x h.0, more_good ks vs y h.1)
 
+    pub bracketed_good : (first last : Symbol) (ks : List K) (vs : List V) {d a b : ℕ} {t : Shape}
+        → T (bracketed first last f ks) d a b t → AreBracketed R ks vs t → AllZip Good ks vs
+    bracketed_good first last [] [] x h = tt
+    bracketed_good first last [] (v ∷ vs) x h = absurd h
+    bracketed_good first last (k ∷ ks) vs (t_word c l w (t_seq x (t_word c' l' w' t_done))) h =
+        listed_good (k ∷ ks) vs x h
+
   -- the values of parameters, and subscripts
   pub values_fit : (ks : List Kind) (vs : List Value) {d a b : ℕ} {t : Shape}
       → T (grammar.parameters ks) d a b t → AreBracketed ShowsValue ks vs t → AllZip Fits ks vs
-  values_fit [] [] x h = tt
-  values_fit [] (v ∷ vs) x h = absurd h
-  values_fit (k ∷ ks) vs (t_word c l w (t_seq x (t_word c' l' w' t_done))) h =
-      listed_good a_value ShowsValue Fits (λ j v d a b t y g. value_fits j v t g y) (k ∷ ks) vs x h
+  values_fit ks vs x h =
+      bracketed_good a_value ShowsValue Fits (λ j v d a b t y g. value_fits j v t g y)
+      symbols.LeftParenthesis symbols.RightParenthesis ks vs x h
 
   pub index_fits : (ks : List Kind) (zs : List ℤ) {d a b : ℕ} {t : Shape}
       → T (grammar.subscripts ks) d a b t → AreBracketed ShowsOrdinal ks zs t
       → AllZip IsOrdinalOf ks zs
-  index_fits [] [] x h = tt
-  index_fits [] (z ∷ zs) x h = absurd h
-  index_fits (k ∷ ks) zs (t_word c l w (t_seq x (t_word c' l' w' t_done))) h =
-      listed_good grammar.ordinal ShowsOrdinal IsOrdinalOf (λ j z d a b t y g. ordinal_fits j z y g) (k ∷ ks)
-      zs x h
+  index_fits ks zs x h =
+      bracketed_good grammar.ordinal ShowsOrdinal IsOrdinalOf
+      (λ j z d a b t y g. ordinal_fits j z y g) symbols.LeftBracket symbols.RightBracket ks zs x h

@@ -1,16 +1,18 @@
--- Values, as they are read.
+-- Values, and what was seen of them, as they are read.
 use Rattle.std.proofs.Common.{◌≡◌, ℕ, zero, suc, ◌+◌, ◌-◌, ◌<◌, ◌≤◌, ℤ, Bool, true, false, IsTrue}
 use Rattle.std.proofs.Common.{List, [], ◌∷◌, length, drop, replicate, refl, sym, ap, ◌∙◌, subst}
 use Rattle.std.proofs.Common.{◌==◌, arith, Option, Some, None, IfSome, slice_get}
 use Rattle.std.specs.Option.{IsSomeAnd}
 use Rattle.est_lexer.specs.declared.kind.Symbol.{Symbol}
-use Rattle.text_reader.specs.Grammar.{nothing, both, left, right}
+use Rattle.est_lexer.specs.declared.kind.Symbol.TheVariants as symbols
+use Rattle.text_reader.specs.Grammar.{done, rule, nothing, both, left, right}
+use Rattle.text_reader.specs.Marks.{can_be_empty}
 use Rattle.text_reader.specs.Shown.{node}
 use Rattle.est_syntax.specs.declared.kind.Kind.{Kind, out-Kind}
 use Rattle.est_syntax.specs.declared.kind.Kind.TheOpen as kinds
 use Rattle.est_syntax.specs.declared.kind.FieldKind.{FieldKind}
 use Rattle.est_values.specs.declared.value.Value.{Value, out-Value}
-use Rattle.est_values.specs.declared.value.Value.TheOpen as seen
+use Rattle.est_values.specs.declared.value.Value.TheOpen as opened
 use Rattle.est_values.specs.declared.value.Value.TheVariants as value
 use Rattle.est_values.specs.FittingValues.{KindLayer, scalar_of, ordinal_count}
 use Rattle.text_reader.specs.declared.reader.Reader.{Reader}
@@ -21,17 +23,18 @@ use Rattle.text_reader.specs.Going.{Shape, Finds, Fails, Goes}
 use Rattle.text_reader.proofs.Going.{take, goes_still, rule_goes}
 use Rattle.text_reader.proofs.Steps.{still_well}
 use Rattle.text_values.specs.TraceGrammar as grammar
-use Rattle.text_values.specs.TraceGrammar.{Rule, enclosed, bracketed, scalar, group, value_by}
-use Rattle.text_values.specs.TraceGrammar.{a_value, field_kinds}
+use Rattle.text_values.specs.TraceGrammar.{Production, Rule, production, marks, enclosed, bracketed}
+use Rattle.text_values.specs.TraceGrammar.{symbol, scalar, group, formed, value_by}
+use Rattle.text_values.specs.TraceGrammar.{value_of, a_value, field_kinds}
 use Rattle.text_values.specs.ValueReading.{plain, Reads}
 use Rattle.text_values.specs.ValueShapes.{AreShown, AreEnclosed, AreBracketed, ShowsOrdinal}
 use Rattle.text_values.specs.ValueShapes.{ShowsSet, ShowsValue, ShowsValues, undefined, ordinal}
 use Rattle.text_values.specs.ValueShapes.{set, array, fields, no_values, one_more}
 use Rattle.text_values.specs.inside.Gathering.{after, TakesComma, ReadsNext}
-use Rattle.text_values.specs.inside.Scalars.{ShowsOrdinalValue, ShowsSetValue}
+use Rattle.text_values.specs.inside.Scalars.{ShowsScalar, ShowsOrdinalValue, ShowsSetValue}
 use Rattle.text_values.proofs.Solid.{ordinal_solid}
 use Rattle.text_values.proofs.Known.{known}
-use Rattle.text_values.proofs.Walks.{done_goes}
+use Rattle.text_values.proofs.Walks.{AreApart, done_goes}
 use Rattle.text_values.proofs.Places.{some_same}
 use Rattle.text_values.proofs.Chosen.{still_goes}
 use Rattle.text_values.proofs.SetParts.{underscore, ordinal_apart, set_apart, undefined_goes}
@@ -131,113 +134,170 @@ none_replicated n i x l = let e : n - i ≡ 0 = omega (arith, l) in ap (λ m. re
 
 -- SCALARS
 
-pub ordinal_undefined : (k : Kind) {A B : Reader} → Sees A underscore true → Takes underscore A B
-    → Reads (scalar (grammar.ordinal k)) (ShowsOrdinalValue k value.Undefined) A B
-ordinal_undefined k s x = record {
-  shape = right nothing;
-  goes = undefined_goes (grammar.ordinal k) (ordinal_apart k) (ordinal_solid k) s x;
-  is = λ w. refl;
-}
+module _ {X V : Type 0} (g : Rule) (D : AreApart g (symbol symbols.Underscore done))
+    (solid : can_be_empty marks g ≡ false) (R : X → Shape → Type 0) (made : X → V) (none : V)
+  where
+    scalar_undefined : {A B : Reader} → Sees A underscore true → Takes underscore A B
+        → Reads (scalar g) (ShowsScalar R made none none) A B
+    scalar_undefined s x = record {
+      shape = right nothing;
+      goes = undefined_goes g D solid s x;
+      is = λ w. refl;
+    }
 
-pub ordinal_defined : (k : Kind) (v : Value) (z : ℤ) {A B : Reader} → v ≡ value.Ordinal z
-    → Sees A underscore false → Reads (grammar.ordinal k) (λ t. ShowsOrdinal k z t) A B
-    → Reads (scalar (grammar.ordinal k)) (ShowsOrdinalValue k v) A B
-ordinal_defined k v z e s r = record {
-  shape = left r.shape;
-  goes = defined_goes (grammar.ordinal k) (ordinal_apart k) (ordinal_solid k) s r.goes;
-  is = λ w. (z, e, r.is w);
-}
+    scalar_defined : (v : V) (x : X) {A B : Reader} → v ≡ made x → Sees A underscore false
+        → Reads g (R x) A B → Reads (scalar g) (ShowsScalar R made none v) A B
+    scalar_defined v x e s r = record {
+      shape = left r.shape;
+      goes = defined_goes g D solid s r.goes;
+      is = λ w. (x, e, r.is w);
+    }
 
-pub set_undefined : (base : Kind) {A B : Reader} → Sees A underscore true → Takes underscore A B
-    → Reads (scalar (grammar.set base)) (ShowsSetValue base value.Undefined) A B
-set_undefined base s x = record {
-  shape = right nothing;
-  goes = undefined_goes (grammar.set base) (set_apart base) refl s x;
-  is = λ w. refl;
-}
+    -- it was read, and then memory ran out
+    scalar_lost : (v : V) (x : X) {A B C : Reader} → Sees A underscore false → Reads g (R x) A B
+        → Still B C → (C.outcome ≡ Well → ⊥) → Reads (scalar g) (ShowsScalar R made none v) A C
+    scalar_lost v x s r q n = record {
+      shape = left r.shape;
+      goes = goes_still (defined_goes g D solid s r.goes) q (λ w. refl);
+      is = λ w. absurd (n w);
+    }
 
-pub set_defined : (base : Kind) (v : Value) (zs : List ℤ) {A B : Reader} → v ≡ value.Set zs
-    → Sees A underscore false → Reads (grammar.set base) (λ t. ShowsSet base zs t) A B
-    → Reads (scalar (grammar.set base)) (ShowsSetValue base v) A B
-set_defined base v zs e s r = record {
-  shape = left r.shape;
-  goes = defined_goes (grammar.set base) (set_apart base) refl s r.goes;
-  is = λ w. (zs, e, r.is w);
-}
+-- an ordinal, of which something is made
+module _ {V : Type 0} (k : Kind) (made : ℤ → V) (none : V) where
+  pub ordinal_undefined : {A B : Reader} → Sees A underscore true → Takes underscore A B
+      → Reads (scalar (grammar.ordinal k)) (ShowsScalar (ShowsOrdinal k) made none none) A B
+  ordinal_undefined s x = scalar_undefined (grammar.ordinal k) (ordinal_apart k) (ordinal_solid k)
+      (ShowsOrdinal k) made none s x
 
-pub set_lost : (base : Kind) (v : Value) (zs : List ℤ) {A B C : Reader}
-    → Sees A underscore false → Reads (grammar.set base) (λ t. ShowsSet base zs t) A B → Still B C
-    → (C.outcome ≡ Well → ⊥) → Reads (scalar (grammar.set base)) (ShowsSetValue base v) A C
-set_lost base v zs s r q n = record {
-  shape = left r.shape;
-  goes = goes_still (defined_goes (grammar.set base) (set_apart base) refl s r.goes) q
-      (λ w. refl);
-  is = λ w. absurd (n w);
-}
+  pub ordinal_defined : (v : V) (z : ℤ) {A B : Reader} → v ≡ made z → Sees A underscore false
+      → Reads (grammar.ordinal k) (λ t. ShowsOrdinal k z t) A B
+      → Reads (scalar (grammar.ordinal k)) (ShowsScalar (ShowsOrdinal k) made none v) A B
+  ordinal_defined v z e s r = scalar_defined (grammar.ordinal k) (ordinal_apart k)
+      (ordinal_solid k) (ShowsOrdinal k) made none v z e s r
+
+-- a set, of which something is made
+module _ {V : Type 0} (base : Kind) (made : List ℤ → V) (none : V) where
+  pub set_undefined : {A B : Reader} → Sees A underscore true → Takes underscore A B
+      → Reads (scalar (grammar.set base)) (ShowsScalar (ShowsSet base) made none none) A B
+  set_undefined s x =
+      scalar_undefined (grammar.set base) (set_apart base) refl (ShowsSet base) made none s x
+
+  pub set_defined : (v : V) (zs : List ℤ) {A B : Reader} → v ≡ made zs → Sees A underscore false
+      → Reads (grammar.set base) (λ t. ShowsSet base zs t) A B
+      → Reads (scalar (grammar.set base)) (ShowsScalar (ShowsSet base) made none v) A B
+  set_defined v zs e s r =
+      scalar_defined (grammar.set base) (set_apart base) refl (ShowsSet base) made none v zs e s r
+
+  pub set_lost : (v : V) (zs : List ℤ) {A B C : Reader} → Sees A underscore false
+      → Reads (grammar.set base) (λ t. ShowsSet base zs t) A B → Still B C
+      → (C.outcome ≡ Well → ⊥)
+      → Reads (scalar (grammar.set base)) (ShowsScalar (ShowsSet base) made none v) A C
+  set_lost v zs s r q n =
+      scalar_lost (grammar.set base) (set_apart base) refl (ShowsSet base) made none v zs s r q n
+
+-- FORMS
+
+-- a production
+pub reads_rule : (p : Production) {Is : Shape → Type 0} {A B : Reader}
+    → Reads (production p) Is A B → Reads (rule p) Is A B
+reads_rule p r = record { shape = r.shape; goes = rule_goes known r.goes; is = r.is }
+
+-- a scalar, by its form
+pub scalar_as : {X V : Type 0} (R : X → Shape → Type 0) (made : X → V) (none v : V)
+    (As : Shape → Type 0) → ((x : X) (u : Shape) → v ≡ made x → R x u → As (left u))
+    → (v ≡ none → As (right nothing)) → (t : Shape) → ShowsScalar R made none v t → As t
+scalar_as R made none v As f g (left t) h = f h.0 t h.1 h.2
+scalar_as R made none v As f g (right nothing) h = g h
+scalar_as R made none v As f g _ h = absurd h
+
+-- what stands in brackets, by its items
+pub enclosed_as : {V : Type 0} (R : Kind → V → Shape → Type 0) (ks : List Kind) (vs : List V)
+    (As : Shape → Type 0) → ((u : Shape) → AreShown R ks vs u → As (both u nothing)) → (t : Shape)
+    → AreEnclosed R ks vs t → As t
+enclosed_as R ks vs As f (both t nothing) h = f t h
+enclosed_as R ks vs As f _ h = absurd h
+
+-- items one after the other
+pub all_shown : {V : Type 0} (R : Kind → V → Shape → Type 0)
+    (Each : List Kind → List V → Shape → Type 0) → Each [] [] nothing
+    → ((k : Kind) (ks : List Kind) (v : V) (vs : List V) (t u : Shape) → R k v t → Each ks vs u
+    → Each (k ∷ ks) (v ∷ vs) (both t u))
+    → (ks : List Kind) (vs : List V) (t : Shape) → AreShown R ks vs t → Each ks vs t
+all_shown R Each none more [] [] nothing h = none
+all_shown R Each none more (k ∷ ks) (v ∷ vs) (both t u) h =
+    more k ks v vs t u h.0 (all_shown R Each none more ks vs u h.1)
+all_shown R Each none more [] (v ∷ vs) t h = absurd h
+all_shown R Each none more (k ∷ ks) [] t h = absurd h
+all_shown R Each none more [] [] _ h = absurd h
+all_shown R Each none more (k ∷ ks) (v ∷ vs) _ h = absurd h
+
+module _ (part : Kind → Rule) (k : Kind) (l : KindLayer) (same : out-Kind k ≡ l)
+    (As : Shape → Type 0) where
+  -- a value of a kind of this form
+  pub formed_read : (g : Rule) {Is : Shape → Type 0} {A B : Reader} → formed part l k ≡ g
+      → ((t : Shape) → Is t → As t) → Reads g Is A B → Reads (formed part (out-Kind k) k) As A B
+  formed_read g {A = A} {B} f more r = record {
+    shape = r.shape;
+    goes = subst (λ (m : KindLayer). Goes plain (formed part m k) A (node r.shape) B) (sym same)
+        (subst (λ h. Goes plain h A (node r.shape) B) (sym f) r.goes);
+    is = λ w. more r.shape (r.is w);
+  }
+
+  -- one that is made of another one of the same kind
+  pub formed_of : {K : Type 0} (f : K → Rule) (Is : K → Shape → Type 0) (x y : K) {A B : Reader}
+      → formed part l k ≡ f y → x ≡ y → ((t : Shape) → Is y t → As t)
+      → Reads (f x) (Is x) A B → Reads (formed part (out-Kind k) k) As A B
+  formed_of f Is x y {A} {B} e q more r =
+      formed_read (f y) e more (subst (λ z. Reads (f z) (Is z) A B) q r)
 
 -- VALUES
 
--- a value of a kind of this form
-value_goes : (k : Kind) (l : KindLayer) (g : Rule) {A B : Reader} {t : Shape} → out-Kind k ≡ l
-    → value_by l k ≡ g → Goes plain g A (node t) B → Goes plain (a_value k) A (node t) B
-value_goes k l g {A} {B} {t} e f x = rule_goes known
-    (subst (λ (m : KindLayer). Goes plain (value_by m k) A (node t) B) (sym e)
-    (subst (λ h. Goes plain h A (node t) B) (sym f) x))
-
-as_scalar : (k : Kind) (v : Value) (t : Shape) → IsTrue (scalar_of (out-Kind k))
+as_scalar : (k : Kind) (v : Value) → IsTrue (scalar_of (out-Kind k)) → (t : Shape)
     → ShowsOrdinalValue k v t → ShowsValue k v t
-as_scalar k v (left t) s h = ordinal h.0 (ap out-Value h.1 ∙ value.outs-Ordinal h.0) h.2
-as_scalar k v (right nothing) s h = undefined s (ap out-Value h ∙ value.outs-Undefined)
-as_scalar k v _ s h = absurd h
+as_scalar k v s = scalar_as (ShowsOrdinal k) value.Ordinal value.Undefined v (ShowsValue k v)
+    (λ z u e h. ordinal z (ap out-Value e ∙ value.outs-Ordinal z) h)
+    (λ e. undefined s (ap out-Value e ∙ value.outs-Undefined))
 
 pub scalar_read : (k : Kind) (v : Value) (l : KindLayer) {A B : Reader} → out-Kind k ≡ l
     → scalar_of l ≡ true → value_by l k ≡ scalar (grammar.ordinal k)
     → Reads (scalar (grammar.ordinal k)) (λ t. ShowsOrdinalValue k v t) A B
     → Reads (a_value k) (λ t. ShowsValue k v t) A B
-scalar_read k v l e s f r = record {
-  shape = r.shape;
-  goes = value_goes k l (scalar (grammar.ordinal k)) e f r.goes;
-  is = λ w. as_scalar k v r.shape (ap scalar_of e ∙ s) (r.is w);
-}
+scalar_read k v l e s f r = reads_rule (value_of k)
+    (formed_read a_value k l e (ShowsValue k v) (scalar (grammar.ordinal k)) f
+    (as_scalar k v (ap scalar_of e ∙ s)) r)
 
-as_set : (k base : Kind) (v : Value) (t : Shape) → out-Kind k ≡ kinds.SetOf base
+as_set : (k base : Kind) (v : Value) → out-Kind k ≡ kinds.SetOf base → (t : Shape)
     → ShowsSetValue base v t → ShowsValue k v t
-as_set k base v (left t) e h = set base h.0 e (ap out-Value h.1 ∙ value.outs-Set h.0) h.2
-as_set k base v (right nothing) e h =
-    undefined (ap scalar_of e) (ap out-Value h ∙ value.outs-Undefined)
-as_set k base v _ e h = absurd h
+as_set k base v e = scalar_as (ShowsSet base) value.Set value.Undefined v (ShowsValue k v)
+    (λ zs u q h. set base zs e (ap out-Value q ∙ value.outs-Set zs) h)
+    (λ q. undefined (ap scalar_of e) (ap out-Value q ∙ value.outs-Undefined))
 
 pub set_read : (k base given : Kind) (v : Value) {A B : Reader} → out-Kind k ≡ kinds.SetOf base
     → given ≡ base → Reads (scalar (grammar.set given)) (λ t. ShowsSetValue given v t) A B
     → Reads (a_value k) (λ t. ShowsValue k v t) A B
-set_read k base given v {A} {B} e q r = record {
-  shape = r.shape;
-  goes = value_goes k (kinds.SetOf base) (scalar (grammar.set base)) e refl
-      (subst (λ (j : Kind). Goes plain (scalar (grammar.set j)) A (node r.shape) B) q r.goes);
-  is = λ w. as_set k base v r.shape e
-      (subst (λ (j : Kind). ShowsSetValue j v r.shape) q (r.is w));
-}
+set_read k base given v e q r = reads_rule (value_of k)
+    (formed_of a_value k (kinds.SetOf base) e (ShowsValue k v)
+    (λ (j : Kind). scalar (grammar.set j)) (λ (j : Kind) (t : Shape). ShowsSetValue j v t) given
+    base refl q (as_set k base v e) r)
 
 -- values one after the other
 pub shown_values : (ks : List Kind) (vs : List Value) (t : Shape) → AreShown ShowsValue ks vs t
     → ShowsValues ks vs t
-shown_values [] [] nothing h = no_values
-shown_values (k ∷ ks) (v ∷ vs) (both t u) h = one_more h.0 (shown_values ks vs u h.1)
-shown_values [] (v ∷ vs) t h = absurd h
-shown_values (k ∷ ks) [] t h = absurd h
-shown_values [] [] _ h = absurd h
-shown_values (k ∷ ks) (v ∷ vs) _ h = absurd h
+shown_values ks vs t h =
+    all_shown ShowsValue ShowsValues no_values (λ k ks v vs t u h r. one_more h r) ks vs t h
+
+-- values in parentheses, where there are some
+abbrev IsGroupOf : Option (List Value) → List Kind → Shape → Type 0
+IsGroupOf o ks t = IsSomeAnd o (λ vs. AreEnclosed ShowsValue ks vs t)
 
 -- a group that was read
-grouped : (ks : List Kind) (o : Option (List Value)) (v : Value) (k : Kind) (t : Shape)
-    → ((vs : List Value) (u : Shape) → out-Value v ≡ seen.Group vs → ShowsValues ks vs u
+grouped : (ks : List Kind) (o : Option (List Value)) (v : Value) (k : Kind)
+    → ((vs : List Value) (u : Shape) → out-Value v ≡ opened.Group vs → ShowsValues ks vs u
     → ShowsValue k v (both u nothing))
-    → IfSome o (λ vs. v ≡ value.Group vs) → IsSomeAnd o (λ vs. AreEnclosed ShowsValue ks vs t)
-    → ShowsValue k v t
-grouped ks (Some vs) v k (both t nothing) f e h =
-    f vs t (ap out-Value e ∙ value.outs-Group vs) (shown_values ks vs t h)
-grouped ks (Some vs) v k _ f e h = absurd h
-grouped ks None v k t f e h = absurd h
+    → IfSome o (λ vs. v ≡ value.Group vs) → (t : Shape) → IsGroupOf o ks t → ShowsValue k v t
+grouped ks (Some vs) v k f e t h = enclosed_as ShowsValue ks vs (ShowsValue k v)
+    (λ u g. f vs u (ap out-Value e ∙ value.outs-Group vs) (shown_values ks vs u g)) t h
+grouped ks None v k f e t h = absurd h
 
 pub array_read : (k index of given : Kind) (n : ℕ) (v : Value) (o : Option (List Value))
     {A B : Reader} → out-Kind k ≡ kinds.ArrayOf index of → given ≡ of → n ≡ ordinal_count index
@@ -245,18 +305,13 @@ pub array_read : (k index of given : Kind) (n : ℕ) (v : Value) (o : Option (Li
     → Reads (group (replicate n given))
     (λ t. IsSomeAnd o (λ vs. AreEnclosed ShowsValue (replicate n given) vs t)) A B
     → Reads (a_value k) (λ t. ShowsValue k v t) A B
-array_read k index of given n v o {A} {B} e q f g r =
+array_read k index of given n v o e q f g r =
     let ks = replicate (ordinal_count index) of in
     let same : replicate n given ≡ ks =
     ap (λ (j : Kind). replicate n j) q ∙ ap (λ m. replicate m of) f in
-    record {
-      shape = r.shape;
-      goes = value_goes k (kinds.ArrayOf index of) (group ks) e refl
-          (subst (λ (l : List Kind). Goes plain (group l) A (node r.shape) B) same r.goes);
-      is = λ w. grouped ks o v k r.shape (λ vs u c h. array index of vs e c h) g
-          (subst (λ (l : List Kind). IsSomeAnd o (λ vs. AreEnclosed ShowsValue l vs r.shape)) same
-          (r.is w));
-    }
+    reads_rule (value_of k) (formed_of a_value k (kinds.ArrayOf index of) e (ShowsValue k v) group
+    (IsGroupOf o) (replicate n given) ks refl same
+    (grouped ks o v k (λ vs u c h. array index of vs e c h) g) r)
 
 pub record_read : (k : Kind) (fs given : List FieldKind) (v : Value) (o : Option (List Value))
     {A B : Reader} → out-Kind k ≡ kinds.Fields fs → given ≡ fs
@@ -264,14 +319,9 @@ pub record_read : (k : Kind) (fs given : List FieldKind) (v : Value) (o : Option
     → Reads (group (field_kinds given))
     (λ t. IsSomeAnd o (λ vs. AreEnclosed ShowsValue (field_kinds given) vs t)) A B
     → Reads (a_value k) (λ t. ShowsValue k v t) A B
-record_read k fs given v o {A} {B} e q g r =
+record_read k fs given v o e q g r =
     let ks = field_kinds fs in
     let same : field_kinds given ≡ ks = ap (λ (l : List FieldKind). field_kinds l) q in
-    record {
-      shape = r.shape;
-      goes = value_goes k (kinds.Fields fs) (group ks) e refl
-          (subst (λ (l : List Kind). Goes plain (group l) A (node r.shape) B) same r.goes);
-      is = λ w. grouped ks o v k r.shape (λ vs u c h. fields fs vs e c h) g
-          (subst (λ (l : List Kind). IsSomeAnd o (λ vs. AreEnclosed ShowsValue l vs r.shape)) same
-          (r.is w));
-    }
+    reads_rule (value_of k) (formed_of a_value k (kinds.Fields fs) e (ShowsValue k v) group
+    (IsGroupOf o) (field_kinds given) ks refl same
+    (grouped ks o v k (λ vs u c h. fields fs vs e c h) g) r)

@@ -14,15 +14,17 @@ use Rattle.est_values.specs.OrdinalTuples.{ordinals_of}
 use Rattle.text_reader.specs.Tests.{named, holds, language}
 use Rattle.text_reader.specs.Going.{Shape}
 use Rattle.text_reader.proofs.Going.{Known}
-use Rattle.text_values.specs.TraceGrammar.{Production, events_at, value_of, Rule, integers}
-use Rattle.text_values.specs.TraceGrammar.{characters, constant, numbered_constant, constants}
-use Rattle.text_values.specs.TraceGrammar.{boolean_names, bytes_of, host_by, ordinal_by}
-use Rattle.text_values.specs.TraceGrammar.{ordinal, scalar, value_by, value, event, events}
+use Rattle.text_values.specs.declared.formats.Format.{Format}
+use Rattle.text_values.specs.TraceGrammar.{Production, events_at, value_of, seen_of, Rule}
+use Rattle.text_values.specs.TraceGrammar.{integers, characters, constant, numbered_constant}
+use Rattle.text_values.specs.TraceGrammar.{constants, boolean_names, bytes_of, host_by, ordinal_by}
+use Rattle.text_values.specs.TraceGrammar.{ordinal, scalar, formed, a_value, value, a_seen, seen}
+use Rattle.text_values.specs.TraceGrammar.{event, events}
 use Rattle.text_values.specs.TraceGrammar.{event_starts, production, no_marks, starts}
 use Rattle.text_values.specs.TraceGrammar.{goes_on, is_empty, marks}
 use Rattle.text_values.specs.ValueReading.{plain}
-use Rattle.text_values.proofs.Closed.{is_closed, value_closed, event_closed}
-use Rattle.text_values.proofs.Solid.{value_solid}
+use Rattle.text_values.proofs.Closed.{is_closed, value_closed, seen_closed, event_closed}
+use Rattle.text_values.proofs.Solid.{value_solid, seen_solid}
 
 -- what begins a value is told without the table
 abbrev IsSame : Rule → Type 0
@@ -76,44 +78,51 @@ ordinal_same k = ordinal_by_same (out-Kind (host_by (out-Kind k) k)) k
 scalar_same : (g : Rule) → IsSame g → IsSame (scalar g)
 scalar_same g e = ap₂ (λ a b. a ++ b) e refl
 
-value_by_same : (l : KindLayer) (k : Kind) → IsSame (value_by l k)
-value_by_same kinds.Integer k = scalar_same (ordinal k) (ordinal_same k)
-value_by_same kinds.Boolean k = scalar_same (ordinal k) (ordinal_same k)
-value_by_same kinds.Char k = scalar_same (ordinal k) (ordinal_same k)
-value_by_same (kinds.Enumeration declared names) k = scalar_same (ordinal k) (ordinal_same k)
-value_by_same (kinds.Part host low high) k = scalar_same (ordinal k) (ordinal_same k)
-value_by_same (kinds.SetOf base) k = refl
-value_by_same (kinds.ArrayOf index of) k = refl
-value_by_same (kinds.Fields fields) k = refl
+formed_same : (part : Kind → Rule) (l : KindLayer) (k : Kind) → IsSame (formed part l k)
+formed_same part kinds.Integer k = scalar_same (ordinal k) (ordinal_same k)
+formed_same part kinds.Boolean k = scalar_same (ordinal k) (ordinal_same k)
+formed_same part kinds.Char k = scalar_same (ordinal k) (ordinal_same k)
+formed_same part (kinds.Enumeration declared names) k = scalar_same (ordinal k) (ordinal_same k)
+formed_same part (kinds.Part host low high) k = scalar_same (ordinal k) (ordinal_same k)
+formed_same part (kinds.SetOf base) k = refl
+formed_same part (kinds.ArrayOf index of) k = refl
+formed_same part (kinds.Fields fields) k = refl
+
+seen_same : (k : Kind) → IsSame (seen k)
+seen_same k = ap₂ (λ a b. a ++ b) refl (formed_same a_seen (out-Kind k) k)
 
 module _ (text : List ℕ) where
   starts_fit : (p : Production)
       → Within (language production text) (can_begin marks (production p)) (starts p)
-  starts_fit (events_at ports) o m = m
-  starts_fit (value_of k) o m = subst (MeetsOne (holds text) o) (value_by_same (out-Kind k) k) m
+  starts_fit (events_at f ports) o m = m
+  starts_fit (value_of k) o m =
+      subst (MeetsOne (holds text) o) (formed_same a_value (out-Kind k) k) m
+  starts_fit (seen_of k) o m = subst (MeetsOne (holds text) o) (seen_same k) m
 
-  events_fit : (ports : List Port)
-      → Within (language production text) (can_go_on marks (events ports)) (event_starts ports)
-  events_fit ports o m = elim (Members.In-split (holds text) o
-      (can_begin marks (event ports) ++ []) (event_starts ports ++ can_go_on marks (event ports))
-      m) [
+  events_fit : (f : Format) (ports : List Port)
+      → Within (language production text) (can_go_on marks (events f ports)) (event_starts ports)
+  events_fit f ports o m = elim (Members.In-split (holds text) o
+      (can_begin marks (event f ports) ++ [])
+      (event_starts ports ++ can_go_on marks (event f ports)) m) [
         | inl q ↦ q
         | inr q ↦ elim (Members.In-split (holds text) o (event_starts ports)
-            (can_go_on marks (event ports)) q) [
+            (can_go_on marks (event f ports)) q) [
               | inl r ↦ r
-              | inr r ↦ absurd (is_closed text (event ports) (event_closed ports) o r)
+              | inr r ↦ absurd (is_closed text (event f ports) (event_closed f ports) o r)
             ]
       ]
 
   goes_on_fits : (p : Production)
       → Within (language production text) (can_go_on marks (production p)) (goes_on p)
-  goes_on_fits (events_at ports) o m = events_fit ports o m
+  goes_on_fits (events_at f ports) o m = events_fit f ports o m
   goes_on_fits (value_of k) o m = is_closed text (value k) (value_closed k) o m
+  goes_on_fits (seen_of k) o m = is_closed text (seen k) (seen_closed k) o m
 
   empty_fits : (p : Production)
       → (not (can_be_empty marks (production p)) || is_empty p) ≡ true
-  empty_fits (events_at ports) = refl
+  empty_fits (events_at f ports) = refl
   empty_fits (value_of k) = ap (λ b. not b || false) (value_solid k)
+  empty_fits (seen_of k) = ap (λ b. not b || false) (seen_solid k)
 
   pub fits : Fits (language production text) marks
   fits = record { starts = starts_fit; goes_on = goes_on_fits; is_empty = empty_fits }

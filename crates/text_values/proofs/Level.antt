@@ -5,6 +5,7 @@ use Rattle.std.proofs.Common.{replicate}
 use Rattle.std.specs.List.{list_any}
 use Rattle.est_lexer.specs.declared.kind.Token.{Token}
 use Rattle.est_lexer.specs.declared.kind.Symbol.{Symbol}
+use Rattle.est_lexer.specs.declared.kind.Symbol.TheVariants as symbols
 use Rattle.text_reader.specs.Grammar.{done, none, word, token, here, skip, seq, alt, opt, rep}
 use Rattle.text_reader.specs.Grammar.{nearest, ended, deeper, rule, when, one_of, Language}
 use Rattle.text_reader.specs.Grammar.{Tree, t_done, t_word, t_token, t_here, t_skip, t_seq}
@@ -28,13 +29,16 @@ use Rattle.est_values.specs.FittingValues.{first_ordinal, last_ordinal, ordinal_
 use Rattle.est_values.specs.OrdinalTuples.{ordinals_of}
 use Rattle.text_reader.specs.Tests.{Test, Kept, named, language}
 use Rattle.text_reader.specs.Going as going
-use Rattle.text_values.specs.TraceGrammar.{Production, events_at, value_of, Rule, more, listed}
-use Rattle.text_values.specs.TraceGrammar.{bracketed, integers, characters, constant}
+use Rattle.text_values.specs.declared.formats.Format.{Format}
+use Rattle.text_values.specs.declared.formats.Format.TheVariants as formats
+use Rattle.text_values.specs.TraceGrammar.{Production, events_at, value_of, seen_of, Rule, more}
+use Rattle.text_values.specs.TraceGrammar.{listed, bracketed, integers, characters, constant}
 use Rattle.text_values.specs.TraceGrammar.{numbered_constant, constants, boolean_names}
-use Rattle.text_values.specs.TraceGrammar.{bytes_of, host_by, ordinal_by, ordinal, a_value}
-use Rattle.text_values.specs.TraceGrammar.{group, field_kinds, scalar, set, value_by, value}
-use Rattle.text_values.specs.TraceGrammar.{passes, some_pass, parameters, subscripts, signal}
-use Rattle.text_values.specs.TraceGrammar.{dot_signal, is_head, port, event, production}
+use Rattle.text_values.specs.TraceGrammar.{bytes_of, host_by, ordinal_by, ordinal, field_kinds}
+use Rattle.text_values.specs.TraceGrammar.{scalar, set, group_of, formed, a_value, value, a_seen}
+use Rattle.text_values.specs.TraceGrammar.{seen, passes, some_pass, parenthesized, brackets}
+use Rattle.text_values.specs.TraceGrammar.{subscripts, signal, dot_signal, is_head, port, event}
+use Rattle.text_values.specs.TraceGrammar.{production}
 
 -- whether it opens no level
 abbrev pub level_free : Rule → Bool
@@ -51,8 +55,9 @@ level_free (rep g) = level_free g
 level_free (nearest k g) = level_free g
 level_free (ended k g) = level_free g
 level_free (deeper g) = false
-level_free (rule (events_at ports)) = false
+level_free (rule (events_at f ports)) = false
 level_free (rule (value_of k)) = true
+level_free (rule (seen_of k)) = true
 
 both_free : (a b : Bool) → a ≡ true → b ≡ true → (a && b) ≡ true
 both_free a b e f = ap₂ (λ x y. x && y) e f
@@ -123,45 +128,58 @@ scalar_free g e = both_free _ _ e refl
 set_free : (base : Kind) → level_free (set base) ≡ true
 set_free base = both_free _ _ (both_free _ _ (ordinal_free base) (ordinal_free base)) refl
 
-group_free : (ks : List Kind) → level_free (group ks) ≡ true
-group_free ks = both_free _ _ (listed_free a_value ks (λ k. refl)) refl
+-- what is made of parts that open no level
+module _ (part : Kind → Rule) (free : (k : Kind) → level_free (part k) ≡ true) where
+  group_free : (ks : List Kind) → level_free (group_of part ks) ≡ true
+  group_free ks = both_free _ _ (listed_free part ks free) refl
 
-value_by_free : (l : KindLayer) (k : Kind) → level_free (value_by l k) ≡ true
-value_by_free kinds.Integer k = scalar_free (ordinal k) (ordinal_free k)
-value_by_free kinds.Boolean k = scalar_free (ordinal k) (ordinal_free k)
-value_by_free kinds.Char k = scalar_free (ordinal k) (ordinal_free k)
-value_by_free (kinds.Enumeration declared names) k = scalar_free (ordinal k) (ordinal_free k)
-value_by_free (kinds.Part host low high) k = scalar_free (ordinal k) (ordinal_free k)
-value_by_free (kinds.SetOf base) k = scalar_free (set base) (set_free base)
-value_by_free (kinds.ArrayOf index of) k = group_free (replicate (ordinal_count index) of)
-value_by_free (kinds.Fields fields) k = group_free (field_kinds fields)
+  formed_free : (l : KindLayer) (k : Kind) → level_free (formed part l k) ≡ true
+  formed_free kinds.Integer k = scalar_free (ordinal k) (ordinal_free k)
+  formed_free kinds.Boolean k = scalar_free (ordinal k) (ordinal_free k)
+  formed_free kinds.Char k = scalar_free (ordinal k) (ordinal_free k)
+  formed_free (kinds.Enumeration declared names) k = scalar_free (ordinal k) (ordinal_free k)
+  formed_free (kinds.Part host low high) k = scalar_free (ordinal k) (ordinal_free k)
+  formed_free (kinds.SetOf base) k = scalar_free (set base) (set_free base)
+  formed_free (kinds.ArrayOf index of) k = group_free (replicate (ordinal_count index) of)
+  formed_free (kinds.Fields fields) k = group_free (field_kinds fields)
+
+  parenthesized_free : (ks : List Kind) → level_free (parenthesized part ks) ≡ true
+  parenthesized_free ks =
+      bracketed_free symbols.LeftParenthesis symbols.RightParenthesis part ks free
 
 value_free : (k : Kind) → level_free (value k) ≡ true
-value_free k = value_by_free (out-Kind k) k
+value_free k = formed_free a_value (λ j. refl) (out-Kind k) k
 
--- values of parameters, subscripts, signals, ports and events
-pub parameters_free : (ks : List Kind) → level_free (parameters ks) ≡ true
-parameters_free [] = refl
-parameters_free (k ∷ ks) = group_free (k ∷ ks)
+seen_free : (k : Kind) → level_free (seen k) ≡ true
+seen_free k = formed_free a_seen (λ j. refl) (out-Kind k) k
+
+-- parameters, subscripts, signals, ports and events
+brackets_free : (direction : Direction) (f : Format) (ks : List Kind)
+    → level_free (brackets direction f ks) ≡ true
+brackets_free Receives f ks = parenthesized_free a_value (λ j. refl) ks
+brackets_free Sends formats.Complete ks = parenthesized_free a_value (λ j. refl) ks
+brackets_free Sends formats.Partial ks = parenthesized_free a_seen (λ j. refl) ks
 
 pub subscripts_free : (ks : List Kind) → level_free (subscripts ks) ≡ true
-subscripts_free [] = refl
-subscripts_free (k ∷ ks) = both_free _ _ (listed_free ordinal (k ∷ ks) ordinal_free) refl
+subscripts_free ks =
+    bracketed_free symbols.LeftBracket symbols.RightBracket ordinal ks ordinal_free
 
-pub signal_free : (direction : Direction) (x : Signal) → level_free (signal direction x) ≡ true
-signal_free direction x = when_free (passes direction x)
-    (word (named x.name.bytes) (parameters x.kinds)) (parameters_free x.kinds)
+pub signal_free : (f : Format) (direction : Direction) (x : Signal)
+    → level_free (signal f direction x) ≡ true
+signal_free f direction x = when_free (passes direction x)
+    (word (named x.name.bytes) (brackets direction f x.kinds)) (brackets_free direction f x.kinds)
 
-pub port_free : (direction : Direction) (p : Port) → level_free (port direction p) ≡ true
-port_free direction p = when_free (is_head p && some_pass direction p.signals)
+pub port_free : (f : Format) (direction : Direction) (p : Port)
+    → level_free (port f direction p) ≡ true
+port_free f direction p = when_free (is_head p && some_pass direction p.signals)
     (word (named p.name.bytes)
-    (seq (subscripts p.index_kinds) (dot_signal direction p.signals)))
+    (seq (subscripts p.index_kinds) (dot_signal f direction p.signals)))
     (both_free _ _ (subscripts_free p.index_kinds)
-    (one_of_free (signal direction) p.signals (signal_free direction)))
+    (one_of_free (signal f direction) p.signals (signal_free f direction)))
 
-pub event_free : (ports : List Port) → level_free (event ports) ≡ true
-event_free ports = both_free _ _ (one_of_free (port Receives) ports (port_free Receives))
-    (one_of_free (port Sends) ports (port_free Sends))
+pub event_free : (f : Format) (ports : List Port) → level_free (event f ports) ≡ true
+event_free f ports = both_free _ _ (one_of_free (port f Receives) ports (port_free f Receives))
+    (one_of_free (port f Sends) ports (port_free f Sends))
 
 module _ (text : List ℕ) (s : List Token) where
   abbrev L : Language Token Kept Test Production
@@ -188,8 +206,9 @@ module _ (text : List ℕ) (s : List Token) where
   tree_any n e f (t_ended_last k l w) = t_ended_last k l w
   tree_any n e f (t_ended_in k l w x y) = t_ended_in k l w (tree_any n e f x) (tree_any n e f y)
   tree_any n e f (t_deeper x) = absurd cc
-  tree_any n e f (t_rule {p = events_at ports} x) = absurd cc
+  tree_any n e f (t_rule {p = events_at format ports} x) = absurd cc
   tree_any n e f (t_rule {p = value_of k} x) = t_rule (tree_any n e (value_free k) x)
+  tree_any n e f (t_rule {p = seen_of k} x) = t_rule (tree_any n e (seen_free k) x)
 
   pub partial_any : (n e : ℕ) {g : Rule} {d a : ℕ} → level_free g ≡ true → Partial L s n g d a
       → Partial L s n g e a
@@ -211,8 +230,9 @@ module _ (text : List ℕ) (s : List Token) where
   partial_any n e f (p_ended_more k l w x y) = p_ended_more k l w (tree_any n e f x)
       (partial_any n e f y)
   partial_any n e f (p_deeper x) = absurd cc
-  partial_any n e f (p_rule {p = events_at ports} x) = absurd cc
+  partial_any n e f (p_rule {p = events_at format ports} x) = absurd cc
   partial_any n e f (p_rule {p = value_of k} x) = p_rule (partial_any n e (value_free k) x)
+  partial_any n e f (p_rule {p = seen_of k} x) = p_rule (partial_any n e (seen_free k) x)
 
   -- no token opens a level too many
   pub free_opens_none : (i : ℕ) {g : Rule} {d a : ℕ} → level_free g ≡ true
@@ -232,5 +252,6 @@ module _ (text : List ℕ) (s : List Token) where
   free_opens_none i f (o_ended_first k l e x) = free_opens_none i f x
   free_opens_none i f (o_ended_more k l e x y) = free_opens_none i f y
   free_opens_none i f (o_deeper x) = cc
-  free_opens_none i f (o_rule {p = events_at ports} x) = cc
+  free_opens_none i f (o_rule {p = events_at format ports} x) = cc
   free_opens_none i f (o_rule {p = value_of k} x) = free_opens_none i (value_free k) x
+  free_opens_none i f (o_rule {p = seen_of k} x) = free_opens_none i (seen_free k) x

@@ -1,6 +1,7 @@
 pub mod Chosen
 pub mod Closed
 pub mod FitsShown
+pub mod FittingGroups
 pub mod Groups
 pub mod Known
 pub mod Level
@@ -10,9 +11,15 @@ mod Lowered
 pub mod Members
 pub mod Numbering
 pub mod Numbers
+pub mod OneSeen
 pub mod OneValue
+pub mod PartKinds
 pub mod Places
+pub mod SeenFits
+pub mod SeenGroups
+pub mod SeenTexts
 pub mod SetParts
 pub mod Solid
+pub mod SomeValues
 pub mod ValueTexts
 pub mod Walks

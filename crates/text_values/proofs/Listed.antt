@@ -103,6 +103,9 @@ module _ {A B : Type 0} (f : A → B → List ℕ) (xs : List A) (ys : List B) (
   all_past past = all_of itself (paired f xs ys) i start a
       (omega (arith, past, pairs_right f xs ys)) first
 
+  pub all_gone : slice_get xs i ≡ None → a ≡ start ++ joined itself (paired f xs ys)
+  all_gone none = all_left (out_there xs i none)
+
   pub all_right : None ≡ slice_get ys i → a ≡ start ++ joined itself (paired f xs ys)
   all_right none = all_past (out_there ys i (sym none))
 

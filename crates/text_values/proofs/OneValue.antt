@@ -114,7 +114,7 @@ same_members low low' high (x ∷ xs) (y ∷ ys) h g f b =
     ap₂ (λ z zs. z ∷ zs) e (same_members (x +ℤ pos 1) (y +ℤ pos 1) high xs ys h.2 g.2
     (λ z. rest_in x y high z xs ys e h.2 (f z)) (λ z. rest_in y x high z ys xs (sym e) g.2 (b z)))
 
-one_set : (base : Kind) (xs ys : List ℤ) (t : Shape) → ShowsSet base xs t → ShowsSet base ys t
+pub one_set : (base : Kind) (xs ys : List ℤ) (t : Shape) → ShowsSet base xs t → ShowsSet base ys t
     → xs ≡ ys
 one_set base xs ys t p q = same_members (first_ordinal base) (first_ordinal base)
     (last_ordinal base) xs ys p.0 q.0 (λ z m. (q.1 z).1 ((p.1 z).0 m))
@@ -122,34 +122,37 @@ one_set base xs ys t p q = same_members (first_ordinal base) (first_ordinal base
 
 -- VALUES
 
--- values that look alike are one
+-- what opens into the same form is one
+pub alike_by : {X L : Type 0} (out : X → L) (roll : L → X) → ((x : X) → roll (out x) ≡ x)
+    → (v w : X) (l m : L) → out v ≡ l → out w ≡ m → l ≡ m → v ≡ w
+alike_by out roll back v w l m e f g =
+    sym (back v) ∙ (ap roll (e ∙ (g ∙ sym f)) ∙ back w)
+
 alike : (v w : Value) (l m : ValueLayer) → out-Value v ≡ l → out-Value w ≡ m → l ≡ m → v ≡ w
-alike v w l m e f g =
-    sym (roll-out-Value v) ∙ (ap roll-Value (e ∙ (g ∙ sym f)) ∙ roll-out-Value w)
+alike v w l m e f g = alike_by out-Value roll-Value roll-out-Value v w l m e f g
 
-same_array : {index of index' of' : Kind} (ps qs : List Value) (t : Shape) {l : KindLayer}
-    → l ≡ kinds.ArrayOf index of → l ≡ kinds.ArrayOf index' of'
-    → ShowsValues (replicate (ordinal_count index') of') qs t
-    → ShowsValues (replicate (ordinal_count index) of) qs t
-same_array {index} {of} {index'} {of'} ps qs t e f s =
-    let i : index' ≡ index = cc in
-    let o : of' ≡ of = cc in
-    subst (λ (j : Kind). ShowsValues (replicate (ordinal_count j) of) qs t) i
-    (subst (λ (j : Kind). ShowsValues (replicate (ordinal_count index') j) qs t) o s)
+-- the kinds of the parts of a group are one list
+module _ (Is : List Kind → Type 0) where
+  pub same_array : {index of index' of' : Kind} {l : KindLayer} → l ≡ kinds.ArrayOf index of
+      → l ≡ kinds.ArrayOf index' of' → Is (replicate (ordinal_count index') of')
+      → Is (replicate (ordinal_count index) of)
+  same_array {index} {of} {index'} {of'} e f s =
+      let i : index' ≡ index = cc in
+      let o : of' ≡ of = cc in
+      subst (λ (j : Kind). Is (replicate (ordinal_count j) of)) i
+      (subst (λ (j : Kind). Is (replicate (ordinal_count index') j)) o s)
 
-same_fields : {fs gs : List FieldKind} (qs : List Value) (t : Shape) {l : KindLayer}
-    → l ≡ kinds.Fields fs → l ≡ kinds.Fields gs → ShowsValues (field_kinds gs) qs t
-    → ShowsValues (field_kinds fs) qs t
-same_fields {fs} {gs} qs t e f s =
-    let i : gs ≡ fs = cc in
-    subst (λ (l : List FieldKind). ShowsValues (field_kinds l) qs t) i s
+  pub same_fields : {fs gs : List FieldKind} {l : KindLayer} → l ≡ kinds.Fields fs
+      → l ≡ kinds.Fields gs → Is (field_kinds gs) → Is (field_kinds fs)
+  same_fields {fs} {gs} e f s =
+      let i : gs ≡ fs = cc in subst (λ (l : List FieldKind). Is (field_kinds l)) i s
 
-same_set : {base base' : Kind} (zs : List ℤ) (t : Shape) {l : KindLayer}
+pub same_set : {base base' : Kind} (zs : List ℤ) (t : Shape) {l : KindLayer}
     → l ≡ kinds.SetOf base → l ≡ kinds.SetOf base' → ShowsSet base' zs t → ShowsSet base zs t
 same_set {base} {base'} zs t e f s =
     let i : base' ≡ base = cc in subst (λ (j : Kind). ShowsSet j zs t) i s
 
-not_both : {A : Type 0} {index of : Kind} {fs : List FieldKind} {l : KindLayer}
+pub not_both : {A : Type 0} {index of : Kind} {fs : List FieldKind} {l : KindLayer}
     → l ≡ kinds.ArrayOf index of → l ≡ kinds.Fields fs → A
 not_both e f = absurd cc
 
@@ -169,12 +172,13 @@ mutual
   one_value k v w _ (array {t = t} index of ps i e s) (array index' of' qs j f r) =
       alike v w (seen.Group ps) (seen.Group qs) e f
       (ap seen.Group (one_list (replicate (ordinal_count index) of) ps qs t s
-      (same_array ps qs t i j r)))
+      (same_array (λ ks. ShowsValues ks qs t) i j r)))
   one_value k v w _ (array {t = t} index of ps i e s) (fields fs qs j f r) = not_both i j
   one_value k v w _ (fields {t = t} fs ps i e s) (array index of qs j f r) = not_both j i
   one_value k v w _ (fields {t = t} fs ps i e s) (fields gs qs j f r) =
       alike v w (seen.Group ps) (seen.Group qs) e f
-      (ap seen.Group (one_list (field_kinds fs) ps qs t s (same_fields qs t i j r)))
+      (ap seen.Group (one_list (field_kinds fs) ps qs t s
+      (same_fields (λ ks. ShowsValues ks qs t) i j r)))
 
   one_list : (ks : List Kind) (vs ws : List Value) (t : Shape) → ShowsValues ks vs t
       → ShowsValues ks ws t → vs ≡ ws

@@ -33,7 +33,7 @@ use Rattle.text_reader.proofs.Steps.{sees_it, sees_not, still_here, left_of, tak
 use Rattle.text_values.specs.TraceGrammar as grammar
 use Rattle.text_values.specs.TraceGrammar.{Rule, symbol, numbered_constant, constant, constants}
 use Rattle.text_values.specs.TraceGrammar.{integers, characters, boolean_names, bytes_of}
-use Rattle.text_values.specs.TraceGrammar.{host_by, ordinal_by, ordinal, members, scalar}
+use Rattle.text_values.specs.TraceGrammar.{host_by, ordinal_by, ordinal, members, scalar, formed}
 use Rattle.text_values.specs.TraceGrammar.{production, marks}
 use Rattle.text_values.specs.ValueReading.{plain, layer, Reads}
 use Rattle.text_values.specs.ValueShapes.{ShowsOrdinal, IsAmong, ShowsMembers, ShowsSet}
@@ -144,6 +144,33 @@ module _ (s : Test) (other : IsOther s) where
   far_ordinal : (k : Kind) → IsFar (can_begin marks (ordinal k))
   far_ordinal k = far_by (out-Kind (host_by (out-Kind k) k)) k
 
+abbrev pub question : Test
+question = kind (Symbol symbols.QuestionMark)
+
+other_question : IsOther question
+other_question = record {
+  of_names = λ name. refl;
+  of_numbers = λ low high. refl;
+  of_characters = λ low high. refl;
+  of_minus = refl;
+}
+
+far_scalar : (k : Kind)
+    → disjoint apart (can_begin marks (scalar (ordinal k))) (question ∷ []) ≡ true
+far_scalar k = far_both question other_question (can_begin marks (ordinal k)) (underscore ∷ [])
+    (far_ordinal question other_question k) (far_one question other_question underscore refl)
+
+far_formed : (rest : Kind → Rule) (l : KindLayer) (k : Kind)
+    → disjoint apart (can_begin marks (formed rest l k)) (question ∷ []) ≡ true
+far_formed rest kinds.Integer k = far_scalar k
+far_formed rest kinds.Boolean k = far_scalar k
+far_formed rest kinds.Char k = far_scalar k
+far_formed rest (kinds.Enumeration declared names) k = far_scalar k
+far_formed rest (kinds.Part host low high) k = far_scalar k
+far_formed rest (kinds.SetOf base) k = refl
+far_formed rest (kinds.ArrayOf index of) k = refl
+far_formed rest (kinds.Fields fields) k = refl
+
 -- SCALARS
 
 abbrev undefined : Rule
@@ -180,6 +207,27 @@ module _ (g : Rule) (D : AreApart g undefined) (solid : can_be_empty marks g ≡
   pub defined_goes : {A B : Reader} {t : going.Shape} → Sees A underscore false
       → Goes plain g A (node t) B → Goes plain (scalar g) A (node (left t)) B
   defined_goes s x = first_goes D solid refl (unseen underscore undefined refl s) x
+
+-- ANY VALUE
+
+abbrev any : Rule
+any = symbol symbols.QuestionMark done
+
+pub any_apart : (rest : Kind → Rule) (k : Kind) → AreApart any (formed rest (out-Kind k) k)
+any_apart rest k text = record {
+  none_meets = λ o h w. (far production text _ _ (far_formed rest (out-Kind k) k)).none_meets o w h;
+}
+
+module _ (g : Rule) (D : AreApart any g) (solid : can_be_empty marks g ≡ false) where
+  pub any_goes : {A B : Reader} → Sees A question true → Takes question A B
+      → Goes plain (grammar.unseen g) A (node (left nothing)) B
+  any_goes {A} s x = first_goes D refl solid
+      (λ w m. (D (text_of A.tokens.now)).none_meets (slice_get (tokens_of A.tokens.now) A.at)
+      (inl (sees_it s)) m) (last_goes x)
+
+  pub other_goes : {A B : Reader} {t : going.Shape} → Sees A question false
+      → Goes plain g A (node t) B → Goes plain (grammar.unseen g) A (node (right t)) B
+  other_goes s x = second_goes D refl solid (unseen question any refl s) x
 
 -- SETS
 

@@ -1,4 +1,4 @@
--- An ordinal and a value take a token.
+-- An ordinal, a value and what was seen of one take a token.
 use Rattle.std.proofs.Common.{◌≡◌, ℕ, ℤ, pos, negsuc, false, not, ◌||◌, List, []}
 use Rattle.std.proofs.Common.{◌∷◌, take, refl, ap, ap₂, Option, Some, None, slice_get, bytes_eq}
 use Rattle.std.specs.List.{list_any}
@@ -13,7 +13,7 @@ use Rattle.text_reader.specs.Tests.{named}
 use Rattle.text_values.specs.TraceGrammar.{Rule, integers, characters, constant}
 use Rattle.text_values.specs.TraceGrammar.{numbered_constant, constants, boolean_names}
 use Rattle.text_values.specs.TraceGrammar.{bytes_of, host_by, ordinal_by, ordinal, scalar}
-use Rattle.text_values.specs.TraceGrammar.{value_by, value, marks}
+use Rattle.text_values.specs.TraceGrammar.{formed, a_value, value, a_seen, seen, marks}
 
 one_of_solid : {A : Type 0} (f : A → Rule) (xs : List A)
     → ((x : A) → can_be_empty marks (f x) ≡ false) → can_be_empty marks (one_of f xs) ≡ false
@@ -62,16 +62,21 @@ ordinal_solid k = ordinal_by_solid (out-Kind (host_by (out-Kind k) k)) k
 scalar_solid : (g : Rule) → can_be_empty marks g ≡ false → can_be_empty marks (scalar g) ≡ false
 scalar_solid g e = ap (λ a. a || false) e
 
-value_by_solid : (l : KindLayer) (k : Kind) → can_be_empty marks (value_by l k) ≡ false
-value_by_solid kinds.Integer k = scalar_solid (ordinal k) (ordinal_solid k)
-value_by_solid kinds.Boolean k = scalar_solid (ordinal k) (ordinal_solid k)
-value_by_solid kinds.Char k = scalar_solid (ordinal k) (ordinal_solid k)
-value_by_solid (kinds.Enumeration declared names) k = scalar_solid (ordinal k) (ordinal_solid k)
-value_by_solid (kinds.Part host low high) k = scalar_solid (ordinal k) (ordinal_solid k)
-value_by_solid (kinds.SetOf base) k = refl
-value_by_solid (kinds.ArrayOf index of) k = refl
-value_by_solid (kinds.Fields fields) k = refl
+pub formed_solid : (part : Kind → Rule) (l : KindLayer) (k : Kind)
+    → can_be_empty marks (formed part l k) ≡ false
+formed_solid part kinds.Integer k = scalar_solid (ordinal k) (ordinal_solid k)
+formed_solid part kinds.Boolean k = scalar_solid (ordinal k) (ordinal_solid k)
+formed_solid part kinds.Char k = scalar_solid (ordinal k) (ordinal_solid k)
+formed_solid part (kinds.Enumeration declared names) k = scalar_solid (ordinal k) (ordinal_solid k)
+formed_solid part (kinds.Part host low high) k = scalar_solid (ordinal k) (ordinal_solid k)
+formed_solid part (kinds.SetOf base) k = refl
+formed_solid part (kinds.ArrayOf index of) k = refl
+formed_solid part (kinds.Fields fields) k = refl
 
 -- a value
 pub value_solid : (k : Kind) → can_be_empty marks (value k) ≡ false
-value_solid k = value_by_solid (out-Kind k) k
+value_solid k = formed_solid a_value (out-Kind k) k
+
+-- what was seen of one
+pub seen_solid : (k : Kind) → can_be_empty marks (seen k) ≡ false
+seen_solid k = formed_solid a_seen (out-Kind k) k

@@ -13,24 +13,28 @@ use Rattle.est_values.specs.declared.value.Value.TheOpen as seen
 use Rattle.est_values.specs.declared.value.Value.TheFolds.{fold-Value, fold_out-Value}
 use Rattle.text_values.specs.WrittenLists.{enclosed, paired}
 use Rattle.text_values.specs.WrittenOrdinals.{ordinal_text}
-use Rattle.text_values.specs.WrittenValues.{Text, text_by, value_text, value_texts}
-use Rattle.text_values.specs.WrittenValues.{set_text, base_by, kinds_by, group_text}
-use Rattle.text_values.specs.WrittenValues.{field_kinds}
+use Rattle.text_values.specs.WrittenValues.{Text, told, text_by, value_text, set_text, base_by}
+use Rattle.text_values.specs.WrittenValues.{kinds_by, group_by, group_text, field_kinds}
 
 -- the text of a value, by its kind
 abbrev folded : Value → Text
 folded = fold-Value Text text_by
 
--- a text of a kind that is known
-abbrev told : Kind → Text → List ℕ
-told k text = text k
+-- the texts of parts are those that their forms have
+folded_texts : {A : Type 0} (f : A → Text) (ks : List Kind) (xs : List A)
+    → paired told ks (map f xs) ≡ paired (λ k x. f x k) ks xs
+folded_texts f [] xs = refl
+folded_texts f (k ∷ ks) [] = refl
+folded_texts f (k ∷ ks) (x ∷ xs) = ap (λ ts. f x k ∷ ts) (folded_texts f ks xs)
 
--- the texts of several values are those that their forms have
-folded_texts : (ks : List Kind) (vs : List Value) → paired told ks (map folded vs) ≡ value_texts ks vs
-unfolding value_text
-folded_texts [] vs = refl
-folded_texts (k ∷ ks) [] = refl
-folded_texts (k ∷ ks) (v ∷ vs) = ap (λ ts. folded v k ∷ ts) (folded_texts ks vs)
+-- and so is that of their group
+pub folded_group : {A : Type 0} (f : A → Text) (k : Kind) (parts : List A)
+    → group_by told k (map f parts) ≡ group_by (λ j x. f x j) k parts
+folded_group f k parts =
+    let by = kinds_by (out-Kind k) in
+    ap (enclosed (codes "(") (codes ")"))
+    (ap (λ n. paired told (by n) (map f parts)) (length-map parts f)
+    ∙ folded_texts f (by (length parts)) parts)
 
 -- an undefined scalar,
 pub undefined_text : (k : Kind) (v : Value) → out-Value v ≡ seen.Undefined
@@ -55,11 +59,8 @@ pub group_is : (k : Kind) (v : Value) (parts : List Value) → out-Value v ≡ s
     → group_text k parts ≡ value_text k v
 unfolding value_text
 group_is k v parts e =
-    let f = kinds_by (out-Kind k) in
     let all = ap (told k) (rw e at (fold_out-Value Text text_by v)) in
-    sym (all ∙ ap (enclosed (codes "(") (codes ")"))
-    (ap (λ n. paired told (f n) (map folded parts)) (length-map parts folded)
-    ∙ folded_texts (f (length parts)) parts))
+    sym (all ∙ folded_group folded k parts)
 
 -- what was added is a text
 pub added : {A E : Type 0} (old new t u : List ℕ) (r : Result A E)
@@ -73,7 +74,7 @@ pub added_as : {A E : Type 0} (old new t u : List ℕ) (r : Result A E)
 added_as old new t u (Ok x) e same = e ∙ ap (λ s. old ++ s) same
 added_as old new t u (Err x) e same = tt
 
-replicated : (n i : ℕ) (k : Kind) → i < n → slice_get (replicate n k) i ≡ Some k
+pub replicated : (n i : ℕ) (k : Kind) → i < n → slice_get (replicate n k) i ≡ Some k
 replicated zero i k h = absurd (omega (arith, h))
 replicated (suc n) zero k h = refl
 replicated (suc n) (suc i) k h = replicated n i k (omega (arith, h))

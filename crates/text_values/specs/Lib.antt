@@ -1,7 +1,10 @@
+pub mod SeenShapes
 pub mod TraceGrammar
+pub mod TraceVersions
 pub mod ValueReading
 pub mod ValueShapes
 pub mod WrittenLists
 pub mod WrittenOrdinals
+pub mod WrittenSeen
 pub mod WrittenValues
 pub mod inside

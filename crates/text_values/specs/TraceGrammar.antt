@@ -20,15 +20,21 @@ use Rattle.est_syntax.specs.declared.ports.Signal.{Signal}
 use Rattle.est_syntax.specs.Kinds.{maxint}
 use Rattle.est_values.specs.FittingValues.{first_ordinal, last_ordinal, ordinal_count, KindLayer}
 use Rattle.est_values.specs.OrdinalTuples.{ordinals_of}
+use Rattle.text_values.specs.declared.formats.Format.{Format}
+use Rattle.text_values.specs.declared.formats.Format.TheVariants.{Complete, Partial}
+use Rattle.text_values.specs.declared.formats.Version.{Version}
+use Rattle.text_values.specs.declared.formats.Version.TheVariants.{First, Second, Third}
+pub use Rattle.text_values.specs.TraceVersions.{format_of}
 pub use Rattle.text_values.specs.WrittenOrdinals.{host_by, to_natural}
 pub use Rattle.text_values.specs.WrittenValues.{field_kinds}
 use Rattle.text_reader.specs.Tests.{Test, kind, said, named, number, character}
 use Rattle.text_reader.specs.Going as going
 
--- The productions: events at these ports, and a value of a kind.
+-- The productions: events at these ports in a format, a value of a kind, and what was seen of one.
 pub data Production : Type 0 where
-  events_at : List Port → Production
+  events_at : Format → List Port → Production
   value_of : Kind → Production
+  seen_of : Kind → Production
 
 abbrev pub Rule : Type 0
 Rule = going.Rule Production
@@ -140,19 +146,42 @@ scalar g = alt g (symbol symbols.Underscore done)
 abbrev pub a_value : Kind → Rule
 a_value k = rule (value_of k)
 
+-- parts of these kinds in order, in parentheses
+abbrev pub group_of : (Kind → Rule) → List Kind → Rule
+group_of part ks = enclosed symbols.LeftParenthesis symbols.RightParenthesis part ks
+
+-- a value of a kind of this form: a scalar, or a group of its parts
+abbrev pub formed : (Kind → Rule) → KindLayer → Kind → Rule
+formed part (kinds.SetOf base) k = scalar (set base)
+formed part (kinds.ArrayOf index of) k = group_of part (replicate (ordinal_count index) of)
+formed part (kinds.Fields fields) k = group_of part (field_kinds fields)
+formed part _ k = scalar (ordinal k)
+
 -- the values of these kinds in order, in parentheses
 abbrev pub group : List Kind → Rule
-group ks = enclosed symbols.LeftParenthesis symbols.RightParenthesis a_value ks
+group ks = group_of a_value ks
 
 -- a value of a kind of this form
 abbrev pub value_by : KindLayer → Kind → Rule
-value_by (kinds.SetOf base) k = scalar (set base)
-value_by (kinds.ArrayOf index of) k = group (replicate (ordinal_count index) of)
-value_by (kinds.Fields fields) k = group (field_kinds fields)
-value_by _ k = scalar (ordinal k)
+value_by l k = formed a_value l k
 
 abbrev pub value : Kind → Rule
 value k = value_by (out-Kind k) k
+
+-- WHAT WAS SEEN OF VALUES
+
+-- what was seen of a value of a kind, as a production
+abbrev pub a_seen : Kind → Rule
+a_seen k = rule (seen_of k)
+
+-- `?` for any value, or g
+abbrev pub unseen : Rule → Rule
+unseen g = alt (symbol symbols.QuestionMark done) g
+
+-- What was seen of a value of a kind. A `?` may stand for it and for each component of an array or
+-- of a record, and for no member of a set.
+abbrev pub seen : Kind → Rule
+seen k = unseen (formed a_seen (out-Kind k) k)
 
 -- EVENTS
 
@@ -165,21 +194,37 @@ passes Sends signal = signal.sends
 abbrev pub some_pass : Direction → List Signal → Bool
 some_pass direction signals = list_any (passes direction) signals
 
--- the values of parameters of these kinds in parentheses
+-- parameters of these kinds by this rule, in parentheses where there are some
+abbrev pub parenthesized : (Kind → Rule) → List Kind → Rule
+parenthesized part ks = bracketed symbols.LeftParenthesis symbols.RightParenthesis part ks
+
+-- the values of parameters of these kinds, and what was seen of them
 abbrev pub parameters : List Kind → Rule
-parameters ks = bracketed symbols.LeftParenthesis symbols.RightParenthesis a_value ks
+parameters ks = parenthesized a_value ks
+
+abbrev pub seen_parameters : List Kind → Rule
+seen_parameters ks = parenthesized a_seen ks
+
+-- the brackets of a signal that passes in this direction: what was seen may stand in those of a
+-- departure
+abbrev pub brackets : Direction → Format → List Kind → Rule
+brackets Receives format ks = parameters ks
+brackets Sends Complete ks = parameters ks
+brackets Sends Partial ks = seen_parameters ks
 
 -- the subscripts of an element of an array in brackets
 abbrev pub subscripts : List Kind → Rule
 subscripts ks = bracketed symbols.LeftBracket symbols.RightBracket ordinal ks
 
--- a signal that passes in this direction: its name, and the values of its parameters
-abbrev pub signal : Direction → Signal → Rule
-signal direction x = when (passes direction x) (word (named x.name.bytes) (parameters x.kinds))
+-- a signal that passes in this direction: its name, and its parameters in brackets
+abbrev pub signal : Format → Direction → Signal → Rule
+signal format direction x =
+    when (passes direction x) (word (named x.name.bytes) (brackets direction format x.kinds))
 
 -- "." and one of these signals
-abbrev pub dot_signal : Direction → List Signal → Rule
-dot_signal direction signals = symbol symbols.Period (one_of (signal direction) signals)
+abbrev pub dot_signal : Format → Direction → List Signal → Rule
+dot_signal format direction signals =
+    symbol symbols.Period (one_of (signal format direction) signals)
 
 -- whether each of these is the first ordinal of its kind
 abbrev pub are_first : List Kind → List ℤ → Bool
@@ -194,27 +239,50 @@ is_head p = are_first p.index_kinds p.index
 -- a port that some signal passes in this direction: its name with its subscripts, where it is an
 -- element of an array, "." and such a signal. An array has one alternative, that of its first
 -- element.
-abbrev pub port : Direction → Port → Rule
-port direction p = when (is_head p && some_pass direction p.signals) (word (named p.name.bytes)
-    (seq (subscripts p.index_kinds) (dot_signal direction p.signals)))
+abbrev pub port : Format → Direction → Port → Rule
+port format direction p =
+    when (is_head p && some_pass direction p.signals) (word (named p.name.bytes)
+    (seq (subscripts p.index_kinds) (dot_signal format direction p.signals)))
 
 -- "time" number
 abbrev pub time : Rule
 time = word (said "time") (token (number 0 maxint))
 
 -- event = "time" number | "in" port "." signal | "out" port "." signal .
-abbrev pub event : List Port → Rule
-event ports = alt time (alt (word (said "in") (one_of (port Receives) ports))
-    (word (said "out") (one_of (port Sends) ports)))
+abbrev pub event : Format → List Port → Rule
+event format ports = alt time (alt (word (said "in") (one_of (port format Receives) ports))
+    (word (said "out") (one_of (port format Sends) ports)))
 
 -- { event }, each event within a level of its own: the levels count the events.
-abbrev pub events : List Port → Rule
-events ports = opt (deeper (seq (event ports) (rule (events_at ports))))
+abbrev pub events : Format → List Port → Rule
+events format ports =
+    opt (deeper (seq (event format ports) (rule (events_at format ports))))
 
--- trace = "trace" "1" { event } "end" .
+-- the number of a version
+abbrev pub version : Version → Test
+version First = number 1 1
+version Second = number 2 2
+version Third = number 3 3
+
+-- what may stand behind the end: [ "quiet" ] in version 3, and else nothing
+abbrev pub ending : Version → Rule
+ending First = done
+ending Second = done
+ending Third = opt (word (said "quiet") done)
+
+-- { event } "end", and what may stand behind it
+abbrev pub to_end : Version → List Port → Rule
+to_end v ports = seq (rule (events_at (format_of v) ports)) (word (said "end") (ending v))
+
+-- the number of a version, and the rest of a trace of it
+abbrev pub versioned : Version → List Port → Rule
+versioned v ports = word (version v) (to_end v ports)
+
+-- trace = "trace" ( "1" { event } "end" | "2" { event } "end" | "3" { event } "end" [ "quiet" ] ) .
+-- In versions 2 and 3 a `?` may stand in the brackets of a departure.
 abbrev pub trace : List Port → Rule
-trace ports = word (said "trace") (word (number 1 1)
-    (seq (rule (events_at ports)) (word (said "end") done)))
+trace ports = word (said "trace")
+    (alt (versioned First ports) (alt (versioned Second ports) (versioned Third ports)))
 
 -- the words that an event begins with
 abbrev pub event_starts : List Port → List Test
@@ -224,8 +292,9 @@ event_starts ports = said "time" ∷ said "in" ∷ said "out" ∷ []
 
 -- the right side of each production
 abbrev pub production : Production → Rule
-production (events_at ports) = events ports
+production (events_at format ports) = events format ports
 production (value_of k) = value k
+production (seen_of k) = seen k
 
 -- Marks that say nothing of productions. They do for values, none of which begins with a
 -- production.
@@ -233,17 +302,20 @@ abbrev pub no_marks : Marks Test Production
 no_marks = record { starts = λ p. []; goes_on = λ p. []; is_empty = λ p. false }
 
 abbrev pub starts : Production → List Test
-starts (events_at ports) = event_starts ports
+starts (events_at format ports) = event_starts ports
 starts (value_of k) = can_begin no_marks (value k)
+starts (seen_of k) = can_begin no_marks (seen k)
 
 -- only an event goes on after events, and nothing after a value
 abbrev pub goes_on : Production → List Test
-goes_on (events_at ports) = event_starts ports
+goes_on (events_at format ports) = event_starts ports
 goes_on (value_of k) = []
+goes_on (seen_of k) = []
 
 abbrev pub is_empty : Production → Bool
-is_empty (events_at ports) = true
+is_empty (events_at format ports) = true
 is_empty (value_of k) = false
+is_empty (seen_of k) = false
 
 abbrev pub marks : Marks Test Production
 marks = record { starts = starts; goes_on = goes_on; is_empty = is_empty }

@@ -34,14 +34,25 @@ kinds_by (kinds.ArrayOf index of) n = replicate n of
 kinds_by (kinds.Fields fields) n = field_kinds fields
 kinds_by _ n = []
 
+-- the texts of the parts of a group of a kind, by that of a part
+abbrev pub parts_by : {A : Type 0} → (Kind → A → List ℕ) → Kind → List A → List (List ℕ)
+parts_by text k parts = paired text (kinds_by (out-Kind k) (length parts)) parts
+
+-- the text of a group
+abbrev pub group_by : {A : Type 0} → (Kind → A → List ℕ) → Kind → List A → List ℕ
+group_by text k parts = enclosed (codes "(") (codes ")") (parts_by text k parts)
+
+-- a text that is known, by the kind
+abbrev pub told : Kind → Text → List ℕ
+told k text = text k
+
 -- the text of a value of this form, where those of its parts are known: `_` for an undefined
 -- scalar, the parts of a group in parentheses
 abbrev pub text_by : values.Value-F Text → Text
 text_by values.Undefined k = codes "_"
 text_by (values.Ordinal z) k = ordinal_text k z
 text_by (values.Set zs) k = set_text (base_by (out-Kind k) k) zs
-text_by (values.Group parts) k = enclosed (codes "(") (codes ")")
-    (paired (λ (j : Kind) (text : Text). text j) (kinds_by (out-Kind k) (length parts)) parts)
+text_by (values.Group parts) k = group_by told k parts
 
 -- the text of a value of a kind
 unfoldable pub value_text : Kind → Value → List ℕ
@@ -53,8 +64,8 @@ value_texts ks vs = paired value_text ks vs
 
 -- those of the parts of a group of a kind
 abbrev pub part_texts : Kind → List Value → List (List ℕ)
-part_texts k parts = value_texts (kinds_by (out-Kind k) (length parts)) parts
+part_texts k parts = parts_by value_text k parts
 
--- the text of a group
+-- the text of a group of values
 abbrev pub group_text : Kind → List Value → List ℕ
-group_text k parts = enclosed (codes "(") (codes ")") (part_texts k parts)
+group_text k parts = group_by value_text k parts

@@ -1,4 +1,5 @@
 -- What only the private functions say.
 pub mod Gathering
 pub mod Looking
+pub mod Parts
 pub mod Scalars

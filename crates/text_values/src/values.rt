@@ -7,10 +7,11 @@ ghost use Rattle.text_values.specs.TraceGrammar as grammar;
 ghost use Rattle.text_values.specs.ValueReading.{Reads};
 ghost use Rattle.text_values.specs.ValueShapes.{AreEnclosed, AreBracketed};
 ghost use Rattle.text_values.specs.ValueShapes.{ShowsOrdinal, ShowsValue};
-ghost use Rattle.text_values.specs.inside.Gathering.{after, ReadsNext, TakesComma};
+ghost use Rattle.text_values.specs.inside.Gathering.{after, ReadsNext};
 ghost use Rattle.text_values.specs.inside.Scalars.{ShowsOrdinalValue, ShowsSetValue};
 ghost use Rattle.est_values.specs.declared.value.Value.TheVariants as value;
 
+use crate::commas::comma;
 use crate::ordinals::ordinal;
 use crate::sets::set;
 use est_lexer::kind::{Symbol, TokenKind};
@@ -54,15 +55,6 @@ pub fn subscripts(reader: &mut Reader, kinds: &[Kind]) -> Ordinals
     }
     reader.symbol(Symbol::RightBracket);
     index
-}
-
-// A comma, where an item has others before it.
-fn comma(reader: &mut Reader, before: u64)
-    ensures { TakesComma before reader.old reader.new }
-{
-    if 0 < before {
-        reader.symbol(Symbol::Comma);
-    }
 }
 
 // One subscript more.

@@ -76,15 +76,15 @@ fn append_parameters(text: &mut Vec<u8>, values: &Values, kinds: &[Kind]) -> Res
     Ok(())
 }
 
-// Adds an ordinal that is there.
-fn append_defined(text: &mut Vec<u8>, kind: &Kind, ordinal: &i32) -> Result<(), AllocError>
+/// Adds an ordinal that is there.
+pub fn append_defined(text: &mut Vec<u8>, kind: &Kind, ordinal: &i32) -> Result<(), AllocError>
     ensures { OnOk result (text.new.items ≡ text.old.items ++ ordinal_text kind.now ordinal.now) }
 {
     append_ordinal(text, kind, *ordinal)
 }
 
-// The kind that a set is over, and any other kind itself.
-fn base_of(kind: &Kind) -> &Kind
+/// The kind that a set is over, and any other kind itself.
+pub fn base_of(kind: &Kind) -> &Kind
     ensures { result.now ≡ written.base_by (out-Kind kind.now) kind.now }
 {
     match kind {

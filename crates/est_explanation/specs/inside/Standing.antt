@@ -3,8 +3,12 @@ use Rattle.std.specs.Prelude.{◌≡◌, ℕ, ◌+◌, ◌-◌, ◌<◌, ◌≤�
 use Rattle.std.specs.Prelude.{◌∷◌, length, take, drop, reverse}
 use Rattle.est_syntax.specs.declared.specification.Spec.{Spec}
 use Rattle.est_meaning.specs.mean_blocks.GlobalSituation.{Situation}
+use Rattle.est_meaning.specs.mean_blocks.TextByPlace.{Text}
 use Rattle.est_meaning.specs.declared.event.Event.{Event}
+use Rattle.est_meaning.specs.declared.trace.Expected.{Expected}
 use Rattle.est_meaning.specs.Agreement.{AgreeAll, AgreeFirst}
+use Rattle.est_meaning.specs.Endings.{IsTraceEnd}
+use Rattle.est_meaning.specs.RecordedTraces.{Recorded}
 use Rattle.est_meaning.specs.SituationStacks.{Stack}
 use Rattle.est_meaning.specs.declared.run.Move.{Move}
 use Rattle.est_meaning.specs.Task.{Suits}
@@ -23,12 +27,12 @@ place_of stack events at =
     record { situation = stack.now; events = events; silent_in_row = at.silent_in_row }
 
 -- a bounded run leads there, whose events agree with so many of the trace
-pub record IsReady (c : Setup) (spec : Spec) (limit silent : ℕ) (trace : List Event) (stack : Stack)
+pub record IsReady (c : Setup) (spec : Spec) (limit silent : ℕ) (trace : Recorded) (stack : Stack)
     (at : Standing) (events : List Event) : Type 0 where
   pub suits : Suits c spec limit silent trace
   pub run : List Move
   pub is_run : IsBoundedRun c run (place_of stack events at)
-  pub agree : AgreeAll (take at.events trace) events
+  pub agree : AgreeAll (take at.events trace.events) events
 
 -- the replay stands at this place
 pub record StandsAt (s : Situation) (at : Standing) (p : Place) : Type 0 where
@@ -44,7 +48,7 @@ asked_of many claim (m ∷ left) = many + 1
 
 -- the events up to so many agree with the first of the trace
 abbrev pub AgreesUpTo : Setup → ℕ → Place → Type 0
-AgreesUpTo c asked p = AgreeFirst c.trace (take asked p.events)
+AgreesUpTo c asked p = AgreeFirst c.trace.events (take asked p.events)
 
 -- what came of a move: a place at which the replay then stands, or the first check that fails
 abbrev pub HasMoved : Setup → ℕ → Place → Move → Situation → Moved → Type 0
@@ -53,7 +57,7 @@ HasMoved c asked p m s (Passed at) = (q : Place) × Moves c p m q × (q.silent_i
 HasMoved c asked p m s (Failed w) = MoveFails c (AgreesUpTo c asked) p m w
 
 -- what comes of the events of a firing
-abbrev pub HasLanded : List Event → ℕ → ℕ → Standing → List Event → Moved → Type 0
+abbrev pub HasLanded : List Expected → ℕ → ℕ → Standing → List Event → Moved → Type 0
 HasLanded trace silent asked at outs (Passed next) =
     AgreeFirst (drop at.events trace) (take (asked - at.events) outs)
     × (next.events ≡ at.events + length outs)
@@ -75,15 +79,17 @@ abbrev pub IsStanding : Setup → ℕ → List Move → ℕ → Situation → St
 IsStanding c claim moves made s at =
     (p : Place) × IsPassed c claim (reverse (take made moves)) (drop made moves) p × StandsAt s at p
 
--- so many events meet the claim, where those up to the claim agree with a trace of so many: there
--- are as many, or the claim is one more than the trace has and there are just these
-abbrev pub IsMet : ℕ → ℕ → ℕ → Type 0
-IsMet claim many events =
-    ((claim ≤ many) × (claim ≤ events)) ⊎ ((claim ≡ many + 1) × (events ≡ many))
+-- so many events meet the claim in this situation, where those up to the claim agree with the
+-- trace: there are as many, or the claim is one more than the trace has and it ends there
+abbrev pub IsMet : Recorded → ℕ → Text → Situation → ℕ → ℕ → Type 0
+IsMet trace limit t s claim events =
+    ((claim ≤ length trace.events) × (claim ≤ events))
+    ⊎ ((claim ≡ length trace.events + 1) × IsTraceEnd trace limit t s events)
 
 -- what is answered after so many moves with so many events: the claim where it is met, else that
 -- the moves do not yield it
-abbrev pub IsEnding : ℕ → ℕ → ℕ → ℕ → Replayed → Type 0
-IsEnding claim many moves events (Confirmed k) = (k ≡ claim) × IsMet claim many events
-IsEnding claim many moves events (Rejected at w) =
-    (at ≡ moves + 1) × (w ≡ why.NotAll) × (IsMet claim many events → ⊥)
+abbrev pub IsEnding : Recorded → ℕ → Text → Situation → ℕ → ℕ → ℕ → Replayed → Type 0
+IsEnding trace limit t s claim moves events (Confirmed k) =
+    (k ≡ claim) × IsMet trace limit t s claim events
+IsEnding trace limit t s claim moves events (Rejected at w) =
+    (at ≡ moves + 1) × (w ≡ why.NotAll) × (IsMet trace limit t s claim events → ⊥)

@@ -1,6 +1,6 @@
 -- The situations that a history can go back to.
 use Rattle.std.specs.Prelude.{map, reverse}
-use Rattle.plain_frames.specs.HeldSystems.{situation_of}
+use Rattle.plain_frames.specs.plain_systems.HeldSystems.{situation_of}
 use Rattle.est_meaning.specs.SituationStacks.{Stack}
 use Rattle.est_plain.specs.declared.history.History.{History}
 

@@ -6,8 +6,8 @@ use mathlib.Core.HLevel.{×₃_prop}
 use Rattle.est_meaning.specs.mean_blocks.declared.situation.Row.{Row}
 use Rattle.est_meaning.specs.mean_blocks.GlobalSituation.{Situation}
 use Rattle.est_meaning.specs.mean_blocks.KeepingLaws.{AscendBelow, AreNumbered}
-use Rattle.plain_frames.specs.declared.system.System.{System}
-use Rattle.plain_frames.specs.HeldSystems.{situation_of}
+use Rattle.plain_frames.specs.plain_systems.declared.system.System.{System}
+use Rattle.plain_frames.specs.plain_systems.HeldSystems.{situation_of}
 
 -- the instances of each system stand in ascending number
 abbrev pub AllNumbered : List System → Type 0

@@ -13,7 +13,7 @@ use Rattle.est_meaning.specs.SituationStacks.{Stack}
 use Rattle.est_meaning.specs.declared.run.Move.{Move}
 use Rattle.est_meaning.specs.declared.run.Move.TheVariants.{Take, Fire}
 use Rattle.est_meaning.specs.Order.{Mark, Taking, Trying, MarkBefore, StartsWith}
-use Rattle.est_meaning.specs.Run.{Setup, Place, IsBoundedRun}
+use Rattle.est_meaning.specs.Run.{Setup, Place, IsBoundedRun, IsWhole}
 use Rattle.est_search.specs.declared.path.Stage.{Stage}
 use Rattle.est_search.specs.declared.path.Stage.TheVariants.{Fresh, Taken, Listed}
 use Rattle.est_search.specs.declared.path.Level.{Level}
@@ -97,12 +97,13 @@ pub record IsUndone (v : View) (made : Move) (w : View) : Type 0 where
 abbrev pub place_at : Situation → Level → List Event → Place
 place_at s l events = record { situation = s; events = events; silent_in_row = l.silent }
 
--- the run has events that agree with so many of the trace, and not with all of it
+-- the run has events that agree with so many of the trace, and does not explain it
 pub record IsNode (c : Setup) (h : List Move) (s : Situation) (l : Level) : Type 0 where
   pub events : List Event
   pub is_run : IsBoundedRun c h (place_at s l events)
-  pub agree : AgreeAll (take l.matched c.trace) events
-  pub unfinished : l.matched < length c.trace
+  pub within : l.matched ≤ length c.trace.events
+  pub agree : AgreeAll (take l.matched c.trace.events) events
+  pub unfinished : IsWhole c (place_at s l events) → ⊥
 
 -- these are the possible firings after a mark, in order
 pub record AreLeft (c : Setup) (s : Situation) (m : Mark) (firings : List Firing) : Type 0 where

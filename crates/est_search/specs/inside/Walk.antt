@@ -4,8 +4,12 @@ use Rattle.std.specs.Prelude.{List, [], ◌∷◌, Option, Some, None, length, r
 use Rattle.est_syntax.specs.declared.specification.Spec.{Spec}
 use Rattle.est_meaning.specs.mean_blocks.GlobalSituation.{Situation}
 use Rattle.est_meaning.specs.mean_blocks.Outcome.{Fault}
+use Rattle.est_meaning.specs.mean_blocks.TextByPlace.{text_of}
 use Rattle.est_meaning.specs.declared.event.Event.{Event}
+use Rattle.est_meaning.specs.declared.trace.Expected.{Expected}
+use Rattle.est_meaning.specs.RecordedTraces.{Recorded}
 use Rattle.est_meaning.specs.declared.firing.Firing.{Firing}
+use Rattle.est_meaning.specs.Endings.{IsTraceEnd}
 use Rattle.est_meaning.specs.SituationStacks.{Stack}
 use Rattle.est_meaning.specs.declared.run.Move.{Move}
 use Rattle.est_meaning.specs.declared.run.Move.TheVariants.{Fire}
@@ -26,7 +30,7 @@ use Rattle.est_search.specs.declared.walk.Passed.{Passed}
 use Rattle.est_search.specs.declared.walk.Notes.{Notes}
 use Rattle.est_search.specs.declared.walk.Walk.{Walk}
 use Rattle.est_search.specs.declared.walk.Landed.{Landed}
-use Rattle.est_search.specs.declared.walk.Landed.TheVariants.{Found, On, Off}
+use Rattle.est_search.specs.declared.walk.Landed.TheVariants.{On, Off}
 use Rattle.est_search.specs.declared.walk.Step.{Step}
 use Rattle.est_search.specs.declared.walk.Step.TheVariants.{Going, Accepting, Over, Done}
 use Rattle.est_search.specs.inside.Ahead.{IsAhead}
@@ -95,13 +99,13 @@ abbrev pub IsWalk : Setup → Stack → Walk → Type 0
 IsWalk c stack w = IsOnWay c stack (view_of w.path) w.tried w.best w.notes
 
 -- what each step needs
-pub record IsReady (c : Setup) (spec : Spec) (limit silent : ℕ) (trace : List Event) (stack : Stack)
+pub record IsReady (c : Setup) (spec : Spec) (limit silent : ℕ) (trace : Recorded) (stack : Stack)
     (w : Walk) : Type 0 where
   pub suits : Suits c spec limit silent trace
   pub on_way : IsWalk c stack w
 
 -- the firing is about to be tried: it was taken from those that are left
-pub record IsTrying (c : Setup) (spec : Spec) (limit silent : ℕ) (trace : List Event)
+pub record IsTrying (c : Setup) (spec : Spec) (limit silent : ℕ) (trace : Recorded)
     (stack : Stack) (w : Walk) (f : Firing) : Type 0 where
   pub suits : Suits c spec limit silent trace
   pub before : View
@@ -111,7 +115,8 @@ pub record IsTrying (c : Setup) (spec : Spec) (limit silent : ℕ) (trace : List
 -- STEPS
 
 -- the events of the firing agree with the trace, and it leads on
-pub record HasLedOn (trace : List Event) (silent : ℕ) (old new : Walk) (f : Firing) : Type 0 where
+pub record HasLedOn (trace : List Expected) (silent : ℕ) (old new : Walk) (f : Firing)
+    : Type 0 where
   pub agree : AgreeFor trace old.path.top.matched old.outs.items (length old.outs.items)
   pub few : silent_after old.path.top.silent old.outs.items ≤ silent
   pub best : HasReached old.best new.best (length old.path.moves.items) (Fire f)
@@ -122,7 +127,7 @@ pub record HasLedOn (trace : List Event) (silent : ℕ) (old new : Walk) (f : Fi
   pub notes : new.notes ≡ old.notes
 
 -- its events depart from the trace
-pub record HasDeparted (trace : List Event) (silent : ℕ) (old new : Walk) (f : Firing)
+pub record HasDeparted (trace : List Expected) (silent : ℕ) (old new : Walk) (f : Firing)
     : Type 0 where
   pub k : ℕ
   pub agree : AgreeFor trace old.path.top.matched old.outs.items k
@@ -134,11 +139,8 @@ pub record HasDeparted (trace : List Event) (silent : ℕ) (old new : Walk) (f :
   pub notes : new.notes ≡ old.notes
 
 -- what comes of a firing that is done
-abbrev pub HasLanded : List Event → ℕ → Walk → Walk → Firing → Landed → Type 0
-HasLanded trace silent old new f Found = HasLedOn trace silent old new f
-    × (old.path.top.matched + length old.outs.items ≡ length trace)
+abbrev pub HasLanded : List Expected → ℕ → Walk → Walk → Firing → Landed → Type 0
 HasLanded trace silent old new f On = HasLedOn trace silent old new f
-    × (old.path.top.matched + length old.outs.items < length trace)
 HasLanded trace silent old new f Off =
     ((silent < silent_after old.path.top.silent old.outs.items) × (new ≡ old))
     ⊎ HasDeparted trace silent old new f
@@ -206,7 +208,18 @@ Answers w budget Done verdict = Concludes w verdict
 -- THE START
 
 -- no move was made yet, and none can be undone
-pub record IsStarting (c : Setup) (spec : Spec) (limit silent : ℕ) (trace : List Event)
+pub record IsStarting (c : Setup) (spec : Spec) (limit silent : ℕ) (trace : Recorded)
     (stack : Stack) (outs : List Event) : Type 0 where
   pub setup : IsSetup c spec limit silent trace stack outs
   pub bottom : stack.below ≡ []
+
+-- where a search begins: the start has so many events, which agree with the trace, and does not
+-- explain it
+pub record IsBeginning (c : Setup) (spec : Spec) (limit silent : ℕ) (trace : Recorded)
+    (stack : Stack) (matched : ℕ) : Type 0 where
+  pub suits : Suits c spec limit silent trace
+  pub start_is : c.start ≡ stack.now
+  pub bottom : stack.below ≡ []
+  pub many : length c.start_outs ≡ matched
+  pub agree : AgreeFor c.trace.events 0 c.start_outs matched
+  pub unfinished : IsTraceEnd c.trace c.limit (text_of c.spec) c.start matched → ⊥

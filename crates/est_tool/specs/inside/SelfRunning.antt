@@ -5,6 +5,7 @@ use Rattle.est_meaning.specs.mean_blocks.GlobalSituation.{Situation}
 use Rattle.est_meaning.specs.mean_blocks.Outcome.{Done}
 use Rattle.est_meaning.specs.mean_blocks.TextByPlace.{text_of}
 use Rattle.est_meaning.specs.declared.event.Event.{Event}
+use Rattle.est_meaning.specs.RecordedTraces.{Recorded}
 use Rattle.est_meaning.specs.FiringSteps.{start_of}
 use Rattle.est_search.specs.Verdict.{IsVerdict}
 use Rattle.est_search.specs.declared.verdict.Verdict.{Verdict}
@@ -39,23 +40,22 @@ abbrev pub EndsMaking : ℕ → ℕ → Spec → End → Type 0
 EndsMaking seed count spec end =
     (made : Made) × IsMadeOf spec seed count made × MadeEnds spec made end
 
--- the report of the search for an explanation of these events, for a trace of these sizes that was
--- made
-abbrev pub IsSearchedFor : Sizes → Spec → List Event → Status → List ℕ → Type 0
-IsSearchedFor sizes spec events status report =
+-- the report of the search for an explanation of a trace, for one of these sizes that was made
+abbrev pub IsSearchedFor : Sizes → Spec → Recorded → Status → List ℕ → Type 0
+IsSearchedFor sizes spec trace status report =
     (s : Situation) × (outs : List Event) × (verdict : Verdict)
     × (start_of usual_statements (text_of spec) ≡ Done outs s)
-    × IsVerdict (setup_from usual_statements usual_silent spec events s outs) usual_budget verdict
+    × IsVerdict (setup_from usual_statements usual_silent spec trace s outs) usual_budget verdict
     × (status ≡ verdict_status verdict)
     × (report ≡ made_line sizes.events sizes.bytes sizes.moves
-    ++ search_line usual_statements (length events) verdict)
+    ++ search_line usual_statements (length trace.events) verdict)
 
 -- a call ends so at the text of a trace that was made, of these sizes: it is refused, or the search
 -- for an explanation of the trace that it is of is reported
 pub data EndsWritten (sizes : Sizes) (spec : Spec) (text : List ℕ) : End → Type 0 where
   at_text : (end : End) → EndsAtText file.Trace text (RefusesTrace spec) end
       → EndsWritten sizes spec text end
-  at_trace : (events : List Event) (status : Status) (report : List ℕ)
-      → IsText file.Trace text (OfTrace spec events)
-      → IsSearchedFor sizes spec events status report
+  at_trace : (trace : Recorded) (status : Status) (report : List ℕ)
+      → IsText file.Trace text (OfTrace spec trace)
+      → IsSearchedFor sizes spec trace status report
       → EndsWritten sizes spec text (reported status report)

@@ -8,7 +8,7 @@ use Rattle.call_files.specs.declared.stop.Stop.TheVariants.{OutOfMemory}
 use Rattle.call_files.specs.declared.status.Status.{Status}
 use Rattle.call_files.specs.declared.status.Status.TheVariants.{Fine, OverBudget, NoStart}
 use Rattle.est_syntax.specs.declared.specification.Spec.{Spec}
-use Rattle.est_meaning.specs.declared.event.Event.{Event}
+use Rattle.est_meaning.specs.RecordedTraces.{Recorded}
 use Rattle.call_files.specs.est_explanation.Replay.{IsReplay}
 use Rattle.call_files.specs.est_explanation.declared.explanation.Explanation.{Explanation}
 use Rattle.call_files.specs.est_explanation.declared.verdict.Replayed.{Replayed}
@@ -47,10 +47,10 @@ abbrev pub IsFine : (Spec → List ℕ → Type 0) → Spec → Status → List 
 IsFine Says spec status report = (status ≡ Fine) × Says spec report
 
 -- the report of a replay within limits, by the one answer
-abbrev pub IsAnswered : ℕ → ℕ → Spec → List Event → Explanation → Status → List ℕ → Type 0
-IsAnswered silent statements spec events read status report =
-    (answer : Replayed) × IsReplay statements silent spec events read.moves read.claim answer
-    × (status ≡ replay_status answer) × (report ≡ replay_line (length events) answer)
+abbrev pub IsAnswered : ℕ → ℕ → Spec → Recorded → Explanation → Status → List ℕ → Type 0
+IsAnswered silent statements spec trace read status report =
+    (answer : Replayed) × IsReplay statements silent spec trace read.moves read.claim answer
+    × (status ≡ replay_status answer) × (report ≡ replay_line (length trace.events) answer)
 
 -- the report of what came of a search on a trace of so many events, within this limit of statements
 abbrev pub Tells : ℕ → ℕ → Searched → Status → List ℕ → Type 0
@@ -63,10 +63,10 @@ Tells limit events searched.Limit status report =
     IsReport OverBudget (over_start_line limit) status report
 
 -- the report of a search within limits, by the one thing that came of it
-abbrev pub IsExplained : Limits → Spec → List Event → Status → List ℕ → Type 0
-IsExplained limits spec events status report =
-    (found : Searched) × IsSearched limits spec events found
-    × Tells limits.statements (length events) found status report
+abbrev pub IsExplained : Limits → Spec → Recorded → Status → List ℕ → Type 0
+IsExplained limits spec trace status report =
+    (found : Searched) × IsSearched limits spec trace found
+    × Tells limits.statements (length trace.events) found status report
 
 -- the work of a request is done, of which these files were started before
 pub record IsWork

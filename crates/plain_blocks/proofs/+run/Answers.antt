@@ -22,10 +22,10 @@ use Rattle.mean_blocks.specs.TextByPlace.{statements_of}
 use Rattle.mean_blocks.specs.WriteEffects.{stored}
 use Rattle.mean_blocks.proofs.Answering.{answers_stop, says_answers}
 use Rattle.mean_blocks.proofs.ExpressionLayers.{component_at, subscripts_at}
-use Rattle.plain_blocks.specs.declared.reached.Reached.{Reached}
-use Rattle.plain_blocks.specs.ExpressionSteps.{module_at}
-use Rattle.plain_blocks.specs.HeldVariables.{reached_of, reached_in}
-use Rattle.plain_blocks.specs.TurnsOfLoops.{counted_turn, for_turn, turn_at}
+use Rattle.plain_effects.specs.plain_operands.declared.reached.Reached.{Reached}
+use Rattle.plain_effects.specs.plain_operands.ExpressionSteps.{module_at}
+use Rattle.plain_effects.specs.plain_operands.HeldVariables.{reached_of, reached_in}
+use Rattle.plain_effects.specs.plain_operands.TurnsOfLoops.{counted_turn, for_turn, turn_at}
 use Rattle.plain_blocks.proofs.CallingLaws.{called_by, deeper_opens}
 use Rattle.plain_blocks.proofs.LoneOperands.{lone_weighs}
 use Rattle.plain_blocks.proofs.LoopSteps.{components_step, components_stop, subscripts_step}
@@ -43,7 +43,7 @@ use Rattle.plain_blocks.proofs.Weights.{bare_weighs}
 use Rattle.plain_blocks.proofs.SystemLaws.{acted, one_answers, two_answers, two_stops}
 use Rattle.plain_blocks.proofs.SystemLaws.{initialized_runs, sent_stop}
 use Rattle.plain_blocks.proofs.StatementWeights.{body_weight, body_weighed, sending_weight}
-use Rattle.plain_blocks.specs.SystemSteps.{begun_by}
+use Rattle.plain_effects.specs.SystemSteps.{begun_by}
 use Rattle.mean_blocks.specs.InstanceEffects.{released}
 use Rattle.mean_blocks.specs.InstancePoints.{own_point, child, child_point, end_of, ends_of}
 use Rattle.mean_blocks.specs.LinkEffects.{connected, attached, disconnected, detached_end, each}
@@ -59,11 +59,11 @@ use Rattle.mean_blocks.specs.InstancePoints.{point}
 use Rattle.mean_blocks.specs.NamesInRuns.{declared_in_header, dims_at}
 use Rattle.mean_blocks.specs.Outcome.{◌>>=◌, give, known}
 use Rattle.mean_blocks.specs.ReachedVariables.{child_of}
-use Rattle.plain_blocks.specs.SystemSteps.{point_by, item_at}
+use Rattle.plain_effects.specs.SystemSteps.{point_by, item_at}
 use Rattle.plain_blocks.proofs.AccessLaws.{accessed_runs, begun_stops}
 use Rattle.std.proofs.Common.{rules, ◌≡◌, ℕ, suc, ◌+◌, ◌-◌, List, sym, ap, ◌∙◌, arith, true, false}
 use Rattle.std.proofs.Common.{Ok, Err}
-use Rattle.plain_outputs.specs.plain_frames.HeldSystems.{state_of}
+use Rattle.plain_effects.specs.plain_systems.HeldSystems.{state_of}
 use Rattle.mean_blocks.specs.rule_scope.Outline.{entry_at}
 use Rattle.est_syntax.specs.declared.expression.Expr.{Expr}
 use Rattle.est_syntax.specs.declared.expression.Factor.{Factor}
@@ -82,9 +82,9 @@ use Rattle.mean_blocks.proofs.Answering.{answers_by}
 use Rattle.mean_blocks.proofs.ExpressionLayers.{group_at, not_at, set_at, variable_at, call_at}
 use Rattle.mean_blocks.proofs.StatementLayers.{compound_at, if_at, case_at, while_at, repeat_at}
 use Rattle.mean_blocks.proofs.StatementLayers.{for_at, all_at}
-use Rattle.plain_blocks.specs.ExecutionSites.{site_of, view_of}
-use Rattle.plain_blocks.specs.ExpressionSteps.{opposite, set_made, answer_of}
-use Rattle.plain_blocks.specs.TurnsOfLoops.{branched, chosen}
+use Rattle.plain_effects.specs.plain_operands.ExecutionSites.{site_of, view_of}
+use Rattle.plain_effects.specs.plain_operands.ExpressionSteps.{opposite, set_made, answer_of}
+use Rattle.plain_effects.specs.plain_operands.TurnsOfLoops.{branched, chosen}
 use Rattle.plain_blocks.proofs.CallingLaws.{situation_kept}
 use Rattle.plain_blocks.proofs.StatementWeights.{statement_weight, statements_weight, arms_weight}
 use Rattle.plain_blocks.proofs.StatementWeights.{compound_weighs, if_weighs, case_weighs}

@@ -1,11 +1,11 @@
 use Rattle.std.proofs.Common.{◌≡◌, ℕ, ◌+◌, List, [], drop}
 use Rattle.std.specs.Prelude.{ℤ, pos, ◌+ℤ◌, map, option_copied}
 use Rattle.std.specs.List.{range_with_len}
-use Rattle.plain_outputs.specs.plain_frames.HeldSystems.{state_of, LooksSame}
+use Rattle.plain_effects.specs.plain_systems.HeldSystems.{state_of, LooksSame}
 use Rattle.est_values.specs.FittingValues.{first_ordinal}
 use Rattle.est_values.specs.OrdinalTuples.{ordinals_of}
 use Rattle.mean_blocks.specs.ExpressionValues.{sums_in, simple_of, products_in, term_of}
-use Rattle.plain_blocks.specs.ExpressionSteps.{result_begun}
+use Rattle.plain_effects.specs.plain_operands.ExpressionSteps.{result_begun}
 use Rattle.mean_blocks.specs.ExpressionValues.{members_in, selected_in, variable_of}
 use Rattle.mean_blocks.specs.ExpressionValues.{components_in, subscripts_in, values_in}
 use Rattle.mean_blocks.specs.ExpressionValues.{arguments_in}
@@ -13,10 +13,10 @@ use Rattle.mean_blocks.specs.LoopEffects.{turns, repeats, counts, distance, step
 use Rattle.mean_blocks.specs.LoopEffects.{for_children}
 use Rattle.mean_blocks.specs.StatementEffects.{statement_of, statements_in, arms_in}
 use Rattle.mean_blocks.specs.WriteEffects.{ordinal_of}
-use Rattle.plain_blocks.specs.ExecutionSites.{site_of, view_of}
-use Rattle.plain_blocks.specs.HeldVariables.{reached_of}
+use Rattle.plain_effects.specs.plain_operands.ExecutionSites.{site_of, view_of}
+use Rattle.plain_effects.specs.plain_operands.HeldVariables.{reached_of}
 use Rattle.plain_values.specs.GatheredMembers.{IsGathered}
-use Rattle.plain_blocks.specs.TurnsOfLoops.{for_turn, turn_at}
+use Rattle.plain_effects.specs.plain_operands.TurnsOfLoops.{for_turn, turn_at}
 use Rattle.plain_blocks.proofs.StatementWeights.{statement_weight, statements_weight, arms_weight}
 use Rattle.plain_blocks.proofs.StatementWeights.{room, below, text_weight}
 use Rattle.plain_blocks.proofs.Weights.{expr_weight, relation_weight, simple_weight}

@@ -11,8 +11,8 @@ use Rattle.est_meaning.specs.TransitionChoices.{Choice, choice_of, is_choice, nu
 use Rattle.est_meaning.specs.TransitionSelection.{passes_limit, IsSettled, is_offered, is_due}
 use Rattle.est_meaning.specs.TransitionSelection.{outranks, priority_at}
 use Rattle.plain_guards.specs.plain_transitions.WrittenTransitions.{IsWritten}
-use Rattle.plain_guards.specs.declared.candidate.Candidate.{Candidate}
-use Rattle.plain_guards.specs.JudgedGuards.{IsOf}
+use Rattle.plain_guards.specs.plain_clauses.declared.candidate.Candidate.{Candidate}
+use Rattle.plain_guards.specs.plain_clauses.JudgedGuards.{IsOf}
 use Rattle.est_meaning.specs.declared.answers.Offers.{Offers}
 use Rattle.est_meaning.specs.declared.answers.Offers.TheVariants.{Settled, Unsettled}
 use Rattle.est_meaning.specs.FiringOrder.{IsAscending}

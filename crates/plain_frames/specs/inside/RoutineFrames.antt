@@ -1,10 +1,10 @@
 -- What variables of a routine begin with.
 use Rattle.std.specs.Prelude.{Option, Some, None, Result, Ok}
 use Rattle.est_syntax.specs.declared.kind.Kind.{Kind}
-use Rattle.plain_names.specs.mean_blocks.declared.fault.BlockFault.{BlockFault}
-use Rattle.plain_names.specs.mean_blocks.declared.frame.Slot.{Slot}
-use Rattle.plain_names.specs.mean_blocks.declared.frame.Slot.TheVariants as slot
-use Rattle.plain_names.specs.mean_blocks.FunctionCalls.{given, first_value}
+use Rattle.plain_declared.specs.mean_blocks.declared.fault.BlockFault.{BlockFault}
+use Rattle.plain_declared.specs.mean_blocks.declared.frame.Slot.{Slot}
+use Rattle.plain_declared.specs.mean_blocks.declared.frame.Slot.TheVariants as slot
+use Rattle.plain_declared.specs.mean_blocks.FunctionCalls.{given, first_value}
 
 -- what a parameter is given, or what a variable begins with that is given nothing
 abbrev pub given_first : Option Kind → Option Slot → Result Slot BlockFault

@@ -4,16 +4,16 @@ use Rattle.std.specs.Prelude.{find, slice_get, slice_set, if◌then◌else◌}
 use Rattle.est_syntax.specs.declared.kind.Kind.{Kind}
 use Rattle.est_values.specs.declared.value.Value.{Value}
 use Rattle.est_values.specs.PartsOfValues.{with_part}
-use Rattle.plain_names.specs.mean_blocks.declared.fault.BlockFault.{BlockFault}
-use Rattle.plain_names.specs.mean_blocks.declared.fault.BlockFault.TheVariants.{Undefined}
-use Rattle.plain_names.specs.mean_blocks.declared.frame.Place.{Place}
-use Rattle.plain_names.specs.mean_blocks.declared.frame.Slot.{Slot}
-use Rattle.plain_names.specs.mean_blocks.declared.situation.Row.{Row}
-use Rattle.plain_names.specs.mean_blocks.Outcome.{on_ok}
-use Rattle.plain_names.specs.mean_blocks.GlobalSituation.{Frame, first_changed, is_numbered}
-use Rattle.plain_names.specs.mean_blocks.Frames.{value_in, existing, frame_at, variables_in}
-use Rattle.plain_names.specs.mean_blocks.Frames.{frame_written}
-use Rattle.plain_names.specs.mean_blocks.TakenValues.{taken}
+use Rattle.plain_declared.specs.mean_blocks.declared.fault.BlockFault.{BlockFault}
+use Rattle.plain_declared.specs.mean_blocks.declared.fault.BlockFault.TheVariants.{Undefined}
+use Rattle.plain_declared.specs.mean_blocks.declared.frame.Place.{Place}
+use Rattle.plain_declared.specs.mean_blocks.declared.frame.Slot.{Slot}
+use Rattle.plain_declared.specs.mean_blocks.declared.situation.Row.{Row}
+use Rattle.plain_declared.specs.mean_blocks.Outcome.{on_ok}
+use Rattle.plain_declared.specs.mean_blocks.GlobalSituation.{Frame, first_changed, is_numbered}
+use Rattle.plain_declared.specs.mean_blocks.Frames.{value_in, existing, frame_at, variables_in}
+use Rattle.plain_declared.specs.mean_blocks.Frames.{frame_written}
+use Rattle.plain_declared.specs.mean_blocks.TakenValues.{taken}
 
 -- the value that stands under a name, with another part
 abbrev pub rewritten : List ℕ → Value → Option Slot → Result Value BlockFault

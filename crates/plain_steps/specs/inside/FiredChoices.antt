@@ -12,8 +12,8 @@ use Rattle.est_meaning.specs.mean_blocks.GlobalSituation.{Frame, Situation}
 use Rattle.est_meaning.specs.mean_blocks.NamesInRuns.{places_of}
 use Rattle.est_meaning.specs.mean_blocks.FunctionCalls.{unset}
 use Rattle.est_meaning.specs.mean_blocks.OutputEffects.{Sent}
-use Rattle.plain_frames.specs.declared.system.Working.{Working}
-use Rattle.plain_frames.specs.HeldSystems.{situation_of}
+use Rattle.plain_frames.specs.plain_systems.declared.system.Working.{Working}
+use Rattle.plain_frames.specs.plain_systems.HeldSystems.{situation_of}
 use Rattle.est_meaning.specs.declared.event.Event.{Event}
 use Rattle.est_meaning.specs.TransitionChoices.{Choice}
 use Rattle.est_meaning.specs.GuardParts.{seen_by, view_of}

@@ -6,7 +6,7 @@ use Rattle.est_meaning.specs.mean_blocks.declared.situation.Row.{Row}
 use Rattle.est_meaning.specs.mean_blocks.TextByPlace.{Text}
 use Rattle.est_meaning.specs.mean_blocks.GlobalSituation.{Map, Situation, Clocked, is_numbered}
 use Rattle.est_meaning.specs.mean_blocks.GlobalSituation.{row_of}
-use Rattle.plain_frames.specs.declared.system.Stamp.{Stamp}
+use Rattle.plain_frames.specs.plain_systems.declared.system.Stamp.{Stamp}
 use Rattle.est_meaning.specs.declared.firing.Firing.{Firing}
 use Rattle.est_meaning.specs.DelayStamps.{stamp_after}
 use Rattle.plain_steps.specs.declared.living.Living.{Living}

@@ -10,7 +10,7 @@ use Rattle.est_meaning.specs.mean_blocks.QueueEffects.{head_at, without_head}
 use Rattle.est_meaning.specs.ClauseContexts.{FullTransition}
 use Rattle.est_meaning.specs.TransitionChoices.{Choice, choice_by}
 use Rattle.est_plain.specs.plain_guards.plain_transitions.WrittenTransitions.{IsWritten}
-use Rattle.est_plain.specs.plain_guards.declared.candidate.Candidate.{Candidate}
+use Rattle.est_plain.specs.plain_guards.plain_clauses.declared.candidate.Candidate.{Candidate}
 use Rattle.plain_walk.specs.TakenItems.{IsTaken}
 
 -- an item is the first of the queue of an interaction point, where one is given, and the situation

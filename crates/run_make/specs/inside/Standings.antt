@@ -7,6 +7,7 @@ use Rattle.est_meaning.specs.declared.event.Event.TheVariants as event
 use Rattle.est_meaning.specs.declared.event.Interaction.{Interaction}
 use Rattle.est_meaning.specs.declared.firing.Firing.{Firing}
 use Rattle.est_meaning.specs.OutsideEvents.{after_event}
+use Rattle.est_meaning.specs.RecordedTraces.{known_trace}
 use Rattle.est_meaning.specs.mean_blocks.GlobalSituation.{Situation}
 use Rattle.est_meaning.specs.mean_blocks.TextByPlace.{text_of}
 use Rattle.est_meaning.specs.declared.run.Move.TheVariants.{Take, Fire}
@@ -112,7 +113,7 @@ EndedAs t count old s turn.Limit new now = HasPassed t count old s new
 
 -- what is made, where the draws ended so
 abbrev pub MadeOf : Turn → Making → Made → Type 0
-MadeOf turn.Made m x = x ≡ made.Trace m.events m.run
+MadeOf turn.Made m x = x ≡ made.Trace (known_trace m.events) m.run
 MadeOf turn.Limit m x = x ≡ made.Limit m.run
 
 -- a draw brings an event, or one more firing without

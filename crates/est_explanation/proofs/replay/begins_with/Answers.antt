@@ -9,7 +9,8 @@ loop-index-preserved c =
     let more = c.loop-index-test.true in
     agree_more c.args.trace.now c.args.events.now c.loop-index.index c.index-trace-index.result
     c.index-events-index.result (omega arith) (omega arith) (sym c.index-trace-index.is)
-    (sym c.index-events-index.is) c.loop-index.invariant (c.is.ensures.0 c.if-not-is.false)
+    (sym c.index-events-index.is) c.loop-index.invariant
+    (c.agrees.ensures.0 c.if-not-agrees.false)
 
 pub returns : goal.returns
 returns c = (

@@ -1,9 +1,14 @@
-use Rattle.std.proofs.Common.{◌≡◌, true, refl}
+use Rattle.std.proofs.Common.{◌≡◌, refl, sym, ◌∙◌}
+use Rattle.est_meaning.proofs.Endings.{not_true}
 use Rattle.est_explanation.proofs.replay.end.Goals as goal
 
-pub returns-else-is_met : goal.returns-else-is_met
-returns-else-is_met c = (
+pub returns-then-met-clause-ending : goal.returns-then-met-clause-ending
+returns-then-met-clause-ending g c spec speaks =
+    (refl, (c.in_ok-met.ensures.met spec speaks).0 c.if-met.true)
+
+pub returns-else-met-clause-ending : goal.returns-else-met-clause-ending
+returns-else-met-clause-ending g c spec speaks = (
   refl,
   refl,
-  λ met. let t : c.is_met.result ≡ true = c.is_met.ensures.1 met in let f = c.if-is_met.false in cc,
+  λ met. not_true (sym c.if-met.false ∙ (c.in_ok-met.ensures.met spec speaks).1 met),
 )

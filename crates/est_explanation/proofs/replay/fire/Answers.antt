@@ -12,14 +12,14 @@ returns-in-Done-clause-moved g c spec speaks events ready =
     (c.in_ok-options.ensures.keeps.forward spec speaks)) in
     let among : IsIn c.args.firing.now c.options.new.into.items = subst (IsIn c.args.firing.now)
     c.deref.ensures.value (c.is_among.ensures.0 c.if-not-is_among.false) in
-    let landed : HasLanded c.args.expected.now.trace.now c.args.expected.now.silent
-    c.args.expected.now.asked c.args.at c.fire.new.outs.items c.land.result =
-    subst (λ es. HasLanded c.args.expected.now.trace.now c.args.expected.now.silent
-    c.args.expected.now.asked c.args.at es c.land.result) c.deref-in-Done.ensures.value
+    let landed : HasLanded c.args.checks.now.trace.now.events c.args.checks.now.silent
+    c.args.checks.now.asked c.args.at c.fire.new.outs.items c.land.result =
+    subst (λ es. HasLanded c.args.checks.now.trace.now.events c.args.checks.now.silent
+    c.args.checks.now.asked c.args.at es c.land.result) c.deref-in-Done.ensures.value
     c.land.ensures in
-    fired_lands (g.setup spec) spec (w.limit c.args.world.now) c.args.expected.now.silent
-    c.args.expected.now.trace.now (w.stack c.args.world.now spec) c.args.at events ready
-    c.args.expected.now.asked c.args.firing.now c.options.new.into.items
+    fired_lands (g.setup spec) spec (w.limit c.args.world.now) c.args.checks.now.silent
+    c.args.checks.now.trace.now (w.stack c.args.world.now spec) c.args.at events ready
+    c.args.checks.now.asked c.args.firing.now c.options.new.into.items
     (w.limit c.options.new.self) (w.stack c.options.new.self spec)
     (w.stack c.fire.new.self spec) c.fire.new.outs.items
     c.in_ok-options.ensures.keeps.limit_is (c.in_ok-options.ensures.stack spec speaks) offers among

@@ -1,12 +1,22 @@
-use Rattle.std.proofs.Common.{◌≡◌, ◌+◌, ap, subst, sym, arith, ◌∙◌}
+use Rattle.std.proofs.Common.{◌≡◌, ◌+◌, ◌-◌, ℕ, List, take, drop, length, ap, subst, sym, arith}
+use Rattle.std.proofs.Common.{◌∙◌}
 use Rattle.std.proofs.Math.Logic.{∥∥₁_elim}
+use Rattle.std.proofs.lemmas.Result.{IfOk-weaker}
 use Rattle.std.specs.Coded.{le_prop}
+use Rattle.est_meaning.specs.declared.run.Move.{Move}
+use Rattle.est_meaning.specs.declared.trace.Expected.{Expected}
 use Rattle.est_meaning.specs.SituationStacks.{Stack}
 use Rattle.est_meaning.specs.Task.{Suits}
-use Rattle.est_explanation.specs.inside.Standing.{IsStanding}
+use Rattle.est_explanation.specs.inside.Standing.{IsStanding, asked_of}
 use Rattle.est_explanation.proofs.Replaying.{within_call, ready_call, stands_call}
 use Rattle.est_explanation.proofs.Replaying.{rejects_call, keeps_both, ends_call}
 use Rattle.est_explanation.proofs.replay.replay_moves.Goals as goal
+
+asked_there : (claim : ℕ) (moves : List Move) (made asked : ℕ) (xs ys : List Expected) → xs ≡ ys
+    → asked ≡ asked_of (length xs) claim (take (length moves - (made + 1)) (drop (made + 1) moves))
+    → asked ≡ asked_of (length ys) claim (take (length moves - (made + 1)) (drop (made + 1) moves))
+asked_there claim moves made asked xs ys same is = is ∙ ap (λ es. asked_of (length es) claim
+    (take (length moves - (made + 1)) (drop (made + 1) moves))) same
 
 pub make-requires : goal.make-requires
 make-requires g c κs within =
@@ -47,8 +57,10 @@ returns-in-Failed-clause-answer g c spec speaks =
     rejects_call (g.setup spec) c.args.replaying.now.claim c.args.replaying.now.moves.now
     c.loop-index.index c.loop-index.at spec (w.limit world) c.args.replaying.now.silent
     c.args.replaying.now.trace.now (w.stack world spec) i.0 i.1 c.loop-index-test.true
-    c.asked-compared.result c.asked-compared.ensures (w.stack c.make.new.world spec).now
-    c.in-Failed.why
+    c.asked-compared.result (asked_there c.args.replaying.now.claim c.args.replaying.now.moves.now
+    c.loop-index.index c.asked-compared.result _ _
+    (c.as_slice-trace.ensures ∙ c.events.ensures) c.asked-compared.ensures)
+    (w.stack c.make.new.world spec).now c.in-Failed.why
     (rw c.in-Failed.is at (c.in_ok-next.ensures.moved spec here i.1.0.events ready))
 
 pub loop-index-preserved : goal.loop-index-preserved
@@ -83,20 +95,29 @@ loop-index-preserved g c =
                 c.args.replaying.now.moves.now c.loop-index.index c.loop-index.at spec
                 (w.limit world) c.args.replaying.now.silent c.args.replaying.now.trace.now
                 (w.stack world spec) i.0 i.1 c.loop-index-test.true
-                c.asked-compared.result c.asked-compared.ensures (w.stack c.make.new.world spec).now
-                c.in-Passed.next (rw c.in-Passed.is at (c.in_ok-next.ensures.moved spec here
-                i.1.0.events ready))),
+                c.asked-compared.result (asked_there c.args.replaying.now.claim
+                c.args.replaying.now.moves.now c.loop-index.index c.asked-compared.result _ _
+                (c.as_slice-trace.ensures ∙ c.events.ensures) c.asked-compared.ensures)
+                (w.stack c.make.new.world spec).now c.in-Passed.next
+                (rw c.in-Passed.is at (c.in_ok-next.ensures.moved spec here i.1.0.events ready))),
           ));
     }
 
+pub returns-clause-keeps : goal.returns-clause-keeps
+returns-clause-keeps g c =
+    let w = g.W.World in
+    keeps_both w.speaks w.limit c.args.world.now c.loop-index.world c.end.new.world
+    c.loop-index.invariant.keeps c.end.ensures.keeps
+
 pub returns-clause-answer : goal.returns-clause-answer
-returns-clause-answer g c spec speaks =
+returns-clause-answer g c =
     let w = g.W.World in
     let world = c.loop-index.world in
-    let i = c.loop-index.invariant.standing spec (c.loop-index.invariant.keeps.forward spec speaks)
-    in
+    IfOk-weaker c.end.result _ _ (λ answer h spec speaks.
+    (let here = c.loop-index.invariant.keeps.forward spec speaks in
+    let i = c.loop-index.invariant.standing spec here in
     ends_call (g.setup spec) c.args.replaying.now.claim c.args.replaying.now.moves.now
     c.loop-index.index (w.stack world spec).now c.loop-index.at spec (w.limit world)
     c.args.replaying.now.silent c.args.replaying.now.trace.now i.0 i.1
     (let f = c.loop-index-test.false in let e = c.loop-index.auto.index-end in omega arith)
-    c.end.result c.end.ensures
+    answer (h spec here))) c.end.ensures.ending

@@ -15,6 +15,6 @@ invariant-loop-index g l =
       keeps : Keeps w.speaks w.limit l.fn.world l.world;
       fired : w.fired l.world ≤ w.fired l.fn.world + l.index;
       standing : (spec : Spec) → w.speaks l.world spec
-          → Suits (g.setup spec) spec (w.limit l.world) l.silent l.trace
+          → Suits (g.setup spec) spec (w.limit l.world) l.silent l.replaying.trace.now
           × IsStanding (g.setup spec) l.claim l.moves l.index (w.stack l.world spec).now l.at;
     }

@@ -13,11 +13,9 @@ replay_in-requires c =
           c.in-Ready.outs c.as_slice.result.now s.1.limit_is c.as_slice.ensures
           (s.1.stack_is spec speaks);
       room = (let u = s.1.fired_none in omega arith);
-      allowed = λ spec speaks. subst (λ x. IsAllowedTrace x c.as_slice-in-Ready.result.now)
-          (ap (λ (t : Text). t.spec) (sym s.0 ∙ speaks))
-          (subst (λ es. IsAllowedTrace c.args.checked.now es) (sym c.as_slice-in-Ready.ensures)
-          c.requires.allowed);
-      few = subst (λ ms. length ms ≤ most_moves) (sym c.as_slice-in-Ready-2.ensures) c.requires.few;
+      allowed = λ spec speaks. subst (λ x. IsAllowedTrace x c.args.trace.now)
+          (ap (λ (t : Text). t.spec) (sym s.0 ∙ speaks)) c.requires.allowed;
+      few = subst (λ ms. length ms ≤ most_moves) (sym c.as_slice-in-Ready.ensures) c.requires.few;
     }
 
 pub returns-in-Ready : goal.returns-in-Ready
@@ -27,15 +25,13 @@ returns-in-Ready c =
     let claim = c.args.explanation.now.claim in
     if_ok_alike _ _ c.replay_in.result
     (λ a h.
-    let found : IsReplay limits.statements limits.silent c.args.checked.now
-    c.as_slice-in-Ready.result.now c.as_slice-in-Ready-2.result.now claim a =
+    let found : IsReplay limits.statements limits.silent c.args.checked.now c.args.trace.now
+    c.as_slice-in-Ready.result.now claim a =
     answers_from limits.statements c.in-Ready.world.limit limits.silent c.args.checked.now
-    c.as_slice-in-Ready.result.now _ c.in-Ready.outs c.as_slice.result.now
-    c.as_slice-in-Ready-2.result.now claim a
+    c.args.trace.now _ c.in-Ready.outs c.as_slice.result.now
+    c.as_slice-in-Ready.result.now claim a
     s.1.limit_is c.as_slice.ensures (s.1.stack_is c.args.checked.now s.0)
     (h c.args.checked.now s.0) in
     subst (λ ms. IsReplay limits.statements limits.silent c.args.checked.now c.args.trace.now ms
-    claim a) c.as_slice-in-Ready-2.ensures
-    (subst (λ es. IsReplay limits.statements limits.silent c.args.checked.now es
-    c.as_slice-in-Ready-2.result.now claim a) c.as_slice-in-Ready.ensures found))
+    claim a) c.as_slice-in-Ready.ensures found)
     c.replay_in.ensures.answer

@@ -1,9 +1,8 @@
-use Rattle.std.proofs.Common.{◌≡◌, ◌≤◌, length, refl, sym, subst}
+use Rattle.std.proofs.Common.{◌≡◌, refl, sym, subst}
 use Rattle.std.proofs.Math.Logic.{∥∥₁_elim}
 use Rattle.std.specs.Coded.{le_prop}
 use Rattle.est_meaning.specs.mean_blocks.Outcome.{Done}
 use Rattle.est_meaning.specs.mean_blocks.TextByPlace.{text_of}
-use Rattle.est_meaning.specs.AllowedEvents.{IsAllowedTrace, most_events}
 use Rattle.est_meaning.specs.FiringSteps.{start_of}
 use Rattle.est_search.proofs.explain.explain.Goals as goal
 
@@ -13,9 +12,8 @@ search-requires g c κs within = (
   (
     c.requires.room,
     (
-      ∥∥₁_elim (g.met.W.World.spoken c.args.world.now) le_prop (λ s.
-          subst (λ es. length es ≤ most_events) (sym c.as_slice.ensures)
-          (c.requires.allowed s.0 s.1).few),
+      ∥∥₁_elim (g.met.W.World.spoken c.args.world.now) le_prop
+          (λ s. (c.requires.allowed s.0 s.1).few),
       λ spec speaks. record {
         setup = record {
           suits = record {
@@ -26,8 +24,7 @@ search-requires g c κs within = (
             begun = subst (λ l. start_of l (text_of spec)
                 ≡ Done c.args.start_outs.now (g.W.World.stack c.args.world.now spec).now)
                 (sym c.requires.limit) (c.requires.start spec speaks);
-            allowed = subst (IsAllowedTrace spec) (sym c.as_slice.ensures)
-                (c.requires.allowed spec speaks);
+            allowed = c.requires.allowed spec speaks;
           };
           start_is = refl;
           outs_are = refl;

@@ -1,8 +1,12 @@
-use Rattle.std.proofs.Common.{◌≤◌, ◌+◌, length, refl, subst, arith}
-use Rattle.std.proofs.Math.Logic.{∥∥₁_elim}
-use Rattle.std.specs.Coded.{le_prop}
-use Rattle.est_search.proofs.StartLaws.{answer_departs, answer_whole, ready_at_start}
-use Rattle.est_search.proofs.VerdictLaws.{answered, answered_tried, if_ok, done_yields}
+use Rattle.std.proofs.Common.{◌+◌, ◌-◌, refl, sym, subst, ◌∙◌, arith}
+use Rattle.est_meaning.specs.mean_blocks.TextByPlace.{text_of}
+use Rattle.est_meaning.specs.Trials.{IsTrial, IsTrialUpTo, HasMany}
+use Rattle.est_meaning.proofs.Endings.{not_true}
+use Rattle.est_search.specs.Verdict.{IsWithinTried}
+use Rattle.est_search.specs.inside.Agreement.{AgreeFor}
+use Rattle.est_search.proofs.StartLaws.{answer_departs, answer_whole, whole_tried, beginning}
+use Rattle.est_search.proofs.StartLaws.{none_fired}
+use Rattle.est_search.proofs.VerdictLaws.{if_ok}
 use Rattle.est_search.proofs.explain.search.Goals as goal
 
 pub returns-then-matched-start_outs-clause-verdict :
@@ -10,67 +14,86 @@ pub returns-then-matched-start_outs-clause-verdict :
 returns-then-matched-start_outs-clause-verdict g c spec speaks = answer_departs (g.setup spec) spec
     (g.W.World.limit c.args.world.now) c.args.task.now.silent c.args.task.now.trace.now
     (g.W.World.stack c.args.world.now spec) c.args.start_outs.now (c.requires.1.1.1 spec speaks)
-    c.agreed-matched.result c.agreed-matched.ensures c.args.task.now.budget
-    (c.agreed-matched.result + 1) c.new.result c.if-matched-start_outs.true refl c.new.ensures
+    c.agreed-matched.result
+    (subst (λ es. AgreeFor es 0 c.args.start_outs.now c.agreed-matched.result)
+    (c.as_slice-trace.ensures ∙ c.events.ensures) c.agreed-matched.ensures)
+    c.args.task.now.budget (c.agreed-matched.result + 1) c.new.result
+    c.if-matched-start_outs.true refl c.new.ensures
 
-pub returns-then-matched-task-clause-verdict : goal.returns-then-matched-task-clause-verdict
-returns-then-matched-task-clause-verdict g c spec speaks = answer_whole (g.setup spec) spec
-    (g.W.World.limit c.args.world.now) c.args.task.now.silent c.args.task.now.trace.now
-    (g.W.World.stack c.args.world.now spec) c.args.start_outs.now (c.requires.1.1.1 spec speaks)
-    c.agreed-matched.result c.agreed-matched.ensures c.new-then-matched-task.result
-    c.if-matched-start_outs.false c.if-matched-task.true c.new-then-matched-task.ensures
-    c.args.task.now.budget
+pub returns-in_err-whole-clause-size : goal.returns-in_err-whole-clause-size
+returns-in_err-whole-clause-size g c spec speaks =
+    let w = g.W.World in
+    none_fired (IsTrial (g.setup spec)) (w.fired c.ends_at-whole.new.world)
+    (w.fired c.args.world.now) c.in_err-whole.ensures.fired
 
-pub walk_all-step-requires : goal.walk_all-step-requires
-walk_all-step-requires g c κs within =
-    let none = c.new-walk.ensures.tried in
-    let room = c.requires.1.0 in (
-      within,
-      (
-        omega arith,
-        (
-          omega arith,
-          (
-            c.requires.1.1.0,
-            λ spec speaks. ready_at_start
-                (g.setup spec) spec (g.W.World.limit c.args.world.now) c.args.task.now.silent
-                c.args.task.now.trace.now (g.W.World.stack c.args.world.now spec)
-                c.args.start_outs.now
-                (c.requires.1.1.1 spec speaks) c.agreed-matched.result c.agreed-matched.ensures
-                c.new-walk.result c.if-matched-start_outs.false
-                (let w = c.agreed-matched.ensures.within in let n = c.if-matched-task.false in
-                omega arith)
-                c.new-walk.ensures.path c.new-walk.ensures.best c.new-walk.ensures.common
-                c.new-walk.ensures.tail c.new-walk.ensures.notes c.new-walk.ensures.tried,
-          ),
-        ),
-      ),
-    )
+-- the trace ends at the start
+pub returns-then-whole-clause-size : goal.returns-then-whole-clause-size
+returns-then-whole-clause-size g c spec speaks =
+    let w = g.W.World in
+    none_fired (IsTrial (g.setup spec)) (w.fired c.ends_at-whole.new.world)
+    (w.fired c.args.world.now) c.in_ok-whole.ensures.fired
 
-pub answer-requires-clause-few : goal.answer-requires-clause-few
-answer-requires-clause-few g c e = ∥∥₁_elim (g.met.W.World.spoken c.args.world.now) le_prop (λ s.
-    (let setup = g.setup s.0 in
-    let short = c.requires.1.1.0 in
-    let le = done_yields setup (g.W.World.stack c.walk_all-step.new.world s.0)
-    c.walk_all-step.new.walk c.in-Ok.step e (c.in-Ok.ensures.ok s.0 s.1) in
-    let le' : c.walk_all-step.new.walk.best.yields ≤ length c.args.task.now.trace.now =
-    subst (λ es. c.walk_all-step.new.walk.best.yields ≤ length es)
-    (c.requires.1.1.1 s.0 s.1).setup.suits.trace_is le in
-    omega arith))
+pub returns-then-whole-clause-verdict : goal.returns-then-whole-clause-verdict
+returns-then-whole-clause-verdict g c spec speaks =
+    let w = g.W.World in
+    answer_whole (g.setup spec) spec (w.limit c.args.world.now) c.args.task.now.silent
+    c.args.task.now.trace.now (w.stack c.args.world.now spec) c.args.start_outs.now
+    (c.requires.1.1.1 spec speaks) c.agreed-matched.result
+    (subst (λ es. AgreeFor es 0 c.args.start_outs.now c.agreed-matched.result)
+    (c.as_slice-trace.ensures ∙ c.events.ensures) c.agreed-matched.ensures)
+    c.if-matched-start_outs.false ((c.in_ok-whole.ensures.ends spec speaks).0 c.if-whole.true)
+    c.new-then-whole.result c.new-then-whole.ensures c.args.task.now.budget
 
-pub returns-in-Ok-clause-verdict : goal.returns-in-Ok-clause-verdict
-returns-in-Ok-clause-verdict g c = if_ok c.answer.result (λ verdict a spec speaks.
-    answered (g.setup spec) (g.W.World.stack c.walk_all-step.new.world spec)
-    c.walk_all-step.new.walk c.args.task.now.budget c.in-Ok.step verdict
-    (c.in-Ok.ensures.ok spec speaks) c.in-Ok.ensures.within c.in-Ok.ensures.over a)
-    c.answer.ensures
+pub returns-then-whole-clause-tried : goal.returns-then-whole-clause-tried
+returns-then-whole-clause-tried g c spec speaks =
+    let w = g.W.World in
+    whole_tried (g.setup spec) spec (w.limit c.args.world.now) c.args.task.now.silent
+    c.args.task.now.trace.now (w.stack c.args.world.now spec) c.args.start_outs.now
+    (c.requires.1.1.1 spec speaks) c.agreed-matched.result
+    (subst (λ es. AgreeFor es 0 c.args.start_outs.now c.agreed-matched.result)
+    (c.as_slice-trace.ensures ∙ c.events.ensures) c.agreed-matched.ensures)
+    c.if-matched-start_outs.false ((c.in_ok-whole.ensures.ends spec speaks).0 c.if-whole.true)
+    c.new-then-whole.result c.new-then-whole.ensures
+    (w.fired c.ends_at-whole.new.world - w.fired c.args.world.now)
+    (let same = c.in_ok-whole.ensures.fired in omega arith)
 
-pub returns-in-Ok-clause-tried : goal.returns-in-Ok-clause-tried
-returns-in-Ok-clause-tried g c = if_ok c.answer.result (λ verdict a spec speaks.
-    answered_tried (g.setup spec) (g.W.World.stack c.walk_all-step.new.world spec)
-    c.walk_all-step.new.walk c.args.task.now.budget c.in-Ok.step verdict _
-    (c.in-Ok.ensures.ok spec speaks)
-    (let all = c.in-Ok.ensures.fired in
-    let same = c.rewind.ensures.fired in
-    let none = c.new-walk.ensures.tried in
-    omega arith) a) c.answer.ensures
+-- it does not
+pub search_on-requires-clause-beginning : goal.search_on-requires-clause-beginning
+search_on-requires-clause-beginning g c spec speaks =
+    let w = g.W.World in
+    let keeps = c.in_ok-whole.ensures.keeps in
+    let here = keeps.backward spec speaks in
+    let ends = c.in_ok-whole.ensures.ends spec here in
+    beginning (g.setup spec) spec (w.limit c.args.world.now) c.args.task.now.silent
+    c.args.task.now.trace.now (w.stack c.args.world.now spec) c.args.start_outs.now
+    (c.requires.1.1.1 spec here) c.agreed-matched.result
+    (subst (λ es. AgreeFor es 0 c.args.start_outs.now c.agreed-matched.result)
+    (c.as_slice-trace.ensures ∙ c.events.ensures) c.agreed-matched.ensures)
+    c.if-matched-start_outs.false (λ end. not_true (sym c.if-whole.false ∙ ends.1 end))
+    (w.limit c.ends_at-whole.new.world) (w.stack c.ends_at-whole.new.world spec) keeps.limit_is
+    (c.in_ok-whole.ensures.stack spec here)
+
+pub returns-clause-stack : goal.returns-clause-stack
+returns-clause-stack g c spec speaks =
+    c.search_on.ensures.stack spec (c.in_ok-whole.ensures.keeps.forward spec speaks)
+    ∙ c.in_ok-whole.ensures.stack spec speaks
+
+pub returns-clause-size : goal.returns-clause-size
+returns-clause-size g c spec speaks =
+    let w = g.W.World in
+    subst (λ n. HasMany (IsTrial (g.setup spec)) (w.fired c.search_on.new.world - n))
+    c.in_ok-whole.ensures.fired
+    (c.search_on.ensures.size spec (c.in_ok-whole.ensures.keeps.forward spec speaks))
+
+pub returns-clause-verdict : goal.returns-clause-verdict
+returns-clause-verdict g c = if_ok c.search_on.result
+    (λ verdict h spec speaks. h spec (c.in_ok-whole.ensures.keeps.forward spec speaks))
+    c.search_on.ensures.verdict
+
+pub returns-clause-tried : goal.returns-clause-tried
+returns-clause-tried g c =
+    let w = g.W.World in
+    if_ok c.search_on.result (λ verdict h spec speaks.
+    subst (λ n. IsWithinTried (g.setup spec) verdict (w.fired c.search_on.new.world - n))
+    c.in_ok-whole.ensures.fired (h spec (c.in_ok-whole.ensures.keeps.forward spec speaks)))
+    c.search_on.ensures.tried

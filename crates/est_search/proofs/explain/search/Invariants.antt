@@ -1,4 +1,4 @@
 use Rattle.est_search.proofs.explain.search.Given as goal
 
-abbrev pub ghost-walk_all : goal.ghost-walk_all
-ghost-walk_all g a = g.setup
+abbrev pub ghost-search_on : goal.ghost-search_on
+ghost-search_on g a = g.setup

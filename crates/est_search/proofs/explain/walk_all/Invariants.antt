@@ -21,4 +21,4 @@ invariant-walk g l =
     }
 
 abbrev pub decreases-walk : goal.decreases-walk
-decreases-walk g l = work (length l.task.trace.now) l.task.budget l.walk
+decreases-walk g l = work (length l.task.trace.now.events) l.task.budget l.walk

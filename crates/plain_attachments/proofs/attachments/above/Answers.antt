@@ -1,8 +1,8 @@
 use Rattle.std.proofs.Common.{ap, ◌∙◌, sym, refl}
 use Rattle.std.specs.List.{list_any}
-use Rattle.plain_points.specs.mean_blocks.GlobalSituation.{is_point}
-use Rattle.plain_frames.specs.declared.system.Link.{Link}
-use Rattle.plain_frames.specs.HeldSystems.{situation_of}
+use Rattle.plain_texts.specs.mean_blocks.GlobalSituation.{is_point}
+use Rattle.plain_systems.specs.declared.system.Link.{Link}
+use Rattle.plain_systems.specs.HeldSystems.{situation_of}
 use Rattle.plain_attachments.proofs.AttachmentLaws.{not_above}
 use Rattle.plain_attachments.proofs.attachments.above.Goals as goal
 

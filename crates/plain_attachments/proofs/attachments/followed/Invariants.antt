@@ -1,6 +1,6 @@
 use Rattle.std.proofs.Common.{◌≡◌}
-use Rattle.plain_points.specs.mean_blocks.Attachments.{follow}
-use Rattle.plain_frames.specs.HeldSystems.{linked}
+use Rattle.plain_texts.specs.mean_blocks.Attachments.{follow}
+use Rattle.plain_systems.specs.HeldSystems.{linked}
 use Rattle.plain_attachments.proofs.attachments.followed.Given as goal
 
 -- the steps that are left lead to the end

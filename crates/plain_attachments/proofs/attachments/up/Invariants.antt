@@ -1,6 +1,6 @@
 use Rattle.std.proofs.Common.{◌≡◌}
-use Rattle.plain_points.specs.mean_blocks.Attachments.{above, follow, up}
-use Rattle.plain_frames.specs.HeldSystems.{situation_of}
+use Rattle.plain_texts.specs.mean_blocks.Attachments.{above, follow, up}
+use Rattle.plain_systems.specs.HeldSystems.{situation_of}
 use Rattle.plain_attachments.proofs.attachments.up.Given as goal
 
 -- the steps that are left lead to the top

@@ -1,8 +1,8 @@
 use Rattle.std.proofs.Common.{rules, ap, ◌∙◌, not, List}
 use Rattle.std.specs.List.{filter}
 use Rattle.std.proofs.lemmas.Fn.{filter_same}
-use Rattle.plain_frames.specs.declared.system.Link.{Link}
-use Rattle.plain_frames.specs.HeldSystems.{is_from, linked}
+use Rattle.plain_systems.specs.declared.system.Link.{Link}
+use Rattle.plain_systems.specs.HeldSystems.{is_from, linked}
 use Rattle.plain_attachments.proofs.LinkLaws.{cut_links}
 use Rattle.plain_attachments.proofs.links.cut.Goals as goal
 

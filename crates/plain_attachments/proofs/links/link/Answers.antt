@@ -1,7 +1,7 @@
 use Rattle.std.proofs.Common.{ap, ◌∙◌, None, List, [], ◌∷◌, ◌++◌}
-use Rattle.plain_points.specs.mean_blocks.LinkEffects.{with_point}
-use Rattle.plain_frames.specs.declared.system.Link.{Link}
-use Rattle.plain_frames.specs.HeldSystems.{linked}
+use Rattle.plain_texts.specs.mean_blocks.LinkEffects.{with_point}
+use Rattle.plain_systems.specs.declared.system.Link.{Link}
+use Rattle.plain_systems.specs.HeldSystems.{linked}
 use Rattle.plain_attachments.proofs.LinkLaws.{last_link}
 use Rattle.plain_attachments.proofs.links.link.Goals as goal
 

@@ -1,5 +1,5 @@
 use Rattle.std.proofs.Common.{◌≡◌, drop}
-use Rattle.plain_frames.specs.HeldSystems.{linked}
+use Rattle.plain_systems.specs.HeldSystems.{linked}
 use Rattle.plain_attachments.proofs.links.linked.Given as goal
 
 -- no link yet leads from there

@@ -1,8 +1,8 @@
 use Rattle.std.proofs.Common.{rules, ap, ◌∙◌, not, List}
 use Rattle.std.specs.List.{filter}
 use Rattle.std.proofs.lemmas.Fn.{filter_same}
-use Rattle.plain_points.specs.mean_blocks.InstanceEffects.{is_among}
-use Rattle.plain_frames.specs.declared.system.Link.{Link}
+use Rattle.plain_texts.specs.mean_blocks.InstanceEffects.{is_among}
+use Rattle.plain_systems.specs.declared.system.Link.{Link}
 use Rattle.plain_attachments.proofs.losses.keep_from.Goals as goal
 
 pub returns : goal.returns

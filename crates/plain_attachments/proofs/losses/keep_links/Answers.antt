@@ -1,7 +1,7 @@
 use Rattle.std.proofs.Common.{ap, ◌∙◌, List}
-use Rattle.plain_points.specs.mean_blocks.InstanceEffects.{links_without}
-use Rattle.plain_frames.specs.declared.system.Link.{Link}
-use Rattle.plain_frames.specs.HeldSystems.{linked}
+use Rattle.plain_texts.specs.mean_blocks.InstanceEffects.{links_without}
+use Rattle.plain_systems.specs.declared.system.Link.{Link}
+use Rattle.plain_systems.specs.HeldSystems.{linked}
 use Rattle.plain_attachments.proofs.LostLaws.{links_kept}
 use Rattle.plain_attachments.proofs.losses.keep_links.Goals as goal
 

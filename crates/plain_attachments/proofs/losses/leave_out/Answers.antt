@@ -1,9 +1,9 @@
 use Rattle.std.proofs.Common.{rules, ap, ◌∙◌, not, List}
 use Rattle.std.specs.List.{filter, list_any}
 use Rattle.std.proofs.lemmas.Fn.{filter_same}
-use Rattle.plain_points.specs.mean_blocks.declared.situation.InteractionPoint.{InteractionPoint}
-use Rattle.plain_points.specs.mean_blocks.GlobalSituation.{is_point}
-use Rattle.plain_frames.specs.declared.system.Link.{Link}
+use Rattle.plain_texts.specs.mean_blocks.declared.situation.InteractionPoint.{InteractionPoint}
+use Rattle.plain_texts.specs.mean_blocks.GlobalSituation.{is_point}
+use Rattle.plain_systems.specs.declared.system.Link.{Link}
 use Rattle.plain_attachments.proofs.losses.leave_out.Goals as goal
 
 pub returns : goal.returns

@@ -1,6 +1,6 @@
 use Rattle.std.proofs.Common.{◌≡◌, map, take}
 use Rattle.std.specs.List.{filter}
-use Rattle.plain_frames.specs.declared.system.Link.{Link}
+use Rattle.plain_systems.specs.declared.system.Link.{Link}
 use Rattle.plain_attachments.specs.LostLinks.{is_stray}
 use Rattle.plain_attachments.proofs.losses.strays.Given as goal
 

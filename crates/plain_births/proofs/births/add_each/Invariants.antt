@@ -1,5 +1,5 @@
 use Rattle.std.proofs.Common.{◌≡◌, ◌++◌, map, take}
-use Rattle.plain_points.specs.mean_blocks.InstanceEffects.{empty_element}
+use Rattle.plain_texts.specs.mean_blocks.InstanceEffects.{empty_element}
 use Rattle.plain_births.proofs.births.add_each.Given as goal
 
 -- so many elements are added

@@ -1,6 +1,6 @@
 use Rattle.std.proofs.Common.{sym, refl, Some, ℕ}
-use Rattle.plain_points.specs.mean_blocks.declared.situation.Holding.{Holding}
-use Rattle.plain_points.specs.mean_blocks.GlobalSituation.{is_holding}
+use Rattle.plain_texts.specs.mean_blocks.declared.situation.Holding.{Holding}
+use Rattle.plain_texts.specs.mean_blocks.GlobalSituation.{is_holding}
 use Rattle.plain_births.proofs.BirthLaws.{none_changed, changed_there}
 use Rattle.plain_births.proofs.births.give.Goals as goal
 

@@ -1,7 +1,7 @@
 use Rattle.std.proofs.Common.{ap, ◌∙◌, sym}
-use Rattle.plain_points.specs.mean_blocks.GlobalSituation.{is_numbered}
-use Rattle.plain_points.specs.mean_blocks.InstanceEffects.{holds}
-use Rattle.plain_frames.specs.HeldSystems.{situation_of}
+use Rattle.plain_texts.specs.mean_blocks.GlobalSituation.{is_numbered}
+use Rattle.plain_texts.specs.mean_blocks.InstanceEffects.{holds}
+use Rattle.plain_frames.specs.plain_systems.HeldSystems.{situation_of}
 use Rattle.plain_births.proofs.BirthLaws.{none_changed, changed_there, with_rows}
 use Rattle.plain_births.proofs.births.hold.Goals as goal
 

@@ -1,7 +1,7 @@
 use Rattle.std.proofs.Common.{ap, ◌∙◌, sym, refl, Option, None, ℕ}
-use Rattle.plain_points.specs.mean_blocks.GlobalSituation.{is_numbered, with_row}
-use Rattle.plain_points.specs.mean_blocks.InstanceEffects.{in_state}
-use Rattle.plain_frames.specs.HeldSystems.{situation_of}
+use Rattle.plain_texts.specs.mean_blocks.GlobalSituation.{is_numbered, with_row}
+use Rattle.plain_texts.specs.mean_blocks.InstanceEffects.{in_state}
+use Rattle.plain_frames.specs.plain_systems.HeldSystems.{situation_of}
 use Rattle.plain_births.proofs.BirthLaws.{same_changed, with_rows}
 use Rattle.plain_births.proofs.births.set_state.Goals as goal
 

@@ -1,5 +1,5 @@
 use Rattle.std.proofs.Common.{◌≡◌, ◌∷◌, [], drop}
-use Rattle.plain_points.specs.mean_blocks.InstanceEffects.{descendants}
+use Rattle.plain_texts.specs.mean_blocks.InstanceEffects.{descendants}
 use Rattle.plain_births.proofs.losses.descendants.Given as goal
 
 -- the rows that are left lead to where all lead

@@ -1,7 +1,7 @@
 use Rattle.std.proofs.Common.{rules, ap, ◌∙◌, not}
 use Rattle.std.proofs.lemmas.Fn.{filter_same}
-use Rattle.plain_points.specs.mean_blocks.declared.situation.Row.{Row}
-use Rattle.plain_points.specs.mean_blocks.InstanceEffects.{is_among}
+use Rattle.plain_texts.specs.mean_blocks.declared.situation.Row.{Row}
+use Rattle.plain_texts.specs.mean_blocks.InstanceEffects.{is_among}
 use Rattle.plain_births.specs.LostRows.{rows_without}
 use Rattle.plain_births.proofs.losses.keep_rows.Goals as goal
 

@@ -1,9 +1,9 @@
 use Rattle.std.proofs.Common.{rules, ap, ◌∙◌, not, List}
 use Rattle.std.specs.List.{filter}
 use Rattle.std.proofs.lemmas.Fn.{filter_same}
-use Rattle.plain_points.specs.mean_blocks.InstanceEffects.{is_among}
-use Rattle.plain_frames.specs.declared.system.Stamp.{Stamp}
-use Rattle.plain_frames.specs.HeldSystems.{stamped}
+use Rattle.plain_texts.specs.mean_blocks.InstanceEffects.{is_among}
+use Rattle.plain_frames.specs.plain_systems.declared.system.Stamp.{Stamp}
+use Rattle.plain_frames.specs.plain_systems.HeldSystems.{stamped}
 use Rattle.plain_births.proofs.StampLaws.{kept_stamps}
 use Rattle.plain_births.proofs.losses.keep_stamps.Goals as goal
 

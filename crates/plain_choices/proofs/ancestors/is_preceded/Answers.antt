@@ -1,5 +1,5 @@
 use Rattle.std.proofs.Common.{◌≡◌, ◌+◌, sym, refl, true, false, arith}
-use Rattle.plain_guards.specs.plain_frames.HeldSystems.{situation_of}
+use Rattle.plain_guards.specs.plain_systems.HeldSystems.{situation_of}
 use Rattle.plain_choices.proofs.Climbs.{climbed_ends, climbed_whole, climbed_meets, climbed_more}
 use Rattle.plain_choices.proofs.Surveys.{not_both}
 use Rattle.plain_choices.proofs.ancestors.is_preceded.Goals as goal

@@ -1,5 +1,5 @@
 use Rattle.std.proofs.Common.{ℕ, ◌≡◌, ◌+◌, length}
-use Rattle.plain_guards.specs.plain_frames.HeldSystems.{situation_of}
+use Rattle.plain_guards.specs.plain_systems.HeldSystems.{situation_of}
 use Rattle.plain_choices.proofs.Climbs.{IsClimbed}
 use Rattle.plain_choices.proofs.ancestors.is_preceded.Given as goal
 

@@ -5,7 +5,7 @@ use Rattle.plain_choices.proofs.ancestors.keep_unpreceded.Goals.{then-firing-ins
 use Rattle.plain_choices.proofs.ancestors.keep_unpreceded.Goals.{else-firing-instance}
 use Rattle.plain_choices.proofs.ancestors.keep_unpreceded.Goals.{then-not-preceded+in_ok-push}
 use Rattle.plain_choices.proofs.ancestors.keep_unpreceded.Goals.{else-not-preceded}
-use Rattle.plain_guards.specs.plain_frames.HeldSystems.{situation_of}
+use Rattle.plain_guards.specs.plain_systems.HeldSystems.{situation_of}
 use Rattle.plain_choices.proofs.Keeping.{IsKeptBut, kept_none, kept_ends, turn_in}
 use Rattle.plain_choices.proofs.Keeping.{zero_unpreceded}
 use Rattle.plain_choices.proofs.Rows.{from_length}

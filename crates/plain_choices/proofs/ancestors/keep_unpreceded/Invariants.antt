@@ -1,6 +1,6 @@
 use Rattle.std.proofs.Common.{◌↔◌, drop}
 use Rattle.std.specs.Prelude.{IsTrue}
-use Rattle.plain_guards.specs.plain_frames.HeldSystems.{situation_of}
+use Rattle.plain_guards.specs.plain_systems.HeldSystems.{situation_of}
 use Rattle.plain_choices.specs.inside.SystemOffers.{IsPreceded}
 use Rattle.plain_choices.proofs.Keeping.{IsKeptBut}
 use Rattle.plain_choices.proofs.ancestors.keep_unpreceded.Given as goal

@@ -1,6 +1,6 @@
 use Rattle.std.proofs.Common.{subst}
-use Rattle.plain_guards.specs.plain_frames.HeldSystems.{situation_of}
-use Rattle.plain_guards.specs.JudgedGuards.{IsOf, IsVerdict, says_nothing}
+use Rattle.plain_guards.specs.plain_systems.HeldSystems.{situation_of}
+use Rattle.plain_guards.specs.plain_clauses.JudgedGuards.{IsOf, IsVerdict, says_nothing}
 use Rattle.est_meaning.specs.mean_blocks.GlobalSituation.{Frame}
 use Rattle.est_meaning.specs.mean_blocks.TextByPlace.{Text}
 use Rattle.est_meaning.specs.TransitionChoices.{Choice}

@@ -1,7 +1,7 @@
 use Rattle.std.proofs.Common.{◌+◌, sym, subst, refl}
-use Rattle.plain_guards.specs.plain_frames.HeldSystems.{situation_of}
+use Rattle.plain_guards.specs.plain_systems.HeldSystems.{situation_of}
 use Rattle.est_meaning.specs.TransitionChoices.{Choice}
-use Rattle.plain_guards.specs.JudgedGuards.{IsOf, IsVerdict}
+use Rattle.plain_guards.specs.plain_clauses.JudgedGuards.{IsOf, IsVerdict}
 use Rattle.est_meaning.specs.mean_blocks.TextByPlace.{Text}
 use Rattle.plain_choices.specs.inside.InstanceOffers.{IsSurvey, IsUpTo, firing_of}
 use Rattle.plain_choices.proofs.Candidates.{choice_passes, choice_fails, choice_offers}

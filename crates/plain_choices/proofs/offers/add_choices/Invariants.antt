@@ -1,5 +1,5 @@
 use Rattle.std.proofs.Common.{◌≡◌, ◌≤◌, ◌-◌, ◌^◌}
-use Rattle.plain_guards.specs.plain_frames.HeldSystems.{situation_of}
+use Rattle.plain_guards.specs.plain_systems.HeldSystems.{situation_of}
 use Rattle.plain_choices.specs.inside.InstanceOffers.{IsSurvey, IsUpTo}
 use Rattle.plain_choices.proofs.offers.add_choices.Given as goal
 

@@ -1,5 +1,5 @@
 use Rattle.std.proofs.Common.{◌≡◌, subst, None}
-use Rattle.plain_guards.specs.plain_frames.HeldSystems.{situation_of}
+use Rattle.plain_guards.specs.plain_systems.HeldSystems.{situation_of}
 use Rattle.est_meaning.specs.ClauseContexts.{transitions_of}
 use Rattle.est_meaning.specs.TransitionChoices.{numbered}
 use Rattle.plain_guards.specs.plain_transitions.FittingTransitions.{AtState}

@@ -1,5 +1,5 @@
 use Rattle.std.proofs.Common.{sym, subst, Some, None}
-use Rattle.plain_guards.specs.plain_frames.HeldSystems.{situation_of}
+use Rattle.plain_guards.specs.plain_systems.HeldSystems.{situation_of}
 use Rattle.est_meaning.specs.mean_blocks.GlobalSituation.{Situation}
 use Rattle.plain_guards.specs.plain_transitions.FittingTransitions.{AtState, IsNextFitting}
 use Rattle.plain_choices.specs.inside.InstanceOffers.{IsSurvey, IsUpTo}

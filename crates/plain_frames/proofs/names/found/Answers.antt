@@ -1,6 +1,6 @@
 use Rattle.std.proofs.Common.{◌≡◌, ◌<◌, ◌+◌, ◌-◌, arith, sym, ap, ◌∙◌, drop, length, refl, None}
 use Rattle.std.proofs.lemmas.Option.{slice_get_read}
-use Rattle.plain_names.specs.mean_blocks.Frames.{innermost}
+use Rattle.plain_declared.specs.mean_blocks.Frames.{innermost}
 use Rattle.plain_frames.proofs.NamesFound.{found_here}
 use Rattle.plain_frames.proofs.names.found.Goals as goal
 

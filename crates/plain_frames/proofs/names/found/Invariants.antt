@@ -1,5 +1,5 @@
 use Rattle.std.proofs.Common.{◌≡◌, ◌≤◌, length, drop, None}
-use Rattle.plain_names.specs.mean_blocks.Frames.{innermost}
+use Rattle.plain_declared.specs.mean_blocks.Frames.{innermost}
 use Rattle.plain_frames.proofs.names.found.Given as goal
 
 -- no frame from here on has the name

@@ -1,8 +1,8 @@
 use Rattle.std.proofs.Common.{sym, ◌∙◌}
 use Rattle.std.proofs.lemmas.Bool.{eq-eqb, ne_eqb}
 use Rattle.std.proofs.lemmas.Iterator.Adapters.{position_from-zero}
-use Rattle.plain_names.specs.mean_blocks.Frames.{is_declared}
-use Rattle.plain_frames.proofs.FirstFound.{passes_here, fails_here, none_here}
+use Rattle.plain_declared.specs.mean_blocks.Frames.{is_declared}
+use Rattle.plain_systems.proofs.FirstFound.{passes_here, fails_here, none_here}
 use Rattle.plain_frames.proofs.names.position_of.Goals as goal
 
 pub loop-i-init : goal.loop-i-init

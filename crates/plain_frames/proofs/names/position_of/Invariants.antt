@@ -1,6 +1,6 @@
 use Rattle.std.proofs.Common.{◌≡◌, drop}
 use Rattle.std.specs.List.{position, position_from}
-use Rattle.plain_names.specs.mean_blocks.Frames.{is_declared}
+use Rattle.plain_declared.specs.mean_blocks.Frames.{is_declared}
 use Rattle.plain_frames.proofs.names.position_of.Given as goal
 
 -- what is found from here on is what is found

@@ -1,8 +1,8 @@
 use Rattle.std.proofs.Common.{◌∙◌, ap, ◌+◌, drop, slice_index_or}
 use Rattle.std.proofs.lemmas.Option.{slice_get-get_or}
 use Rattle.std.proofs.lemmas.Result.{err_from_is_err_and}
-use Rattle.plain_names.specs.mean_blocks.GlobalSituation.{Frame}
-use Rattle.plain_names.specs.mean_blocks.FunctionCalls.{frame_of}
+use Rattle.plain_declared.specs.mean_blocks.GlobalSituation.{Frame}
+use Rattle.plain_declared.specs.mean_blocks.FunctionCalls.{frame_of}
 use Rattle.plain_frames.proofs.RoutineSteps.{after, after_none, frame_whole}
 use Rattle.plain_frames.proofs.RoutineSteps.{one_name_more, stops_at_name}
 use Rattle.plain_frames.proofs.routines.frame_by.Goals as goal

@@ -1,5 +1,5 @@
 use Rattle.std.proofs.Common.{◌≡◌, drop}
-use Rattle.plain_names.specs.mean_blocks.FunctionCalls.{frame_of}
+use Rattle.plain_declared.specs.mean_blocks.FunctionCalls.{frame_of}
 use Rattle.plain_frames.proofs.RoutineSteps.{after}
 use Rattle.plain_frames.proofs.routines.frame_by.Given as goal
 

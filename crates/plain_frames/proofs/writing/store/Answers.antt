@@ -1,5 +1,5 @@
 use Rattle.std.proofs.lemmas.Result.{err_from_is_err_and}
-use Rattle.plain_frames.specs.HeldSystems.{state_of}
+use Rattle.plain_systems.specs.HeldSystems.{state_of}
 use Rattle.plain_frames.proofs.StoredValues.{stops_in_instance}
 use Rattle.plain_frames.proofs.writing.store.Goals as goal
 

@@ -1,5 +1,5 @@
-use Rattle.plain_blocks.specs.ExecutionSites.{view_of}
-use Rattle.plain_guards.proofs.ConditionLaws.{otherwise_met}
+use Rattle.plain_blocks.specs.plain_operands.ExecutionSites.{view_of}
+use Rattle.plain_clauses.proofs.ConditionLaws.{otherwise_met}
 use Rattle.plain_guards.proofs.conditions.all_unmet.Goals as goal
 
 pub returns : goal.returns

@@ -1,7 +1,7 @@
 use Rattle.std.proofs.Common.{◌≡◌, take}
 use Rattle.std.specs.List.{list_all, list_any}
-use Rattle.plain_blocks.specs.ExecutionSites.{view_of}
-use Rattle.plain_guards.proofs.ConditionLaws.{unmet, past}
+use Rattle.plain_blocks.specs.plain_operands.ExecutionSites.{view_of}
+use Rattle.plain_clauses.proofs.ConditionLaws.{unmet, past}
 use Rattle.plain_guards.proofs.conditions.all_unmet.Given as goal
 
 -- what the conditions so far say

@@ -1,9 +1,9 @@
 use Rattle.std.proofs.Common.{◌≡◌, true, subst, rules, arith}
 use Rattle.est_meaning.specs.mean_blocks.GlobalSituation.{Situation}
-use Rattle.plain_queues.specs.plain_frames.HeldSystems.{situation_of}
+use Rattle.plain_clauses.specs.plain_systems.HeldSystems.{situation_of}
 use Rattle.est_meaning.specs.GuardParts.{seen_by}
-use Rattle.plain_guards.specs.inside.JudgedClauses.{IsJudged}
-use Rattle.plain_guards.proofs.JudgedLaws.{verdict_holds}
+use Rattle.plain_clauses.specs.JudgedClauses.{IsJudged}
+use Rattle.plain_clauses.proofs.JudgedLaws.{verdict_holds}
 use Rattle.plain_guards.proofs.judging.judge.Goals as goal
 
 pub returns-clause-verdict : goal.returns-clause-verdict

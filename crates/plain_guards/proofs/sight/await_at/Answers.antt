@@ -1,11 +1,11 @@
 use Rattle.std.proofs.Common.{sym, ap, ◌∙◌}
 use Rattle.std.specs.List.{list_any}
-use Rattle.plain_queues.specs.plain_frames.HeldSystems.{situation_of}
-use Rattle.plain_transitions.specs.WrittenTransitions.{awaited_of}
-use Rattle.plain_blocks.specs.ExecutionSites.{site_of, view_of}
-use Rattle.plain_guards.specs.declared.sight.Sight.{Sight}
-use Rattle.plain_guards.specs.inside.EvaluatedParts.{is_past, ordinals_held}
-use Rattle.plain_guards.proofs.ArrivalLaws.{parts_are, no_subscripts, at_point}
+use Rattle.plain_clauses.specs.plain_systems.HeldSystems.{situation_of}
+use Rattle.plain_clauses.specs.plain_transitions.WrittenTransitions.{awaited_of}
+use Rattle.plain_blocks.specs.plain_operands.ExecutionSites.{site_of, view_of}
+use Rattle.plain_clauses.specs.declared.sights.Sight.{Sight}
+use Rattle.plain_clauses.specs.EvaluatedParts.{is_past, ordinals_held}
+use Rattle.plain_clauses.proofs.ArrivalLaws.{parts_are, no_subscripts, at_point}
 use Rattle.plain_guards.proofs.sight.await_at.Goals as goal
 
 pub returns-in_default-clause-sight : goal.returns-in_default-clause-sight

@@ -1,9 +1,9 @@
 use Rattle.std.proofs.Common.{◌≡◌, sym, subst, Option, Some}
 use Rattle.std.specs.Option.{option_map}
-use Rattle.plain_queues.specs.plain_frames.HeldSystems.{situation_of}
-use Rattle.plain_transitions.specs.WrittenTransitions.{awaited_of}
-use Rattle.plain_transitions.specs.declared.written.Awaits.{Awaits}
-use Rattle.plain_guards.specs.inside.JudgedClauses.{IsArrival}
+use Rattle.plain_clauses.specs.plain_systems.HeldSystems.{situation_of}
+use Rattle.plain_clauses.specs.plain_transitions.WrittenTransitions.{awaited_of}
+use Rattle.plain_clauses.specs.plain_transitions.declared.written.Awaits.{Awaits}
+use Rattle.plain_clauses.specs.JudgedClauses.{IsArrival}
 use Rattle.plain_guards.proofs.sight.await_one.Goals as goal
 
 pub returns-clause-sight : goal.returns-clause-sight

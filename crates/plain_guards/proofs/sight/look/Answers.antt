@@ -1,10 +1,10 @@
 use Rattle.std.proofs.Common.{◌≡◌, true, sym, subst, ◌∙◌, rules, arith}
 use Rattle.std.specs.Option.{option_map}
-use Rattle.plain_queues.specs.plain_frames.declared.system.System.{System}
-use Rattle.plain_queues.specs.plain_frames.HeldSystems.{situation_of}
-use Rattle.plain_transitions.specs.WrittenTransitions.{awaited_of}
-use Rattle.plain_guards.specs.inside.JudgedClauses.{IsArrival}
-use Rattle.plain_guards.proofs.JudgedLaws.{before, from_holds}
+use Rattle.plain_clauses.specs.plain_systems.declared.system.System.{System}
+use Rattle.plain_clauses.specs.plain_systems.HeldSystems.{situation_of}
+use Rattle.plain_clauses.specs.plain_transitions.WrittenTransitions.{awaited_of}
+use Rattle.plain_clauses.specs.JudgedClauses.{IsArrival}
+use Rattle.plain_clauses.proofs.JudgedLaws.{before, from_holds}
 use Rattle.plain_guards.proofs.sight.look.Goals as goal
 
 pub returns-clause-sight : goal.returns-clause-sight

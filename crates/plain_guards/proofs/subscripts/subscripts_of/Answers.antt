@@ -1,6 +1,6 @@
 use Rattle.std.proofs.Common.{sym, ◌∙◌}
-use Rattle.plain_blocks.specs.ExecutionSites.{view_of}
-use Rattle.plain_guards.proofs.PartLaws.{subscripts_end}
+use Rattle.plain_blocks.specs.plain_operands.ExecutionSites.{view_of}
+use Rattle.plain_clauses.proofs.PartLaws.{subscripts_end}
 use Rattle.plain_guards.proofs.subscripts.subscripts_of.Goals as goal
 
 pub returns : goal.returns

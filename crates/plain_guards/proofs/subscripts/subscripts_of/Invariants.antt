@@ -1,7 +1,7 @@
 use Rattle.std.proofs.Common.{◌≡◌, ◌++◌, map, drop}
 use Rattle.est_meaning.specs.GuardParts.{subscripts_of}
-use Rattle.plain_blocks.specs.ExecutionSites.{view_of}
-use Rattle.plain_guards.specs.inside.EvaluatedParts.{held}
+use Rattle.plain_blocks.specs.plain_operands.ExecutionSites.{view_of}
+use Rattle.plain_clauses.specs.EvaluatedParts.{held}
 use Rattle.plain_guards.proofs.subscripts.subscripts_of.Given as goal
 
 -- the parts so far, and those that are left, are all

@@ -1,4 +1,4 @@
-use Rattle.plain_queues.specs.plain_frames.HeldSystems.{linked, situation_of}
+use Rattle.plain_queues.specs.plain_systems.HeldSystems.{linked, situation_of}
 use Rattle.plain_links.proofs.SystemLaws.{unfastened_by}
 use Rattle.plain_links.proofs.connections.loosen.Goals as goal
 

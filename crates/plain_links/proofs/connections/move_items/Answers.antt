@@ -1,4 +1,4 @@
-use Rattle.plain_queues.specs.plain_frames.HeldSystems.{queue_of, situation_of, waiting_in}
+use Rattle.plain_queues.specs.plain_systems.HeldSystems.{queue_of, situation_of, waiting_in}
 use Rattle.plain_links.proofs.SystemLaws.{moved_by}
 use Rattle.plain_links.proofs.connections.move_items.Goals as goal
 

@@ -1,4 +1,4 @@
-use Rattle.plain_queues.specs.plain_frames.HeldSystems.{linked, stamped, situation_of, waiting_in}
+use Rattle.plain_queues.specs.plain_systems.HeldSystems.{linked, stamped, situation_of, waiting_in}
 use Rattle.plain_links.proofs.SystemLaws.{without_by}
 use Rattle.plain_links.proofs.releases.remove.Goals as goal
 

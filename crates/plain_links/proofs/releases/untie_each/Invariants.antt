@@ -1,7 +1,7 @@
 use Rattle.std.proofs.Common.{◌≡◌, drop}
-use Rattle.plain_points.specs.mean_blocks.LinkEffects.{each}
-use Rattle.plain_points.specs.mean_blocks.InstanceEffects.{untied}
-use Rattle.plain_queues.specs.plain_frames.HeldSystems.{situation_of}
+use Rattle.plain_queues.specs.mean_blocks.LinkEffects.{each}
+use Rattle.plain_queues.specs.mean_blocks.InstanceEffects.{untied}
+use Rattle.plain_queues.specs.plain_systems.HeldSystems.{situation_of}
 use Rattle.plain_links.proofs.releases.untie_each.Given as goal
 
 -- the points that are left lead to where all lead

@@ -1,6 +1,6 @@
 use Rattle.std.proofs.Common.{◌≡◌, drop}
 use Rattle.mean_blocks.specs.OperandHosts.{subject_at, subject_along}
-use Rattle.plain_names.specs.ShownNames.{subject_in}
+use Rattle.plain_names.specs.HostSubjects.{subject_in}
 use Rattle.plain_names.proofs.hosts.host_along.Given as goal
 
 abbrev pub invariant-loop-selector : goal.invariant-loop-selector

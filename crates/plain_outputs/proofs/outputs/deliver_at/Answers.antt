@@ -1,4 +1,4 @@
-use Rattle.plain_queues.specs.plain_frames.HeldSystems.{situation_of}
+use Rattle.plain_queues.specs.plain_systems.HeldSystems.{situation_of}
 use Rattle.plain_outputs.proofs.DeliveryLaws.{delivered_by}
 use Rattle.plain_outputs.proofs.outputs.deliver_at.Goals as goal
 

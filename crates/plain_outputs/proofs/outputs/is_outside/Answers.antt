@@ -1,10 +1,10 @@
 use Rattle.std.proofs.Common.{◌≡◌, sym, subst, nat_eq, true, false, rules, Some}
 use Rattle.std.specs.Prelude.{IfOk}
 use Rattle.std.specs.List.{list_any}
-use Rattle.plain_points.specs.rule_scope.declared.declaration.Sort.TheVariants as sort
-use Rattle.plain_queues.specs.plain_frames.HeldSystems.{situation_of}
-use Rattle.plain_points.specs.mean_blocks.InstancePoints.{header_of}
-use Rattle.plain_points.specs.mean_blocks.NamesInRuns.{places_of}
+use Rattle.plain_queues.specs.rule_scope.declared.declaration.Sort.TheVariants as sort
+use Rattle.plain_queues.specs.plain_systems.HeldSystems.{situation_of}
+use Rattle.plain_queues.specs.mean_blocks.InstancePoints.{header_of}
+use Rattle.plain_queues.specs.mean_blocks.NamesInRuns.{places_of}
 use Rattle.plain_points.specs.PointsOfHeaders.{is_at}
 use Rattle.plain_outputs.proofs.OutsideLaws.{outside_elsewhere, outside_here}
 use Rattle.plain_outputs.proofs.outputs.is_outside.Goals as goal

@@ -1,5 +1,5 @@
 use Rattle.std.proofs.Common.{[], ◌∷◌}
-use Rattle.plain_queues.specs.plain_frames.HeldSystems.{queue_of, situation_of, waiting_in}
+use Rattle.plain_queues.specs.plain_systems.HeldSystems.{queue_of, situation_of, waiting_in}
 use Rattle.plain_outputs.proofs.DeliveryLaws.{appended_by}
 use Rattle.plain_outputs.proofs.outputs.put_at.Goals as goal
 

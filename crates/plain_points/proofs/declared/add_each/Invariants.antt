@@ -1,5 +1,5 @@
 use Rattle.std.proofs.Common.{◌≡◌, ◌++◌, map, take}
-use Rattle.plain_names.specs.mean_blocks.InstancePoints.{point}
+use Rattle.plain_declared.specs.mean_blocks.InstancePoints.{point}
 use Rattle.plain_points.proofs.declared.add_each.Given as goal
 
 -- so many points are added

@@ -1,9 +1,9 @@
 use Rattle.std.proofs.Common.{ap, ◌∙◌, ◌≡◌, Option, slice_get}
 use Rattle.std.specs.Prelude.{find}
 use Rattle.est_syntax.specs.declared.header.Queue.{Queue}
-use Rattle.plain_points.specs.mean_blocks.QueueEffects.{queue_by, queue_of}
-use Rattle.plain_frames.specs.declared.system.Waiting.{Waiting}
-use Rattle.plain_frames.specs.HeldSystems.{is_waiting}
+use Rattle.plain_texts.specs.mean_blocks.QueueEffects.{queue_by, queue_of}
+use Rattle.plain_systems.specs.declared.system.Waiting.{Waiting}
+use Rattle.plain_systems.specs.HeldSystems.{is_waiting}
 use Rattle.plain_queues.proofs.QueueLaws.{held_or_none}
 use Rattle.plain_queues.proofs.heads.head_at.Goals as goal
 use Rattle.plain_queues.proofs.heads.head_at.Goals.{After-queue_at}

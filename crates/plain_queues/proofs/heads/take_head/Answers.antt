@@ -1,4 +1,4 @@
-use Rattle.plain_frames.specs.HeldSystems.{queue_of, situation_of, waiting_in}
+use Rattle.plain_systems.specs.HeldSystems.{queue_of, situation_of, waiting_in}
 use Rattle.plain_queues.proofs.HeadLaws.{headless_by}
 use Rattle.plain_queues.proofs.heads.take_head.Goals as goal
 

@@ -1,10 +1,10 @@
 use Rattle.std.proofs.Common.{rules, ap, ◌∙◌, not, List}
 use Rattle.std.specs.List.{filter}
 use Rattle.std.proofs.lemmas.Fn.{filter_same}
-use Rattle.plain_points.specs.mean_blocks.GlobalSituation.{QueueName}
-use Rattle.plain_points.specs.mean_blocks.InstanceEffects.{is_among, owner}
-use Rattle.plain_frames.specs.declared.system.Waiting.{Waiting}
-use Rattle.plain_frames.specs.HeldSystems.{queue_of, waiting_in}
+use Rattle.plain_texts.specs.mean_blocks.GlobalSituation.{QueueName}
+use Rattle.plain_texts.specs.mean_blocks.InstanceEffects.{is_among, owner}
+use Rattle.plain_systems.specs.declared.system.Waiting.{Waiting}
+use Rattle.plain_systems.specs.HeldSystems.{queue_of, waiting_in}
 use Rattle.plain_queues.proofs.QueueLaws.{kept_queues}
 use Rattle.plain_queues.proofs.losses.keep_queues.Goals as goal
 

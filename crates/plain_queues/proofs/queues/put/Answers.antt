@@ -1,6 +1,6 @@
 use Rattle.std.proofs.Common.{ap, ◌∙◌, ◌++◌, List, [], ◌∷◌}
-use Rattle.plain_points.specs.mean_blocks.declared.situation.Item.{Item}
-use Rattle.plain_frames.specs.HeldSystems.{queue_of, waiting_in}
+use Rattle.plain_texts.specs.mean_blocks.declared.situation.Item.{Item}
+use Rattle.plain_systems.specs.HeldSystems.{queue_of, waiting_in}
 use Rattle.plain_queues.proofs.QueueLaws.{changed_there}
 use Rattle.plain_queues.proofs.queues.put.Goals as goal
 

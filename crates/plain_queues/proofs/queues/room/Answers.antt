@@ -1,12 +1,12 @@
 use Rattle.std.proofs.Common.{ap, ◌∙◌, sym, ◌≡◌, true, Some, ℕ}
 use Rattle.std.specs.List.{position}
-use Rattle.plain_frames.specs.declared.system.QueueKey.{QueueKey}
-use Rattle.plain_frames.specs.HeldSystems.{queue_of, is_waiting, waiting_in}
-use Rattle.plain_frames.proofs.FirstFound.{none_found}
-use Rattle.plain_points.specs.mean_blocks.GlobalSituation.{is_queue}
-use Rattle.plain_points.proofs.FirstPlaces.{last_place}
+use Rattle.plain_systems.specs.declared.system.QueueKey.{QueueKey}
+use Rattle.plain_systems.specs.HeldSystems.{queue_of, is_waiting, waiting_in}
+use Rattle.plain_systems.proofs.FirstFound.{none_found}
+use Rattle.plain_texts.specs.mean_blocks.GlobalSituation.{is_queue}
+use Rattle.plain_systems.proofs.FirstPlaces.{last_place}
 use Rattle.plain_queues.proofs.QueueLaws.{empty_queue}
-use Rattle.plain_points.proofs.SamePoints.{queue_self}
+use Rattle.plain_systems.proofs.SamePoints.{queue_self}
 use Rattle.plain_queues.proofs.queues.room.Goals as goal
 
 pub returns-in_ok-push-in-None-clause-same : goal.returns-in_ok-push-in-None-clause-same

@@ -1,10 +1,10 @@
 use Rattle.std.proofs.Common.{ap, ◌∙◌, sym, List, ◌≡◌, [], Some, not, map}
 use Rattle.std.specs.List.{filter, position}
-use Rattle.plain_points.specs.mean_blocks.declared.situation.Item.{Item}
-use Rattle.plain_points.specs.mean_blocks.QueueEffects.{belongs, passed_to}
-use Rattle.plain_frames.specs.declared.system.Waiting.{Waiting}
-use Rattle.plain_frames.specs.HeldSystems.{queue_of, is_waiting, waiting_in}
-use Rattle.plain_frames.proofs.FirstFound.{none_found}
+use Rattle.plain_texts.specs.mean_blocks.declared.situation.Item.{Item}
+use Rattle.plain_texts.specs.mean_blocks.QueueEffects.{belongs, passed_to}
+use Rattle.plain_systems.specs.declared.system.Waiting.{Waiting}
+use Rattle.plain_systems.specs.HeldSystems.{queue_of, is_waiting, waiting_in}
+use Rattle.plain_systems.proofs.FirstFound.{none_found}
 use Rattle.plain_queues.specs.ChangedQueues.{with_items}
 use Rattle.plain_queues.proofs.QueueLaws.{no_queue, held_there, changed_there, same_queues}
 use Rattle.plain_queues.proofs.queues.take_out.Goals as goal

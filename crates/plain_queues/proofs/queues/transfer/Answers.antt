@@ -1,5 +1,5 @@
 use Rattle.std.proofs.Common.{◌∙◌}
-use Rattle.plain_frames.specs.HeldSystems.{queue_of, waiting_in}
+use Rattle.plain_systems.specs.HeldSystems.{queue_of, waiting_in}
 use Rattle.plain_queues.proofs.QueueLaws.{some_transferred}
 use Rattle.plain_queues.proofs.queues.transfer.Goals as goal
 

@@ -1,4 +1,4 @@
-use Rattle.plain_frames.specs.HeldSystems.{situation_of}
+use Rattle.plain_frames.specs.plain_systems.HeldSystems.{situation_of}
 use Rattle.plain_steps.proofs.FiredSteps.{begins_there}
 use Rattle.plain_steps.proofs.choice.begin.Goals as goal
 

@@ -1,7 +1,7 @@
 use Rattle.std.proofs.Common.{rules, sym, ap, ◌∙◌, ◌≡◌, Some}
 use Rattle.std.specs.Option.{option_map}
 use Rattle.est_meaning.specs.rule_scope.Outline.{Outline}
-use Rattle.plain_frames.specs.HeldSystems.{situation_of}
+use Rattle.plain_frames.specs.plain_systems.HeldSystems.{situation_of}
 use Rattle.est_meaning.specs.TransitionChoices.{any_frame, any_places, any_tuples, numbered}
 use Rattle.plain_steps.proofs.FiredSteps.{choice_there}
 use Rattle.plain_steps.proofs.choice.fire_choice.Goals as goal

@@ -1,5 +1,5 @@
 use Rattle.std.proofs.Common.{sym, refl}
-use Rattle.plain_frames.specs.HeldSystems.{situation_of}
+use Rattle.plain_frames.specs.plain_systems.HeldSystems.{situation_of}
 use Rattle.plain_steps.proofs.FiredSteps.{row_missing, transition_missing, transition_there}
 use Rattle.plain_steps.proofs.firing.fire_in.Goals as goal
 

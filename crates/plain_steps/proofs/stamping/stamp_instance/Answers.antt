@@ -1,5 +1,5 @@
 use Rattle.std.proofs.Common.{ap, ◌∙◌, ◌++◌, subst, Some, None}
-use Rattle.plain_frames.specs.HeldSystems.{situation_of, stamped}
+use Rattle.plain_frames.specs.plain_systems.HeldSystems.{situation_of, stamped}
 use Rattle.est_meaning.specs.DelayStamps.{stamp_after}
 use Rattle.plain_guards.specs.plain_transitions.FittingTransitions.{AtState, IsNextFitting}
 use Rattle.plain_steps.specs.inside.StampLists.{clocked, stamp_list}

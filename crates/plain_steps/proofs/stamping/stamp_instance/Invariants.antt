@@ -1,5 +1,5 @@
 use Rattle.std.proofs.Common.{◌≡◌, ◌-◌}
-use Rattle.plain_frames.specs.HeldSystems.{situation_of, stamped}
+use Rattle.plain_frames.specs.plain_systems.HeldSystems.{situation_of, stamped}
 use Rattle.est_meaning.specs.DelayStamps.{stamp_after}
 use Rattle.plain_steps.proofs.StampSteps.{AreUpTo}
 use Rattle.plain_steps.proofs.stamping.stamp_instance.Given as goal

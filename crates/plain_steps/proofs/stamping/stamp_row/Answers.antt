@@ -1,5 +1,5 @@
 use Rattle.std.proofs.Common.{sym}
-use Rattle.plain_frames.specs.HeldSystems.{situation_of, stamped}
+use Rattle.plain_frames.specs.plain_systems.HeldSystems.{situation_of, stamped}
 use Rattle.plain_steps.proofs.StampedRows.{on_ok_map, row_lives, row_without}
 use Rattle.plain_steps.proofs.StampedRows.{until_next, until_past}
 use Rattle.plain_steps.proofs.stamping.stamp_row.Goals as goal

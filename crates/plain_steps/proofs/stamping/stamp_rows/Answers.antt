@@ -1,6 +1,6 @@
 use Rattle.std.proofs.Common.{sym, subst, arith, ◌∙◌, ◌+◌, ◌≤◌, length}
 use Rattle.est_meaning.specs.mean_blocks.KeepingLaws.{AreNumbered}
-use Rattle.plain_frames.specs.HeldSystems.{situation_of, stamped}
+use Rattle.plain_frames.specs.plain_systems.HeldSystems.{situation_of, stamped}
 use Rattle.plain_steps.proofs.StampedRows.{until_same, same_until, until_all}
 use Rattle.plain_steps.proofs.stamping.stamp_rows.Goals as goal
 

@@ -1,6 +1,6 @@
 use Rattle.std.proofs.Common.{◌≡◌}
 use Rattle.est_meaning.specs.mean_blocks.GlobalSituation.{Clocked}
-use Rattle.plain_frames.specs.HeldSystems.{situation_of, stamped}
+use Rattle.plain_frames.specs.plain_systems.HeldSystems.{situation_of, stamped}
 use Rattle.plain_steps.specs.inside.StampLists.{stamps_until}
 use Rattle.plain_steps.proofs.stamping.stamp_rows.Given as goal
 

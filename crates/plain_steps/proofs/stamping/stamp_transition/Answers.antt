@@ -1,5 +1,5 @@
 use Rattle.std.proofs.Common.{sym, ◌∙◌, subst, Some}
-use Rattle.plain_frames.specs.HeldSystems.{situation_of}
+use Rattle.plain_frames.specs.plain_systems.HeldSystems.{situation_of}
 use Rattle.plain_guards.specs.plain_transitions.FittingTransitions.{AtState, IsTransition}
 use Rattle.plain_steps.proofs.StampSteps.{timed_in, one_with, one_without}
 use Rattle.plain_steps.proofs.stamping.stamp_transition.Goals as goal

@@ -2,8 +2,8 @@ use Rattle.std.proofs.Common.{rules, ◌≡◌, sym, ap, subst, ◌∙◌, None,
 use Rattle.est_meaning.specs.mean_blocks.KeepingLaws.{AreNumbered}
 use Rattle.est_meaning.specs.mean_blocks.StartMeaning.{start_before}
 use Rattle.est_meaning.specs.mean_blocks.TextByPlace.{Text}
-use Rattle.plain_frames.specs.declared.system.Working.{Working}
-use Rattle.plain_frames.specs.HeldSystems.{situation_of}
+use Rattle.plain_frames.specs.plain_systems.declared.system.Working.{Working}
+use Rattle.plain_frames.specs.plain_systems.HeldSystems.{situation_of}
 use Rattle.est_meaning.specs.DelayStamps.{restamped}
 use Rattle.est_meaning.specs.FiringSteps.{start_of}
 use Rattle.est_meaning.specs.OutsideEvents.{departures}

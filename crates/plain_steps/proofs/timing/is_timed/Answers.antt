@@ -1,7 +1,7 @@
 use Rattle.std.proofs.Common.{◌≡◌, sym, ap, subst, ◌∙◌, Some}
 use Rattle.std.specs.Prelude.{not}
 use Rattle.std.specs.Option.{option_map}
-use Rattle.plain_frames.specs.HeldSystems.{situation_of}
+use Rattle.plain_frames.specs.plain_systems.HeldSystems.{situation_of}
 use Rattle.est_meaning.specs.TransitionChoices.{numbered, any_places, any_tuples, any_frame}
 use Rattle.plain_steps.proofs.TimedChoices.{waits_by}
 use Rattle.plain_steps.proofs.timing.is_timed.Goals as goal

@@ -1,6 +1,6 @@
 use Rattle.std.proofs.Common.{sym, refl, None}
-use Rattle.plain_frames.specs.HeldSystems.{situation_of}
-use Rattle.est_plain.specs.plain_guards.declared.candidate.Candidate.{Candidate}
+use Rattle.plain_frames.specs.plain_systems.HeldSystems.{situation_of}
+use Rattle.est_plain.specs.plain_guards.plain_clauses.declared.candidate.Candidate.{Candidate}
 use Rattle.plain_walk.proofs.TakenItems.{row_missing, transition_missing, transition_there}
 use Rattle.plain_walk.proofs.taking.take.Goals as goal
 

@@ -1,6 +1,6 @@
 use Rattle.std.proofs.Common.{◌≡◌, ap, ◌∙◌, true, arith}
 use Rattle.est_meaning.specs.mean_blocks.GlobalSituation.{Situation}
-use Rattle.plain_frames.specs.HeldSystems.{situation_of}
+use Rattle.plain_frames.specs.plain_systems.HeldSystems.{situation_of}
 use Rattle.plain_walk.proofs.TakenItems.{same_rows, taken_there}
 use Rattle.plain_walk.proofs.taking.take_by.Goals as goal
 

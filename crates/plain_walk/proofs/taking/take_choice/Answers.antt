@@ -1,7 +1,7 @@
 use Rattle.std.proofs.Common.{◌≡◌, sym, ap, subst, ◌∙◌}
 use Rattle.std.specs.Option.{option_map}
 use Rattle.est_meaning.specs.rule_scope.declared.outline.Outline.{Outline}
-use Rattle.plain_frames.specs.HeldSystems.{situation_of}
+use Rattle.plain_frames.specs.plain_systems.HeldSystems.{situation_of}
 use Rattle.est_meaning.specs.TransitionChoices.{numbered, any_places, any_tuples, any_frame}
 use Rattle.plain_walk.proofs.TakenItems.{choice_there}
 use Rattle.plain_walk.proofs.taking.take_choice.Goals as goal

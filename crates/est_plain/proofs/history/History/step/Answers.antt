@@ -1,6 +1,6 @@
 use Rattle.std.proofs.Common.{sym, ap, subst, ◌∙◌, ◌++◌, ◌∷◌, []}
 use Rattle.est_meaning.specs.mean_blocks.KeepingLaws.{AreNumbered}
-use Rattle.plain_frames.specs.HeldSystems.{situation_of}
+use Rattle.plain_frames.specs.plain_systems.HeldSystems.{situation_of}
 use Rattle.est_plain.proofs.HistoryLaws.{all_pushed}
 use Rattle.est_plain.proofs.history.History.step.Goals as goal
 

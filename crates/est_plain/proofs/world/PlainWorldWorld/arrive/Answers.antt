@@ -1,4 +1,4 @@
-use Rattle.plain_frames.specs.HeldSystems.{situation_of}
+use Rattle.plain_frames.specs.plain_systems.HeldSystems.{situation_of}
 use Rattle.est_meaning.specs.declared.event.Event.TheVariants as event
 use Rattle.est_plain.proofs.WorldLaws.{event_numbered}
 use Rattle.est_plain.proofs.world.PlainWorldWorld.arrive.Goals as goal

@@ -1,7 +1,7 @@
 use Rattle.std.proofs.Common.{◌≡◌, sym, ◌∙◌, subst}
 use Rattle.std.specs.Prelude.{OnOk}
 use Rattle.est_meaning.specs.mean_blocks.GlobalSituation.{Situation}
-use Rattle.plain_outputs.specs.plain_frames.HeldSystems.{situation_of}
+use Rattle.plain_outputs.specs.plain_systems.HeldSystems.{situation_of}
 use Rattle.plain_outside.proofs.OutsideSteps.{arrives_not, arrives}
 use Rattle.plain_outside.proofs.outside.Outside.arrive.Goals as goal
 

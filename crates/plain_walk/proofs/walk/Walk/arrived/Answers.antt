@@ -1,7 +1,7 @@
 use Rattle.std.proofs.Common.{ap, ◌∙◌, None}
 use Rattle.est_meaning.specs.mean_blocks.TextByPlace.{Text}
 use Rattle.est_meaning.specs.mean_blocks.GlobalSituation.{Situation}
-use Rattle.plain_frames.specs.HeldSystems.{situation_of, waiting_in}
+use Rattle.plain_frames.specs.plain_systems.HeldSystems.{situation_of, waiting_in}
 use Rattle.est_meaning.specs.declared.event.Event.TheVariants as event
 use Rattle.est_meaning.specs.OutsideEvents.{after_event}
 use Rattle.plain_walk.specs.SentItems.{alone}

@@ -1,7 +1,7 @@
 use Rattle.std.proofs.Common.{sym, subst}
 use Rattle.est_meaning.specs.mean_blocks.KeepingLaws.{AreNumbered}
-use Rattle.plain_frames.specs.declared.system.System.{System}
-use Rattle.plain_frames.specs.HeldSystems.{situation_of}
+use Rattle.plain_frames.specs.plain_systems.declared.system.System.{System}
+use Rattle.plain_frames.specs.plain_systems.HeldSystems.{situation_of}
 use Rattle.est_meaning.specs.declared.event.Event.TheVariants as event
 use Rattle.est_plain.proofs.WorldLaws.{event_numbered}
 use Rattle.plain_walk.proofs.walk.Walk.happen.Goals as goal

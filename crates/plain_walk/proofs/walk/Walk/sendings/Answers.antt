@@ -1,6 +1,6 @@
 use Rattle.std.proofs.Common.{sym, subst, List}
-use Rattle.plain_frames.specs.declared.system.Waiting.{Waiting}
-use Rattle.plain_frames.specs.HeldSystems.{situation_of, waiting_in}
+use Rattle.plain_frames.specs.plain_systems.declared.system.Waiting.{Waiting}
+use Rattle.plain_frames.specs.plain_systems.HeldSystems.{situation_of, waiting_in}
 use Rattle.plain_walk.specs.SentItems.{IsSentBy}
 use Rattle.plain_walk.proofs.SentItems.{sent_there}
 use Rattle.plain_walk.proofs.walk.Walk.sendings.Goals as goal

@@ -1,5 +1,5 @@
 use Rattle.std.proofs.Common.{sym, ◌∙◌}
-use Rattle.plain_frames.specs.HeldSystems.{situation_of}
+use Rattle.plain_frames.specs.plain_systems.HeldSystems.{situation_of}
 use Rattle.est_plain.proofs.WorldLaws.{start_numbered}
 use Rattle.plain_walk.proofs.walk.Walk.start.Goals as goal
 

@@ -1,6 +1,6 @@
 use Rattle.std.proofs.Common.{◌≡◌, subst}
 use Rattle.est_meaning.specs.mean_blocks.TextByPlace.{Text}
-use Rattle.plain_frames.specs.HeldSystems.{waiting_in}
+use Rattle.plain_frames.specs.plain_systems.HeldSystems.{waiting_in}
 use Rattle.plain_walk.specs.SentItems.{queue_with}
 use Rattle.plain_walk.proofs.SentItems.{waits_alone}
 use Rattle.plain_walk.proofs.walk.Walk.with_only.Goals as goal

@@ -1,0 +1,3 @@
+pub mod KnownMatches
+pub mod MatchEach
+pub mod MatchesByForm

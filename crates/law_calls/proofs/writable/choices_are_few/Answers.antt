@@ -1,5 +1,0 @@
-use Rattle.law_calls.proofs.FewChoices.{choices_few}
-use Rattle.law_calls.proofs.writable.choices_are_few.Goals as goal
-
-pub returns : goal.returns
-returns c = choices_few

@@ -1,5 +1,0 @@
-use Rattle.law_calls.proofs.FewInstances.{instances_few}
-use Rattle.law_calls.proofs.writable.instances_are_few.Goals as goal
-
-pub returns : goal.returns
-returns c = instances_few

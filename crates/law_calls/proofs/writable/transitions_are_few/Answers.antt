@@ -1,5 +1,0 @@
-use Rattle.law_calls.proofs.FewTransitions.{transitions_few}
-use Rattle.law_calls.proofs.writable.transitions_are_few.Goals as goal
-
-pub returns : goal.returns
-returns c = transitions_few

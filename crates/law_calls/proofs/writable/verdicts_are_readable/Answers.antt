@@ -1,5 +1,0 @@
-use Rattle.law_calls.proofs.ReadableVerdicts.{verdicts_readable}
-use Rattle.law_calls.proofs.writable.verdicts_are_readable.Goals as goal
-
-pub returns : goal.returns
-returns c = verdicts_readable

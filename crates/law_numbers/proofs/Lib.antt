@@ -1,0 +1,15 @@
+pub mod CountedChoices
+pub mod EachBody
+pub mod EachClause
+pub mod FewChoices
+pub mod FewInstances
+pub mod FewTransitions
+pub mod FineClauses
+pub mod ListedNames
+pub mod NamedAnys
+pub mod NamedKinds
+pub mod ReadAnys
+pub mod ReadBodies
+pub mod ReadableVerdicts
+pub mod RegionsStay
+pub mod WritableRuns

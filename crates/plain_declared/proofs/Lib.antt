@@ -1,0 +1,3 @@
+pub mod ConstantHeads
+pub mod Places
+pub use Rattle.mean_blocks.proofs as of_mean_blocks

@@ -1,9 +1,0 @@
-use Rattle.std.proofs.Common.{◌≡◌, drop}
-use Rattle.plain_guards.specs.inside.EvaluatedParts.{ordinals_held}
-use Rattle.plain_guards.proofs.PartLaws.{after}
-use Rattle.plain_guards.proofs.subscripts.ordinals_held.Given as goal
-
--- the ordinals so far, and those that are left, are all
-abbrev pub invariant-loop-part : goal.invariant-loop-part
-invariant-loop-part l =
-    after l.ordinals (ordinals_held (drop l.part-index l.parts)) ≡ ordinals_held l.parts

@@ -1,3 +1,0 @@
--- What only the private functions say.
-pub mod EvaluatedParts
-pub mod JudgedClauses

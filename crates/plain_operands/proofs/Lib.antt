@@ -1,0 +1,2 @@
+pub mod SubscriptSteps
+pub use Rattle.plain_frames.proofs.of_plain_systems

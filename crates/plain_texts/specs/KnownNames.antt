@@ -1,0 +1,28 @@
+-- Names that are kept with what they mean and stand for.
+use Rattle.std.specs.Prelude.{◌≡◌, ℕ, nat_eq, List, Some}
+use Rattle.std.specs.Map.{lookup}
+use Rattle.est_syntax.specs.declared.name.Used.{Used}
+use Rattle.plain_declared.specs.rule_scope.Outline.{Outline}
+use Rattle.plain_declared.specs.rule_scope.Uses.{meaning}
+use Rattle.plain_declared.specs.mean_blocks.NamesInRuns.{head, interaction_of}
+use Rattle.plain_declared.specs.ShownNames.{head_of}
+use Rattle.plain_texts.specs.declared.known.KnownName.{KnownName}
+use Rattle.plain_texts.specs.declared.known.KnownInteraction.{KnownInteraction}
+
+-- what is kept of a name is what it means and stands for
+pub record IsOf (o : Outline) (u : Used) (k : KnownName) : Type 0 where
+  pub meant : k.meant ≡ meaning o u
+  pub head : head_of k.head ≡ head o u
+
+-- what is kept is of the name with which it is kept
+abbrev pub IsKnown : Outline → KnownName → Type 0
+IsKnown o k = IsOf o k.used.now k
+
+-- each of these, at its place, is kept so
+abbrev pub AreKnown : Outline → List (ℕ × KnownName) → Type 0
+AreKnown o es = (p : ℕ) (k : KnownName) → lookup (nat_eq p) es ≡ Some k → IsKnown o k
+
+-- each of these interactions, at its place, is kept with where it is declared
+abbrev pub AreKnownInteractions : Outline → List (ℕ × KnownInteraction) → Type 0
+AreKnownInteractions o es = (p : ℕ) (k : KnownInteraction) → lookup (nat_eq p) es ≡ Some k
+    → k.interaction ≡ interaction_of o k.point k.used.now
