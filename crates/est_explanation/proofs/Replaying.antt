@@ -118,6 +118,26 @@ stands_first c spec limit silent trace stack outs moves claim s on = (
   record { situation_is = s.start_is; many = ap length s.outs_are; silent_in_row_is = refl },
 )
 
+-- what was compared at the start, and what agrees there
+pub begins_on : (trace trace' : List Expected) (outs : List Event) (asked claim : ℕ)
+    (moves : List Move) → trace' ≡ trace → asked ≡ asked_of (length trace') claim moves
+    → AgreeFirst (drop 0 trace') (take (asked - 0) outs)
+    → AgreeFirst trace (take (asked_of (length trace) claim moves) outs)
+begins_on trace trace' outs asked claim moves same is h =
+    let e : asked - 0 ≡ asked = omega arith in
+    subst (λ (w : List Expected). AgreeFirst w (take (asked_of (length w) claim moves) outs)) same
+    (subst (λ n. AgreeFirst trace' (take n outs)) (e ∙ is) h)
+
+pub begins_back : (trace trace' : List Expected) (outs : List Event) (asked claim : ℕ)
+    (moves : List Move) → trace' ≡ trace → asked ≡ asked_of (length trace') claim moves
+    → AgreeFirst trace (take (asked_of (length trace) claim moves) outs)
+    → AgreeFirst (drop 0 trace') (take (asked - 0) outs)
+begins_back trace trace' outs asked claim moves same is h =
+    let e : asked - 0 ≡ asked = omega arith in
+    subst (λ n. AgreeFirst trace' (take n outs)) (sym (e ∙ is))
+    (subst (λ (w : List Expected). AgreeFirst w (take (asked_of (length w) claim moves) outs))
+    (sym same) h)
+
 -- A MOVE
 
 module _ (c : Setup) (claim : ℕ) (moves : List Move) (made : ℕ) (s : Situation) (at : Standing)

@@ -1,5 +1,5 @@
 -- Departures by what was seen of them.
-use Rattle.std.proofs.Common.{◌≡◌, ◌∙◌, ℕ, List, [], ◌∷◌, refl, sym, ap, subst}
+use Rattle.std.proofs.Common.{◌≡◌, ◌∙◌, ℕ, List, [], ◌∷◌, Option, Some, None, refl, sym, ap, subst}
 use Rattle.std.specs.List.{AllZip}
 use Rattle.est_syntax.specs.declared.kind.Kind.{Kind}
 use Rattle.est_values.specs.declared.value.Value.{Value, out-Value}
@@ -11,10 +11,12 @@ use Rattle.est_seen.specs.declared.seen.Seen.TheVariants as seen
 use Rattle.est_seen.specs.SeenValues.{MatchEach, SomeHasAny, MayFit, nothing_seen, one_more, first}
 use Rattle.est_seen.specs.SeenValues.{later, group}
 use Rattle.est_seen.proofs.KnownMatches.{one_match}
+use Rattle.est_meaning.specs.declared.event.Interaction.{Interaction}
 use Rattle.est_meaning.specs.declared.event.Event.TheVariants.{Leaves}
 use Rattle.est_meaning.specs.declared.trace.Expected.{Expected}
-use Rattle.est_meaning.specs.declared.trace.Expected.TheVariants.{Known}
+use Rattle.est_meaning.specs.declared.trace.Expected.TheVariants.{Known, Partly}
 use Rattle.est_meaning.specs.RecordedTraces.{HasUnseen}
+use Rattle.est_trace.specs.inside.Wholes.{AreWhole}
 use Rattle.est_trace.specs.TraceShapes.{IsSeenAs, whole, part}
 use Rattle.est_trace.proofs.SeenWholes.{parts_within}
 
@@ -58,3 +60,17 @@ whole_fit (k ∷ ks) _ _ n (one_more {x = x} {xs} {v} {vs} m rest) h = (
   subst (Fits k) (one_match x h.0.0 v (λ a. n (first a)) h.0.2 m) h.0.1,
   whole_fit ks xs vs (λ a. n (later a)) rest h.1,
 )
+
+-- the departure of which this was seen whole, and the one of which something was not
+pub departed_whole : (port signal : ℕ) (xs : List Seen) (vs : List Value)
+    (o : Option (List Value)) (i : Interaction) → o ≡ Some vs → AreWhole xs o
+    → i ≡ record { port = port; signal = signal; values = vs }
+    → IsSeenAs port signal xs (Known (Leaves i))
+departed_whole port signal xs vs o i e h at =
+    let seen : AreWhole xs (Some vs) = subst (AreWhole xs) e h in
+    subst (λ (j : Interaction). IsSeenAs port signal xs (Known (Leaves j))) (sym at)
+    (whole vs seen.0 seen.1)
+
+pub departed_part : (port signal : ℕ) (xs : List Seen) (o : Option (List Value)) → o ≡ None
+    → AreWhole xs o → IsSeenAs port signal xs (Partly port signal xs)
+departed_part port signal xs o e h = part (subst (AreWhole xs) e h)

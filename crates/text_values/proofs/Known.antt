@@ -6,6 +6,7 @@ use Rattle.std.specs.List.{list_any}
 use Rattle.text_reader.specs.Grammar.{done, word, when, one_of}
 use Rattle.text_reader.specs.Marks.{MeetsOne, Fits, Within, can_begin, can_go_on, can_be_empty}
 use Rattle.text_reader.proofs.Members
+use Rattle.est_lexer.specs.declared.kind.Symbol.TheVariants as symbols
 use Rattle.est_syntax.specs.declared.kind.Kind.{Kind, out-Kind}
 use Rattle.est_syntax.specs.declared.kind.Kind.TheOpen as kinds
 use Rattle.est_syntax.specs.declared.ports.Port.{Port}
@@ -19,7 +20,7 @@ use Rattle.text_values.specs.TraceGrammar.{Production, events_at, value_of, seen
 use Rattle.text_values.specs.TraceGrammar.{integers, characters, constant, numbered_constant}
 use Rattle.text_values.specs.TraceGrammar.{constants, boolean_names, bytes_of, host_by, ordinal_by}
 use Rattle.text_values.specs.TraceGrammar.{ordinal, scalar, formed, a_value, value, a_seen, seen}
-use Rattle.text_values.specs.TraceGrammar.{event, events}
+use Rattle.text_values.specs.TraceGrammar.{symbol, unseen, event, events}
 use Rattle.text_values.specs.TraceGrammar.{event_starts, production, no_marks, starts}
 use Rattle.text_values.specs.TraceGrammar.{goes_on, is_empty, marks}
 use Rattle.text_values.specs.ValueReading.{plain}
@@ -88,8 +89,11 @@ formed_same part (kinds.SetOf base) k = refl
 formed_same part (kinds.ArrayOf index of) k = refl
 formed_same part (kinds.Fields fields) k = refl
 
+unseen_same : (g : Rule) → IsSame g → IsSame (unseen g)
+unseen_same g e = ap (λ b. can_begin no_marks (symbol symbols.QuestionMark done) ++ b) e
+
 seen_same : (k : Kind) → IsSame (seen k)
-seen_same k = ap₂ (λ a b. a ++ b) refl (formed_same a_seen (out-Kind k) k)
+seen_same k = unseen_same (formed a_seen (out-Kind k) k) (formed_same a_seen (out-Kind k) k)
 
 module _ (text : List ℕ) where
   starts_fit : (p : Production)

@@ -1,5 +1,5 @@
 use Rattle.std.proofs.Common.{◌≡◌, ◌+◌, ◌-◌, ℕ, List, take, drop, length, ap, subst, sym, arith}
-use Rattle.std.proofs.Common.{◌∙◌}
+use Rattle.std.proofs.Common.{◌∙◌, refl}
 use Rattle.std.proofs.Math.Logic.{∥∥₁_elim}
 use Rattle.std.proofs.lemmas.Result.{IfOk-weaker}
 use Rattle.std.specs.Coded.{le_prop}
@@ -8,6 +8,8 @@ use Rattle.est_meaning.specs.declared.trace.Expected.{Expected}
 use Rattle.est_meaning.specs.SituationStacks.{Stack}
 use Rattle.est_meaning.specs.Task.{Suits}
 use Rattle.est_explanation.specs.inside.Standing.{IsStanding, asked_of}
+use Rattle.est_meaning.proofs.Endings.{not_true}
+use Rattle.est_explanation.proofs.Replaying.{rejects_start, stands_first, begins_on, begins_back}
 use Rattle.est_explanation.proofs.Replaying.{within_call, ready_call, stands_call}
 use Rattle.est_explanation.proofs.Replaying.{rejects_call, keeps_both, ends_call}
 use Rattle.est_explanation.proofs.replay.replay_moves.Goals as goal
@@ -17,6 +19,34 @@ asked_there : (claim : ℕ) (moves : List Move) (made asked : ℕ) (xs ys : List
     → asked ≡ asked_of (length ys) claim (take (length moves - (made + 1)) (drop (made + 1) moves))
 asked_there claim moves made asked xs ys same is = is ∙ ap (λ es. asked_of (length es) claim
     (take (length moves - (made + 1)) (drop (made + 1) moves))) same
+
+pub returns-then-not-agree-clause-answer : goal.returns-then-not-agree-clause-answer
+returns-then-not-agree-clause-answer g c spec speaks =
+    let w = g.W.World in
+    let asked_for = c.args.replaying.now in
+    rejects_start (g.setup spec) spec (w.limit c.args.world.now) asked_for.silent
+    asked_for.trace.now (w.stack c.args.world.now spec) c.args.start_outs.now asked_for.moves.now
+    asked_for.claim (c.requires.1.1.1.1 spec speaks) (λ a. not_true (sym c.if-not-agree.true
+    ∙ c.agree.ensures.1 (begins_back _ _ c.args.start_outs.now c.asked.result asked_for.claim
+    asked_for.moves.now (c.as_slice-trace.ensures ∙ c.events.ensures) c.asked.ensures a)))
+
+pub loop-index-init : goal.loop-index-init
+loop-index-init g c =
+    let w = g.W.World in
+    let asked_for = c.args.replaying.now in
+    record {
+      keeps = record { forward = λ s h. h; backward = λ s h. h; limit_is = refl };
+      fired = omega arith;
+      standing = λ spec speaks. (
+        (c.requires.1.1.1.1 spec speaks).suits,
+        stands_first (g.setup spec) spec (w.limit c.args.world.now) asked_for.silent
+            asked_for.trace.now (w.stack c.args.world.now spec) c.args.start_outs.now
+            asked_for.moves.now asked_for.claim (c.requires.1.1.1.1 spec speaks)
+            (begins_on _ _ c.args.start_outs.now c.asked.result asked_for.claim
+            asked_for.moves.now (c.as_slice-trace.ensures ∙ c.events.ensures) c.asked.ensures
+            (c.agree.ensures.0 c.if-not-agree.false)),
+      );
+    }
 
 pub make-requires : goal.make-requires
 make-requires g c κs within =

@@ -10,8 +10,8 @@ returns-in-Unsettled-clause-quiet g c spec speaks =
     unsettled_loud (w.limit c.args.world.now) (text_of spec) (w.stack c.args.world.now spec).now
     offers.0
 
-pub due_any-due-requires : goal.due_any-due-requires
-due_any-due-requires g c spec speaks =
+pub due_any-requires : goal.due_any-requires
+due_any-requires g c spec speaks =
     let w = g.W.World in
     let keeps = c.in_ok-options.ensures.keeps in
     let here = keeps.backward spec speaks in

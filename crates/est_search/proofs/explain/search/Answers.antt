@@ -23,14 +23,14 @@ returns-then-matched-start_outs-clause-verdict g c spec speaks = answer_departs 
 pub returns-in_err-whole-clause-size : goal.returns-in_err-whole-clause-size
 returns-in_err-whole-clause-size g c spec speaks =
     let w = g.W.World in
-    none_fired (IsTrial (g.setup spec)) (w.fired c.ends_at-whole.new.world)
+    none_fired (IsTrial (g.setup spec)) (w.fired c.ends_at.new.world)
     (w.fired c.args.world.now) c.in_err-whole.ensures.fired
 
 -- the trace ends at the start
 pub returns-then-whole-clause-size : goal.returns-then-whole-clause-size
 returns-then-whole-clause-size g c spec speaks =
     let w = g.W.World in
-    none_fired (IsTrial (g.setup spec)) (w.fired c.ends_at-whole.new.world)
+    none_fired (IsTrial (g.setup spec)) (w.fired c.ends_at.new.world)
     (w.fired c.args.world.now) c.in_ok-whole.ensures.fired
 
 pub returns-then-whole-clause-verdict : goal.returns-then-whole-clause-verdict
@@ -54,24 +54,35 @@ returns-then-whole-clause-tried g c spec speaks =
     (c.as_slice-trace.ensures ∙ c.events.ensures) c.agreed-matched.ensures)
     c.if-matched-start_outs.false ((c.in_ok-whole.ensures.ends spec speaks).0 c.if-whole.true)
     c.new-then-whole.result c.new-then-whole.ensures
-    (w.fired c.ends_at-whole.new.world - w.fired c.args.world.now)
+    (w.fired c.ends_at.new.world - w.fired c.args.world.now)
     (let same = c.in_ok-whole.ensures.fired in omega arith)
 
 -- it does not
-pub search_on-requires-clause-beginning : goal.search_on-requires-clause-beginning
-search_on-requires-clause-beginning g c spec speaks =
-    let w = g.W.World in
-    let keeps = c.in_ok-whole.ensures.keeps in
-    let here = keeps.backward spec speaks in
-    let ends = c.in_ok-whole.ensures.ends spec here in
-    beginning (g.setup spec) spec (w.limit c.args.world.now) c.args.task.now.silent
-    c.args.task.now.trace.now (w.stack c.args.world.now spec) c.args.start_outs.now
-    (c.requires.1.1.1 spec here) c.agreed-matched.result
-    (subst (λ es. AgreeFor es 0 c.args.start_outs.now c.agreed-matched.result)
-    (c.as_slice-trace.ensures ∙ c.events.ensures) c.agreed-matched.ensures)
-    c.if-matched-start_outs.false (λ end. not_true (sym c.if-whole.false ∙ ends.1 end))
-    (w.limit c.ends_at-whole.new.world) (w.stack c.ends_at-whole.new.world spec) keeps.limit_is
-    (c.in_ok-whole.ensures.stack spec here)
+pub search_on-requires : goal.search_on-requires
+search_on-requires g c κs within =
+    let fired = c.in_ok-whole.ensures.fired in
+    let room = c.requires.1.0 in (
+      within,
+      (
+        omega arith,
+        (
+          c.requires.1.1.0,
+          λ spec speaks. (
+              let w = g.W.World in
+              let keeps = c.in_ok-whole.ensures.keeps in
+              let here = keeps.backward spec speaks in
+              let ends = c.in_ok-whole.ensures.ends spec here in
+              beginning (g.setup spec) spec (w.limit c.args.world.now) c.args.task.now.silent
+              c.args.task.now.trace.now (w.stack c.args.world.now spec) c.args.start_outs.now
+              (c.requires.1.1.1 spec here) c.agreed-matched.result
+              (subst (λ es. AgreeFor es 0 c.args.start_outs.now c.agreed-matched.result)
+              (c.as_slice-trace.ensures ∙ c.events.ensures) c.agreed-matched.ensures)
+              c.if-matched-start_outs.false (λ end. not_true (sym c.if-whole.false ∙ ends.1 end))
+              (w.limit c.ends_at.new.world) (w.stack c.ends_at.new.world spec) keeps.limit_is
+              (c.in_ok-whole.ensures.stack spec here)),
+        ),
+      ),
+    )
 
 pub returns-clause-stack : goal.returns-clause-stack
 returns-clause-stack g c spec speaks =

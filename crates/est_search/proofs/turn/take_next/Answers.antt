@@ -95,13 +95,13 @@ returns-clause-ok g c spec speaks =
     (world.stack c.args.world.now spec) w (c.requires.1.1.1 spec speaks) c.requires.1.0
     (subst (λ es. at < length es) same c.if-matched-trace.false) x
     (subst (λ es. get_or es at x ≡ x) same (sym c.index-trace-matched.is))
-    (world.stack c.ends_at-found.new.world spec)
+    (world.stack c.ends_at.new.world spec)
     (record w { path = c.enter.new.self; best = c.reach.new.self }) c.in-Known.event c.in-Known.is
     (rw c.if-not-branch.false at c.in_ok-happen.ensures.outside)
     (again ∙ rw c.if-not-branch.false at (c.in_ok-happen.ensures.happened spec speaks))
     (subst (λ n. HasReached w.best c.reach.new.self n Take (at + 1)) made c.in_ok-reach.ensures)
     c.in_ok-enter.ensures refl refl c.in_ok-found.found
     (ends_again trace (world.limit c.args.world.now) (world.limit c.happen.new.world) (text_of spec)
-    (world.stack c.happen.new.world spec) (world.stack c.ends_at-found.new.world spec) (at + 1)
+    (world.stack c.happen.new.world spec) (world.stack c.ends_at.new.world spec) (at + 1)
     c.in_ok-found.found c.in_ok-happen.ensures.keeps.limit_is again
     (c.in_ok-found.ensures.ends spec there))

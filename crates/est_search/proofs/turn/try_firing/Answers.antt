@@ -102,9 +102,9 @@ returns-in_ok-found-in-On-clause-ok g c spec speaks =
     (record w { tried = w.tried + 1; outs = c.fire.new.outs })
     (world.stack c.fire.new.self spec) refl refl refl refl
     (rw c.in-Done.is at (c.in_ok-fault.ensures.answer spec speaks)) c.land.new.walk
-    c.in_ok-land-in-Done.ensures.tried (world.stack c.ends_at-found.new.world spec)
+    c.in_ok-land-in-Done.ensures.tried (world.stack c.ends_at.new.world spec)
     c.in_ok-found-in-On.found again (rw c.in-On.is at c.in_ok-land-in-Done.ensures.landed)
     (ends_again trace (world.limit c.args.world.now) (world.limit c.fire.new.self) (text_of spec)
-    (world.stack c.fire.new.self spec) (world.stack c.ends_at-found.new.world spec)
+    (world.stack c.fire.new.self spec) (world.stack c.ends_at.new.world spec)
     c.land.new.walk.path.top.matched c.in_ok-found-in-On.found keeps.limit_is again
     (c.in_ok-found-in-On.ensures.ends spec there))

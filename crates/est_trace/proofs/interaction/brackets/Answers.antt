@@ -6,13 +6,13 @@ returns-in-Receives c = arrival_reads c.args.direction c.args.format c.args.kind
     c.args.place.port c.args.place.signal c.arrival.result c.values.result c.in-Receives.is
     c.arrival.ensures c.values.ensures
 
-pub returns-in-Sends-in-Complete : goal.returns-in-Sends-in-Complete
-returns-in-Sends-in-Complete c = departure_reads c.args.direction c.args.format
+pub returns-in-Complete : goal.returns-in-Complete
+returns-in-Complete c = departure_reads c.args.direction c.args.format
     c.args.kinds.now c.args.place.port c.args.place.signal c.departure.result
     c.values-in-Complete.result c.in-Sends.is c.in-Complete.is c.departure.ensures
     c.values-in-Complete.ensures
 
-pub returns-in-Sends-in-Partial : goal.returns-in-Sends-in-Partial
-returns-in-Sends-in-Partial c = seen_reads c.args.direction c.args.format c.args.kinds.now
+pub returns-in-Partial : goal.returns-in-Partial
+returns-in-Partial c = seen_reads c.args.direction c.args.format c.args.kinds.now
     c.args.place.port c.args.place.signal c.seen_departure.result c.in-Sends.is
     c.in-Partial.is c.seen_departure.ensures
