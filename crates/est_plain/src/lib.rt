@@ -5,7 +5,3 @@ mod history;
 pub mod world;
 
 pub use est_check;
-pub use plain_choices;
-pub use plain_choices::plain_guards;
-pub use plain_steps;
-pub use plain_steps::plain_outside;

@@ -3,4 +3,4 @@
 
 pub mod checked;
 
-pub use est_plain;
+pub use est_plain::world::PlainWorld;

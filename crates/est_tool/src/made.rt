@@ -5,7 +5,7 @@ ghost use Rattle.run_make.specs.Recipe.{task_of, IsMade, IsMadeExplained};
 use call_files::est_check::Checked;
 use est_meaning::answers::Started;
 use est_meaning::run::Limits;
-use est_replay::est_plain::world::PlainWorld;
+use est_replay::PlainWorld;
 use run_make::made::Made;
 use run_make::making::{Asked, make_in};
 use std::alloc::{AllocError, Global};

@@ -8,7 +8,7 @@ use est_meaning::answers::Started;
 use est_meaning::mean_blocks::fault::BlockFault;
 use est_meaning::run::Limits;
 use est_meaning::trace::Trace;
-use est_replay::est_plain::world::PlainWorld;
+use est_replay::PlainWorld;
 use est_search::explain::explain;
 use est_search::verdict::Verdict;
 use std::alloc::{AllocError, Global};

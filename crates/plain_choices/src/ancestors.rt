@@ -8,8 +8,8 @@ ghost use Rattle.plain_choices.specs.inside.SystemOffers.{AreSorted, IsPreceded,
 
 use crate::found::Found;
 use est_meaning::firing::Firing;
-use plain_guards::plain_systems::rows::row_of;
-use plain_guards::plain_systems::system::System;
+use plain_systems::rows::row_of;
+use plain_systems::system::System;
 use std::alloc::AllocError;
 
 // Whether an instance is one of these.

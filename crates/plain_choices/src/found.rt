@@ -14,8 +14,8 @@ ghost use Rattle.plain_choices.specs.inside.SystemOffers.{IsFound, IsFoundBelow,
 use crate::offers::{Instance, Offer, gather, instance_at};
 use est_meaning::answers::Offers;
 use est_meaning::firing::Firing;
-use plain_guards::plain_systems::system::Working;
-use plain_guards::plain_transitions::behaviour::Behaviour;
+use plain_systems::system::Working;
+use plain_transitions::behaviour::Behaviour;
 use std::alloc::{AllocError, Global};
 
 /// Of instances the firings that are offered and not outranked, and those instances that have a

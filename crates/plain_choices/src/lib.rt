@@ -5,5 +5,3 @@ mod ancestors;
 mod found;
 mod offers;
 pub mod options;
-
-pub use plain_guards;

@@ -11,12 +11,12 @@ ghost use Rattle.plain_choices.specs.inside.InstanceOffers.{IsGathered};
 use est_meaning::answers::Offers;
 use est_meaning::firing::Firing;
 use est_meaning::mean_blocks::frame::Frame;
+use plain_clauses::candidate::Candidate;
+use plain_clauses::missed::is_missed;
 use plain_guards::judging::judge;
-use plain_guards::plain_clauses::candidate::Candidate;
-use plain_guards::plain_clauses::missed::is_missed;
-use plain_guards::plain_systems::system::{System, Working};
-use plain_guards::plain_transitions::behaviour::Behaviour;
-use plain_guards::plain_transitions::fits::Fits;
+use plain_systems::system::{System, Working};
+use plain_transitions::behaviour::Behaviour;
+use plain_transitions::fits::Fits;
 use std::alloc::{AllocError, Global};
 
 /// A living instance by its number, with its body and its state.

@@ -10,8 +10,8 @@ use crate::ancestors::keep_unpreceded;
 use crate::found::{Found, find};
 use est_meaning::answers::Offers;
 use est_meaning::firing::Firing;
-use plain_guards::plain_systems::system::Working;
-use plain_guards::plain_transitions::behaviour::Behaviour;
+use plain_systems::system::Working;
+use plain_transitions::behaviour::Behaviour;
 use std::alloc::{AllocError, Global};
 
 /// Lists the possible firings in order, or says that the situation is not settled. The system of

@@ -27,16 +27,16 @@ use est_meaning::rule_scope::outline::Outline;
 use est_syntax::body::Block;
 use est_syntax::est_items::Items;
 use plain_births::births::set_state;
+use plain_blocks::statements::statements_in;
+use plain_clauses::candidate::Candidate;
 use plain_frames::plain_declared::declared::places_of;
 use plain_frames::plain_systems::system::{System, Working};
 use plain_frames::routines::frame_of;
-use plain_guards::plain_blocks::statements::statements_in;
-use plain_guards::plain_clauses::candidate::Candidate;
-use plain_guards::plain_operands::site::Site;
-use plain_guards::plain_transitions::choices::choice_frame;
 use plain_guards::sight::look;
+use plain_operands::site::Site;
 use plain_queues::heads::take_head;
 use plain_queues::plain_texts::text::Text;
+use plain_transitions::choices::choice_frame;
 use std::alloc::{AllocError, Global};
 
 // How many levels calls and initialize parts may open within one another.

@@ -10,8 +10,8 @@ use crate::step::Stepped;
 use est_meaning::event::Events;
 use est_meaning::firing::Firing;
 use plain_frames::plain_systems::system::Working;
-use plain_guards::plain_transitions::behaviour::Behaviour;
 use plain_outside::outside::Outside;
+use plain_transitions::behaviour::Behaviour;
 use std::alloc::{AllocError, Global};
 
 /// The events of what was sent out of the system. The stamps are then up to date.

@@ -14,11 +14,11 @@ use est_meaning::firing::Firing;
 use est_meaning::mean_blocks::fault::BlockFault;
 use est_meaning::mean_blocks::stop::Stop;
 use est_syntax::est_items::Items;
+use plain_clauses::candidate::Candidate;
 use plain_frames::plain_systems::rows::row_of;
 use plain_frames::plain_systems::system::{System, Working};
-use plain_guards::plain_clauses::candidate::Candidate;
-use plain_guards::plain_transitions::behaviour::Behaviour;
 use plain_outside::outside::Outside;
+use plain_transitions::behaviour::Behaviour;
 use std::alloc::{AllocError, Global};
 
 // What comes of a firing, but for the stamps.

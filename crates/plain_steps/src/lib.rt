@@ -9,5 +9,3 @@ mod stamping;
 pub mod start;
 pub mod step;
 mod timing;
-
-pub use plain_outside;

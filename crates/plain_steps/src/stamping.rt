@@ -11,10 +11,10 @@ use crate::living::{Living, living_at};
 use crate::timing::{is_timed, since};
 use est_meaning::firing::Firing;
 use est_syntax::est_items::{Items, Shared};
+use plain_clauses::candidate::Candidate;
 use plain_frames::plain_systems::system::{Stamp, Stamps, Working};
-use plain_guards::plain_clauses::candidate::Candidate;
-use plain_guards::plain_transitions::behaviour::Behaviour;
-use plain_guards::plain_transitions::fits::Fits;
+use plain_transitions::behaviour::Behaviour;
+use plain_transitions::fits::Fits;
 use std::alloc::{AllocError, Global};
 
 // Puts the stamp of a transition last, if it is to have one.

@@ -8,9 +8,9 @@ use crate::step::Stepped;
 use est_meaning::mean_blocks::stop::Stop;
 use est_syntax::est_items::Items;
 use plain_frames::plain_systems::system::Working;
-use plain_guards::plain_transitions::behaviour::Behaviour;
 use plain_outside::outside::Outside;
 use plain_starts::starting::{Started, start};
+use plain_transitions::behaviour::Behaviour;
 use std::alloc::Global;
 
 // A working state of what a start leaves, without frames.

@@ -10,11 +10,11 @@ ghost use Rattle.plain_guards.specs.plain_transitions.WrittenTransitions.{IsWrit
 ghost use Rattle.plain_steps.specs.inside.StampLists.{clocked};
 
 use est_meaning::firing::Firing;
+use plain_clauses::candidate::Candidate;
 use plain_frames::plain_systems::system::{Stamps, System, Working};
 use plain_guards::judging::judge;
-use plain_guards::plain_clauses::candidate::Candidate;
-use plain_guards::plain_transitions::choices::choice_frame;
 use plain_queues::plain_texts::text::Text;
+use plain_transitions::choices::choice_frame;
 use std::alloc::{AllocError, Global};
 
 // Whether it is this transition that fired.

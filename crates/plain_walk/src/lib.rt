@@ -5,5 +5,3 @@ pub mod made;
 mod queues;
 mod taking;
 pub mod walk;
-
-pub use est_plain::plain_guards;

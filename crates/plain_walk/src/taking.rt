@@ -9,15 +9,15 @@ ghost use Rattle.plain_walk.specs.inside.TakenHeads.{IsTakenAt, IsTakenBy};
 use est_meaning::firing::Firing;
 use est_meaning::mean_blocks::frame::Frame;
 use est_meaning::mean_blocks::situation::{InteractionPoint, Item};
-use est_plain::plain_guards::plain_clauses::candidate::Candidate;
-use est_plain::plain_guards::plain_transitions::behaviour::Behaviour;
-use est_plain::plain_guards::plain_transitions::choices::choice_frame;
-use est_plain::plain_guards::sight::look;
 use est_syntax::est_items::Items;
+use plain_clauses::candidate::Candidate;
 use plain_frames::plain_systems::rows::row_of;
 use plain_frames::plain_systems::system::{System, Working};
+use plain_guards::sight::look;
 use plain_queues::heads::take_head;
 use plain_queues::plain_texts::text::Text;
+use plain_transitions::behaviour::Behaviour;
+use plain_transitions::choices::choice_frame;
 use std::alloc::{AllocError, Global};
 
 // Takes the first item of the queue of an interaction point, where one is given.

@@ -14,14 +14,14 @@ use est_meaning::firing::Firing;
 use est_meaning::mean_blocks::situation::Item;
 use est_meaning::mean_blocks::stop::Stop;
 use est_plain::est_check::Checked;
-use est_plain::plain_choices::options;
-use est_plain::plain_guards::plain_transitions::behaviour::Behaviour;
-use est_plain::plain_outside::outside::Outside;
-use est_plain::plain_steps::firing;
-use est_plain::plain_steps::start::start_of;
-use est_plain::plain_steps::step::Stepped;
 use est_syntax::est_items::{Items, Shared, Twin};
+use plain_choices::options;
 use plain_frames::plain_systems::system::{Queues, System, Working};
+use plain_outside::outside::Outside;
+use plain_steps::firing;
+use plain_steps::start::start_of;
+use plain_steps::step::Stepped;
+use plain_transitions::behaviour::Behaviour;
 use std::alloc::{AllocError, Global};
 
 /// A run of a specification with the system to which its moves have led.
