@@ -6,9 +6,9 @@ use advice_tokens::note::append_note;
 use advice_tokens::place::spot_of;
 use est_meaning::firing::Firing;
 use est_meaning::mean_blocks::situation::Row;
+use plain_clauses::candidate::Candidate;
 use plain_frames::plain_systems::rows::row_of;
 use plain_frames::plain_systems::system::Working;
-use plain_guards::plain_clauses::candidate::Candidate;
 use std::alloc::{AllocError, Global};
 
 // Adds a note on a choice of an instance, at the block of its transition.

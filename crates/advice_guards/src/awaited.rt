@@ -4,7 +4,7 @@ use crate::parts::{View, append_unvalued};
 use crate::points::{kinds_of, subscript_of};
 use est_syntax::expression::Expr;
 use est_syntax::kind::Kind;
-use plain_guards::plain_transitions::written::Awaits;
+use plain_transitions::written::Awaits;
 use std::alloc::{AllocError, Global};
 
 // Adds that a subscript of a kind has no value, if that is so, and answers whether it is.

@@ -6,8 +6,8 @@ use crate::guard::append_guard;
 use crate::heads::append_heads;
 use crate::scene::Scene;
 use crate::seen::{choose, see, view_of, working_of};
+use plain_clauses::candidate::Candidate;
 use plain_frames::plain_systems::system::Working;
-use plain_guards::plain_clauses::candidate::Candidate;
 use std::alloc::{AllocError, Global};
 
 // Adds what is awaited, if something is, and what waits.

@@ -6,7 +6,7 @@ use advice_tokens::place::spot_of;
 use est_syntax::expression::Expr;
 use est_syntax::transition::Most;
 use plain_frames::plain_systems::system::{Stamp, System};
-use plain_guards::plain_transitions::written::{Bounds, Provision, Written};
+use plain_transitions::written::{Bounds, Provision, Written};
 use std::alloc::{AllocError, Global};
 
 // What a bound of a delay is called.

@@ -6,7 +6,7 @@ use crate::points::{push_access, push_point};
 use advice_tokens::note::{append_note, printed};
 use advice_tokens::place::spot_of;
 use est_meaning::mean_blocks::situation::Item;
-use plain_guards::plain_transitions::written::Awaits;
+use plain_transitions::written::Awaits;
 use std::alloc::{AllocError, Global};
 
 // Adds an interaction with its interaction point.

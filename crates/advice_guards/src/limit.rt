@@ -8,9 +8,9 @@ use advice_tokens::note::append_note;
 use advice_tokens::place::spot_of;
 use est_meaning::firing::Firing;
 use est_meaning::mean_blocks::situation::Row;
+use plain_clauses::candidate::Candidate;
 use plain_frames::plain_systems::system::Working;
-use plain_guards::plain_clauses::candidate::Candidate;
-use plain_guards::plain_transitions::written::Written;
+use plain_transitions::written::Written;
 use std::alloc::{AllocError, Global};
 
 // The place of what passes the limit, if something does, in the guard of a choice of which it is
@@ -71,8 +71,8 @@ fn append_guard_of(
     append_note(alloc, notes, spot, &text)
 }
 
-// Adds the first guard that passes the limit, if one does, and answers whether that is so.
-fn append_guards(
+/// Adds the first guard that passes the limit, if one does, and answers whether that is so.
+pub(crate) fn append_guards(
     alloc: Global,
     scene: &Scene,
     working: &mut Working,

@@ -3,7 +3,7 @@
 use crate::parts::{Came, View, evaluated};
 use est_syntax::expression::Expr;
 use est_syntax::transition::Most;
-use plain_guards::plain_transitions::written::{Bounds, Provision, Written};
+use plain_transitions::written::{Bounds, Provision, Written};
 use std::alloc::{AllocError, Global};
 
 // The place of a part that passes the limit, if it does.

@@ -3,10 +3,10 @@
 use crate::scene::Scene;
 use est_meaning::firing::Firing;
 use est_meaning::mean_blocks::situation::Row;
+use plain_clauses::candidate::Candidate;
+use plain_clauses::verdict::Verdict;
 use plain_frames::plain_systems::system::Working;
 use plain_guards::judging::judge;
-use plain_guards::plain_clauses::candidate::Candidate;
-use plain_guards::plain_clauses::verdict::Verdict;
 use std::alloc::{AllocError, Global};
 
 /// What is looked for in the choices of an instance: a guard that passes the limit, one that is
@@ -36,6 +36,23 @@ fn is_sought(sought: Sought, verdict: Verdict, priority: Option<i32>) -> bool {
     }
 }
 
+/// What the guard of the choice of a number says, if there is such a choice.
+pub(crate) fn verdict_of(
+    alloc: Global,
+    scene: &Scene,
+    candidate: &Candidate,
+    choice: u32,
+    working: &mut Working,
+) -> Result<Option<Verdict>, AllocError> {
+    let variables = &candidate.transition.variables;
+    let Some(chosen) = scene.behaviour.choice_frame(alloc, variables, choice)? else {
+        return Ok(None);
+    };
+    let text = scene.behaviour.text();
+    let verdict = judge(alloc, text, scene.limit, candidate, chosen, working)?;
+    Ok(Some(verdict))
+}
+
 // The number of the first choice of a transition that is looked for.
 fn choice_sought(
     alloc: Global,
@@ -44,17 +61,11 @@ fn choice_sought(
     sought: Sought,
     working: &mut Working,
 ) -> Result<Option<u32>, AllocError> {
-    let transition = candidate.transition;
     for choice in 1..u32::MAX {
-        let Some(chosen) = scene
-            .behaviour
-            .choice_frame(alloc, &transition.variables, choice)?
-        else {
+        let Some(verdict) = verdict_of(alloc, scene, candidate, choice, working)? else {
             return Ok(None);
         };
-        let text = scene.behaviour.text();
-        let verdict = judge(alloc, text, scene.limit, candidate, chosen, working)?;
-        if is_sought(sought, verdict, transition.priority) {
+        if is_sought(sought, verdict, candidate.transition.priority) {
             return Ok(Some(choice));
         }
     }

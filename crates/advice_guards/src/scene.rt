@@ -2,7 +2,7 @@
 
 use est_lexer::tokens::Tokens;
 use plain_frames::plain_systems::system::System;
-use plain_guards::plain_transitions::behaviour::Behaviour;
+use plain_transitions::behaviour::Behaviour;
 
 /// A system with the behaviour that goes on from it, under a limit of statements, and the tokens of
 /// its specification.

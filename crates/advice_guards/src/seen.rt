@@ -4,10 +4,10 @@ use crate::parts::View;
 use crate::scene::Scene;
 use est_meaning::mean_blocks::frame::Frame;
 use est_syntax::est_items::{Items, Twin};
+use plain_clauses::candidate::Candidate;
 use plain_frames::plain_systems::system::Working;
-use plain_guards::plain_clauses::candidate::Candidate;
-use plain_guards::plain_operands::site::Site;
 use plain_guards::sight::look;
+use plain_operands::site::Site;
 use std::alloc::{AllocError, Global};
 
 // How many levels calls may open within one another.

@@ -5,8 +5,8 @@ use crate::scene::Scene;
 use advice_tokens::note::{append_note, printed};
 use advice_tokens::place::spot_of;
 use est_lexer::tokens::Tokens;
-use plain_guards::plain_clauses::candidate::Candidate;
-use plain_guards::plain_transitions::written::Written;
+use plain_clauses::candidate::Candidate;
+use plain_transitions::written::Written;
 use std::alloc::{AllocError, Global};
 
 // Adds the name that stands at a place.

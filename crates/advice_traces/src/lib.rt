@@ -4,6 +4,7 @@
 
 pub mod explanation;
 mod kinds;
+mod numbers;
 mod ports;
 pub mod position;
 pub mod trace;

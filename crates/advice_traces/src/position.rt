@@ -1,5 +1,6 @@
 //! What is to stand at a place of a trace, by the tokens before it.
 
+use crate::numbers::number_of;
 use est_lexer::tokens::Tokens;
 use est_syntax::ports::Direction;
 
@@ -185,18 +186,23 @@ fn is_begun(position: Position) -> bool {
     }
 }
 
+// The version of a trace, if it has a number.
+fn version_of(tokens: &Tokens) -> Option<i64> {
+    number_of(spelled(tokens, 1))
+}
+
 /// Whether `?` may stand for a value in the events of a trace that go this way: what leaves may be
 /// seen in part in a trace of version 2 or 3.
 pub(crate) fn may_be_unseen(tokens: &Tokens, direction: Direction) -> bool {
     match direction {
-        Direction::Sends => spelled(tokens, 1) == b"2" || may_end_quiet(tokens),
+        Direction::Sends => matches!(version_of(tokens), Some(2 | 3)),
         Direction::Receives => false,
     }
 }
 
 /// Whether `quiet` may stand after the end of a trace: it may in version 3.
 pub(crate) fn may_end_quiet(tokens: &Tokens) -> bool {
-    spelled(tokens, 1) == b"3"
+    matches!(version_of(tokens), Some(3))
 }
 
 /// The place of the first token of an event, by its number from 0, of a trace that is read well; or

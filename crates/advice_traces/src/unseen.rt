@@ -1,6 +1,6 @@
 //! What `?` stands for in a trace, where it is refused.
 
-use crate::position::{Position, may_be_unseen, position_of, spelled};
+use crate::position::{Position, is_word, may_be_unseen, position_of, spelled};
 use advice_tokens::note::append_note;
 use advice_tokens::place::spot_of;
 use est_lexer::tokens::Tokens;
@@ -24,6 +24,22 @@ fn begins_item(tokens: &Tokens, place: u32) -> bool {
     )
 }
 
+// Whether the innermost bracket that is open at a place within the values of a signal is that of a
+// set.
+fn is_in_set(tokens: &Tokens, place: u32) -> bool {
+    let mut closed: u32 = 0;
+    for back in 1..place {
+        match spelled(tokens, place.saturating_sub(back)) {
+            [b')' | b']'] => closed = closed.saturating_add(1),
+            [b'(' | b'['] if closed > 0 => closed = closed.saturating_sub(1),
+            [b'['] => return true,
+            [b'('] => return false,
+            _ => {}
+        }
+    }
+    false
+}
+
 // What is said of `?` at a place where a value of an event of this direction is to stand.
 fn value_text(tokens: &Tokens, place: u32, direction: Direction) -> Option<&'static str> {
     if !begins_item(tokens, place) {
@@ -31,13 +47,9 @@ fn value_text(tokens: &Tokens, place: u32, direction: Direction) -> Option<&'sta
     }
     match direction {
         Direction::Receives => Some(RECEIVED),
-        Direction::Sends => {
-            if may_be_unseen(tokens, direction) {
-                Some(MEMBER)
-            } else {
-                Some(VERSION)
-            }
-        }
+        Direction::Sends if !may_be_unseen(tokens, direction) => Some(VERSION),
+        Direction::Sends if is_in_set(tokens, place) => Some(MEMBER),
+        Direction::Sends => None,
     }
 }
 
@@ -57,7 +69,7 @@ pub(crate) fn append_unseen(
     place: u32,
     notes: &mut String,
 ) -> Result<(), AllocError> {
-    if spelled(tokens, place) != b"?" {
+    if !is_word(tokens, place, b"?") {
         return Ok(());
     }
     match text_of(tokens, place) {

@@ -1,5 +1,6 @@
 //! Values of a trace that their types do not take, though a device may send them.
 
+use crate::numbers::number_of;
 use crate::position::{Event, Position, position_of, spelled, wants_item};
 use crate::trace::values_of;
 use crate::values::kind_within;
@@ -15,23 +16,6 @@ use std::alloc::{AllocError, Global};
 const BEGIN: &str = "if a device sent this, it sent an illegal value: let the type";
 
 const END: &str = "and the trace is refused";
-
-// The number that these digits are.
-fn number_of(digits: &[u8]) -> Option<i64> {
-    let mut number: i64 = 0;
-    for digit in digits {
-        if !digit.is_ascii_digit() {
-            return None;
-        }
-        let next = i64::from(digit.saturating_sub(b'0'));
-        number = number.checked_mul(10)?.checked_add(next)?;
-    }
-    if digits.is_empty() {
-        None
-    } else {
-        Some(number)
-    }
-}
 
 // Whether the token of a place is a minus.
 fn is_minus(tokens: &Tokens, place: u32) -> bool {
@@ -136,8 +120,8 @@ fn text_of(
     }
 }
 
-/// Adds that the value at a place is an illegal one, where it is sent and its type does not take it,
-/// and how the type can take it.
+/// Adds that the value at a place is an illegal one, where it is sent and its type does not take
+/// it, and how the type can take it.
 pub(crate) fn append_wider(
     alloc: Global,
     ports: &Ports,

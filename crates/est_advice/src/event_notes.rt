@@ -7,7 +7,7 @@ use crate::looked::Looked;
 use crate::waiting::append_waiting;
 use advice_tokens::note::append_note;
 use est_meaning::answers::Started;
-use est_replay::est_plain::world::PlainWorld;
+use est_replay::PlainWorld;
 use run_notes::noted::Others;
 use run_notes::other_events::{End, Found, next_events};
 use std::alloc::{AllocError, Global};
@@ -18,10 +18,10 @@ const NOTHING: &str = "after the events before, nothing leaves within the limits
 const NOTHING_BUT_TIME: &str =
     "after the events before, nothing leaves within the limits until time passes";
 
-/// Adds what is known of the first event of a trace that no run of a specification yields within the
-/// limits, or that no run yields which is tried: what it is, what could stand in its place, what
-/// waits before it, and which limit cut runs off. Of a trace that is accepted it adds what waits at
-/// its end. It takes as long as the search for that event.
+/// Adds what is known of the first event of a trace that no run of a specification yields within
+/// the limits, or that no run yields which is tried: what it is, what could stand in its place,
+/// what is due at a quiet end, what waits before it, and which limit cut runs off. Of a trace that
+/// is accepted it adds what waits at its end. It takes as long as the search for that event.
 pub fn append_next(alloc: Global, looked: &Looked<'_>, notes: &mut String) -> Result<(), AllocError>
     requires { IsAllowedTrace looked.now.checked.now looked.now.trace.now }
 {
@@ -58,7 +58,7 @@ fn append_found(
         append_event(alloc, looked, found, notes)?;
         append_others(alloc, looked, found, notes)?;
     }
-    append_waiting(alloc, looked, &found.others, notes)?;
+    append_waiting(alloc, looked, found, notes)?;
     append_limits(alloc, looked, found, notes)
 }
 
@@ -139,7 +139,8 @@ fn append_others(
     notes: &mut String,
 ) -> Result<(), AllocError> {
     let others = &found.others;
-    let text = text_of(alloc, looked.checked.ports(), others)?;
+    let is_quiet = looked.trace.is_quiet();
+    let text = text_of(alloc, looked.checked.ports(), others, is_quiet)?;
     append_note(alloc, notes, looked.spot(others.happened), &text)?;
     if found.end != End::Refused || others.events.len() > 0 {
         return Ok(());

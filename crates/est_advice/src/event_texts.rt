@@ -109,20 +109,30 @@ pub(crate) fn receives(ports: &Ports) -> bool {
     true
 }
 
-/// The events that could leave, and what may stand wherever a run ends.
-pub(crate) fn text_of(alloc: Global, ports: &Ports, others: &Others) -> Result<String, AllocError> {
+// Adds what may stand wherever a run ends: in a trace that ends quiet an end that does not.
+fn push_end(ports: &Ports, is_quiet: bool, text: &mut String) -> Result<(), AllocError> {
+    let item = if receives(ports) {
+        "'in', 'time' or 'end'"
+    } else {
+        "'time' or 'end'"
+    };
+    push_item(text, item)?;
+    text.push_str(if is_quiet { " without 'quiet'" } else { "" })
+}
+
+/// The events that could leave along a trace that ends quiet or does not, and what may stand
+/// wherever a run ends.
+pub(crate) fn text_of(
+    alloc: Global,
+    ports: &Ports,
+    others: &Others,
+    is_quiet: bool,
+) -> Result<String, AllocError> {
     let mut text = String::from_str(alloc, BEGIN)?;
     push_events(alloc, ports, others, &mut text)?;
     push_more(alloc, others, &mut text)?;
     if others.is_end {
-        push_item(
-            &mut text,
-            if receives(ports) {
-                "'in', 'time' or 'end'"
-            } else {
-                "'time' or 'end'"
-            },
-        )?;
+        push_end(ports, is_quiet, &mut text)?;
     }
     Ok(text)
 }

@@ -10,8 +10,8 @@ use advice_tokens::note::append_note;
 use advice_tokens::place::spot_of;
 use call_files::est_explanation::verdict::Why;
 use est_meaning::firing::Firing;
-use plain_walk::plain_guards::plain_clauses::candidate::Candidate;
-use plain_walk::plain_guards::plain_systems::rows::row_of;
+use plain_clauses::candidate::Candidate;
+use plain_systems::rows::row_of;
 use std::alloc::{AllocError, Global};
 
 // Adds a note on one of the numbers of a firing, by how many tokens it stands after the first.

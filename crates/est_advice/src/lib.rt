@@ -1,6 +1,6 @@
-//! Advice for people, notes of a line each: on texts that are refused, on the move at which a replay
-//! rejects an explanation, and on the event at which a trace is refused or that no run reached, with
-//! what could leave in its place, what waits, and which limit cut runs off.
+//! Advice for people, notes of a line each: on texts that are refused, on the move at which a
+//! replay rejects an explanation, and on the event at which a trace is refused or that no run
+//! reached, with what could leave in its place, what waits, and which limit cut runs off.
 #![tactic(auto)]
 
 pub mod call;

@@ -75,8 +75,13 @@ fn append_end(
 ) -> Result<(), AllocError> {
     let count = rejected.trace.len();
     let claim = rejected.claim;
+    let why = if rejected.is_at_quiet_end(happened) {
+        ": the trace ends quiet"
+    } else {
+        ""
+    };
     let text = format!(in alloc;
-        "here {happened} of {count} events have happened, and 'yields {claim}' is not met"
+        "here {happened} of {count} events have happened, and 'yields {claim}' is not met{why}"
     )?;
     let spot = spot_of(
         "explanation",

@@ -27,10 +27,20 @@ pub struct Texts<'t> {
 pub(crate) struct Rejected<'t> {
     pub texts: &'t Texts<'t>,
     pub trace: &'t [Expected],
+    pub is_quiet: bool,
     pub moves: &'t [Move],
     pub claim: u32,
     pub at: u32,
     pub why: Why,
+}
+
+impl Rejected<'_> {
+    /// Whether a whole trace is claimed that ends quiet, and nothing but its end is left after so
+    /// many events.
+    pub fn is_at_quiet_end(&self, happened: usize) -> bool {
+        let count = self.trace.len();
+        self.is_quiet && happened == count && self.claim as usize == count.saturating_add(1)
+    }
 }
 
 /// Adds where the move is at which a replay rejects an explanation, and what is known of it: lines
@@ -97,6 +107,7 @@ fn append_replayed(
             let rejected = Rejected {
                 texts,
                 trace: trace.events().as_slice(),
+                is_quiet: trace.is_quiet(),
                 moves: explanation.moves.as_slice(),
                 claim: explanation.claim,
                 at,

@@ -1,7 +1,7 @@
-//! What waits in queues after a run.
+//! What is due after a run, and what waits in queues then.
 
 use crate::looked::Looked;
-use crate::walking::make_all;
+use crate::walking::{append_dues, make_all};
 use advice_guards::items::append_item;
 use advice_tokens::note::{append_note, printed};
 use est_meaning::answers::Started;
@@ -9,10 +9,10 @@ use est_meaning::firing::Firing;
 use est_meaning::mean_blocks::situation::Item;
 use est_syntax::est_items::Twin;
 use est_values::Queue;
-use plain_walk::plain_guards::plain_systems::rows::row_of;
-use plain_walk::plain_guards::plain_systems::system::{System, Waiting};
+use plain_systems::rows::row_of;
+use plain_systems::system::{System, Waiting};
 use plain_walk::walk::Walk;
-use run_notes::noted::Others;
+use run_notes::other_events::{End, Found};
 use std::alloc::{AllocError, Global};
 
 // So many interactions are told at most, and so many characters of each.
@@ -164,27 +164,37 @@ fn append_told(
     append_note(alloc, notes, looked.spot(happened), &text)
 }
 
-// Adds what waits after these moves from a start with so many events.
+// Whether what is left of a trace is its quiet end, to which no run comes.
+fn is_at_quiet_end(looked: &Looked, found: &Found) -> bool {
+    looked.trace.is_quiet()
+        && found.end != End::Accepted
+        && found.others.happened == looked.trace.events().len()
+}
+
+// Adds what is due and what waits after a run from a start with so many events.
 fn append_after(
     alloc: Global,
     looked: &Looked,
     walk: &mut Walk,
     begun: usize,
-    others: &Others,
+    found: &Found,
     notes: &mut String,
 ) -> Result<(), AllocError> {
     let trace = looked.trace.events().as_slice();
-    make_all(alloc, walk, trace, begun, others.run.as_slice())?;
+    make_all(alloc, walk, trace, begun, found.others.run.as_slice())?;
+    if is_at_quiet_end(looked, found) {
+        append_dues(alloc, walk, looked.specification, notes)?;
+    }
     settle(alloc, walk)?;
-    append_told(alloc, looked, others.happened, &walk.system, notes)
+    append_told(alloc, looked, found.others.happened, &walk.system, notes)
 }
 
-/// Adds what waits in queues after the run that yields the most events, and after what may be fired
-/// then, if something does.
+/// Adds what is due after the run that yields the most events, where the trace ends quiet there and
+/// is refused; and what waits in queues after what may be fired then, if something does.
 pub(crate) fn append_waiting(
     alloc: Global,
     looked: &Looked,
-    others: &Others,
+    found: &Found,
     notes: &mut String,
 ) -> Result<(), AllocError> {
     match Walk::start(alloc, looked.checked, looked.limits.statements)? {
@@ -194,7 +204,7 @@ pub(crate) fn append_waiting(
             let mut walk = world;
             let begun = outs.len();
             drop(outs);
-            let done = append_after(alloc, looked, &mut walk, begun, others, notes);
+            let done = append_after(alloc, looked, &mut walk, begun, found, notes);
             drop(walk);
             done
         }

@@ -1,10 +1,12 @@
-//! The moves before the one that is rejected.
+//! The moves before the one that is rejected, or before the end.
 
 use crate::firing::append_firing;
 use crate::place::{append_move, append_start};
 use crate::rejected::Rejected;
+use advice_guards::due::append_due;
 use advice_guards::scene::Scene;
 use call_files::est_check::Checked;
+use call_files::est_lexer::tokens::Tokens;
 use est_meaning::answers::Started;
 use est_meaning::event::Event;
 use est_meaning::firing::Firing;
@@ -70,30 +72,48 @@ pub(crate) fn make_all(
     Ok(at)
 }
 
-// Where the guards are looked at before the move that is rejected.
-fn scene_of<'s, 'c>(walk: &'s Walk<'c>, rejected: &Rejected<'s>) -> Scene<'s, 'c> {
+// Where guards are looked at after the moves of a walk.
+fn scene_of<'s, 'c>(walk: &'s Walk<'c>, specification: &'s Tokens<'s>) -> Scene<'s, 'c> {
     Scene {
         behaviour: &walk.behaviour,
         system: &walk.system,
         limit: walk.limit,
-        tokens: rejected.texts.specification,
+        tokens: specification,
     }
 }
 
-// Adds what is known of a firing in the situation before it, if that is what is rejected.
+/// Adds why the situation after the moves of a walk is not quiet, if that is so.
+pub(crate) fn append_dues(
+    alloc: Global,
+    walk: &Walk,
+    specification: &Tokens,
+    notes: &mut String,
+) -> Result<(), AllocError> {
+    let firings = walk.firings(alloc)?;
+    let scene = scene_of(walk, specification);
+    append_due(alloc, &scene, &firings, notes)
+}
+
+// Adds what is known of a firing in the situation before it, if that is what is rejected, or of a
+// quiet end, where so many events have happened.
 fn append_next(
     alloc: Global,
     walk: &Walk,
     rejected: &Rejected,
+    happened: usize,
     notes: &mut String,
 ) -> Result<(), AllocError> {
+    let specification = rejected.texts.specification;
     let Some(index) = (rejected.at as usize).checked_sub(1) else {
         return Ok(());
     };
     match rejected.moves.get(index) {
         Some(Move::Fire(firing)) => {
-            let scene = scene_of(walk, rejected);
+            let scene = scene_of(walk, specification);
             append_firing(alloc, &scene, rejected, firing, notes)
+        }
+        None if rejected.is_at_quiet_end(happened) => {
+            append_dues(alloc, walk, specification, notes)
         }
         _ => Ok(()),
     }
@@ -112,7 +132,7 @@ fn append_begun(
         .min(rejected.moves.len());
     let happened = make_all(alloc, walk, rejected.trace, begun, &rejected.moves[..count])?;
     append_move(alloc, rejected, happened, notes)?;
-    append_next(alloc, walk, rejected, notes)
+    append_next(alloc, walk, rejected, happened, notes)
 }
 
 /// Adds what is known of a rejection under a limit of statements.

@@ -7,8 +7,8 @@ use call_files::est_check::Checked;
 use est_meaning::answers::Started;
 use est_meaning::event::Event;
 use est_meaning::run::Limits;
-use est_meaning::trace::{Expected, Trace};
-use est_replay::est_plain::world::PlainWorld;
+use est_meaning::trace::Trace;
+use est_replay::PlainWorld;
 use rule_ports::ports::Ports;
 use run_notes::noted::Others;
 use run_notes::other_events::{End, Found, next_events};
@@ -55,29 +55,44 @@ fn push_events(
     Ok(())
 }
 
-// What could have come.
-fn wanted_of(alloc: Global, ports: &Ports, others: &Others) -> Result<Vec<String>, AllocError> {
+// What could have come, along a trace that ends quiet or does not.
+fn wanted_of(
+    alloc: Global,
+    ports: &Ports,
+    others: &Others,
+    is_quiet: bool,
+) -> Result<Vec<String>, AllocError> {
     let mut wanted = Vec::new(alloc);
     push_events(alloc, ports, others.events.as_slice(), &mut wanted)?;
     if others.events.len() > MOST_TOLD {
         wanted.push(String::from_str(alloc, "could come: ..")?)?;
     }
     if others.is_end {
-        wanted.push(String::from_str(alloc, "could come: in, time or end")?)?;
+        let line = if is_quiet {
+            "could come: in, time or 'end' without 'quiet'"
+        } else {
+            "could come: in, time or end"
+        };
+        wanted.push(String::from_str(alloc, line)?)?;
     }
     Ok(wanted)
 }
 
-// What is said of the event after so many, with a word before it.
+// What is said of the event after so many, or of the end, with a word before it.
 fn text_of(
     alloc: Global,
     ports: &Ports,
-    trace: &[Expected],
+    trace: &Trace,
     happened: usize,
     word: &str,
 ) -> Result<String, AllocError> {
-    let Some(expected) = trace.get(happened) else {
-        return format!(in alloc; "{word}: the end of the trace");
+    let Some(expected) = trace.events().get(happened) else {
+        let end = if trace.is_quiet() {
+            "the quiet end"
+        } else {
+            "the end of the trace"
+        };
+        return format!(in alloc; "{word}: {end}");
     };
     let text = expected_text(alloc, ports, expected)?;
     let number = happened.saturating_add(1);
@@ -88,11 +103,11 @@ fn text_of(
 fn refused_ending(
     alloc: Global,
     ports: &Ports,
-    trace: &[Expected],
+    trace: &Trace,
     others: &Others,
 ) -> Result<Option<Ending>, AllocError> {
     let event = text_of(alloc, ports, trace, others.happened, "refused")?;
-    match wanted_of(alloc, ports, others) {
+    match wanted_of(alloc, ports, others, trace.is_quiet()) {
         Ok(wanted) => Ok(Some(Ending {
             event,
             is_refused: true,
@@ -109,10 +124,10 @@ fn refused_ending(
 fn plain_ending(
     alloc: Global,
     ports: &Ports,
-    trace: &[Expected],
+    trace: &Trace,
     happened: usize,
 ) -> Result<Option<Ending>, AllocError> {
-    if happened >= trace.len() {
+    if happened >= trace.events().len() {
         return Ok(None);
     }
     let event = text_of(alloc, ports, trace, happened, "next")?;
@@ -145,11 +160,11 @@ pub(crate) fn ending_of(
         statements: limits.statements,
     };
     let found = found_of(alloc, checked, trace, &few)?;
-    let (ports, events) = (checked.ports(), trace.events().as_slice());
+    let ports = checked.ports();
     match &found {
         Some(found) if is_refused(found, happened) => {
-            refused_ending(alloc, ports, events, &found.others)
+            refused_ending(alloc, ports, trace, &found.others)
         }
-        _ => plain_ending(alloc, ports, events, happened),
+        _ => plain_ending(alloc, ports, trace, happened),
     }
 }

@@ -72,7 +72,8 @@ fn append_text(source: &Source, begin: u32, out: &mut String) -> Result<(), Allo
     out.push_str("\n")
 }
 
-// Adds the clauses that one of a transition drops: an earlier one of its kind, and those after that.
+// Adds the clauses that one of a transition drops: an earlier one of its kind, and those after
+// that.
 fn append_dropped(
     source: &Source,
     listed: Listed,
