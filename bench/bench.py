@@ -113,6 +113,18 @@ def replays(folder, trace_of, explanation_of, limits=()):
     return made
 
 
+def reads_frames(folder, trace_of):
+    """Reads a trace of this kind, of so many frames; no move is made."""
+
+    def made(events):
+        specification, _ = written(folder, "frames.est", "frames")
+        trace, _ = written(folder, "long.trace", trace_of, events)
+        explanation, _ = written(folder, "no.explanation", "no_moves", 0)
+        return [PROGRAM, "replay", specification, trace, explanation], events
+
+    return made
+
+
 def reads_explanation(folder):
     def made(size):
         specification, _ = written(folder, "echo.est", "echo")
@@ -217,6 +229,8 @@ def main():
         shares(folder)
         many = [50_000, 100_000, 200_000]
         rows("a trace is read", many, "events", replays(folder, "echo_trace", "no_moves"), 0, folder)
+        rows("a trace of records that left is read", many, "events", reads_frames(folder, "frames_trace"), 0, folder)
+        rows("the same trace, each record seen in part", many, "events", reads_frames(folder, "seen_trace"), 0, folder)
         rows("an explanation is read", [32 * MIB, 64 * MIB, 128 * MIB], "bytes", reads_explanation(folder), 1, folder)
         dense = reads_dense_explanation(folder)
         rows("an explanation of one token a byte, refused", [32 * MIB, 64 * MIB, 128 * MIB], "bytes", dense, UNREADABLE, folder)

@@ -122,6 +122,31 @@ def echo_moves(moves):
     return "explanation 1\n" + "take\nfire 1 1 1\n" * (moves // 2) + f"yields {moves + 1}\n"
 
 
+def frames():
+    """A specification that may send frames, and does nothing."""
+    return """specification Frames;
+type Frame = record seq: 0..7; last: boolean; data: array [1..4] of 0..255 end;
+channel C(A, B);
+  by A: Go;
+  by B: Put(f: Frame);
+module M systemactivity; ip P: C(B); end;
+body MB for M; end;
+modvar X: M;
+initialize begin init X with MB end;
+end.
+"""
+
+
+def frames_trace(events):
+    """So many frames that left, of which all was seen."""
+    return "trace 1\n" + "".join(f"out p.put(({n % 8}, true, (1, 2, 3, {n % 256})))\n" for n in range(events)) + "end\n"
+
+
+def seen_trace(events):
+    """The same frames, each of which was seen but for one number."""
+    return "trace 2\n" + "".join(f"out p.put(({n % 8}, true, (1, 2, 3, ?)))\n" for n in range(events)) + "end\n"
+
+
 def no_moves(_):
     return "explanation 1 yields 0\n"
 

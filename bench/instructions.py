@@ -4,7 +4,9 @@
 callgrind (the command valgrind) runs the program of these sources on a trace and on one that is six times as long; the
 difference, by events, leaves out what a start takes. The same program and traces give the same counts on any machine and
 under any load. SPIN's counts are those that its verifiers took on the same events, in models written by hand
-(bench/alternating_bit.pml is one of them); they are no part of a run. With --record the rows go to
+(bench/alternating_bit.pml is one of them); they are no part of a run. The last column has what it takes to read an event.
+With --against PROGRAM the same is counted of another program, as one of an earlier commit, and three shares follow, of
+explain, replay and reading: the instructions over those of the other one. With --record the rows go to
 bench/results/instructions.tsv.
 """
 
@@ -25,9 +27,9 @@ EVENTS = PROTOCOLS | {"two_phase_commit": [line.strip() for line in STORES.split
 SPIN = {"alternating_bit": 6_108, "connection": 14_458, "ring_election": 24_872, "sessions": 13_590}
 
 
-def counted(folder, *words):
+def counted(folder, program, *words):
     """The instructions of a run, and what it told."""
-    command = ["valgrind", "--tool=callgrind", "--callgrind-out-file=/dev/null", PROGRAM, *words]
+    command = ["valgrind", "--tool=callgrind", "--callgrind-out-file=/dev/null", program, *words]
     told = subprocess.run(command, cwd=folder, capture_output=True, text=True)
     count = re.search(r"Collected : (\d+)", told.stderr)
     if not count:
@@ -35,38 +37,55 @@ def counted(folder, *words):
     return int(count.group(1)), told.stdout
 
 
-def along(folder, protocol, turns):
-    """The instructions of explain and of replay along the events of a protocol, so many times over, and their number."""
+def along(folder, program, protocol, turns):
+    """The instructions of explain, of replay and of reading along the events of a protocol, so many times over, and their
+    number."""
     events = EVENTS[protocol] * turns
     (folder / "a.trace").write_text("trace 1\n" + "\n".join(events) + "\nend\n")
     specification = str(TOP / "examples" / f"{protocol}.est")
-    explained, told = counted(folder, "explain", specification, "a.trace", "30", "4000000", "10000")
+    explained, told = counted(folder, program, "explain", specification, "a.trace", "30", "4000000", "10000")
     first, _, explanation = told.partition("\n")
     if "accepted" not in first:
         sys.exit(f"{protocol}: {first}")
     (folder / "a.explanation").write_text(explanation)
-    replayed, _ = counted(folder, "replay", specification, "a.trace", "a.explanation", "30", "10000")
-    return explained, replayed, len(events)
+    replayed, _ = counted(folder, program, "replay", specification, "a.trace", "a.explanation", "30", "10000")
+    (folder / "no.explanation").write_text("explanation 1 yields 0\n")
+    read, _ = counted(folder, program, "replay", specification, "a.trace", "no.explanation", "30", "10000")
+    return explained, replayed, read, len(events)
 
 
-def row(folder, protocol):
-    """The instructions of an event in explain and in replay."""
+def row(folder, program, protocol):
+    """The instructions of an event in explain, in replay and where it is read."""
     turns = len(EVENTS[protocol])
-    less = along(folder, protocol, SHORT // turns)
-    more = along(folder, protocol, LONG // turns)
-    events = more[2] - less[2]
-    return [round((more[i] - less[i]) / events) for i in (0, 1)]
+    less = along(folder, program, protocol, SHORT // turns)
+    more = along(folder, program, protocol, LONG // turns)
+    events = more[-1] - less[-1]
+    return [round((more[i] - less[i]) / events) for i in (0, 1, 2)]
+
+
+def shares(folder, other, protocol, ours):
+    """What these instructions are over those of another program."""
+    return ", ".join(f"{one / theirs:.3f}" for one, theirs in zip(ours, row(folder, other, protocol)))
 
 
 def main():
-    chosen = recording.words() or ["alternating_bit", "connection", "ring_election", "sessions", "two_phase_commit"]
-    print("| Protocol | `explain` | `replay` | SPIN |\n|---|---|---|---|")
+    words, other = recording.words(), None
+    if "--against" in words:
+        at = words.index("--against")
+        other = pathlib.Path(words[at + 1]).resolve()
+        del words[at : at + 2]
+    chosen = words or ["alternating_bit", "connection", "ring_election", "sessions", "two_phase_commit"]
+    titles = ["Protocol", "`explain`", "`replay`", "SPIN", "read", *(["over the other"] if other else [])]
+    print(f"| {' | '.join(titles)} |\n{'|---' * len(titles)}|")
     with tempfile.TemporaryDirectory() as name:
+        folder = pathlib.Path(name)
         for protocol in chosen:
-            explained, replayed = row(pathlib.Path(name), protocol)
+            ours = row(folder, PROGRAM, protocol)
+            explained, replayed, read = (f"{count:,}" for count in ours)
             spin = SPIN.get(protocol)
-            cells = [f"`{protocol}`", f"{explained:,}", f"{replayed:,}", f"{spin:,}" if spin else ""]
-            print(f"| {' | '.join(cells)} |", flush=True)
+            cells = [f"`{protocol}`", explained, replayed, f"{spin:,}" if spin else ""]
+            more = [read, *([shares(folder, other, protocol, ours)] if other else [])]
+            print(f"| {' | '.join(cells + more)} |", flush=True)
             recording.record("instructions", *cells)
 
 
