@@ -1,0 +1,6 @@
+pub mod HowMany
+pub mod MergeLaws
+pub mod Merges
+pub mod PortRuns
+pub mod PortTrials
+pub mod PortsVerdict
