@@ -1,6 +1,7 @@
 pub mod HowMany
 pub mod MergeLaws
 pub mod Merges
+pub mod PortRunLaws
 pub mod PortRuns
 pub mod PortTrials
 pub mod PortsVerdict

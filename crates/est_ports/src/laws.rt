@@ -1,7 +1,18 @@
-//! Laws of merges. Each function does nothing; its clause is the law.
+//! Laws of merges and port runs. Each function does nothing; its clause is the law.
 ghost use Rattle.est_ports.specs.MergeLaws.{MergesAreAsLong};
+ghost use Rattle.est_ports.specs.PortRunLaws.{PortRunsAreRuns, RunsArePortRuns};
 
 /// All merges have as many events.
 pub fn merges_are_as_long()
     ensures { MergesAreAsLong }
+{}
+
+/// A port run is a run along some merge.
+pub fn port_runs_are_runs()
+    ensures { PortRunsAreRuns }
+{}
+
+/// A bounded run that follows a merge is a port run.
+pub fn runs_are_port_runs()
+    ensures { RunsArePortRuns }
 {}
