@@ -37,7 +37,7 @@ AreAtFrom n [] = Unit {0}
 AreAtFrom n (es ∷ lists) = All (IsAt n) es × AreAtFrom (n + 1) lists
 
 -- without the next event of a port it is so still, and that is one of the port
-at_next : (n : ℕ) (lists : List (List Event)) (k : ℕ) (e : Event) (rest : List Event)
+pub at_next : (n : ℕ) (lists : List (List Event)) (k : ℕ) (e : Event) (rest : List Event)
     → AreAtFrom n lists → slice_get lists k ≡ Some (e ∷ rest)
     → IsAt (n + k) e × AreAtFrom n (slice_set lists k rest)
 at_next n [] k e rest a is = (let never : ⊥ = cc in absurd never)
@@ -55,7 +55,7 @@ at_next n (es ∷ lists) (suc k) e rest a is =
     (subst (λ m. IsAt m e) same behind.0, (a.0, behind.1))
 
 -- lists each of which has events of its port
-listed_from : (n : ℕ) (lists : List (List Event))
+pub listed_from : (n : ℕ) (lists : List (List Event))
     → ((k : ℕ) (es : List Event) → slice_get lists k ≡ Some es → All (IsAt (n + k)) es)
     → AreAtFrom n lists
 listed_from n [] each = tt

@@ -1,4 +1,5 @@
 pub mod HowMany
+pub mod ListsOfEvents
 pub mod MergeLaws
 pub mod Merges
 pub mod PortRunLaws
