@@ -47,7 +47,7 @@ module _ (c : Setup) (merge : Recorded) where
   }
 
   -- a port run is a run along a merge that begins with its events
-  runs_along : (lists : PortLists) (run : List PortMove) (p : PortPlace) (rest : List Event)
+  pub runs_along : (lists : PortLists) (run : List PortMove) (p : PortPlace) (rest : List Event)
       → IsPortRun c lists run p → merge ≡ known_trace (p.events ++ rest)
       → IsBoundedRun (along c merge) (map plain_move run) (plain_place p)
   runs_along lists [] p rest s goes_on = ap plain_place s.place_is

@@ -73,7 +73,7 @@ AreAllAt [] = Unit {0}
 AreAllAt (p ∷ ps) = AreAtFrom 0 p × AreAllAt ps
 
 -- so are those of phases that are allowed
-phases_at : (spec : Spec) (phases : List (List (List Event))) → All (IsPhaseOf spec) phases
+pub phases_at : (spec : Spec) (phases : List (List (List Event))) → All (IsPhaseOf spec) phases
     → AreAllAt phases
 phases_at spec [] all = tt
 phases_at spec (p ∷ ps) all =
@@ -214,7 +214,7 @@ no_time_in now units es at i =
     (at_next 0 now g.port (event.Passes units) g.is_next.rest at g.is_next.begins).0
 
 -- lists that no events use up are used up
-used_of : (now : List (List Event)) → Interleaves now [] → AreUsedUp now
+pub used_of : (now : List (List Event)) → Interleaves now [] → AreUsedUp now
 used_of now (used_up a) = a
 
 -- a time that comes first ends its phase
@@ -245,22 +245,22 @@ passing now (p ∷ ps) (u ∷ us) units rest at (f ∷ front, behind, is, i, m) 
 -- RUNS
 
 -- a run as a port run, after which the rest uses up what is left
-record GoesOn (c : Setup) (lists : PortLists) (run : List Move) (p : Place) (rest : List Event)
+pub record GoesOn (c : Setup) (lists : PortLists) (run : List Move) (p : Place) (rest : List Event)
     : Type 0 where
-  moves : List PortMove
-  left : Left
-  is_run : IsPortRun c lists moves (record {
+  pub moves : List PortMove
+  pub left : Left
+  pub is_run : IsPortRun c lists moves (record {
     situation = p.situation;
     events = p.events;
     left = left;
     silent_in_row = p.silent_in_row;
   })
-  moves_are : map plain_move moves ≡ run
-  finishes : Finishes left rest
-  at : IsLeftAt left
+  pub moves_are : map plain_move moves ≡ run
+  pub finishes : Finishes left rest
+  pub at : IsLeftAt left
 
 -- a place with what is left
-abbrev with_left : Place → Left → PortPlace
+abbrev pub with_left : Place → Left → PortPlace
 with_left p left = record {
   situation = p.situation;
   events = p.events;
@@ -393,7 +393,7 @@ module _ (c : Setup) (lists : PortLists) (merge : Recorded) where
         }
 
   -- a run whose events are the first of a merge
-  goes_on : (es : List Event) (run : List Move) (p : Place) (rest : List Event) → IsBegun c
+  pub goes_on : (es : List Event) (run : List Move) (p : Place) (rest : List Event) → IsBegun c
       → AreAllAt lists.phases → MergesOf lists.phases lists.times es
       → IsBoundedRun (along c merge) run p → es ≡ p.events ++ rest → GoesOn c lists run p rest
   goes_on es [] p rest begun at m r is = goes_from_start es p rest begun at m r is

@@ -6,3 +6,4 @@ pub mod PortRunLaws
 pub mod PortRuns
 pub mod PortTrials
 pub mod PortsVerdict
+pub mod UsedUpRuns

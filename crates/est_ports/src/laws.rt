@@ -2,6 +2,7 @@
 ghost use Rattle.est_ports.specs.ListsOfEvents.{EventsTellTheirLists};
 ghost use Rattle.est_ports.specs.MergeLaws.{MergesAreAsLong};
 ghost use Rattle.est_ports.specs.PortRunLaws.{PortRunsAreRuns, RunsArePortRuns};
+ghost use Rattle.est_ports.specs.UsedUpRuns.{UsedUpRunsExplain, ExplainingRunsUseUp};
 
 /// All merges have as many events.
 pub fn merges_are_as_long()
@@ -21,4 +22,14 @@ pub fn port_runs_are_runs()
 /// A bounded run that follows a merge is a port run.
 pub fn runs_are_port_runs()
     ensures { RunsArePortRuns }
+{}
+
+/// A port run that uses the lists up explains its merge.
+pub fn used_up_runs_explain()
+    ensures { UsedUpRunsExplain }
+{}
+
+/// A bounded run that explains a merge uses the lists up.
+pub fn explaining_runs_use_up()
+    ensures { ExplainingRunsUseUp }
 {}
