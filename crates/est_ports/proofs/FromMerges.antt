@@ -165,11 +165,11 @@ goes now later (u ∷ us) e rest some at (f ∷ front, behind, is, i, m) =
 -- SEVERAL EVENTS
 
 -- the events are the next ones of their ports, and the rest uses up what is left then
-record GoAll (left : Left) (es rest : List Event) : Type 0 where
-  after : Left
-  are_next : AreNext left es after
-  finishes : Finishes after rest
-  at : IsLeftAt after
+pub record GoAll (left : Left) (es rest : List Event) : Type 0 where
+  pub after : Left
+  pub are_next : AreNext left es after
+  pub finishes : Finishes after rest
+  pub at : IsLeftAt after
 
 -- a departure is no passing of time
 departs : (e : Event) → IsDeparture e → IsAtSome e
@@ -178,7 +178,7 @@ departs (event.Leaves i) d = tt
 departs (event.Passes units) d = absurd d
 
 -- departures that come first are the next ones of their ports
-go_all : (left : Left) (es rest : List Event) → All IsDeparture es → IsLeftAt left
+pub go_all : (left : Left) (es rest : List Event) → All IsDeparture es → IsLeftAt left
     → Finishes left (es ++ rest) → GoAll left es rest
 go_all left [] rest all at f =
     record { after = left; are_next = none; finishes = f; at = at }
@@ -269,7 +269,7 @@ with_left p left = record {
 }
 
 -- a merge uses up all of the lists
-all_finish : (phases : List (List (List Event))) (times : List ℕ) (es : List Event)
+pub all_finish : (phases : List (List (List Event))) (times : List ℕ) (es : List Event)
     → AreAllAt phases → MergesOf phases times es
     → Finishes (all_left phases times) es × IsLeftAt (all_left phases times)
 all_finish [] times es at m = absurd m
@@ -419,13 +419,13 @@ module _ (c : Setup) (lists : PortLists) (merge : Recorded) where
       (goes_on es earlier q (t.outs ++ rest) begun at m r.1 events)
 
 -- the first of known events
-known_take : (k : ℕ) (es : List Event) → take k (map Known es) ≡ map Known (take k es)
+pub known_take : (k : ℕ) (es : List Event) → take k (map Known es) ≡ map Known (take k es)
 known_take zero es = refl
 known_take (suc k) [] = refl
 known_take (suc k) (e ∷ es) = ap (λ w. Known e ∷ w) (known_take k es)
 
 -- the events of a run that follows known events are the first of them
-followed : (es fs : List Event) → AgreeFirst (map Known es) fs
+pub followed : (es fs : List Event) → AgreeFirst (map Known es) fs
     → es ≡ fs ++ drop (length fs) es
 followed es fs a =
     let k = length fs in

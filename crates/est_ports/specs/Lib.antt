@@ -5,5 +5,6 @@ pub mod Merges
 pub mod PortRunLaws
 pub mod PortRuns
 pub mod PortTrials
+pub mod PortYields
 pub mod PortsVerdict
 pub mod UsedUpRuns

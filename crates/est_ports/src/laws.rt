@@ -2,6 +2,7 @@
 ghost use Rattle.est_ports.specs.ListsOfEvents.{EventsTellTheirLists};
 ghost use Rattle.est_ports.specs.MergeLaws.{MergesAreAsLong};
 ghost use Rattle.est_ports.specs.PortRunLaws.{PortRunsAreRuns, RunsArePortRuns};
+ghost use Rattle.est_ports.specs.PortYields.{YieldsArePortYields};
 ghost use Rattle.est_ports.specs.UsedUpRuns.{UsedUpRunsExplain, ExplainingRunsUseUp};
 
 /// All merges have as many events.
@@ -32,4 +33,9 @@ pub fn used_up_runs_explain()
 /// A bounded run that explains a merge uses the lists up.
 pub fn explaining_runs_use_up()
     ensures { ExplainingRunsUseUp }
+{}
+
+/// What a bounded run yields of a merge a port run yields.
+pub fn yields_are_port_yields()
+    ensures { YieldsArePortYields }
 {}
