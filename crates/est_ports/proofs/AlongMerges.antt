@@ -3,6 +3,7 @@ use Rattle.std.proofs.Common.{◌≡◌, List, [], ◌∷◌, ◌++◌, map, ref
 use Rattle.std.proofs.Common.{◌∙◌, append_assoc}
 use Rattle.std.proofs.lemmas.List.{map-append}
 use Rattle.est_meaning.proofs.AgreementLaws.{agree_self}
+use Rattle.est_meaning.specs.Agreement.{AgreeFirst}
 use Rattle.est_meaning.specs.RecordedTraces.{Recorded, known_trace}
 use Rattle.est_meaning.specs.Run.{Setup, IsBoundedRun, IsFromOutside, Takes, Moves}
 use Rattle.est_meaning.specs.declared.event.Event.{Event}
@@ -14,6 +15,15 @@ use Rattle.est_ports.specs.declared.moves.PortMove.TheVariants.{TakeAt, Pass, Fi
 use Rattle.est_ports.specs.PortRunLaws.{PortRunsAreRuns, plain_move, plain_place}
 use Rattle.est_ports.specs.PortRuns.{PortPlace, Left, MovesOn, IsPortRun, along, after_outside}
 use Rattle.est_ports.proofs.Finishing.{added, move_adds, run_merges, run_finish}
+
+-- the first of known events agree with them
+pub known_first : (es rest : List Event) → AgreeFirst (map Known (es ++ rest)) es
+known_first es rest = record {
+  front = map Known es;
+  rest = map Known rest;
+  split = map-append Known es rest;
+  agree = agree_self es;
+}
 
 module _ (c : Setup) (merge : Recorded) where
   -- an event from outside that is the next one of the merge is taken
@@ -74,8 +84,7 @@ port_runs_are_runs c lists run p allowed r =
           known = refl;
           merges = run_merges c lists run p f.0 allowed.many r f.1;
         };
-        rest = f.0;
-        goes_on = refl;
         is_run = runs_along c merge lists run p f.0 r refl;
+        follows = known_first p.events f.0;
       },
     )

@@ -84,7 +84,7 @@ move_adds c q p (Fire f) t = record {
 -- PORT RUNS
 
 -- what uses up all of the lists is a merge
-started : (phases : List (List (List Event))) (times : List ℕ) (es : List Event)
+pub started : (phases : List (List (List Event))) (times : List ℕ) (es : List Event)
     → length phases ≡ length times + 1 → Finishes (all_left phases times) es
     → MergesOf phases times es
 started [] times es n f = (let never : ⊥ = omega arith in absurd never)
@@ -146,7 +146,7 @@ some_order (es ∷ lists) =
     (es ++ o.0, first_list es lists o.0 (behind_empty lists o.0 o.1))
 
 -- some events use up phases and their times
-some_finish : (now : List (List Event)) (later : List (List (List Event))) (times : List ℕ)
+pub some_finish : (now : List (List Event)) (later : List (List (List Event))) (times : List ℕ)
     → length later ≡ length times → (es : List Event) × MergesOf (now ∷ later) times es
 some_finish now [] [] n = (let o = some_order now in (o.0, (refl, o.1)))
 some_finish now [] (u ∷ us) n = (let never : ⊥ = omega arith in absurd never)
@@ -157,7 +157,7 @@ some_finish now (p ∷ ps) (u ∷ us) n =
     (o.0 ++ event.Passes u ∷ f.0, (o.0, f.0, refl, o.1, f.1))
 
 -- as many times are left as phases after the current one
-abbrev IsEven : Left → Type 0
+abbrev pub IsEven : Left → Type 0
 IsEven left = length left.later ≡ length left.times
 
 -- an event changes nothing of that
@@ -165,7 +165,7 @@ next_even : (left after : Left) (e : Event) → IsNextAt left e after → IsEven
 next_even left after e n even = subst IsEven (sym n.after_is) even
 
 -- nor do several
-all_even : (left after : Left) (es : List Event) → AreNext left es after → IsEven left
+pub all_even : (left after : Left) (es : List Event) → AreNext left es after → IsEven left
     → IsEven after
 all_even left after es none even = even
 all_even left after es (more {middle = middle} {e = e} {es = later} n a) even =
@@ -185,13 +185,13 @@ move_even c q p (Fire f) t even = subst (λ (w : PortPlace). IsEven w.left) (sym
     (all_even q.left t.left t.outs t.next even)
 
 -- so it is at the beginning
-start_even : (phases : List (List (List Event))) (times : List ℕ)
+pub start_even : (phases : List (List (List Event))) (times : List ℕ)
     → length phases ≡ length times + 1 → IsEven (all_left phases times)
 start_even [] times n = (let never : ⊥ = omega arith in absurd never)
 start_even (p ∷ ps) times n = omega arith
 
 -- and after a port run
-run_even : (c : Setup) (lists : PortLists) (run : List PortMove) (p : PortPlace)
+pub run_even : (c : Setup) (lists : PortLists) (run : List PortMove) (p : PortPlace)
     → length lists.phases ≡ length lists.times + 1 → IsPortRun c lists run p → IsEven p.left
 run_even c lists [] p n s = subst (λ (w : PortPlace). IsEven w.left) (sym s.place_is)
     (all_even (all_left lists.phases lists.times) s.left c.start_outs s.next

@@ -61,7 +61,7 @@ merged (p ∷ ps) (u ∷ us) es m =
     omega arith
 
 -- as many events are expected as are known
-known_length : (es : List Event) → length (map Known es) ≡ length es
+pub known_length : (es : List Event) → length (map Known es) ≡ length es
 known_length [] = refl
 known_length (e ∷ es) = (let n = known_length es in omega arith)
 

@@ -1,8 +1,7 @@
 -- What holds of port runs: they are the runs along merges.
-use Rattle.std.specs.Prelude.{◌≡◌, List, ◌++◌, map}
-use Rattle.est_meaning.specs.RecordedTraces.{Recorded, known_trace}
+use Rattle.std.specs.Prelude.{◌≡◌, List, map}
+use Rattle.est_meaning.specs.RecordedTraces.{Recorded}
 use Rattle.est_meaning.specs.Run.{Setup, Place, IsBegun, IsBoundedRun, Follows}
-use Rattle.est_meaning.specs.declared.event.Event.{Event}
 use Rattle.est_meaning.specs.declared.run.Move.{Move}
 use Rattle.est_meaning.specs.declared.run.Move.TheVariants as move
 use Rattle.est_ports.specs.declared.lists.PortLists.{PortLists}
@@ -22,14 +21,12 @@ abbrev pub plain_place : PortPlace → Place
 plain_place p = record
     { situation = p.situation; events = p.events; silent_in_row = p.silent_in_row }
 
--- A port run is a bounded run along the merge, which begins with its events, so that it follows the
--- merge.
+-- a port run is a bounded run along the merge, and follows it
 pub record IsRunAlong (c : Setup) (lists : PortLists) (run : List PortMove) (p : PortPlace)
     (merge : Recorded) : Type 0 where
   pub is_merge : IsMerge lists merge
-  pub rest : List Event
-  pub goes_on : merge ≡ known_trace (p.events ++ rest)
   pub is_run : IsBoundedRun (along c merge) (map plain_move run) (plain_place p)
+  pub follows : Follows (along c merge) (plain_place p)
 
 -- each port run along allowed lists is a run along some merge
 abbrev pub PortRunsAreRuns : Type 0

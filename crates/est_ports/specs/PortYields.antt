@@ -47,3 +47,15 @@ abbrev pub YieldsArePortYields : Type 0
 YieldsArePortYields = (c : Setup) (lists : PortLists) (merge : Recorded) (run : List Move) (k : ℕ)
     → IsBegun c → AreAllowedLists c.spec lists → IsMerge lists merge
     → YieldsFirst (along c merge) run k → IsYieldedBy c lists run k
+
+-- a merge of which a port run yields so many events as a run does
+pub record YieldsOfMerge (c : Setup) (lists : PortLists) (run : List PortMove) (k : ℕ) : Type 0
+  where
+    pub merge : Recorded
+    pub is_merge : IsMerge lists merge
+    pub yields : YieldsFirst (along c merge) (map plain_move run) k
+
+-- what a port run yields it yields of some merge
+abbrev pub PortYieldsAreYields : Type 0
+PortYieldsAreYields = (c : Setup) (lists : PortLists) (run : List PortMove) (k : ℕ)
+    → AreAllowedLists c.spec lists → PortYields c lists run k → YieldsOfMerge c lists run k

@@ -2,7 +2,7 @@
 ghost use Rattle.est_ports.specs.ListsOfEvents.{EventsTellTheirLists};
 ghost use Rattle.est_ports.specs.MergeLaws.{MergesAreAsLong};
 ghost use Rattle.est_ports.specs.PortRunLaws.{PortRunsAreRuns, RunsArePortRuns};
-ghost use Rattle.est_ports.specs.PortYields.{YieldsArePortYields};
+ghost use Rattle.est_ports.specs.PortYields.{YieldsArePortYields, PortYieldsAreYields};
 ghost use Rattle.est_ports.specs.UsedUpRuns.{UsedUpRunsExplain, ExplainingRunsUseUp};
 
 /// All merges have as many events.
@@ -38,4 +38,9 @@ pub fn explaining_runs_use_up()
 /// What a bounded run yields of a merge a port run yields.
 pub fn yields_are_port_yields()
     ensures { YieldsArePortYields }
+{}
+
+/// What a port run yields it yields of some merge.
+pub fn port_yields_are_yields()
+    ensures { PortYieldsAreYields }
 {}
