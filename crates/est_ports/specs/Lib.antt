@@ -8,3 +8,4 @@ pub mod PortTrials
 pub mod PortYields
 pub mod PortsVerdict
 pub mod UsedUpRuns
+pub mod VerdictLaws

@@ -4,6 +4,7 @@ ghost use Rattle.est_ports.specs.MergeLaws.{MergesAreAsLong};
 ghost use Rattle.est_ports.specs.PortRunLaws.{PortRunsAreRuns, RunsArePortRuns};
 ghost use Rattle.est_ports.specs.PortYields.{YieldsArePortYields, PortYieldsAreYields};
 ghost use Rattle.est_ports.specs.UsedUpRuns.{UsedUpRunsExplain, ExplainingRunsUseUp};
+ghost use Rattle.est_ports.specs.VerdictLaws.{VerdictsAgree};
 
 /// All merges have as many events.
 pub fn merges_are_as_long()
@@ -43,4 +44,9 @@ pub fn yields_are_port_yields()
 /// What a port run yields it yields of some merge.
 pub fn port_yields_are_yields()
     ensures { PortYieldsAreYields }
+{}
+
+/// Right verdicts do not speak against each other, and tell one number of events.
+pub fn verdicts_agree()
+    ensures { VerdictsAgree }
 {}
