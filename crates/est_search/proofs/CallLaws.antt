@@ -34,14 +34,16 @@ use Rattle.est_meaning.proofs.Endings.{not_true, ends_there, ends_here}
 use Rattle.est_meaning.proofs.RunLaws.{bounded_is_run}
 use Rattle.est_meaning.proofs.Takings.{IsKnownOutside, takes_at, inside_stays, none_taken}
 use Rattle.est_meaning.proofs.StackLaws.{fired_done, fired_fault, fired_limit}
-use Rattle.est_search.specs.declared.path.Stage.TheVariants.{Fresh, Taken, Listed}
-use Rattle.est_search.specs.declared.path.Path.{Path}
+use Rattle.run_paths.specs.declared.path.Stage.{Stage}
+use Rattle.run_paths.specs.declared.path.Stage.TheVariants.{Fresh, Taken, Listed}
+use Rattle.run_paths.specs.declared.path.Path.{Path}
 use Rattle.est_search.specs.declared.walk.Notes.{Notes}
 use Rattle.est_search.specs.declared.walk.Walk.{Walk}
 use Rattle.est_search.specs.declared.walk.Landed.TheVariants.{On, Off}
 use Rattle.est_search.specs.inside.Agreement.{AgreeFor}
-use Rattle.est_search.specs.inside.Path.{View, view_of, place_at, entered, with_firings, with_taken}
-use Rattle.est_search.specs.inside.Path.{IsNext, IsUndone, stage_after, HasReached, HasKept}
+use Rattle.run_paths.specs.Paths.{View, view_of, entered, with_tries, IsNext, IsUndone, HasReached}
+use Rattle.run_paths.specs.Paths.{HasKept}
+use Rattle.est_search.specs.inside.Path.{place_at, with_taken, stage_after, gone_back}
 use Rattle.est_search.specs.inside.Walk.{IsOnWay, IsWalk, IsReady, IsTrying, IsFound, Accepts}
 use Rattle.est_search.specs.inside.Walk.{HasLedOn, HasLanded, KnowsAll, IsOver, weight_of, load}
 use Rattle.est_search.proofs.WalkLaws.{skipped, taken_found, taken_on, settled_on, unsettled_on}
@@ -49,7 +51,7 @@ use Rattle.est_search.proofs.FiringLaws.{fire_possible, over, fault_on, limit_on
 use Rattle.est_search.proofs.FiringLaws.{departed_on, led_found, led_on, back_depth, back_on}
 use Rattle.est_search.proofs.FiringLaws.{all_done}
 
-pub made_many : (p : Path) → length p.moves.items ≡ length (view_of p).moves
+pub made_many : (p : Path Move Firing) → length p.moves.items ≡ length (view_of p).moves
 made_many p = sym (length-reverse p.moves.items)
 
 pub pushed_same : (s t : Situation) (a b : Stack) → pushed s a ≡ pushed t b → a ≡ b
@@ -169,7 +171,7 @@ module _ (c : Setup) (spec : Spec) (limit silent : ℕ) (trace : Recorded) (stac
 
       taken_whole : EndsIn stack'.now → IsFound c stack' true new
       taken_whole end =
-          subst (λ h. Accepts c h new.tried) (sym (ap (λ (v : View). v.moves) path))
+          subst (λ h. Accepts c h new.tried) (sym (ap (λ (v : View Move Firing). v.moves) path))
           (subst (λ n. Accepts c (Take ∷ (view_of w.path).moves) n) (sym tried)
           (taken_found c stack (view_of w.path) w.tried w.best w.notes r.on_way fresh e
           (next_within lt) (known_there e known) outside (subst EndsIn now_there end)))
@@ -202,19 +204,19 @@ module _ (c : Setup) (spec : Spec) (limit silent : ℕ) (trace : Recorded) (stac
 module _ (c : Setup) (spec : Spec) (limit silent : ℕ) (trace : Recorded) (stack stack' : Stack)
     (w new : Walk) (r : IsReady c spec limit silent trace stack w) (taken : w.path.stage ≡ Taken)
     (offers : List Firing) (same : stack' ≡ stack)
-    (path : view_of new.path ≡ with_firings (view_of w.path) offers) (tried : new.tried ≡ w.tried)
-    (best : new.best ≡ w.best) where
+    (path : view_of new.path ≡ with_tries (view_of w.path) Listed offers)
+    (tried : new.tried ≡ w.tried) (best : new.best ≡ w.best) where
   listed_call : (notes : Notes) → new.notes ≡ notes
-      → IsOnWay c stack (with_firings (view_of w.path) offers) w.tried w.best notes
+      → IsOnWay c stack (with_tries (view_of w.path) Listed offers) w.tried w.best notes
       → IsWalk c stack' new
   listed_call notes notes_are way =
       subst (λ s. IsOnWay c s (view_of new.path) new.tried new.best new.notes) (sym same)
       (subst (λ v. IsOnWay c stack v new.tried new.best new.notes) (sym path)
-      (subst (λ n. IsOnWay c stack (with_firings (view_of w.path) offers) n new.best new.notes)
+      (subst (λ n. IsOnWay c stack (with_tries (view_of w.path) Listed offers) n new.best new.notes)
       (sym tried)
-      (subst (λ b. IsOnWay c stack (with_firings (view_of w.path) offers) w.tried b new.notes)
+      (subst (λ b. IsOnWay c stack (with_tries (view_of w.path) Listed offers) w.tried b new.notes)
       (sym best)
-      (subst (λ n. IsOnWay c stack (with_firings (view_of w.path) offers) w.tried w.best n)
+      (subst (λ n. IsOnWay c stack (with_tries (view_of w.path) Listed offers) w.tried w.best n)
       (sym notes_are) way))))
 
   settled_there : IsSettled limit (text_of spec) stack.now
@@ -268,16 +270,16 @@ module _ (c : Setup) (spec : Spec) (limit silent : ℕ) (trace : Recorded) (stac
       (fire_possible c stack t.before w.tried w.best w.notes t.on_way f (view_of w.path) t.next))
 
   moves_same : (view_of w.path).moves ≡ t.before.moves
-  moves_same = ap (λ (v : View). v.moves) t.next.next_is
+  moves_same = ap (λ (v : View Move Firing). v.moves) t.next.next_is
 
   trace_length : length c.trace.events ≡ length trace.events
   trace_length = ap (λ (r : Recorded). length r.events) t.suits.trace_is
 
   top_matched : w.path.top.matched ≡ t.before.top.matched
-  top_matched = ap (λ (v : View). v.top.matched) t.next.next_is
+  top_matched = ap (λ (v : View Move Firing). v.top.matched) t.next.next_is
 
   top_silent : w.path.top.silent ≡ t.before.top.silent
-  top_silent = ap (λ (v : View). v.top.silent) t.next.next_is
+  top_silent = ap (λ (v : View Move Firing). v.top.silent) t.next.next_is
 
   pub trying_within : w.path.top.matched ≤ length trace.events
   trying_within =
@@ -333,14 +335,14 @@ module _ (c : Setup) (spec : Spec) (limit silent : ℕ) (trace : Recorded) (stac
       done_there = outcome_there (Done mid.outs.items done.0) done.1
 
       matched_is : mid.path.top.matched ≡ t.before.top.matched
-      matched_is = ap (λ (p : Path). p.top.matched) path ∙ top_matched
+      matched_is = ap (λ (p : Path Move Firing). p.top.matched) path ∙ top_matched
 
       silent_is : mid.path.top.silent ≡ t.before.top.silent
-      silent_is = ap (λ (p : Path). p.top.silent) path ∙ top_silent
+      silent_is = ap (λ (p : Path Move Firing). p.top.silent) path ∙ top_silent
 
       made_is : length mid.path.moves.items ≡ length t.before.moves
-      made_is = ap (λ (p : Path). length p.moves.items) path ∙ made_many w.path ∙ ap length
-          moves_same
+      made_is = ap (λ (p : Path Move Firing). length p.moves.items) path ∙ made_many w.path
+          ∙ ap length moves_same
 
       few_there : silent_after mid.path.top.silent mid.outs.items ≤ silent
           → silent_after t.before.top.silent mid.outs.items ≤ c.silent
@@ -401,7 +403,7 @@ module _ (c : Setup) (spec : Spec) (limit silent : ℕ) (trace : Recorded) (stac
             ≡ entered (view_of w.path) (Fire f) (t.before.top.matched + length mid.outs.items)
             (silent_after t.before.top.silent mid.outs.items)
         entered_there l = l.path
-            ∙ ap (λ (p : Path). entered (view_of p) (Fire f) (mid.path.top.matched
+            ∙ ap (λ (p : Path Move Firing). entered (view_of p) (Fire f) (mid.path.top.matched
             + length mid.outs.items) (silent_after mid.path.top.silent mid.outs.items)) path
             ∙ ap (λ n. entered (view_of w.path) (Fire f) (n + length mid.outs.items)
             (silent_after mid.path.top.silent mid.outs.items)) matched_is
@@ -436,7 +438,8 @@ module _ (c : Setup) (spec : Spec) (limit silent : ℕ) (trace : Recorded) (stac
             done.0 mid.outs.items done_there (few_there l.few)
             (agree_there (length mid.outs.items) l.agree) end in
             let h : (view_of new.path).moves ≡ Fire f ∷ t.before.moves =
-            ap (λ (v : View). v.moves) (entered_there l) ∙ ap (λ u. Fire f ∷ u) moves_same in
+            ap (λ (v : View Move Firing). v.moves) (entered_there l)
+            ∙ ap (λ u. Fire f ∷ u) moves_same in
             let n' : new.tried ≡ w.tried + 1 = tried' ∙ tried in
             rw (h, n') x
 
@@ -454,7 +457,7 @@ module _ (c : Setup) (spec : Spec) (limit silent : ℕ) (trace : Recorded) (stac
             → IsFound c end found new
         landed_call end found again l h =
             let many : new.path.top.matched ≡ t.before.top.matched + length mid.outs.items =
-            ap (λ (v : View). v.top.matched) (entered_there l) in
+            ap (λ (v : View Move Firing). v.top.matched) (entered_there l) in
             let now : end.now ≡ done.0 = ap (λ (s : Stack). s.now) (again ∙ done.2) in
             subst (λ s. IsFound c s found new) (sym again) (landed_by found l
             (subst (λ s. IsTrue found ↔ IsTraceEnd trace limit (text_of spec) s
@@ -463,22 +466,30 @@ module _ (c : Setup) (spec : Spec) (limit silent : ℕ) (trace : Recorded) (stac
 
 -- BACK
 
-load_after : (n : ℕ) (made : Move) (w : View) → w.stage ≡ stage_after made
-    → load n w ≤ 2 + 2 * length w.lower
-load_after n Take w e =
-    (let k : weight_of n w.top.matched w.stage ≡ 2 = ap (weight_of n w.top.matched) e in omega
-    arith)
-load_after n (Fire f) w e =
-    (let k : weight_of n w.top.matched w.stage ≡ 1 = ap (weight_of n w.top.matched) e in omega
-    arith)
+load_after : (n : ℕ) (made : Move) (w : View Move Firing)
+    → load n (gone_back w made) ≤ 2 + 2 * length w.lower
+load_after n Take w = omega arith
+load_after n (Fire f) w = omega arith
 
-pub load_back : (n : ℕ) (made : Move) (v w : View) → v.stage ≡ Listed → IsUndone v made w
-    → load n w < load n v
+load_back : (n : ℕ) (made : Move) (v w : View Move Firing) → v.stage ≡ Listed → IsUndone v made w
+    → load n (gone_back w made) < load n v
 load_back n made v w e u =
     let k : weight_of n v.top.matched v.stage ≡ 1 = ap (weight_of n v.top.matched) e in
     let l : length v.lower ≡ length w.lower + 1 = ap length u.lower ∙ (omega arith) in
-    let m = load_after n made w u.stage in
+    let m = load_after n made w in
     omega arith
+
+-- where the stage is set after the last move was undone
+gone_there : (made : Move) (p : Path Move Firing) (stage : Stage) → stage ≡ stage_after made
+    → view_of (record p { stage = stage }) ≡ gone_back (view_of p) made
+gone_there made p stage e = ap (λ s. let v : View Move Firing = record (view_of p) { stage = s } in
+    v) e
+
+pub load_gone : (n : ℕ) (made : Move) (v : View Move Firing) (p : Path Move Firing) (stage : Stage)
+    → v.stage ≡ Listed → IsUndone v made (view_of p) → stage ≡ stage_after made
+    → load n (view_of (record p { stage = stage })) < load n v
+load_gone n made v p stage e u same = subst (λ w. load n w < load n v)
+    (sym (gone_there made p stage same)) (load_back n made v (view_of p) e u)
 
 -- one firing more was tried
 pub work_tried : (n budget t t' a b : ℕ) → t < budget → t' ≡ t + 1 → a < b + (3 * n + 5)
@@ -491,24 +502,26 @@ work_tried n budget t t' a b lt e less =
 
 module _ (c : Setup) (stack : Stack) (w : Walk) (way : IsWalk c stack w)
     (stage : w.path.stage ≡ Listed)
-    (spent : (w.path.top.left ≡ 0) ⊎ (w.path.firings.items ≡ [])) where
-  spent_view : ((view_of w.path).top.left ≡ 0) ⊎ ((view_of w.path).firings ≡ [])
+    (spent : (w.path.top.left ≡ 0) ⊎ (w.path.tries.items ≡ [])) where
+  spent_view : ((view_of w.path).top.left ≡ 0) ⊎ ((view_of w.path).tries ≡ [])
   spent_view = elim spent [ inl e ↦ inl e | inr e ↦ inr (ap reverse e) ]
 
-  pub depth_call : (made : Move) (p : Path) → IsUndone (view_of w.path) made (view_of p)
+  pub depth_call : (made : Move) (p : Path Move Firing) → IsUndone (view_of w.path) made (view_of p)
       → 0 < length stack.below
   depth_call made p undone = back_depth c stack (view_of w.path) w.tried w.best w.notes way stage
       spent_view made (view_of p) undone
 
-  pub back_call : (new : Walk) (stack' : Stack) (made : Move)
-      → IsUndone (view_of w.path) made (view_of new.path) → stack ≡ pushed stack.now stack'
-      → HasKept w.best new.best (length new.path.moves.items) made → new.tried ≡ w.tried
+  pub back_call : (new : Walk) (p : Path Move Firing) (stage' : Stage) (stack' : Stack)
+      (made : Move) → IsUndone (view_of w.path) made (view_of p) → stage' ≡ stage_after made
+      → new.path ≡ record p { stage = stage' } → stack ≡ pushed stack.now stack'
+      → HasKept w.best new.best (length p.moves.items) made → new.tried ≡ w.tried
       → new.notes ≡ w.notes → IsWalk c stack' new
-  back_call new stack' made undone back kept tried notes =
+  back_call new p stage' stack' made undone stage_is path back kept tried notes =
       let on = back_on c stack (view_of w.path) w.tried w.best w.notes way stage spent_view made
-      (view_of new.path) stack' new.best (length new.path.moves.items) undone back
-      (made_many new.path) kept in
-      rw (tried, notes) on
+      (view_of p) stack' new.best (length p.moves.items) undone back (made_many p) kept in
+      let there : view_of new.path ≡ gone_back (view_of p) made =
+      ap view_of path ∙ gone_there made p stage' stage_is in
+      rw (there, tried, notes) on
 
   pub done_call : (w.path.lower.items ≡ []) ⊎ (w.path.moves.items ≡ [])
       → KnowsAll c (λ x. ⊥) [] w.tried w.best w.notes
@@ -520,29 +533,31 @@ module _ (c : Setup) (stack : Stack) (w : Walk) (way : IsWalk c stack w)
 nil_reversed : {X : Type 0} (xs : List X) → reverse xs ≡ [] → xs ≡ []
 nil_reversed xs e = sym (reverse-reverse xs) ∙ ap reverse e
 
-pub stage_kept : (p q : Path) → view_of q ≡ view_of p → p.stage ≡ Listed → q.stage ≡ Listed
-stage_kept p q same e = ap (λ (v : View). v.stage) same ∙ e
+pub stage_kept : (p q : Path Move Firing) → view_of q ≡ view_of p → p.stage ≡ Listed
+    → q.stage ≡ Listed
+stage_kept p q same e = ap (λ (v : View Move Firing). v.stage) same ∙ e
 
-pub spent_kept : (p q : Path) → view_of q ≡ view_of p
-    → (p.top.left ≡ 0) ⊎ (p.firings.items ≡ []) → (q.top.left ≡ 0) ⊎ (q.firings.items ≡ [])
+pub spent_kept : (p q : Path Move Firing) → view_of q ≡ view_of p
+    → (p.top.left ≡ 0) ⊎ (p.tries.items ≡ []) → (q.top.left ≡ 0) ⊎ (q.tries.items ≡ [])
 spent_kept p q same spent = elim spent [
-  | inl e ↦ inl (ap (λ (v : View). v.top.left) same ∙ e)
-  | inr e ↦ inr (nil_reversed q.firings.items (ap (λ (v : View). v.firings) same ∙ ap reverse e))
+  | inl e ↦ inl (ap (λ (v : View Move Firing). v.top.left) same ∙ e)
+  | inr e ↦ inr (nil_reversed q.tries.items (ap (λ (v : View Move Firing). v.tries) same
+      ∙ ap reverse e))
 ]
 
-pub way_kept : (c : Setup) (stack : Stack) (w : Walk) (q : Path) → view_of q ≡ view_of w.path
-    → IsWalk c stack w → IsWalk c stack (record w { path = q })
+pub way_kept : (c : Setup) (stack : Stack) (w : Walk) (q : Path Move Firing)
+    → view_of q ≡ view_of w.path → IsWalk c stack w → IsWalk c stack (record w { path = q })
 way_kept c stack w q same way = subst (λ v. IsOnWay c stack v w.tried w.best w.notes) (sym same) way
 
-pub load_kept : (n : ℕ) (p q r : Path) → view_of q ≡ view_of p
+pub load_kept : (n : ℕ) (p q r : Path Move Firing) → view_of q ≡ view_of p
     → load n (view_of r) < load n (view_of q) → load n (view_of r) < load n (view_of p)
 load_kept n p q r same lt = subst (λ v. load n (view_of r) < load n v) same lt
 
-pub load_next : (n : ℕ) (v w : View) (f : Firing) → IsNext v f w → load n w ≡ load n v
+pub load_next : (n : ℕ) (v w : View Move Firing) (f : Firing) → IsNext v f w → load n w ≡ load n v
 load_next n v w f next = ap (load n) next.next_is
 
 pub trying : (c : Setup) (spec : Spec) (limit silent : ℕ) (trace : Recorded) (stack : Stack)
-    (w : Walk) (f : Firing) (p : Path) → IsReady c spec limit silent trace stack w
+    (w : Walk) (f : Firing) (p : Path Move Firing) → IsReady c spec limit silent trace stack w
     → IsNext (view_of w.path) f (view_of p)
     → IsTrying c spec limit silent trace stack (record w { path = p }) f
 trying c spec limit silent trace stack w f p r next = record {
@@ -552,7 +567,7 @@ trying c spec limit silent trace stack w f p r next = record {
   on_way = r.on_way;
 }
 
-pub over_call : (c : Setup) (stack : Stack) (w : Walk) (f : Firing) (p : Path)
+pub over_call : (c : Setup) (stack : Stack) (w : Walk) (f : Firing) (p : Path Move Firing)
     → IsWalk c stack w → IsNext (view_of w.path) f (view_of p) → IsOver c w.tried
 over_call c stack w f p way next =
     over c stack (view_of w.path) w.tried w.best w.notes way f (view_of p) next

@@ -24,18 +24,18 @@ use Rattle.est_meaning.proofs.Endings.{whole_ends}
 use Rattle.est_meaning.proofs.OrderLaws.{marks_same, starts_self, starts_one}
 use Rattle.est_meaning.proofs.RunLaws.{one_place, explains_follows}
 use Rattle.est_meaning.proofs.TreeLaws.{IsInTree, IsOnTree, passes_in_tree, faults_in_tree}
-use Rattle.est_search.specs.declared.path.Stage.TheVariants.{Listed}
-use Rattle.est_search.specs.declared.path.Level.{Level}
-use Rattle.est_search.specs.declared.path.Best.{Best}
+use Rattle.run_paths.specs.declared.path.Stage.TheVariants.{Listed}
+use Rattle.run_paths.specs.declared.path.Level.{Level}
+use Rattle.run_paths.specs.declared.path.Best.{Best}
 use Rattle.est_search.specs.declared.verdict.Faulted.{Faulted}
 use Rattle.est_search.specs.declared.walk.Passed.{Passed}
 use Rattle.est_search.specs.declared.walk.Notes.{Notes}
 use Rattle.est_search.specs.inside.Ahead.{IsAfter, IsAhead}
 use Rattle.est_search.specs.inside.Known.{Knows, IsNoted}
 use Rattle.est_search.specs.inside.Agreement.{AgreeFor}
-use Rattle.est_search.specs.inside.Path.{View, place_at, entered}
-use Rattle.est_search.specs.inside.Path.{IsNext, IsUndone, stage_after, StageIs}
-use Rattle.est_search.specs.inside.Path.{AreLeftBelow, AreLower, IsAt, HasReached, HasKept}
+use Rattle.run_paths.specs.Paths.{View, entered, IsNext, IsUndone, HasReached, HasKept}
+use Rattle.est_search.specs.inside.Path.{place_at, gone_back, stage_after, StageIs, AreLeftBelow}
+use Rattle.est_search.specs.inside.Path.{AreLower, IsAt}
 use Rattle.est_search.specs.inside.Walk.{passed_at, faulted_at, FaultIs, NotesAre, KnowsAll}
 use Rattle.est_search.specs.inside.Walk.{IsOnWay, Accepts, IsOver}
 use Rattle.est_search.proofs.AheadLaws.{Turn, turn_on, turn_off, skip_back, skip_all, IsNextMark}
@@ -46,20 +46,23 @@ use Rattle.est_search.proofs.EventLaws.{agree_now, is_unfinished, explains_so}
 use Rattle.est_search.proofs.PathLaws.{inner_at}
 use Rattle.est_search.proofs.PathLaws.{firing_next, firing_ends, none_left, left_next, IsNextOf}
 use Rattle.est_search.proofs.PathLaws.{next_mine, none_mine, IsListed, listed_stage, spent_stage}
-use Rattle.est_search.proofs.PathLaws.{BestAfter, best_reached, kept_undone, at_most}
+use Rattle.run_paths.proofs.BestRuns.{at_most, kept_undone}
+use Rattle.est_search.proofs.PathLaws.{BestAfter, best_reached}
 use Rattle.est_search.proofs.WalkLaws.{all_skip, all_at, all_after, trying_passes, trying_faults}
 use Rattle.est_search.proofs.WalkLaws.{events_noted}
 
 -- FIRINGS
 
-module _ (c : Setup) (stack : Stack) (v : View) (tried : ℕ) (best : Best) (notes : Notes)
-    (way : IsOnWay c stack v tried best notes) (f : Firing) (w : View) (next : IsNext v f w) where
+module _ (c : Setup) (stack : Stack) (v : View Move Firing) (tried : ℕ) (best : Best Move)
+    (notes : Notes)
+    (way : IsOnWay c stack v tried best notes) (f : Firing) (w : View Move Firing)
+    (next : IsNext v f w) where
   abbrev pub stands : Place
   stands = place_at stack.now v.top way.at.node.events
 
-  mine_next : IsNextOf way.at.mine way.at.rest f next.firings next.left
-  mine_next = next_mine way.at.mine way.at.rest f next.firings next.left
-      (sym next.firings_are ∙ way.at.firings_are) (way.at.count ∙ next.left_is)
+  mine_next : IsNextOf way.at.mine way.at.rest f next.tries next.left
+  mine_next = next_mine way.at.mine way.at.rest f next.tries next.left
+      (sym next.tries_are ∙ way.at.firings_are) (way.at.count ∙ next.left_is)
 
   listed : IsListed c stack.now v.stage way.dealt (f ∷ mine_next.others)
   listed = listed_stage c stack.now v.stage way.dealt way.at.mine f mine_next.others
@@ -129,12 +132,12 @@ module _ (c : Setup) (stack : Stack) (v : View) (tried : ℕ) (best : Best) (not
   })
 
   moves_same : w.moves ≡ v.moves
-  moves_same = ap (λ (u : View). u.moves) next.next_is
+  moves_same = ap (λ (u : View Move Firing). u.moves) next.next_is
 
   -- IT DOES NOT LEAD ON
 
   module _ (off : IsOnTree c (Fire f ∷ v.moves) → ⊥) where
-    fired_off : (best' : Best) (notes' : Notes)
+    fired_off : (best' : Best Move) (notes' : Notes)
         → BestAfter c (IsAhead (marks_of v.moves) (Some (Trying f))) v.moves best'
         → (IsNoted (PassesLimit c) (IsAhead (marks_of v.moves) (Some listed.mark))
         (passed_at notes.passed)
@@ -366,7 +369,7 @@ module _ (c : Setup) (stack : Stack) (v : View) (tried : ℕ) (best : Best) (not
             way.at.node.events outs v.top.matched k matched fired_events agree j
             (subst (λ u. YieldsFirst c u j) (marks_same r (Fire f ∷ v.moves) same) y)
 
-        pub departed_on : (best' : Best) (made : ℕ) → made ≡ length v.moves
+        pub departed_on : (best' : Best Move) (made : ℕ) → made ≡ length v.moves
             → HasReached best best' made (Fire f) (v.top.matched + k) → k < length outs
             → IsOnWay c stack w (tried + 1) best' notes
         departed_on best' made made_is reached short =
@@ -405,7 +408,7 @@ module _ (c : Setup) (stack : Stack) (v : View) (tried : ℕ) (best : Best) (not
         led_agree = agree_now c (Fire f ∷ v.moves) fired fired_run way.at.node.events outs
             v.top.matched matched fired_events agree
 
-        pub led_on : (best' : Best) (made : ℕ) → made ≡ length v.moves
+        pub led_on : (best' : Best Move) (made : ℕ) → made ≡ length v.moves
             → HasReached best best' made (Fire f) (v.top.matched + length outs)
             → (EndsIn s' → ⊥)
             → IsOnWay c (pushed s' stack) (entered w (Fire f) (v.top.matched + length outs)
@@ -421,7 +424,7 @@ module _ (c : Setup) (stack : Stack) (v : View) (tried : ℕ) (best : Best) (not
               dealt = None;
               at = record {
                 mine = [];
-                rest = next.firings;
+                rest = next.tries;
                 firings_are = refl;
                 count = refl;
                 node = record {
@@ -470,10 +473,10 @@ module _ (c : Setup) (stack : Stack) (v : View) (tried : ℕ) (best : Best) (not
 
 -- BACK
 
-yields_kept : (old new : Best) (left : ℕ) (made : Move) → HasKept old new left made
+yields_kept : (old new : Best Move) (left : ℕ) (made : Move) → HasKept old new left made
     → new.yields ≡ old.yields
 yields_kept old new left made k = elim (at_most old.common left) [
-  | inl le ↦ ap (λ (b : Best). b.yields) (k.apart le)
+  | inl le ↦ ap (λ (b : Best Move). b.yields) (k.apart le)
   | inr lt ↦ (k.shared lt).0
 ]
 
@@ -493,9 +496,10 @@ no_moves : (c : Setup) (h : List Move) (below : List Situation) (firings : List 
 no_moves c [] below firings a = refl
 no_moves c (m ∷ h) below firings a = absurd a
 
-module _ (c : Setup) (stack : Stack) (v : View) (tried : ℕ) (best : Best) (notes : Notes)
+module _ (c : Setup) (stack : Stack) (v : View Move Firing) (tried : ℕ) (best : Best Move)
+    (notes : Notes)
     (way : IsOnWay c stack v tried best notes) (stage : v.stage ≡ Listed)
-    (spent : (v.top.left ≡ 0) ⊎ (v.firings ≡ [])) where
+    (spent : (v.top.left ≡ 0) ⊎ (v.tries ≡ [])) where
   all_spent : way.at.mine ≡ []
   all_spent = none_mine way.at.mine way.at.rest (elim spent [
     | inl e ↦ inl (way.at.count ∙ e)
@@ -512,15 +516,15 @@ module _ (c : Setup) (stack : Stack) (v : View) (tried : ℕ) (best : Best) (not
       spent_listed.mark way.at.node.is_run spent_listed.past spent_listed.left n x tree
       (subst (λ d. IsAfter d n) spent_listed.dealt_is a) s
 
-  pub back_depth : (made : Move) (w : View) → IsUndone v made w → 0 < length stack.below
+  pub back_depth : (made : Move) (w : View Move Firing) → IsUndone v made w → 0 < length stack.below
   back_depth made w undone =
       lower_depth c w.top w.lower made w.moves stack.below way.at.rest
       (subst (λ ls. AreLower c ls (made ∷ w.moves) stack.below way.at.rest) undone.lower
       (subst (λ h. AreLower c v.lower h stack.below way.at.rest) undone.moves way.at.lower))
 
-  pub back_on : (made : Move) (w : View) (stack' : Stack) (best' : Best) (left : ℕ)
+  pub back_on : (made : Move) (w : View Move Firing) (stack' : Stack) (best' : Best Move) (left : ℕ)
       → IsUndone v made w → stack ≡ pushed stack.now stack' → left ≡ length w.moves
-      → HasKept best best' left made → IsOnWay c stack' w tried best' notes
+      → HasKept best best' left made → IsOnWay c stack' (gone_back w made) tried best' notes
   back_on made w stack' best' left undone back left_is kept =
       let below : stack.below ≡ stack'.now ∷ stack'.below = ap (λ (u : Stack). u.below) back in
       let l : AreLower c (w.top ∷ w.lower) (made ∷ w.moves) (stack'.now ∷ stack'.below)
@@ -540,12 +544,11 @@ module _ (c : Setup) (stack : Stack) (v : View) (tried : ℕ) (best : Best) (not
         at = record {
           mine = l.0;
           rest = l.1;
-          firings_are = undone.firings ∙ way.at.firings_are
+          firings_are = undone.tries ∙ way.at.firings_are
               ∙ ap (λ u. u ++ way.at.rest) all_spent ∙ l.2;
           count = l.3;
           node = l.4;
-          stage = subst (λ st. StageIs c stack'.now st (Some (mark_of made)) l.0)
-              (sym undone.stage) (stage_back c stack'.now made l.0 l.5);
+          stage = stage_back c stack'.now made l.0 l.5;
           lower = l.6;
         };
         all = record {

@@ -1,9 +1,7 @@
 -- What is left to be tried, and the best run on a path.
-use Rattle.std.proofs.Common.{◌≡◌, ℕ, suc, ◌+◌, ◌<◌, ◌≤◌, ◌⊎◌, List, [], ◌∷◌, ◌++◌}
-use Rattle.std.proofs.Common.{Option, Some, None, length, take, refl, sym, ap, subst, ◌∙◌}
-use Rattle.std.proofs.Common.{inl, inr, append_assoc, arith}
-use Rattle.std.proofs.lemmas.Bool.{cases_lt}
-use Rattle.std.proofs.lemmas.List.{length-append}
+use Rattle.std.proofs.Common.{◌≡◌, ℕ, ◌+◌, ◌≤◌, ◌⊎◌, List, [], ◌∷◌, ◌++◌}
+use Rattle.std.proofs.Common.{Option, Some, None, length, refl, sym, ap, subst, ◌∙◌}
+use Rattle.std.proofs.Common.{inl, inr, arith}
 use Rattle.est_syntax.specs.Least.{IsIn}
 use Rattle.est_meaning.specs.mean_blocks.GlobalSituation.{Situation}
 use Rattle.est_meaning.specs.mean_blocks.TextByPlace.{text_of}
@@ -17,18 +15,18 @@ use Rattle.est_meaning.specs.Order.{StartsWith}
 use Rattle.est_meaning.specs.Run.{Setup, Place, IsBoundedRun, YieldsFirst}
 use Rattle.est_meaning.specs.Trials.{IsInner}
 use Rattle.est_meaning.proofs.AgreementLaws.{so_many_first}
-use Rattle.est_meaning.proofs.OrderLaws.{firing_irreflexive, mark_transitive, starts_self}
-use Rattle.est_meaning.proofs.OrderLaws.{starts_trans}
+use Rattle.est_meaning.proofs.OrderLaws.{firing_irreflexive, mark_transitive}
 use Rattle.est_meaning.proofs.RunLaws.{one_place}
 use Rattle.est_meaning.proofs.TreeLaws.{IsInTree, IsOnTree, CanGoOn}
-use Rattle.est_search.specs.declared.path.Stage.{Stage}
-use Rattle.est_search.specs.declared.path.Stage.TheVariants.{Fresh, Taken, Listed}
-use Rattle.est_search.specs.declared.path.Level.{Level}
-use Rattle.est_search.specs.declared.path.Best.{Best}
+use Rattle.run_paths.specs.declared.path.Stage.{Stage}
+use Rattle.run_paths.specs.declared.path.Stage.TheVariants.{Fresh, Taken, Listed}
+use Rattle.run_paths.specs.declared.path.Level.{Level}
+use Rattle.run_paths.specs.declared.path.Best.{Best}
 use Rattle.est_search.specs.inside.Ahead.{IsAfter}
 use Rattle.est_search.specs.inside.Known.{KnowsBest}
 use Rattle.est_search.specs.inside.Path.{place_at, IsNode, AreLeft, StageIs}
-use Rattle.est_search.specs.inside.Path.{IsKept, HasReached, HasKept}
+use Rattle.run_paths.specs.Paths.{IsKept, HasReached}
+use Rattle.run_paths.proofs.BestRuns.{at_most, kept_more, kept_reached}
 use Rattle.est_search.proofs.AheadLaws.{Turn, IsNextMark}
 use Rattle.est_search.proofs.KnownLaws.{best_on, best_more}
 
@@ -218,25 +216,13 @@ spent_stage c s stage dealt mine listed e is =
 
 -- the best run after a step
 pub record BestAfter (c : Setup) (P : List Mark → Type 0) (moves : List Move)
-    (best : Best) : Type 0 where
+    (best : Best Move) : Type 0 where
   pub run : List Move
   pub kept : IsKept moves best run
   pub knows : KnowsBest c P best.yields run
 
-kept_more : (moves more : List Move) (best : Best) (run : List Move) → StartsWith more moves
-    → IsKept moves best run → IsKept more best run
-kept_more moves more best run s k = record {
-  start = k.start;
-  starts = starts_trans more moves k.start s k.starts;
-  common = k.common;
-  run_is = k.run_is;
-}
-
-pub at_most : (m n : ℕ) → (m ≤ n) ⊎ (n < m)
-at_most m n = elim (cases_lt n m) [ inl a ↦ inr a | inr a ↦ inl a ]
-
 module _ (c : Setup) (P P' : List Mark → Type 0) (h : List Move) (last : Move)
-    (turn : Turn c P P' (marks_of (last ∷ h))) (old new : Best) (run : List Move) (made k : ℕ)
+    (turn : Turn c P P' (marks_of (last ∷ h))) (old new : Best Move) (run : List Move) (made k : ℕ)
   where
     -- after a run that yields k
     pub best_reached : (more : List Move) → StartsWith more h → made ≡ length h
@@ -258,67 +244,10 @@ module _ (c : Setup) (P P' : List Mark → Type 0) (h : List Move) (last : Move)
               (let raised = reached.more lt in
               record {
                 run = last ∷ h;
-                kept = record {
-                  start = h;
-                  starts = s;
-                  common = sym made_is ∙ sym raised.1;
-                  run_is = ap (λ w. w ++ h) (sym raised.2);
-                };
+                kept = kept_reached h more last old new made k s made_is reached lt;
                 knows = subst (λ n. KnowsBest c P' n (last ∷ h)) (sym raised.0)
                     (best_more c P P' (last ∷ h) turn old.yields k run y (λ j q. few (last ∷ h) j
                     refl q)
                     lt knows);
               })
         ]
-
-pub starts_length : (moves start : List Move) → StartsWith moves start
-    → length start ≤ length moves
-starts_length moves start s =
-    let e : length moves ≡ length s.0 + length start = ap length s.1 ∙ length-append s.0 start in
-    omega arith
-
--- a list starts with a shorter one, or is that list
-pub starts_shorter : (made : Move) (h start later : List Move) → made ∷ h ≡ later ++ start
-    → length start ≤ length h → StartsWith h start
-starts_shorter made h start [] e le = absurd (let n : suc (length h) ≡ length start = ap length e in
-    omega arith)
-starts_shorter made h start (x ∷ later) e le = (let b : h ≡ later ++ start = cc in (later, b))
-
-pub starts_whole : (made : Move) (h start later : List Move) → made ∷ h ≡ later ++ start
-    → length h < length start → start ≡ made ∷ h
-starts_whole made h start [] e lt = sym e
-starts_whole made h start (x ∷ later) e lt =
-    let b : h ≡ later ++ start = cc in
-    let n : length h ≡ length later + length start = ap length b ∙ length-append later start in
-    absurd (omega arith)
-
--- where the last move is undone
-pub kept_undone : (made : Move) (h : List Move) (old new : Best) (run : List Move) (left : ℕ)
-    → left ≡ length h → HasKept old new left made → IsKept (made ∷ h) old run
-    → IsKept h new run
-kept_undone made h old new run left left_is has k =
-    elim (at_most old.common left) [
-      | inl le ↦
-          (let common = k.common in
-          let same = has.apart le in
-          let after : IsKept h old run = record {
-            start = k.start;
-            starts = starts_shorter made h k.start k.starts.0 k.starts.1 (omega arith);
-            common = k.common;
-            run_is = k.run_is;
-          } in
-          subst (λ b. IsKept h b run) (sym same) after)
-      | inr lt ↦
-          (let common = k.common in
-          let s = has.shared lt in
-          let whole : k.start ≡ made ∷ h = starts_whole made h k.start k.starts.0 k.starts.1
-          (omega arith) in
-          record {
-            start = h;
-            starts = starts_self h;
-            common = sym left_is ∙ sym s.1;
-            run_is = k.run_is ∙ ap (λ w. old.tail.items ++ w) whole
-                ∙ sym (append_assoc old.tail.items (made ∷ []) h)
-                ∙ ap (λ w. w ++ h) (sym s.2);
-          })
-    ]

@@ -21,13 +21,14 @@ use Rattle.est_meaning.proofs.Endings.{whole_ends, ends_there, ends_here}
 use Rattle.est_meaning.proofs.OrderLaws.{starts_cases, marks_same}
 use Rattle.est_meaning.proofs.RunLaws.{explains_follows, yields_below_all}
 use Rattle.est_meaning.proofs.TreeLaws.{IsOnTree, starts_on_tree, nothing_starts}
-use Rattle.est_search.specs.declared.path.Best.{Best}
+use Rattle.run_paths.specs.declared.path.Best.{Best}
 use Rattle.est_search.specs.declared.walk.Walk.{Walk}
 use Rattle.est_search.specs.Verdict.{IsRefused, IsVerdict, IsWithinTried}
 use Rattle.est_search.specs.declared.verdict.Verdict.TheVariants.{Accepted, Refused}
 use Rattle.est_search.specs.inside.Ahead.{IsAhead}
 use Rattle.est_search.specs.inside.Agreement.{AgreeFor}
-use Rattle.est_search.specs.inside.Path.{first_view, view_of, AreLower}
+use Rattle.run_paths.specs.Paths.{first_view, view_of}
+use Rattle.est_search.specs.inside.Path.{AreLower}
 use Rattle.est_search.specs.inside.Walk.{Accepts, IsStarting, IsBeginning, IsReady, IsOnWay}
 use Rattle.est_search.proofs.EventLaws.{yields_so, yields_no_more, departs, agree_now}
 use Rattle.est_search.proofs.EventLaws.{is_unfinished, explains_so}
@@ -186,7 +187,7 @@ module _ (c : Setup) (a : AgreeFor c.trace.events 0 c.start_outs (length c.start
         never (whole_ends c (place_in c.start) (length c.start_outs) start_within start_agrees
         (subst (λ u. IsWhole c (place_in u)) (sym now) whole))
 
-    start_on : (stack : Stack) (best : Best) → c.start ≡ stack.now → stack.below ≡ []
+    start_on : (stack : Stack) (best : Best Move) → c.start ≡ stack.now → stack.below ≡ []
         → best.yields ≡ length c.start_outs → best.common ≡ 0 → best.tail.items ≡ []
         → IsOnWay c stack (first_view (length c.start_outs)) 0 best
         (record { passed = None; faulted = None })

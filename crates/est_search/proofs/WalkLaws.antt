@@ -1,7 +1,7 @@
 -- What is known after a step of a search, and the steps that take an event or list the firings.
 use Rattle.std.proofs.Common.{◌≡◌, ℕ, ◌+◌, ◌<◌, ◌≤◌, List, [], ◌∷◌, ◌++◌, Option, Some, None}
 use Rattle.std.proofs.Common.{length, take, get_or, refl, sym, ap, subst, ◌∙◌}
-use Rattle.std.proofs.Common.{reverse, zero-le, arith}
+use Rattle.std.proofs.Common.{reverse, zero-le}
 use Rattle.std.specs.Option.{option_or}
 use Rattle.std.proofs.lemmas.List.{length-take-le}
 use Rattle.est_meaning.specs.mean_blocks.declared.fault.BlockFault.{BlockFault}
@@ -31,16 +31,16 @@ use Rattle.est_meaning.proofs.OrderLaws.{marks_same, starts_one}
 use Rattle.est_meaning.proofs.RunLaws.{one_place}
 use Rattle.est_meaning.proofs.Takings.{takes_at}
 use Rattle.est_meaning.proofs.TreeLaws.{passes_in_tree, faults_in_tree}
-use Rattle.est_search.specs.declared.path.Stage.TheVariants.{Fresh, Taken}
-use Rattle.est_search.specs.declared.path.Level.{Level}
-use Rattle.est_search.specs.declared.path.Best.{Best}
+use Rattle.run_paths.specs.declared.path.Stage.TheVariants.{Fresh, Taken, Listed}
+use Rattle.run_paths.specs.declared.path.Level.{Level}
+use Rattle.run_paths.specs.declared.path.Best.{Best}
 use Rattle.est_search.specs.declared.walk.Passed.{Passed}
 use Rattle.est_search.specs.declared.walk.Notes.{Notes}
 use Rattle.est_search.specs.inside.Ahead.{IsAhead}
 use Rattle.est_search.specs.inside.Known.{KnowsTrials, IsNoted}
 use Rattle.est_search.specs.inside.Agreement.{AgreeFor}
-use Rattle.est_search.specs.inside.Path.{View, place_at, entered, with_firings, with_taken}
-use Rattle.est_search.specs.inside.Path.{IsNode, AreLeft, StageIs, HasReached}
+use Rattle.run_paths.specs.Paths.{View, entered, with_tries, HasReached}
+use Rattle.est_search.specs.inside.Path.{place_at, with_taken, IsNode, AreLeft, StageIs}
 use Rattle.est_search.specs.inside.Walk.{passed_at, faulted_at, FaultIs, EventsAre, NotesAre}
 use Rattle.est_search.specs.inside.Walk.{KnowsAll, IsOnWay, Accepts}
 use Rattle.est_search.proofs.AheadLaws.{Turn, Skip, turn_on, turn_off, skip_mark}
@@ -52,8 +52,8 @@ use Rattle.est_search.proofs.EventLaws.{explains_so}
 use Rattle.est_search.proofs.PathLaws.{inner_at, taking_first, guarding_next, guarding_ends}
 use Rattle.est_search.proofs.PathLaws.{BestAfter, best_reached}
 
-pub all_skip : (c : Setup) (P P' : List Mark → Type 0) (moves : List Move) (tried : ℕ) (best : Best)
-    (notes : Notes) → Skip c P P' → KnowsAll c P moves tried best notes
+pub all_skip : (c : Setup) (P P' : List Mark → Type 0) (moves : List Move) (tried : ℕ)
+    (best : Best Move) (notes : Notes) → Skip c P P' → KnowsAll c P moves tried best notes
     → KnowsAll c P' moves tried best notes
 all_skip c P P' moves tried best notes skip a = record {
   run = a.run;
@@ -64,7 +64,7 @@ all_skip c P P' moves tried best notes skip a = record {
 }
 
 pub all_at : (c : Setup) (h : List Mark) (d e : Option Mark) (moves : List Move) (tried : ℕ)
-    (best : Best) (notes : Notes) → d ≡ e → KnowsAll c (IsAhead h d) moves tried best notes
+    (best : Best Move) (notes : Notes) → d ≡ e → KnowsAll c (IsAhead h d) moves tried best notes
     → KnowsAll c (IsAhead h e) moves tried best notes
 all_at c h d e moves tried best notes same a =
     subst (λ w. KnowsAll c (IsAhead h w) moves tried best notes) same a
@@ -137,10 +137,10 @@ events_noted c h s l node (Some p) moves many firing same count before = before
 -- A STEP THAT DEALS WITH A RUN
 
 module _ (c : Setup) (P P' : List Mark → Type 0) (h : List Move) (last : Move)
-    (turn : Turn c P P' (marks_of (last ∷ h))) (tried : ℕ) (best : Best) (notes : Notes)
+    (turn : Turn c P P' (marks_of (last ∷ h))) (tried : ℕ) (best : Best Move) (notes : Notes)
     (a : KnowsAll c P h tried best notes) where
   -- what is known then, where the run does not explain the trace and is quiet
-  pub all_after : (more : List Move) (tried' : ℕ) (best' : Best) (notes' : Notes)
+  pub all_after : (more : List Move) (tried' : ℕ) (best' : Best Move) (notes' : Notes)
       → (Explains c (last ∷ h) → ⊥)
       → (known : BestAfter c P' more best')
       → (IsNoted (PassesLimit c) P (passed_at notes.passed)
@@ -166,7 +166,8 @@ module _ (c : Setup) (P P' : List Mark → Type 0) (h : List Move) (last : Move)
 
 -- EVENTS
 
-module _ (c : Setup) (stack : Stack) (v : View) (tried : ℕ) (best : Best) (notes : Notes)
+module _ (c : Setup) (stack : Stack) (v : View Move Firing) (tried : ℕ) (best : Best Move)
+    (notes : Notes)
     (way : IsOnWay c stack v tried best notes) where
   abbrev pub here : Place
   here = place_at stack.now v.top way.at.node.events
@@ -284,7 +285,7 @@ module _ (c : Setup) (stack : Stack) (v : View) (tried : ℕ) (best : Best) (not
       next_agree = agree_now c (Take ∷ v.moves) there taken_run way.at.node.events (e ∷ [])
           v.top.matched matched taken_events one
 
-      pub taken_on : (best' : Best) (made : ℕ) → made ≡ length v.moves
+      pub taken_on : (best' : Best Move) (made : ℕ) → made ≡ length v.moves
           → HasReached best best' made Take (v.top.matched + 1)
           → (EndsIn (after_event (text_of c.spec) stack.now e) → ⊥)
           → IsOnWay c (pushed (after_event (text_of c.spec) stack.now e) stack)
@@ -297,7 +298,7 @@ module _ (c : Setup) (stack : Stack) (v : View) (tried : ℕ) (best : Best) (not
             dealt = None;
             at = record {
               mine = [];
-              rest = v.firings;
+              rest = v.tries;
               firings_are = refl;
               count = refl;
               node = record {
@@ -343,7 +344,8 @@ no_guarding [] h e = cc
 no_guarding (Take ∷ r) h e = cc
 no_guarding (Fire f ∷ r) h e = cc
 
-module _ (c : Setup) (stack : Stack) (v : View) (tried : ℕ) (best : Best) (notes : Notes)
+module _ (c : Setup) (stack : Stack) (v : View Move Firing) (tried : ℕ) (best : Best Move)
+    (notes : Notes)
     (way : IsOnWay c stack v tried best notes) (taken : v.stage ≡ Taken)
     (offers : List Firing) where
   at_taken : (way.dealt ≡ Some Taking) × (way.at.mine ≡ [])
@@ -361,7 +363,7 @@ module _ (c : Setup) (stack : Stack) (v : View) (tried : ℕ) (best : Best) (not
   guarded_by : (notes' : Notes) → AreLeft c stack.now Guarding offers
       → IsNoted (PassesLimit c) (IsAhead (marks_of v.moves) (Some Guarding))
       (passed_at notes'.passed) → notes'.faulted ≡ notes.faulted → EventsAre c notes'.passed
-      → IsOnWay c stack (with_firings v offers) tried best notes'
+      → IsOnWay c stack (with_tries v Listed offers) tried best notes'
   guarded_by notes' left passes faulted events =
       let P = IsAhead (marks_of v.moves) (Some Taking) in
       let P' = IsAhead (marks_of v.moves) (Some Guarding) in
@@ -407,7 +409,7 @@ module _ (c : Setup) (stack : Stack) (v : View) (tried : ℕ) (best : Best) (not
 
   pub settled_on : IsSettled c.limit (text_of c.spec) stack.now
       → AreOptions c.limit (text_of c.spec) stack.now offers
-      → IsOnWay c stack (with_firings v offers) tried best notes
+      → IsOnWay c stack (with_tries v Listed offers) tried best notes
   settled_on settled options =
       guarded_by notes (record {
         ascending = options.ascending;
@@ -431,7 +433,7 @@ module _ (c : Setup) (stack : Stack) (v : View) (tried : ℕ) (best : Best) (not
 
   pub unsettled_on : (moves : List Move) → reverse moves ≡ v.moves
       → (IsSettled c.limit (text_of c.spec) stack.now → ⊥) → offers ≡ []
-      → IsOnWay c stack (with_firings v offers) tried best
+      → IsOnWay c stack (with_tries v Listed offers) tried best
       (record notes {
         passed = option_or notes.passed (Some (record {
           run = moves;

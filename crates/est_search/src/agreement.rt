@@ -1,6 +1,5 @@
-//! How far events agree with a trace, and what they make of the silent firings in a row.
-ghost use Rattle.std.specs.Prelude.{◌≡◌, ◌<◌, ◌≤◌, length, MatchOption};
-ghost use Rattle.est_meaning.specs.Run.{silent_after};
+//! How far events agree with a trace.
+ghost use Rattle.std.specs.Prelude.{◌≤◌, length};
 ghost use Rattle.est_search.specs.inside.Agreement.{AgreeFor};
 
 use est_meaning::event::Event;
@@ -22,21 +21,4 @@ pub fn agreed(trace: &[Expected], from: usize, events: &[Event]) -> usize
         many += 1;
     }
     many
-}
-
-/// How many silent firings stand last after one more with these events, if they are not too many.
-pub fn silent_with(before: u32, events: &[Event], most: u32) -> Option<u32>
-    ensures { MatchOption result (most < silent_after before events.now)
-        (λ many. (many ≡ silent_after before events.now) × (many ≤ most)) }
-{
-    match events {
-        [] => {
-            if before < most {
-                Some(before + 1)
-            } else {
-                None
-            }
-        }
-        [_, ..] => Some(0),
-    }
 }

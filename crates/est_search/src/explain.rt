@@ -10,19 +10,22 @@ ghost use Rattle.est_meaning.specs.Run.{Setup};
 ghost use Rattle.est_meaning.specs.Task.{setup_of};
 ghost use Rattle.est_meaning.specs.Trials.{IsTrial, HasMany};
 ghost use Rattle.est_search.specs.Verdict.{IsVerdict, IsWithinTried};
-ghost use Rattle.est_search.specs.inside.Walk.{SameBottom, IsReady, StepIs};
+ghost use Rattle.run_paths.specs.Bottoms.{SameBottom};
+ghost use Rattle.est_search.specs.inside.Walk.{IsReady, StepIs};
 ghost use Rattle.est_search.specs.inside.Walk.{Concludes, Answers, IsStarting, IsBeginning};
 
 use crate::agreement::agreed;
 use crate::turn::turn;
 use crate::verdict::Verdict;
-use crate::walk::{Notes, Step, Task, Walk, reversed};
+use crate::walk::{Notes, Step, Task, Walk};
 use est_meaning::ending::ends_at;
 use est_meaning::event::Event;
 use est_meaning::run::Limits;
 use est_meaning::trace::Trace;
 use est_meaning::world::World;
 use est_syntax::est_items::Items;
+use run_paths::path::reversed;
+use run_paths::rewinding::rewind;
 use std::alloc::{AllocError, Global};
 
 // Goes on until there is an answer.
@@ -55,20 +58,6 @@ fn walk_all<W: World>(
         if step != Step::Going {
             return Ok(step);
         }
-    }
-}
-
-// Goes back to where no move was made.
-fn rewind<W: World>(world: &mut W)
-    ensures keeps { Keeps W.speaks W.limit world.old world.new }
-    ensures fired { W.fired world.new ≡ W.fired world.old }
-    ensures bottom { SameBottom W.speaks W.stack world.old world.new }
-    ensures below { (spec : Spec) → W.speaks world.old spec
-        → (W.stack world.new spec).below ≡ [] }
-{
-    let depth = world.depth();
-    for step in 0..depth {
-        world.back();
     }
 }
 

@@ -4,7 +4,6 @@
 mod agreement;
 pub mod explain;
 pub mod laws;
-mod path;
 mod turn;
 pub mod verdict;
 mod walk;

@@ -8,12 +8,13 @@ ghost use Rattle.est_meaning.specs.OutsideEvents.{units_of, after_event};
 ghost use Rattle.est_meaning.specs.SituationStacks.{Keeps, SameStack, pushed};
 ghost use Rattle.est_meaning.specs.Run.{Setup, IsFromOutside};
 ghost use Rattle.est_meaning.specs.Trials.{IsTrial, HasMany};
-ghost use Rattle.est_search.specs.inside.Path.{view_of};
-ghost use Rattle.est_search.specs.inside.Walk.{SameBottom, IsWalk, IsReady, IsTrying, IsFound};
+ghost use Rattle.run_paths.specs.Bottoms.{SameBottom};
+ghost use Rattle.run_paths.specs.Paths.{view_of};
+ghost use Rattle.est_search.specs.inside.Path.{stage_after};
+ghost use Rattle.est_search.specs.inside.Walk.{IsWalk, IsReady, IsTrying, IsFound};
 ghost use Rattle.est_search.specs.inside.Walk.{HasLanded, StepIs, load, work};
 
-use crate::agreement::{agreed, silent_with};
-use crate::path::Stage;
+use crate::agreement::agreed;
 use crate::walk::{Landed, Step, Task, Walk};
 use est_meaning::answers::{Fired, Offers};
 use est_meaning::ending::ends_at;
@@ -22,6 +23,8 @@ use est_meaning::firing::Firing;
 use est_meaning::run::Move;
 use est_meaning::trace::Expected;
 use est_meaning::world::World;
+use run_paths::path::Stage;
+use run_paths::silence::silent_with;
 use std::alloc::{AllocError, Global};
 
 // Lets an event happen that comes from outside. The answer says whether it does.
@@ -119,13 +122,13 @@ fn list_options<W: World>(
 {
     match world.options(alloc, &mut walk.offers)? {
         Offers::Settled => {
-            walk.path.list(&mut walk.offers)?;
+            walk.path.list(Stage::Listed, &mut walk.offers)?;
             Ok(())
         }
         Offers::Unsettled => {
             let events = walk.path.top.matched;
             walk.notes.pass(alloc, &walk.path.moves, events, None)?;
-            walk.path.list(&mut walk.offers)?;
+            walk.path.list(Stage::Listed, &mut walk.offers)?;
             Ok(())
         }
     }
@@ -213,11 +216,21 @@ fn try_firing<W: World>(
     }
 }
 
+// How far the run before a move is dealt with.
+fn stage_before(made: Move) -> Stage
+    ensures { result ≡ stage_after made }
+{
+    match made {
+        Move::Take => Stage::Taken,
+        Move::Fire(_) => Stage::Listed,
+    }
+}
+
 // Goes back to the run before the last move, if there is one.
 fn go_back<W: World>(world: &mut W, walk: &mut Walk) -> Result<Step, AllocError>
     ghost setup: { Spec → Setup }
     requires listed { walk.old.path.stage ≡ Stage.Listed }
-    requires spent { (walk.old.path.top.left ≡ 0) ⊎ (walk.old.path.firings.items ≡ []) }
+    requires spent { (walk.old.path.top.left ≡ 0) ⊎ (walk.old.path.tries.items ≡ []) }
     requires on_way { (spec : Spec) → W.speaks world.old spec
         → IsWalk (setup spec) (W.stack world.old spec) walk.old }
     ensures keeps { Keeps W.speaks W.limit world.old world.new }
@@ -234,6 +247,7 @@ fn go_back<W: World>(world: &mut W, walk: &mut Walk) -> Result<Step, AllocError>
     let Some(undone) = walk.path.undo() else {
         return Ok(Step::Done);
     };
+    walk.path.stage = stage_before(undone);
     world.back();
     walk.best.keep(walk.path.moves.len(), undone)?;
     Ok(Step::Going)
@@ -268,7 +282,7 @@ fn try_next<W: World>(
     ensures ok { IfOk result (λ step. (spec : Spec) → W.speaks world.old spec
         → StepIs (setup spec) (W.stack world.new spec) step walk.new) }
 {
-    let Some(firing) = walk.path.next_firing() else {
+    let Some(firing) = walk.path.next_try() else {
         return go_back(world, walk);
     };
     if walk.tried >= task.budget {

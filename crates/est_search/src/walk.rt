@@ -1,9 +1,8 @@
 //! Where a search stands.
-ghost use Rattle.std.specs.Prelude.{◌≡◌, ◌∷◌, ◌++◌, [], Some, None, reverse, IfOk, OnOk};
+ghost use Rattle.std.specs.Prelude.{◌≡◌, [], Some, None, OnOk};
 ghost use Rattle.std.specs.Option.{option_or};
-ghost use Rattle.est_search.specs.inside.Path.{view_of, first_view};
+ghost use Rattle.run_paths.specs.Paths.{view_of, first_view};
 
-use crate::path::{Best, Path};
 use crate::verdict::Faulted;
 use est_meaning::event::Event;
 use est_meaning::firing::Firing;
@@ -11,6 +10,7 @@ use est_meaning::mean_blocks::fault::BlockFault;
 use est_meaning::run::{Move, Run};
 use est_meaning::trace::Trace;
 use est_syntax::est_items::Items;
+use run_paths::path::{Best, Path};
 use std::alloc::{AllocError, Global};
 
 /// What is searched for: a run that explains the trace, in which so many silent firings may stand
@@ -41,8 +41,8 @@ pub struct Notes {
 /// A search on its way, with how many firings were tried, and room for what a world answers.
 #[derive(Drop)]
 pub struct Walk {
-    pub path: Path,
-    pub best: Best,
+    pub path: Path<Move, Firing>,
+    pub best: Best<Move>,
     pub notes: Notes,
     pub tried: u32,
     pub offers: Vec<Firing>,
@@ -148,15 +148,4 @@ impl Walk {
             outs: Vec::new(alloc),
         }
     }
-}
-
-/// The run whose moves these are, from the last one back.
-pub fn reversed(alloc: Global, moves: &mut Vec<Move>) -> Result<Run, AllocError>
-    ensures { IfOk result (λ run. run ≡ reverse moves.old.items) }
-{
-    let mut run = Items::new(alloc);
-    while let Some(made) = moves.pop() {
-        run.push(made)?;
-    }
-    Ok(run)
 }

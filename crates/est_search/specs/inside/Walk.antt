@@ -2,7 +2,6 @@
 use Rattle.std.specs.Prelude.{◌≡◌, ℕ, ◌+◌, ◌-◌, ◌*◌, ◌<◌, ◌≤◌, ◌⊎◌, Bool, true, false}
 use Rattle.std.specs.Prelude.{List, [], ◌∷◌, Option, Some, None, length, reverse}
 use Rattle.est_syntax.specs.declared.specification.Spec.{Spec}
-use Rattle.est_meaning.specs.mean_blocks.GlobalSituation.{Situation}
 use Rattle.est_meaning.specs.mean_blocks.Outcome.{Fault}
 use Rattle.est_meaning.specs.mean_blocks.TextByPlace.{text_of}
 use Rattle.est_meaning.specs.declared.event.Event.{Event}
@@ -23,9 +22,9 @@ use Rattle.est_search.specs.Verdict.{HasEvents}
 use Rattle.est_search.specs.declared.verdict.Verdict.{Verdict}
 use Rattle.est_search.specs.declared.verdict.Verdict.TheVariants.{Accepted, Refused}
 use Rattle.est_search.specs.declared.verdict.Verdict.TheVariants.{OverFirings, OverAction}
-use Rattle.est_search.specs.declared.path.Stage.{Stage}
-use Rattle.est_search.specs.declared.path.Stage.TheVariants.{Fresh, Taken, Listed}
-use Rattle.est_search.specs.declared.path.Best.{Best}
+use Rattle.run_paths.specs.declared.path.Stage.{Stage}
+use Rattle.run_paths.specs.declared.path.Stage.TheVariants.{Fresh, Taken, Listed}
+use Rattle.run_paths.specs.declared.path.Best.{Best}
 use Rattle.est_search.specs.declared.walk.Passed.{Passed}
 use Rattle.est_search.specs.declared.walk.Notes.{Notes}
 use Rattle.est_search.specs.declared.walk.Walk.{Walk}
@@ -36,23 +35,8 @@ use Rattle.est_search.specs.declared.walk.Step.TheVariants.{Going, Accepting, Ov
 use Rattle.est_search.specs.inside.Ahead.{IsAhead}
 use Rattle.est_search.specs.inside.Known.{Knows}
 use Rattle.est_search.specs.inside.Agreement.{AgreeFor}
-use Rattle.est_search.specs.inside.Path.{View, view_of, entered, IsNext, IsAt, IsKept, HasReached}
-
--- THE WORLD'S STACK
-
--- the first of these situations
-abbrev pub bottom_from : Situation → List Situation → Situation
-bottom_from s [] = s
-bottom_from s (t ∷ below) = bottom_from t below
-
--- where no move was made
-abbrev pub bottom_of : Stack → Situation
-bottom_of stack = bottom_from stack.now stack.below
-
--- for each specification the bottom of the stack is as it was
-abbrev pub SameBottom : {W : Type 0} → (W → Spec → Type 0) → (W → Spec → Stack) → W → W → Type 0
-SameBottom speaks stack old new =
-    (spec : Spec) → speaks old spec → bottom_of (stack new spec) ≡ bottom_of (stack old spec)
+use Rattle.run_paths.specs.Paths.{View, view_of, entered, IsNext, IsKept, HasReached}
+use Rattle.est_search.specs.inside.Path.{IsAt}
 
 -- WHAT IS KNOWN ON THE WAY
 
@@ -82,14 +66,14 @@ NotesAre c notes = FaultIs c notes.faulted × EventsAre c notes.passed
 
 -- what is known where these are ahead
 pub record KnowsAll (c : Setup) (P : List Mark → Type 0) (moves : List Move) (tried : ℕ)
-    (best : Best) (notes : Notes) : Type 0 where
+    (best : Best Move) (notes : Notes) : Type 0 where
   pub run : List Move
   pub kept : IsKept moves best run
   pub knows : Knows c P tried best.yields run (passed_at notes.passed) (faulted_at notes.faulted)
   pub noted : NotesAre c notes
 
 -- the search is on its way
-pub record IsOnWay (c : Setup) (stack : Stack) (v : View) (tried : ℕ) (best : Best)
+pub record IsOnWay (c : Setup) (stack : Stack) (v : View Move Firing) (tried : ℕ) (best : Best Move)
     (notes : Notes) : Type 0 where
   pub dealt : Option Mark
   pub at : IsAt c stack v dealt
@@ -108,7 +92,7 @@ pub record IsReady (c : Setup) (spec : Spec) (limit silent : ℕ) (trace : Recor
 pub record IsTrying (c : Setup) (spec : Spec) (limit silent : ℕ) (trace : Recorded)
     (stack : Stack) (w : Walk) (f : Firing) : Type 0 where
   pub suits : Suits c spec limit silent trace
-  pub before : View
+  pub before : View Move Firing
   pub next : IsNext before f (view_of w.path)
   pub on_way : IsOnWay c stack before w.tried w.best w.notes
 
@@ -180,7 +164,7 @@ weight_of n matched Taken = 2
 weight_of n matched Listed = 1
 
 -- how many steps are left where no more firings are tried, at most
-abbrev pub load : ℕ → View → ℕ
+abbrev pub load : ℕ → View Move Firing → ℕ
 load n v = weight_of n v.top.matched v.stage + 2 * length v.lower
 
 -- how many steps are left, at most

@@ -1,6 +1,5 @@
 use Rattle.std.proofs.Common.{◌+◌, ◌-◌, refl, sym, subst, ◌∙◌, arith}
-use Rattle.est_meaning.specs.mean_blocks.TextByPlace.{text_of}
-use Rattle.est_meaning.specs.Trials.{IsTrial, IsTrialUpTo, HasMany}
+use Rattle.est_meaning.specs.Trials.{IsTrial, HasMany}
 use Rattle.est_meaning.proofs.Endings.{not_true}
 use Rattle.est_search.specs.Verdict.{IsWithinTried}
 use Rattle.est_search.specs.inside.Agreement.{AgreeFor}

@@ -1,7 +1,8 @@
 use Rattle.std.proofs.Common.{◌≡◌, ◌≤◌, ◌+◌, length}
 use Rattle.est_syntax.specs.declared.specification.Spec.{Spec}
 use Rattle.est_meaning.specs.SituationStacks.{Keeps}
-use Rattle.est_search.specs.inside.Walk.{SameBottom, IsReady, work}
+use Rattle.run_paths.specs.Bottoms.{SameBottom}
+use Rattle.est_search.specs.inside.Walk.{IsReady, work}
 use Rattle.est_search.proofs.explain.walk_all.Given as goal
 
 abbrev pub ghost-turn : goal.ghost-turn

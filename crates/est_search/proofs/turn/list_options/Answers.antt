@@ -8,7 +8,7 @@ returns-in_ok-list-in-Settled-clause-ok g c spec speaks =
     settled_call (g.setup spec) spec (g.W.World.limit c.args.world.now) c.args.task.now.silent
     c.args.task.now.trace.now (g.W.World.stack c.args.world.now spec)
     (g.W.World.stack c.options.new.self spec) w
-    (record w { path = c.list.new.self; offers = c.list.new.offers })
+    (record w { path = c.list.new.self; offers = c.list.new.tries })
     (c.requires.1.1 spec speaks) c.requires.1.0 c.options.new.into.items
     (c.in_ok-options.ensures.stack spec speaks) c.in_ok-list-in-Settled.ensures refl refl refl
     (rw c.in-Settled.is at (c.in_ok-options.ensures.offers spec speaks))
@@ -22,7 +22,7 @@ returns-in_ok-list-in-Unsettled-clause-ok g c spec speaks =
     (record w {
       path = c.list-in-Unsettled.new.self;
       notes = c.pass.new.self;
-      offers = c.list-in-Unsettled.new.offers;
+      offers = c.list-in-Unsettled.new.tries;
     }) (c.requires.1.1 spec speaks) c.requires.1.0 c.options.new.into.items
     (c.in_ok-options.ensures.stack spec speaks) c.in_ok-list-in-Unsettled.ensures refl refl
     (rw c.deref.ensures.value at c.in_ok-pass-in-Unsettled.ensures)

@@ -3,8 +3,8 @@ use Rattle.est_meaning.specs.mean_blocks.TextByPlace.{text_of}
 use Rattle.est_meaning.specs.declared.run.Move.TheVariants.{Take}
 use Rattle.est_meaning.proofs.Endings.{ends_again}
 use Rattle.est_meaning.proofs.Takings.{IsKnownOutside, unknown_stays}
-use Rattle.est_search.specs.declared.path.Stage.TheVariants.{Taken}
-use Rattle.est_search.specs.inside.Path.{HasReached}
+use Rattle.run_paths.specs.declared.path.Stage.TheVariants.{Taken}
+use Rattle.run_paths.specs.Paths.{HasReached}
 use Rattle.est_search.proofs.CallLaws.{next_allowed, time_fits, past_call, skip_call, take_call}
 use Rattle.est_search.proofs.turn.take_next.Goals as goal
 

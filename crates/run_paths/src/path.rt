@@ -1,11 +1,10 @@
 //! The way of a search from the start to where it stands, and the best run on it.
-ghost use Rattle.std.specs.Prelude.{◌≡◌, ◌⊎◌, []};
-ghost use Rattle.std.specs.Prelude.{IfSome, IfNone, OnOk};
-ghost use Rattle.est_search.specs.inside.Path.{view_of, entered, with_firings, IsNext, IsUndone};
-ghost use Rattle.est_search.specs.inside.Path.{first_view, HasReached, HasKept};
+ghost use Rattle.std.specs.Prelude.{◌≡◌, ◌⊎◌, [], reverse};
+ghost use Rattle.std.specs.Prelude.{IfOk, IfSome, IfNone, OnOk};
+ghost use Rattle.run_paths.specs.Paths.{view_of, entered, with_tries, IsNext, IsUndone};
+ghost use Rattle.run_paths.specs.Paths.{first_view, HasReached, HasKept};
 
-use est_meaning::firing::Firing;
-use est_meaning::run::Move;
+use est_syntax::est_items::Items;
 use std::alloc::{AllocError, Global};
 
 /// What was done after the run in which the path ends.
@@ -13,14 +12,14 @@ use std::alloc::{AllocError, Global};
 pub enum Stage {
     /// Nothing.
     Fresh,
-    /// The next event was taken, or cannot be.
+    /// What comes from outside was dealt with, or is what is tried.
     Taken,
     /// The possible firings were listed.
     Listed,
 }
 
-/// A run on the path: how many events of the trace it has, how many silent firings stand last, and
-/// how many firings are left to be tried after it.
+/// A run on the path: how many events it has, how many silent firings stand last, and how many
+/// tries are left after it.
 #[derive(Clone, Copy)]
 pub struct Level {
     pub matched: u32,
@@ -28,29 +27,29 @@ pub struct Level {
     pub left: usize,
 }
 
-/// The runs from the start on, each with one move more than the one before, and the firings that
-/// are left to be tried after them: those after the longest run last, and of these the next one.
+/// The runs from the start on, each with one move more than the one before, and what is left to be
+/// tried after them: of the longest run last, and of these the next one.
 #[derive(Drop)]
-pub struct Path {
+pub struct Path<M, T> {
     pub stage: Stage,
     pub top: Level,
     pub lower: Vec<Level>,
-    pub moves: Vec<Move>,
-    pub firings: Vec<Firing>,
+    pub moves: Vec<M>,
+    pub tries: Vec<T>,
 }
 
 /// The first run that yields the most events: so many of the first moves of the path, and then
 /// those of the tail, from its last one back.
 #[derive(Drop)]
-pub struct Best {
+pub struct Best<M> {
     pub yields: u32,
     pub common: usize,
-    pub tail: Vec<Move>,
+    pub tail: Vec<M>,
 }
 
-impl Path {
+impl<M: Copy, T: Copy> Path<M, T> {
     /// The path of the run without moves, which has so many events.
-    pub fn new(alloc: Global, matched: u32) -> Path
+    pub fn new(alloc: Global, matched: u32) -> Path<M, T>
         ensures { view_of result ≡ first_view matched }
     {
         Path {
@@ -62,12 +61,12 @@ impl Path {
             },
             lower: Vec::new(alloc),
             moves: Vec::new(alloc),
-            firings: Vec::new(alloc),
+            tries: Vec::new(alloc),
         }
     }
 
     /// Makes one move more.
-    pub fn enter(&mut self, made: Move, matched: u32, silent: u32) -> Result<(), AllocError>
+    pub fn enter(&mut self, made: M, matched: u32, silent: u32) -> Result<(), AllocError>
         ensures { OnOk result (view_of self.new ≡ entered (view_of self.old) made matched silent) }
     {
         self.moves.push(made)?;
@@ -81,40 +80,40 @@ impl Path {
         Ok(())
     }
 
-    /// Keeps these firings to be tried.
-    pub fn list(&mut self, offers: &mut Vec<Firing>) -> Result<(), AllocError>
+    /// Keeps these to be tried.
+    pub fn list(&mut self, stage: Stage, tries: &mut Vec<T>) -> Result<(), AllocError>
         ensures { OnOk result
-            (view_of self.new ≡ with_firings (view_of self.old) offers.old.items) }
+            (view_of self.new ≡ with_tries (view_of self.old) stage tries.old.items) }
     {
-        self.stage = Stage::Listed;
-        self.top.left = offers.len();
-        while let Some(firing) = offers.pop() {
-            self.firings.push(firing)?;
+        self.stage = stage;
+        self.top.left = tries.len();
+        while let Some(next) = tries.pop() {
+            self.tries.push(next)?;
         }
         Ok(())
     }
 
-    /// Takes the next firing that is to be tried.
-    pub fn next_firing(&mut self) -> Option<Firing>
-        ensures some { IfSome result (λ f. IsNext (view_of self.old) f (view_of self.new)) }
+    /// Takes what is to be tried next.
+    pub fn next_try(&mut self) -> Option<T>
+        ensures some { IfSome result (λ t. IsNext (view_of self.old) t (view_of self.new)) }
         ensures none { IfNone result
-            ((self.old.top.left ≡ 0) ⊎ (self.old.firings.items ≡ [])) }
+            ((self.old.top.left ≡ 0) ⊎ (self.old.tries.items ≡ [])) }
         ensures kept { IfNone result (view_of self.new ≡ view_of self.old) }
     {
         if self.top.left == 0 {
             return None;
         }
-        match self.firings.pop() {
+        match self.tries.pop() {
             None => None,
-            Some(firing) => {
+            Some(next) => {
                 self.top.left -= 1;
-                Some(firing)
+                Some(next)
             }
         }
     }
 
-    /// Undoes the last move.
-    pub fn undo(&mut self) -> Option<Move>
+    /// Undoes the last move. What was done after the run before it is for the caller to say.
+    pub fn undo(&mut self) -> Option<M>
         ensures some { IfSome result (λ made. IsUndone (view_of self.old) made (view_of self.new)) }
         ensures none { IfNone result
             ((self.old.lower.items ≡ []) ⊎ (self.old.moves.items ≡ [])) }
@@ -122,17 +121,13 @@ impl Path {
         let level = self.lower.pop()?;
         let made = self.moves.pop()?;
         self.top = level;
-        self.stage = match made {
-            Move::Take => Stage::Taken,
-            Move::Fire(_) => Stage::Listed,
-        };
         Some(made)
     }
 }
 
-impl Best {
+impl<M: Copy> Best<M> {
     /// Where the run of so many moves and this last one yields more than the best, it is the best.
-    pub fn reach(&mut self, made: usize, last: Move, yields: u32) -> Result<(), AllocError>
+    pub fn reach(&mut self, made: usize, last: M, yields: u32) -> Result<(), AllocError>
         ensures { OnOk result (HasReached self.old self.new made last yields) }
     {
         if yields > self.yields {
@@ -145,7 +140,7 @@ impl Best {
     }
 
     /// Keeps a move that is undone, where it belongs to the best run. So many are left.
-    pub fn keep(&mut self, left: usize, undone: Move) -> Result<(), AllocError>
+    pub fn keep(&mut self, left: usize, undone: M) -> Result<(), AllocError>
         ensures { OnOk result (HasKept self.old self.new left undone) }
     {
         if self.common > left {
@@ -154,4 +149,15 @@ impl Best {
         }
         Ok(())
     }
+}
+
+/// These moves from the last one back, taken out.
+pub fn reversed<M: Copy>(alloc: Global, moves: &mut Vec<M>) -> Result<Items<M>, AllocError>
+    ensures { IfOk result (λ run. run ≡ reverse moves.old.items) }
+{
+    let mut run = Items::new(alloc);
+    while let Some(made) = moves.pop() {
+        run.push(made)?;
+    }
+    Ok(run)
 }

@@ -1,8 +1,8 @@
 use Rattle.std.proofs.Common.{◌≡◌, ◌+◌, length}
 use Rattle.est_syntax.specs.declared.specification.Spec.{Spec}
 use Rattle.est_meaning.specs.SituationStacks.{Keeps}
-use Rattle.est_search.specs.inside.Walk.{SameBottom}
-use Rattle.est_search.proofs.explain.rewind.Given as goal
+use Rattle.run_paths.specs.Bottoms.{SameBottom}
+use Rattle.run_paths.proofs.rewinding.rewind.Given as goal
 
 abbrev pub invariant-loop-step : goal.invariant-loop-step
 invariant-loop-step g l =
