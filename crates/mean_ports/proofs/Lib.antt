@@ -1,0 +1,12 @@
+pub mod Agreeing
+pub mod AllowedMerges
+pub mod AlongMerges
+pub mod Counting
+pub mod Finishing
+pub mod FromMerges
+pub mod GivenMerges
+pub mod Lengths
+pub mod OneLists
+pub mod UsingUp
+pub mod Yielding
+pub mod YieldsOfMerges

@@ -1,0 +1,11 @@
+pub mod HowMany
+pub mod ListsOfEvents
+pub mod MergeLaws
+pub mod Merges
+pub mod PortRunLaws
+pub mod PortRuns
+pub mod PortTrials
+pub mod PortYields
+pub mod PortsVerdict
+pub mod UsedUpRuns
+pub mod VerdictLaws
