@@ -14,7 +14,7 @@ use Rattle.est_meaning.specs.AllowedEvents.{IsAllowedExpected, most_events, IsAl
 use Rattle.est_trace.specs.declared.error.TraceError.{TraceError}
 use Rattle.est_trace.specs.inside.AtPorts.{IsAtPorts, IsExpectedAt, AreAtPorts}
 
-allowed : (s : Spec) (e : Event) → IsAtPorts (ports_of s) e → IsAllowed s e
+pub allowed : (s : Spec) (e : Event) → IsAtPorts (ports_of s) e → IsAllowed s e
 unfolding IsReceivable IsSendable
 allowed s (Arrives i) h = (
   h.port,

@@ -7,7 +7,7 @@ use Rattle.std.proofs.lemmas.List.{take_all}
 use Rattle.std.proofs.lemmas.Map.Keys.{any_passes_from_place}
 use Rattle.std.proofs.lemmas.Slice.Eq.{bytes_eq-Decides}
 use Rattle.est_trace.specs.PortNames.{IsNumberOf}
-use Rattle.est_trace.proofs.Lists.{mapped_at, image_at, some_same}
+use Rattle.est_trace.proofs.Images.{mapped_at, image_at, some_same}
 
 -- neither of two
 neither_true : (a b : Bool) → a ≡ false → b ≡ false → (a || b) ≡ false

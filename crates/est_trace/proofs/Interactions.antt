@@ -1,5 +1,5 @@
 -- An event at a port, read part by part.
-use Rattle.std.proofs.Common.{◌≡◌, ℕ, ℤ, List, [], length, refl, sym, ap, ◌∙◌, subst}
+use Rattle.std.proofs.Common.{◌≡◌, ℕ, ℤ, List, length, refl, sym, ap, ◌∙◌, subst}
 use Rattle.std.proofs.Common.{Option, Some, None, slice_get}
 use Rattle.std.specs.List.{AllZip}
 use Rattle.std.specs.Option.{unwrap_or, option_map, IsSomeAnd}

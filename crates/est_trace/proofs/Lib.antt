@@ -1,3 +1,4 @@
+pub mod AllowedLists
 pub mod Answering
 pub mod AtPorts
 pub mod Blocks
@@ -8,14 +9,23 @@ pub mod Events
 pub mod Firsts
 pub mod Fullness
 pub mod GoodPorts
+pub mod GrowingLists
+pub mod Images
+pub mod InsideTokens
 pub mod Interactions
+pub mod LineLoop
+pub mod LineReadings
+pub mod Lines
+pub mod ListAnswers
+pub mod ListItems
 pub mod Listed
-pub mod Lists
 pub mod Lookups
 pub mod Names
 pub mod OneEvent
+pub mod OneLists
 pub mod Ordinals
 pub mod Parts
+pub mod PortLookups
 pub mod Readings
 pub mod SameTests
 pub mod SeenDepartures
@@ -25,4 +35,5 @@ pub mod Shown
 pub mod Tuples
 pub mod Unseen
 pub mod Versions
+pub mod Written
 pub mod WrittenPorts

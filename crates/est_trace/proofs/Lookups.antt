@@ -24,7 +24,7 @@ use Rattle.est_trace.specs.PortNames as names
 use Rattle.est_trace.specs.PortNames.{GoodPorts, IsHeadOf, IsNumberOf, port_name, signal_name}
 use Rattle.est_trace.specs.PortNames.{signals_of}
 use Rattle.est_trace.specs.inside.Lookups.{IsChosen, Chooses}
-use Rattle.est_trace.proofs.Lists.{some_same, mapped_at, image_at}
+use Rattle.est_trace.proofs.Images.{some_same, mapped_at, image_at}
 use Rattle.est_trace.proofs.SameTests.{same_passes, same_some, same_head}
 use Rattle.est_trace.proofs.Choices.{chosen, no_word, none_named}
 

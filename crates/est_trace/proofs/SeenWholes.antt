@@ -1,16 +1,15 @@
 -- What was seen of values whole, one by one.
 use Rattle.std.proofs.Common.{◌≡◌, ℕ, zero, suc, ◌+◌, ◌<◌, ◌≤◌, ℤ, List, [], ◌∷◌, ◌++◌, length, take}
-use Rattle.std.proofs.Common.{get_or, refl, sym, ap, ◌∙◌, subst, arith, inl, inr, Option, Some}
-use Rattle.std.proofs.Common.{None, slice_get}
+use Rattle.std.proofs.Common.{get_or, sym, ap, ◌∙◌, subst, arith, inl, inr, Option, Some}
+use Rattle.std.proofs.Common.{None}
 use Rattle.std.specs.Prelude.{◌⊎◌}
 use Rattle.std.specs.Option.{option_map}
 use Rattle.std.proofs.lemmas.List.{take_more, take_all}
-use Rattle.std.proofs.lemmas.Option.{same_Some}
 use Rattle.est_values.specs.declared.value.Value.{Value}
 use Rattle.est_values.specs.declared.value.Value.TheVariants as value
 use Rattle.est_seen.specs.declared.seen.Seen.{Seen, out-Seen}
 use Rattle.est_seen.specs.declared.seen.Seen.TheOpen as opened
-use Rattle.est_seen.specs.SeenValues.{Matches, MatchEach, HasAny, SomeHasAny, any, undefined}
+use Rattle.est_seen.specs.SeenValues.{Matches, MatchEach, HasAny, SomeHasAny, undefined}
 use Rattle.est_seen.specs.SeenValues.{ordinal, set, group, nothing_seen, one_more, here, within}
 use Rattle.est_seen.specs.SeenValues.{first, later}
 use Rattle.est_trace.specs.inside.Wholes.{IsWhole, AreWhole}

@@ -24,7 +24,7 @@ use Rattle.est_values.specs.FittingValues.{Fits, IsOrdinalOf}
 use Rattle.est_seen.specs.declared.seen.Seen.{Seen}
 use Rattle.est_seen.specs.SeenValues.{MayFit}
 use Rattle.est_meaning.specs.declared.event.Interaction.{Interaction}
-use Rattle.est_meaning.specs.declared.event.Event.TheVariants.{Arrives, Leaves, Passes}
+use Rattle.est_meaning.specs.declared.event.Event.TheVariants.{Arrives, Leaves}
 use Rattle.est_meaning.specs.declared.trace.Expected.{Expected}
 use Rattle.est_meaning.specs.declared.trace.Expected.TheVariants.{Known}
 use Rattle.est_meaning.specs.RecordedTraces.{Recorded}
@@ -42,7 +42,7 @@ use Rattle.text_values.proofs.OneSeen.{one_seens}
 use Rattle.text_values.proofs.FitsShown.{index_fits, values_fit}
 use Rattle.text_values.proofs.SeenFits.{seens_fit}
 use Rattle.est_trace.specs.PortNames.{GoodPorts}
-use Rattle.est_trace.proofs.Lists.{some_same}
+use Rattle.est_trace.proofs.Images.{some_same}
 use Rattle.est_trace.specs.TraceShapes.{ShowsAt, IsSeenAs, whole, part, ShowsKnown, ShowsPartly}
 use Rattle.est_trace.specs.TraceShapes.{ShowsBrackets, ShowsPassing, ShowsEvent, ShowsEvents}
 use Rattle.est_trace.specs.TraceShapes.{ShowsQuiet, ShowsRest, ShowsTrace}
@@ -53,7 +53,7 @@ use Rattle.est_trace.proofs.SeenDepartures.{one_seen_as, whole_fit}
 -- ONE TRACE SHOWS A SHAPE
 
 -- the shape of an alternative tells its number
-one_pick : (i j : ℕ) {t u : Shape} → pick i t ≡ pick j u → (i ≡ j) × (t ≡ u)
+pub one_pick : (i j : ℕ) {t u : Shape} → pick i t ≡ pick j u → (i ≡ j) × (t ≡ u)
 one_pick zero zero e = (refl, cc)
 one_pick zero (suc j) e = cc
 one_pick (suc i) zero e = cc
@@ -63,11 +63,11 @@ one_pick (suc i) (suc j) {t} {u} e =
     (ap suc r.0, r.1)
 
 -- one item at a place
-one_there : {A : Type 0} (xs : List A) {i j : ℕ} {x y : A} → i ≡ j → slice_get xs i ≡ Some x
+pub one_there : {A : Type 0} (xs : List A) {i j : ℕ} {x y : A} → i ≡ j → slice_get xs i ≡ Some x
     → slice_get xs j ≡ Some y → x ≡ y
 one_there xs p e h = some_same (sym e ∙ (ap (slice_get xs) p ∙ h))
 
-equal_interactions : {p q m n : ℕ} {xs ys : List Value} → p ≡ q → m ≡ n → xs ≡ ys
+pub equal_interactions : {p q m n : ℕ} {xs ys : List Value} → p ≡ q → m ≡ n → xs ≡ ys
     → let x : Interaction = record {
       port = p;
       signal = m;
@@ -75,14 +75,14 @@ equal_interactions : {p q m n : ℕ} {xs ys : List Value} → p ≡ q → m ≡ 
     } in x ≡ record { port = q; signal = n; values = ys }
 equal_interactions a b c = cc
 
-both_same : {t t' u u' : Shape} → both t u ≡ both t' u' → (t ≡ t') × (u ≡ u')
+pub both_same : {t t' u u' : Shape} → both t u ≡ both t' u' → (t ≡ t') × (u ≡ u')
 both_same e = (cc, cc)
 
 -- the name and the subscripts of a port
-abbrev place_of : Port → List ℕ × List ℤ
+abbrev pub place_of : Port → List ℕ × List ℤ
 place_of p = (p.name.bytes, p.index)
 
-one_place : (p q : Port) → p.name.bytes ≡ q.name.bytes → p.index ≡ q.index
+pub one_place : (p q : Port) → p.name.bytes ≡ q.name.bytes → p.index ≡ q.index
     → place_of p ≡ place_of q
 one_place p q h k = λ i. (h i, k i)
 
@@ -184,7 +184,7 @@ module _ (ports : List Port) (good : GoodPorts ports) where
 -- EVENTS STAND AT THE PORTS
 
 -- a number that is kept lies within its bounds
-bounded : (text : List ℕ) (low high units : ℕ) (o : Option Token)
+pub bounded : (text : List ℕ) (low high units : ℕ) (o : Option Token)
     → meets (holds text) (number low high) o ≡ true → KeptOf (traces text) o (value units)
     → units ≤ high
 bounded text low high units None m k = absurd k
@@ -200,32 +200,32 @@ all_cons P x xs p q zero d l = p
 all_cons P x xs p q (suc k) d l = q k d (omega (arith, l))
 
 module _ (text : List ℕ) (s : List Token) (n : ℕ) where
-  abbrev Tree_of : Rule → ℕ → ℕ → ℕ → Shape → Type 0
+  abbrev pub Tree_of : Rule → ℕ → ℕ → ℕ → Shape → Type 0
   Tree_of g d a b t = Tree (traces text) s n g d a b t
 
   -- the alternative of a number
-  one_of_shown : {A : Type 0} (f : A → Rule) (xs : List A) (i : ℕ) {d a b : ℕ} {t : Shape}
+  pub one_of_shown : {A : Type 0} (f : A → Rule) (xs : List A) (i : ℕ) {d a b : ℕ} {t : Shape}
       → Tree_of (one_of f xs) d a b (pick i t)
       → (x : A) × (slice_get xs i ≡ Some x) × Tree_of (f x) d a b t
   one_of_shown f [] i x = elim x [ ]
   one_of_shown f (y ∷ ys) zero (t_left x) = (y, refl, x)
   one_of_shown f (y ∷ ys) (suc i) (t_right x) = one_of_shown f ys i x
 
-  when_tree : (w : Bool) {g : Rule} {d a b : ℕ} {t : Shape} → Tree_of (when w g) d a b t
+  pub when_tree : (w : Bool) {g : Rule} {d a b : ℕ} {t : Shape} → Tree_of (when w g) d a b t
       → (w ≡ true) × Tree_of g d a b t
   when_tree true x = (refl, x)
   when_tree false x = elim x [ ]
 
-  after_word : {k : Test} {g : Rule} {d a b : ℕ} {t : Shape} → Tree_of (word k g) d a b t
+  pub after_word : {k : Test} {g : Rule} {d a b : ℕ} {t : Shape} → Tree_of (word k g) d a b t
       → Tree_of g d (suc a) b t
   after_word (t_word k l w x) = x
 
-  two_parts : {g h : Rule} {d a c : ℕ} {t u : Shape} → Tree_of (seq g h) d a c (both t u)
+  pub two_parts : {g h : Rule} {d a c : ℕ} {t u : Shape} → Tree_of (seq g h) d a c (both t u)
       → (b : ℕ) × Tree_of g d a b t × Tree_of h d b c u
   two_parts (t_seq {b = b} x y) = (b, x, y)
 
   -- a signal, and what stands in its brackets
-  signal_parts : (f : Format) (direction : Direction) (xs : List Signal) (m : ℕ) {d a b : ℕ}
+  pub signal_parts : (f : Format) (direction : Direction) (xs : List Signal) (m : ℕ) {d a b : ℕ}
       {t : Shape} → Tree_of (one_of (signal f direction) xs) d a b (pick m t)
       → (x : Signal) × (slice_get xs m ≡ Some x) × (passes direction x ≡ true)
       × Tree_of (brackets direction f x.kinds) d (suc a) b t
@@ -272,7 +272,7 @@ module _ (text : List ℕ) (s : List Token) (n : ℕ) where
         (p.0, p.1, r.0, r.1, after_word r.2)
 
     -- the port is the element with these subscripts, and has the signals of its head
-    element_signals : (m n : ℕ) (p q : Port) → slice_get ports m ≡ Some p
+    pub element_signals : (m n : ℕ) (p q : Port) → slice_get ports m ≡ Some p
         → slice_get ports n ≡ Some q → q.name.bytes ≡ p.name.bytes
         → AllZip IsOrdinalOf p.index_kinds q.index → q.signals ≡ p.signals
     element_signals m n p q e h k index =

@@ -1,5 +1,5 @@
 -- What a trace shows are known events, and events of which not all was seen.
-use Rattle.std.proofs.Common.{All, ◌≡◌, ◌≤◌, ℕ, List, [], ◌∷◌, length, sym, subst, arith}
+use Rattle.std.proofs.Common.{All, ℕ, List, [], ◌∷◌, sym, subst, arith}
 use Rattle.text_reader.specs.Grammar.{leaf, both, left, right, some}
 use Rattle.est_syntax.specs.declared.kind.Kind.{Kind}
 use Rattle.est_syntax.specs.declared.ports.Direction.{Direction}

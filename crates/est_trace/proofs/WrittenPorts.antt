@@ -1,6 +1,6 @@
 -- What is told of ports.
-use Rattle.std.proofs.Common.{◌≡◌, ◌∙◌, refl, sym, ap, subst, ℕ, ℤ, List, [], length, Option, Some}
-use Rattle.std.proofs.Common.{None, slice_get, arith, codes, ◌++◌, append_assoc}
+use Rattle.std.proofs.Common.{◌≡◌, ◌∙◌, refl, sym, ap, ℕ, ℤ, List, [], length, Option, Some}
+use Rattle.std.proofs.Common.{None, slice_get, codes, ◌++◌, append_assoc}
 use Rattle.std.specs.Prelude.{Result, Ok, Err, OnOk}
 use Rattle.std.specs.Option.{option_map}
 use Rattle.std.proofs.lemmas.Option.{same_Some}

@@ -1,4 +1,6 @@
 pub mod Directories
+pub mod ListShapes
+pub mod ListText
 pub mod PortNameLaws
 pub mod PortNames
 pub mod TraceErrors

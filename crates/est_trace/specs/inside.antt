@@ -2,6 +2,8 @@
 pub mod AtPorts
 pub mod Counting
 pub mod FoundTraces
+pub mod GrowingLists
+pub mod ListReading
 pub mod Listing
 pub mod Lookups
 pub mod Parts

@@ -79,8 +79,8 @@ fn head(reader: &mut Reader, directory: &Directory, hints: &mut Hints, direction
     found.unwrap_or(0)
 }
 
-// The subscripts of an element of the array that a head stands for, and the number of the element.
-fn element(reader: &mut Reader, directory: &Directory, head: u32) -> u32
+/// The subscripts of an element of the array that a head stands for, and the number of the element.
+pub fn element(reader: &mut Reader, directory: &Directory, head: u32) -> u32
     requires directory { IsDirectory directory.now }
     requires head { reader.old.outcome ≡ Well → IsPortAt directory.now.ports.now head }
     ensures { Reads (grammar.subscripts (kinds_of (slice_get directory.now.ports.now head)))
@@ -90,8 +90,13 @@ fn element(reader: &mut Reader, directory: &Directory, head: u32) -> u32
     directory.element(head, index.as_slice()).unwrap_or(0)
 }
 
-// The name of a signal that passes in this direction.
-fn signal(reader: &mut Reader, signals: &[Signal], hints: &mut Hints, direction: Direction) -> u32
+/// The name of a signal that passes in this direction.
+pub fn signal(
+    reader: &mut Reader,
+    signals: &[Signal],
+    hints: &mut Hints,
+    direction: Direction,
+) -> u32
     requires { HaveDifferentNames signal_name signals.now }
     ensures { Chooses (grammar.signal formats.Complete direction) signals.now
         reader.old result reader.new }

@@ -5,9 +5,11 @@
 pub mod directory;
 pub mod directory_laws;
 pub mod error;
+mod growing;
 mod heads;
 pub mod hints;
 mod interaction;
+pub mod lists;
 mod lookup;
 pub mod trace;
 mod wholes;

@@ -67,6 +67,19 @@ pub fn find_head(
     }
 }
 
+/// The number of the head that stands at the place, whatever passes it.
+pub fn find_port(reader: &mut Reader, directory: &Directory) -> Option<u32>
+    requires { IsDirectory directory.now }
+    ensures still { Still reader.old reader.new }
+    ensures found { Finds (grammar.named_port directory.now.ports.now) directory.now.ports.now
+        reader.old result reader.new }
+{
+    let Some(name) = reader.name_here() else {
+        return None;
+    };
+    directory.head_of(&name)
+}
+
 /// The number of the signal that stands at the place and passes in this direction.
 pub fn find_signal(
     reader: &mut Reader,

@@ -24,7 +24,7 @@ use Rattle.text_values.specs.TraceGrammar.{numbered_constant, constants, boolean
 use Rattle.text_values.specs.TraceGrammar.{bytes_of, host_by, ordinal_by, ordinal, scalar, formed}
 use Rattle.text_values.specs.TraceGrammar.{a_value, value, a_seen, seen, passes, some_pass}
 use Rattle.text_values.specs.TraceGrammar.{brackets, subscripts, signal, dot_signal, is_head}
-use Rattle.text_values.specs.TraceGrammar.{port, event, production, marks}
+use Rattle.text_values.specs.TraceGrammar.{port, event, port_event, production, marks}
 
 -- where the list of tests is empty, no token meets one
 pub is_closed : (text : List ℕ) (g : Rule) → can_go_on marks g ≡ []
@@ -143,3 +143,9 @@ pub event_closed : (f : Format) (ports : List Port) → can_go_on marks (event f
 event_closed f ports =
     ap₂ (λ a b. a ++ b) (one_of_closed (port f Receives) ports (port_closed f Receives))
     (one_of_closed (port f Sends) ports (port_closed f Sends))
+
+-- an event at a port that is named
+pub port_event_closed : (signals : List Signal) → can_go_on marks (port_event signals) ≡ []
+port_event_closed signals = ap₂ (λ a b. a ++ b)
+    (one_of_closed (signal Complete Receives) signals (signal_closed Complete Receives))
+    (one_of_closed (signal Complete Sends) signals (signal_closed Complete Sends))

@@ -31,7 +31,8 @@ use Rattle.text_reader.specs.Tests.{Test, Kept, named, language}
 use Rattle.text_reader.specs.Going as going
 use Rattle.text_values.specs.declared.formats.Format.{Format}
 use Rattle.text_values.specs.declared.formats.Format.TheVariants as formats
-use Rattle.text_values.specs.TraceGrammar.{Production, events_at, value_of, seen_of, Rule, more}
+use Rattle.text_values.specs.TraceGrammar.{Production, events_at, lists_at, value_of, seen_of, Rule}
+use Rattle.text_values.specs.TraceGrammar.{more}
 use Rattle.text_values.specs.TraceGrammar.{listed, bracketed, integers, characters, constant}
 use Rattle.text_values.specs.TraceGrammar.{numbered_constant, constants, boolean_names}
 use Rattle.text_values.specs.TraceGrammar.{bytes_of, host_by, ordinal_by, ordinal, field_kinds}
@@ -56,6 +57,7 @@ level_free (nearest k g) = level_free g
 level_free (ended k g) = level_free g
 level_free (deeper g) = false
 level_free (rule (events_at f ports)) = false
+level_free (rule (lists_at ports at)) = false
 level_free (rule (value_of k)) = true
 level_free (rule (seen_of k)) = true
 
@@ -207,6 +209,7 @@ module _ (text : List ℕ) (s : List Token) where
   tree_any n e f (t_ended_in k l w x y) = t_ended_in k l w (tree_any n e f x) (tree_any n e f y)
   tree_any n e f (t_deeper x) = absurd cc
   tree_any n e f (t_rule {p = events_at format ports} x) = absurd cc
+  tree_any n e f (t_rule {p = lists_at ports at} x) = absurd cc
   tree_any n e f (t_rule {p = value_of k} x) = t_rule (tree_any n e (value_free k) x)
   tree_any n e f (t_rule {p = seen_of k} x) = t_rule (tree_any n e (seen_free k) x)
 
@@ -231,6 +234,7 @@ module _ (text : List ℕ) (s : List Token) where
       (partial_any n e f y)
   partial_any n e f (p_deeper x) = absurd cc
   partial_any n e f (p_rule {p = events_at format ports} x) = absurd cc
+  partial_any n e f (p_rule {p = lists_at ports at} x) = absurd cc
   partial_any n e f (p_rule {p = value_of k} x) = p_rule (partial_any n e (value_free k) x)
   partial_any n e f (p_rule {p = seen_of k} x) = p_rule (partial_any n e (seen_free k) x)
 
@@ -253,5 +257,6 @@ module _ (text : List ℕ) (s : List Token) where
   free_opens_none i f (o_ended_more k l e x y) = free_opens_none i f y
   free_opens_none i f (o_deeper x) = cc
   free_opens_none i f (o_rule {p = events_at format ports} x) = cc
+  free_opens_none i f (o_rule {p = lists_at ports at} x) = cc
   free_opens_none i f (o_rule {p = value_of k} x) = free_opens_none i (value_free k) x
   free_opens_none i f (o_rule {p = seen_of k} x) = free_opens_none i (seen_free k) x

@@ -1,5 +1,5 @@
 -- A shape shows one thing at most that was seen of a value of a kind.
-use Rattle.std.proofs.Common.{◌≡◌, List, [], ◌∷◌, refl, ap, ap₂, replicate}
+use Rattle.std.proofs.Common.{◌≡◌, List, ◌∷◌, refl, ap, ap₂, replicate}
 use Rattle.est_syntax.specs.declared.kind.Kind.{Kind}
 use Rattle.est_values.specs.FittingValues.{ordinal_count}
 use Rattle.est_seen.specs.declared.seen.Seen.{Seen, out-Seen, roll-Seen, roll-out-Seen}

@@ -1,5 +1,5 @@
 -- What was seen of values, as it is read.
-use Rattle.std.proofs.Common.{◌≡◌, ℕ, ℤ, true, false, IsTrue, List, [], ◌∷◌, replicate, refl, ap}
+use Rattle.std.proofs.Common.{◌≡◌, ℕ, true, false, IsTrue, List, replicate, refl, ap}
 use Rattle.std.proofs.Common.{◌∙◌}
 use Rattle.text_reader.specs.Grammar.{nothing, both, left, right}
 use Rattle.est_syntax.specs.declared.kind.Kind.{Kind, out-Kind}

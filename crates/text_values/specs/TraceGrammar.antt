@@ -30,9 +30,11 @@ pub use Rattle.text_values.specs.WrittenValues.{field_kinds}
 use Rattle.text_reader.specs.Tests.{Test, kind, said, named, number, character}
 use Rattle.text_reader.specs.Going as going
 
--- The productions: events at these ports in a format, a value of a kind, and what was seen of one.
+-- The productions: events at these ports in a format; the lists of these ports, after the name of a
+-- port with these signals or with no port named; a value of a kind, and what was seen of one.
 pub data Production : Type 0 where
   events_at : Format → List Port → Production
+  lists_at : List Port → Option (List Signal) → Production
   value_of : Kind → Production
   seen_of : Kind → Production
 
@@ -284,6 +286,40 @@ abbrev pub trace : List Port → Rule
 trace ports = word (said "trace")
     (alt (versioned First ports) (alt (versioned Second ports) (versioned Third ports)))
 
+-- ONE TRACE FOR EACH PORT
+
+-- an event at a port with these signals: "in" signal | "out" signal
+abbrev pub port_event : List Signal → Rule
+port_event signals = alt (word (said "in") (one_of (signal Complete Receives) signals))
+    (word (said "out") (one_of (signal Complete Sends) signals))
+
+-- the next event at the port that was named last, and the rest; where none was named, there is none
+abbrev pub port_event_at : List Port → Option (List Signal) → Rule
+port_event_at ports None = none
+port_event_at ports (Some signals) = seq (port_event signals) (rule (lists_at ports (Some signals)))
+
+-- a port: its name with its subscripts, where it is an element of an array, and the rest
+abbrev pub named_port : List Port → Port → Rule
+named_port ports p = when (is_head p) (word (named p.name.bytes)
+    (seq (subscripts p.index_kinds) (rule (lists_at ports (Some p.signals)))))
+
+-- { "port" port { "in" signal | "out" signal } | "time" number }, from the name of a port on, or
+-- with no port named. After a time no port is named. Each event, and each time, is within a level:
+-- the levels count them.
+abbrev pub lists : List Port → Option (List Signal) → Rule
+lists ports at = opt (alt (word (said "port") (one_of (named_port ports) ports))
+    (deeper (alt (seq time (rule (lists_at ports None))) (port_event_at ports at))))
+
+-- ports = "ports" "1" { "port" port { "in" signal | "out" signal } | "time" number } "end" .
+abbrev pub port_lists : List Port → Rule
+port_lists ports = word (said "ports") (word (number 1 1)
+    (seq (rule (lists_at ports None)) (word (said "end") done)))
+
+-- the words that go on with lists, and those that an event at a port begins with
+abbrev pub list_starts : Option (List Signal) → List Test
+list_starts None = said "port" ∷ said "time" ∷ []
+list_starts (Some signals) = said "port" ∷ said "time" ∷ said "in" ∷ said "out" ∷ []
+
 -- the words that an event begins with
 abbrev pub event_starts : List Port → List Test
 event_starts ports = said "time" ∷ said "in" ∷ said "out" ∷ []
@@ -293,6 +329,7 @@ event_starts ports = said "time" ∷ said "in" ∷ said "out" ∷ []
 -- the right side of each production
 abbrev pub production : Production → Rule
 production (events_at format ports) = events format ports
+production (lists_at ports at) = lists ports at
 production (value_of k) = value k
 production (seen_of k) = seen k
 
@@ -303,17 +340,21 @@ no_marks = record { starts = λ p. []; goes_on = λ p. []; is_empty = λ p. fals
 
 abbrev pub starts : Production → List Test
 starts (events_at format ports) = event_starts ports
+starts (lists_at ports at) = list_starts at
 starts (value_of k) = can_begin no_marks (value k)
 starts (seen_of k) = can_begin no_marks (seen k)
 
--- only an event goes on after events, and nothing after a value
+-- only an event goes on after events, only what lists begin with after lists, in which a port may
+-- be named, and nothing after a value
 abbrev pub goes_on : Production → List Test
 goes_on (events_at format ports) = event_starts ports
+goes_on (lists_at ports at) = list_starts (Some [])
 goes_on (value_of k) = []
 goes_on (seen_of k) = []
 
 abbrev pub is_empty : Production → Bool
 is_empty (events_at format ports) = true
+is_empty (lists_at ports at) = true
 is_empty (value_of k) = false
 is_empty (seen_of k) = false
 

@@ -1,7 +1,7 @@
 -- What was seen of values whole.
 use Rattle.std.specs.Prelude.{List, Option, Some, None}
 use Rattle.est_values.specs.declared.value.Value.{Value}
-use Rattle.est_seen.specs.SeenValues.{Matches, MatchEach, HasAny, SomeHasAny, IsSeenWhole}
+use Rattle.est_seen.specs.SeenValues.{MatchEach, HasAny, SomeHasAny, IsSeenWhole}
 use Rattle.est_seen.specs.declared.seen.Seen.{Seen}
 
 -- this is the value that was seen whole, or something of it was not seen

@@ -1,4 +1,3 @@
-use Rattle.std.proofs.Common.{refl}
 use Rattle.est_trace.proofs.SeenReading.{seen_departs, seen_lost}
 use Rattle.est_trace.proofs.interaction.seen_departure.Goals as goal
 

@@ -5,7 +5,7 @@ use Rattle.est_seen.specs.declared.seen.Seen.{Seen, out-Seen}
 use Rattle.est_seen.specs.declared.seen.Seen.TheVariants as seen
 use Rattle.est_trace.specs.inside.Wholes.{IsWhole}
 use Rattle.est_trace.proofs.SeenWholes.{any_whole, undefined_whole, ordinal_whole, set_whole}
-use Rattle.est_trace.proofs.SeenWholes.{group_whole, none_yet, next_whole, not_whole, all_whole}
+use Rattle.est_trace.proofs.SeenWholes.{group_whole, none_yet, next_whole, not_whole}
 use Rattle.est_trace.proofs.wholes.+whole.Goals as goal
 
 pub whole-returns-in-Any : goal.whole-returns-in-Any

@@ -1,4 +1,4 @@
-use Rattle.std.proofs.Common.{◌≡◌, ◌<◌, ◌∙◌, sym, ap, pos, Some, length, arith}
+use Rattle.std.proofs.Common.{◌<◌, ◌∙◌, sym, ap, pos, Some, length, arith}
 use Rattle.std.proofs.lemmas.Option.{slice_get-get_or}
 use Rattle.text_values.specs.WrittenOrdinals.{ordinal_text}
 use Rattle.text_values.proofs.Listed.{pair_turned, all_left, all_past}

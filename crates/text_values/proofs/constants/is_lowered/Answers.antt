@@ -1,4 +1,4 @@
-use Rattle.std.proofs.Common.{◌≡◌, ◌<◌, ℕ, sym, ◌∙◌, arith}
+use Rattle.std.proofs.Common.{sym, ◌∙◌, arith}
 use Rattle.text_values.proofs.Lowered.{they_differ, they_agree}
 use Rattle.text_values.proofs.constants.is_lowered.Goals as goal
 
