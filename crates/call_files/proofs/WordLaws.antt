@@ -9,15 +9,16 @@ use Rattle.std.specs.Global.{Global}
 use Rattle.est_meaning.specs.declared.run.Limits.{Limits}
 use Rattle.call_files.specs.declared.words.Command.{Command}
 use Rattle.call_files.specs.declared.words.Command.TheVariants.{Check, Print, Explain, Replay}
-use Rattle.call_files.specs.declared.words.Command.TheVariants.{SelfRun}
-use Rattle.call_files.specs.Requests.{Request, check, print, Asks, AreLimits, AreSearchLimits}
-use Rattle.call_files.specs.Requests.{AreRecipe, AsksNothing, AsksOfFile, AsksToExplain}
-use Rattle.call_files.specs.Requests.{AsksToReplay, AsksToSelfRun, IsCommand, bytes_of}
+use Rattle.call_files.specs.declared.words.Command.TheVariants.{SelfRun, Ports}
+use Rattle.call_files.specs.Requests.{Request, check, print, explain, ports, Asks, AreLimits}
+use Rattle.call_files.specs.Requests.{AreRecipe, AreSearchLimits, AsksNothing, AsksOfFile}
+use Rattle.call_files.specs.Requests.{AsksToReplay, AsksToSearch, AsksToSelfRun, IsCommand}
 use Rattle.call_files.specs.Requests.{to_check, to_print, to_explain, to_replay, to_self_run}
+use Rattle.call_files.specs.Requests.{to_ports, bytes_of}
 use Rattle.call_files.specs.Requests.{usual, told, left_out, given}
 use Rattle.call_files.specs.Requests.{IsNumber, usual_budget, most_silent, most_budget}
 use Rattle.call_files.specs.Requests.{most_statements}
-use Rattle.call_files.specs.inside.CommandWords.{BeginWith, BeginForFile}
+use Rattle.call_files.specs.inside.CommandWords.{AreOfSearch, BeginWith, BeginForFile}
 
 -- a word that is not empty, by its length
 pub named : (word : String Global) (empty : Bool) → empty ≡ (string_len word == 0) → empty ≡ false
@@ -35,6 +36,18 @@ pub check_or_print : (word : List ℕ) → word ≡ codes "check" → word ≡ c
 check_or_print word one other =
     let first : 99 ≡ 112 = ap (λ w. get_or w 0 0) (sym one ∙ other) in
     absurd (omega (arith, first))
+
+-- words that begin with `check` do not begin with `ports`
+pub check_or_ports : (word : List ℕ) → word ≡ codes "check" → word ≡ codes "ports" → ⊥
+check_or_ports word one other =
+    let first : 99 ≡ 112 = ap (λ w. get_or w 0 0) (sym one ∙ other) in
+    absurd (omega (arith, first))
+
+-- words that begin with `print` do not begin with `ports`
+pub print_or_ports : (word : List ℕ) → word ≡ codes "print" → word ≡ codes "ports" → ⊥
+print_or_ports word one other =
+    let second : 114 ≡ 111 = ap (λ w. get_or w 1 0) (sym one ∙ other) in
+    absurd (omega (arith, second))
 
 -- words that begin with `explain` do not begin with `selfrun`
 pub explain_or_self_run : (word : List ℕ) → word ≡ codes "explain" → word ≡ codes "selfrun" → ⊥
@@ -92,6 +105,7 @@ is_for_file Print words specification begin long short at named =
 is_for_file (Explain limits) words specification begin long short at named = absurd begin
 is_for_file (Replay limits) words specification begin long short at named = absurd begin
 is_for_file (SelfRun seed count) words specification begin long short at named = absurd begin
+is_for_file (Ports limits) words specification begin long short at named = absurd begin
 
 -- words of such a command are two, and the second one is a name
 pub record IsForFileOf (words : List (String Global)) : Type 0 where
@@ -117,90 +131,185 @@ other_word word other (a ∷ words) rest apart begin are =
 
 -- what words ask for that begin with a word that is for one file alone
 of_file : (word : List ℕ) (words : List (String Global)) → (word ≡ codes "explain" → ⊥)
-    → (word ≡ codes "replay" → ⊥) → (word ≡ codes "selfrun" → ⊥) → BeginWith word words
+    → (word ≡ codes "replay" → ⊥) → (word ≡ codes "selfrun" → ⊥) → (word ≡ codes "ports" → ⊥)
+    → BeginWith word words
     → (request : Request) → Asks (bytes_of words) request → IsForFileOf words
-of_file word words no_search no_replay no_run begin _ (to_check name are named) =
+of_file word words no_search no_replay no_run no_ports begin _ (to_check name are named) =
     two_of words (codes "check") name are named
-of_file word words no_search no_replay no_run begin _ (to_print name are named) =
+of_file word words no_search no_replay no_run no_ports begin _ (to_print name are named) =
     two_of words (codes "print") name are named
-of_file word words no_search no_replay no_run begin _
+of_file word words no_search no_replay no_run no_ports begin _
     (to_explain s t limits n b m are s_named t_named is) =
     absurd (other_word word (codes "explain") words _ no_search begin are)
-of_file word words no_search no_replay no_run begin _
+of_file word words no_search no_replay no_run no_ports begin _
     (to_replay s t e limits n m are s_named t_named e_named is) =
     absurd (other_word word (codes "replay") words _ no_replay begin are)
-of_file word words no_search no_replay no_run begin _ (to_self_run name x y n m are named is) =
+of_file word words no_search no_replay no_run no_ports begin _ (to_self_run name x y n m are named is) =
     absurd (other_word word (codes "selfrun") words _ no_run begin are)
+of_file word words no_search no_replay no_run no_ports begin _
+    (to_ports s t limits n b m are s_named t_named is) =
+    absurd (other_word word (codes "ports") words _ no_ports begin are)
 
 pub is_for_file_of : (command : Command) (words : List (String Global)) → BeginForFile command words
     → (request : Request) → Asks (bytes_of words) request → IsForFileOf words
 is_for_file_of Check words begin request asked =
-    of_file (codes "check") words (λ e. cc) (λ e. cc) (λ e. cc) begin request asked
+    of_file (codes "check") words (λ e. cc) (λ e. cc) (λ e. cc) (λ e. check_or_ports _ refl e) begin
+    request asked
 is_for_file_of Print words begin request asked =
-    of_file (codes "print") words (λ e. cc) (λ e. cc) (λ e. cc) begin request asked
+    of_file (codes "print") words (λ e. cc) (λ e. cc) (λ e. cc) (λ e. print_or_ports _ refl e) begin
+    request asked
 is_for_file_of (Explain limits) words begin request asked = absurd begin
 is_for_file_of (Replay limits) words begin request asked = absurd begin
 is_for_file_of (SelfRun seed count) words begin request asked = absurd begin
+is_for_file_of (Ports limits) words begin request asked = absurd begin
 
 -- SEARCH
 
--- words that begin so ask for a search
-pub is_explain : (words : List (String Global)) (specification trace : String Global)
-    (limits : Limits)
-    → BeginWith (codes "explain") words → 3 ≤ length words
-    → specification ≡ get_or words 1 specification → trace ≡ get_or words 2 trace
-    → string_bytes specification ≢ [] → string_bytes trace ≢ []
+-- the words of a search are these: two files, and limits
+pub of_search : (words : List (String Global)) (specification searched : String Global)
+    (silent budget statements : ℕ)
+    → 3 ≤ length words → specification ≡ get_or words 1 specification
+    → searched ≡ get_or words 2 searched
+    → string_bytes specification ≢ [] → string_bytes searched ≢ []
     → AreSearchLimits (bytes_of (take (length words - 3) (drop 3 words)))
-    limits.silent limits.budget limits.statements
-    → AsksToExplain limits words
-is_explain [] s t limits begin long at_s at_t s_named t_named are = absurd begin
-is_explain (a ∷ []) s t limits begin long at_s at_t s_named t_named are = absurd (omega arith)
-is_explain (a ∷ b ∷ []) s t limits begin long at_s at_t s_named t_named are = absurd (omega arith)
-is_explain (a ∷ b ∷ c ∷ rest) s t limits begin long at_s at_t s_named t_named are =
-    let all : take (length (a ∷ b ∷ c ∷ rest) - 3) rest ≡ rest = take_all _ rest (omega arith) in
-    to_explain (string_bytes b) (string_bytes c) (bytes_of rest) limits.silent limits.budget
-    limits.statements (ap (λ w. w ∷ string_bytes b ∷ string_bytes c ∷ bytes_of rest) begin)
-    (subst (λ w. string_bytes w ≢ []) at_s s_named)
-    (subst (λ w. string_bytes w ≢ []) at_t t_named)
-    (subst (λ ws. AreSearchLimits (bytes_of ws) limits.silent limits.budget limits.statements) all
-    are)
+    silent budget statements
+    → AreOfSearch words silent budget statements
+of_search [] s t n b m long at_s at_t s_named t_named are = absurd (omega arith)
+of_search (a ∷ []) s t n b m long at_s at_t s_named t_named are = absurd (omega arith)
+of_search (a ∷ x ∷ []) s t n b m long at_s at_t s_named t_named are = absurd (omega arith)
+of_search (a ∷ x ∷ y ∷ rest) s t n b m long at_s at_t s_named t_named are =
+    let all : take (length (a ∷ x ∷ y ∷ rest) - 3) rest ≡ rest = take_all _ rest (omega arith) in (
+      subst (λ w. string_bytes w ≢ []) at_s s_named,
+      subst (λ w. string_bytes w ≢ []) at_t t_named,
+      subst (λ ws. AreSearchLimits (bytes_of ws) n b m) all are,
+    )
 
--- words of a search are three or more: the second and the third one are names, and those after
+-- the words of a search are three or more: the second and the third one are names, and those after
 -- them are its limits
-pub record IsExplainOf (words : List (String Global)) : Type 0 where
+pub record IsOfSearch (words : List (String Global)) (silent budget statements : ℕ) : Type 0 where
   pub three : 3 ≤ length words
   pub named : (word : String Global) → word ≡ get_or words 1 word → string_bytes word ≢ []
-  pub traced : (word : String Global) → word ≡ get_or words 2 word → string_bytes word ≢ []
-  pub silent : ℕ
-  pub budget : ℕ
-  pub statements : ℕ
+  pub searched : (word : String Global) → word ≡ get_or words 2 word → string_bytes word ≢ []
   pub limits : AreSearchLimits (bytes_of (take (length words - 3) (drop 3 words)))
       silent budget statements
 
--- what words that begin so ask for
-pub is_explain_of : (words : List (String Global)) → BeginWith (codes "explain") words
-    → (request : Request) → Asks (bytes_of words) request → IsExplainOf words
-is_explain_of [] begin request asked = absurd begin
-is_explain_of (a ∷ words) begin _ (to_check name are named) = absurd cc
-is_explain_of (a ∷ words) begin _ (to_print name are named) = absurd cc
-is_explain_of (a ∷ []) begin _ (to_explain s t limits n b m are s_named t_named is) = absurd cc
-is_explain_of (a ∷ x ∷ []) begin _ (to_explain s t limits n b m are s_named t_named is) = absurd cc
-is_explain_of (a ∷ x ∷ y ∷ rest) begin _ (to_explain s t limits n b m are s_named t_named is) =
+pub is_of_search : (words : List (String Global)) (silent budget statements : ℕ)
+    → AreOfSearch words silent budget statements → IsOfSearch words silent budget statements
+is_of_search [] n b m are = absurd are
+is_of_search (a ∷ []) n b m are = absurd are
+is_of_search (a ∷ x ∷ []) n b m are = absurd are
+is_of_search (a ∷ x ∷ y ∷ rest) n b m are =
     let all : take (length (a ∷ x ∷ y ∷ rest) - 3) rest ≡ rest = take_all _ rest (omega arith) in
-    let same : limits ≡ bytes_of rest = cc in
     record {
       three = omega arith;
-      named = λ word at. subst (λ w. w ≢ []) (let e : s ≡ string_bytes word = cc in e) s_named;
-      traced = λ word at. subst (λ w. w ≢ []) (let e : t ≡ string_bytes word = cc in e) t_named;
+      named = λ word at. subst (λ w. string_bytes w ≢ []) (sym at) are.0;
+      searched = λ word at. subst (λ w. string_bytes w ≢ []) (sym at) are.1;
+      limits = subst (λ ws. AreSearchLimits (bytes_of ws) n b m) (sym all) are.2;
+    }
+
+-- what the limits are, or that they are none
+abbrev pub FindsLimits : (ℕ → ℕ → ℕ → Type 0) → Option Limits → Type 0
+FindsLimits Are r = MatchOption r ((silent budget statements : ℕ) → Are silent budget statements → ⊥)
+    (λ limits. Are limits.silent limits.budget limits.statements)
+
+-- the words of a search are read where its limits are
+pub search_read : (words : List (String Global)) (specification searched : String Global)
+    (r : Option Limits) → 3 ≤ length words → specification ≡ get_or words 1 specification
+    → searched ≡ get_or words 2 searched
+    → string_bytes specification ≢ [] → string_bytes searched ≢ []
+    → FindsLimits (AreSearchLimits (bytes_of (take (length words - 3) (drop 3 words)))) r
+    → FindsLimits (AreOfSearch words) r
+search_read words s t None long at_s at_t s_named t_named none = λ n b m are.
+    none n b m (is_of_search words n b m are).limits
+search_read words s t (Some limits) long at_s at_t s_named t_named are =
+    of_search words s t _ _ _ long at_s at_t s_named t_named are
+
+-- words that begin so, with two files and limits after, ask for a search
+module _ (word : List ℕ) (request : List ℕ → List ℕ → ℕ → ℕ → ℕ → Request)
+    (asks : (words : List (List ℕ)) (s t : List ℕ) (limits : List (List ℕ)) (n b m : ℕ)
+    → words ≡ word ∷ s ∷ t ∷ limits → s ≢ [] → t ≢ [] → AreSearchLimits limits n b m
+    → Asks words (request s t n b m)) where
+  asks_to_search : (words : List (String Global)) (limits : Limits) → BeginWith word words
+      → AreOfSearch words limits.silent limits.budget limits.statements
+      → AsksToSearch request limits words
+  asks_to_search [] limits begin are = absurd begin
+  asks_to_search (a ∷ []) limits begin are = absurd are
+  asks_to_search (a ∷ x ∷ []) limits begin are = absurd are
+  asks_to_search (a ∷ x ∷ y ∷ rest) limits begin are =
+      asks (bytes_of (a ∷ x ∷ y ∷ rest)) (string_bytes x) (string_bytes y) (bytes_of rest)
+      limits.silent limits.budget limits.statements
+      (ap (λ w. w ∷ string_bytes x ∷ string_bytes y ∷ bytes_of rest) begin) are.0 are.1 are.2
+
+pub is_explain : (words : List (String Global)) (limits : Limits)
+    → BeginWith (codes "explain") words
+    → AreOfSearch words limits.silent limits.budget limits.statements
+    → AsksToSearch explain limits words
+is_explain words limits begin are =
+    asks_to_search (codes "explain") explain (λ ws s t l n b m e p q is. to_explain s t l n b m e p q
+    is) words limits begin are
+
+pub is_ports : (words : List (String Global)) (limits : Limits) → BeginWith (codes "ports") words
+    → AreOfSearch words limits.silent limits.budget limits.statements
+    → AsksToSearch ports limits words
+is_ports words limits begin are =
+    asks_to_search (codes "ports") ports (λ ws s t l n b m e p q is. to_ports s t l n b m e p q is)
+    words limits begin are
+
+-- the limits of a search that words ask for
+pub record IsSearchOf (words : List (String Global)) : Type 0 where
+  pub silent : ℕ
+  pub budget : ℕ
+  pub statements : ℕ
+  pub are : AreOfSearch words silent budget statements
+
+search_of : (words : List (String Global)) (first s t : List ℕ) (limits : List (List ℕ))
+    (n b m : ℕ) → bytes_of words ≡ first ∷ s ∷ t ∷ limits → s ≢ [] → t ≢ []
+    → AreSearchLimits limits n b m → IsSearchOf words
+search_of [] first s t limits n b m are s_named t_named is = absurd cc
+search_of (a ∷ []) first s t limits n b m are s_named t_named is = absurd cc
+search_of (a ∷ x ∷ []) first s t limits n b m are s_named t_named is = absurd cc
+search_of (a ∷ x ∷ y ∷ rest) first s t limits n b m are s_named t_named is =
+    let one : s ≡ string_bytes x = cc in
+    let two : t ≡ string_bytes y = cc in
+    let same : limits ≡ bytes_of rest = cc in
+    record {
       silent = n;
       budget = b;
       statements = m;
-      limits = subst (λ ws. AreSearchLimits ws n b m) (same ∙ ap bytes_of (sym all)) is;
+      are = (
+        subst (λ w. w ≢ []) one s_named,
+        subst (λ w. w ≢ []) two t_named,
+        subst (λ ws. AreSearchLimits ws n b m) same is,
+      );
     }
+
+-- what words that begin so ask for
+pub is_explain_of : (words : List (String Global)) → BeginWith (codes "explain") words
+    → (request : Request) → Asks (bytes_of words) request → IsSearchOf words
+is_explain_of [] begin request asked = absurd begin
+is_explain_of (a ∷ words) begin _ (to_check name are named) = absurd cc
+is_explain_of (a ∷ words) begin _ (to_print name are named) = absurd cc
+is_explain_of (a ∷ words) begin _ (to_explain s t limits n b m are s_named t_named is) =
+    search_of (a ∷ words) (codes "explain") s t limits n b m are s_named t_named is
 is_explain_of (a ∷ words) begin _ (to_replay s t e limits n m are s_named t_named e_named is) =
     absurd cc
 is_explain_of (a ∷ words) begin _ (to_self_run name x y n m are named is) =
     absurd (explain_or_self_run (string_bytes a) begin (ap (λ ws. get_or ws 0 []) are))
+is_explain_of (a ∷ words) begin _ (to_ports s t limits n b m are s_named t_named is) = absurd cc
+
+pub is_ports_of : (words : List (String Global)) → BeginWith (codes "ports") words
+    → (request : Request) → Asks (bytes_of words) request → IsSearchOf words
+is_ports_of [] begin request asked = absurd begin
+is_ports_of (a ∷ words) begin _ (to_check name are named) =
+    absurd (check_or_ports (string_bytes a) (ap (λ ws. get_or ws 0 []) are) begin)
+is_ports_of (a ∷ words) begin _ (to_print name are named) =
+    absurd (print_or_ports (string_bytes a) (ap (λ ws. get_or ws 0 []) are) begin)
+is_ports_of (a ∷ words) begin _ (to_explain s t limits n b m are s_named t_named is) = absurd cc
+is_ports_of (a ∷ words) begin _ (to_replay s t e limits n m are s_named t_named e_named is) =
+    absurd cc
+is_ports_of (a ∷ words) begin _ (to_self_run name x y n m are named is) = absurd cc
+is_ports_of (a ∷ words) begin _ (to_ports s t limits n b m are s_named t_named is) =
+    search_of (a ∷ words) (codes "ports") s t limits n b m are s_named t_named is
 
 -- limits of a search that are left out
 pub none_told : (words : List (String Global)) → length words < 1
@@ -299,6 +408,7 @@ is_replay_of (a ∷ words) begin _ (to_check name are named) = absurd cc
 is_replay_of (a ∷ words) begin _ (to_print name are named) = absurd cc
 is_replay_of (a ∷ words) begin _ (to_explain s t limits n b m are s_named t_named is) = absurd cc
 is_replay_of (a ∷ words) begin _ (to_self_run name x y n m are named is) = absurd cc
+is_replay_of (a ∷ words) begin _ (to_ports s t limits n b m are s_named t_named is) = absurd cc
 is_replay_of (a ∷ []) begin _ (to_replay s t e limits n m are s_named t_named e_named is) =
     absurd cc
 is_replay_of (a ∷ x ∷ []) begin _ (to_replay s t e limits n m are s_named t_named e_named is) =
@@ -378,6 +488,7 @@ is_self_run_of (a ∷ words) begin _ (to_explain s t limits n b m are s_named t_
     absurd (explain_or_self_run (string_bytes a) (ap (λ ws. get_or ws 0 []) are) begin)
 is_self_run_of (a ∷ words) begin _ (to_replay s t e limits n m are s_named t_named e_named is) =
     absurd cc
+is_self_run_of (a ∷ words) begin _ (to_ports s t limits n b m are s_named t_named is) = absurd cc
 is_self_run_of (a ∷ []) begin _ (to_self_run s x y n m are named is) = absurd cc
 is_self_run_of (a ∷ b ∷ []) begin _ (to_self_run s x y n m are named is) = absurd cc
 is_self_run_of (a ∷ b ∷ c ∷ []) begin _ (to_self_run s x y n m are named is) = absurd cc
@@ -403,12 +514,12 @@ file_asks request (a ∷ b ∷ []) asked nothing = nothing _ asked
 file_asks request (a ∷ b ∷ c ∷ words) asked nothing = asked
 
 -- words that ask for a search ask for something
-explain_asks : (words : List (String Global)) (limits : Limits) → AsksToExplain limits words
-    → AsksNothing words → ⊥
-explain_asks [] limits asked nothing = asked
-explain_asks (a ∷ []) limits asked nothing = asked
-explain_asks (a ∷ b ∷ []) limits asked nothing = asked
-explain_asks (a ∷ b ∷ c ∷ words) limits asked nothing = nothing _ asked
+search_asks : (request : List ℕ → List ℕ → ℕ → ℕ → ℕ → Request) (words : List (String Global))
+    (limits : Limits) → AsksToSearch request limits words → AsksNothing words → ⊥
+search_asks request [] limits asked nothing = asked
+search_asks request (a ∷ []) limits asked nothing = asked
+search_asks request (a ∷ b ∷ []) limits asked nothing = asked
+search_asks request (a ∷ b ∷ c ∷ words) limits asked nothing = nothing _ asked
 
 -- words that ask for a replay ask for something
 replay_asks : (words : List (String Global)) (limits : Limits) → AsksToReplay limits words
@@ -434,6 +545,7 @@ pub command_asks : (words : List (String Global)) (command : Command) → IsComm
     → AsksNothing words → ⊥
 command_asks words Check asked nothing = file_asks check words asked nothing
 command_asks words Print asked nothing = file_asks print words asked nothing
-command_asks words (Explain limits) asked nothing = explain_asks words limits asked nothing
+command_asks words (Explain limits) asked nothing = search_asks explain words limits asked nothing
 command_asks words (Replay limits) asked nothing = replay_asks words limits asked.0 nothing
 command_asks words (SelfRun seed count) asked nothing = self_run_asks words seed count asked nothing
+command_asks words (Ports limits) asked nothing = search_asks ports words limits asked nothing

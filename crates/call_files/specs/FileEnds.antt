@@ -4,6 +4,7 @@ use Rattle.call_files.specs.FaultCounts.{Rose}
 use Rattle.est_syntax.specs.declared.specification.Spec.{Spec}
 use Rattle.est_meaning.specs.RecordedTraces.{Recorded}
 use Rattle.est_explanation.specs.declared.explanation.Explanation.{Explanation}
+use Rattle.mean_ports.specs.declared.lists.PortLists.{PortLists}
 use Rattle.call_files.specs.declared.file.File.{File}
 use Rattle.call_files.specs.declared.file.File.TheVariants as file
 use Rattle.call_files.specs.declared.status.Status.{Status}
@@ -11,8 +12,8 @@ use Rattle.call_files.specs.declared.status.Status.TheVariants.{TooLong}
 use Rattle.call_files.specs.Files.{limit_of}
 use Rattle.call_files.specs.RefusalLines.{too_long_line}
 use Rattle.call_files.specs.Seen.{Seen}
-use Rattle.call_files.specs.FileTexts.{IsText, Holds, OfSpecification, OfTrace, OfExplanation}
-use Rattle.call_files.specs.FileTexts.{Refusals, IsReported}
+use Rattle.call_files.specs.FileTexts.{IsText, Holds, OfSpecification, OfTrace, OfLists}
+use Rattle.call_files.specs.FileTexts.{OfExplanation, Refusals, IsReported}
 
 -- an end of a call: a status with a report, or a file that could not be read
 pub data End : Type 0 where
@@ -55,6 +56,10 @@ HoldsSpecification shelf name spec =
 -- the file holds the text of this trace of a specification, and of no other
 abbrev pub HoldsTrace : Seen → List ℕ → Spec → Recorded → Type 0
 HoldsTrace shelf name spec trace = Holds file.Trace (shelf.before.told name) (OfTrace spec trace)
+
+-- the file, which is that of a trace, holds the text of these lists, and of no others
+abbrev pub HoldsLists : Seen → List ℕ → Spec → PortLists → Type 0
+HoldsLists shelf name spec lists = Holds file.Trace (shelf.before.told name) (OfLists spec lists)
 
 -- the file holds the text of this explanation, and of no other
 abbrev pub HoldsExplanation : Seen → List ℕ → Explanation → Type 0

@@ -12,11 +12,13 @@ use Rattle.est_trace.specs.est_check.SpecificationText.{IsSpecification, IsNoSpe
 use Rattle.est_trace.specs.est_check.declared.specification_error.SpecificationError.{SpecificationError}
 use Rattle.est_trace.specs.est_check.declared.specification_error.SpecificationError.TheVariants as specification
 use Rattle.est_trace.specs.TraceText.{IsOnlyTraceText, IsTraceRefusal}
+use Rattle.est_trace.specs.ListText.{IsOnlyListsText, IsListsRefusal}
 use Rattle.est_trace.specs.declared.error.TraceError.{TraceError}
 use Rattle.est_trace.specs.declared.error.TraceError.TheVariants as trace
 use Rattle.est_explanation.specs.ExplanationText.{IsOnlyExplanationText, IsExplanationRefusal}
 use Rattle.est_explanation.specs.declared.error.ExplanationError.{ExplanationError}
 use Rattle.est_explanation.specs.declared.error.ExplanationError.TheVariants as explanation
+use Rattle.mean_ports.specs.declared.lists.PortLists.{PortLists}
 use Rattle.call_files.specs.declared.file.File.{File}
 use Rattle.call_files.specs.declared.status.Status.{Status}
 use Rattle.call_files.specs.declared.status.Status.TheVariants.{BadSpec, BadTrace, BadExplanation}
@@ -49,6 +51,10 @@ OfSpecification spec text tokens = IsSpecification text tokens spec
 -- the tokens are a text of this trace of the specification, and of no other
 abbrev pub OfTrace : Spec → Recorded → List ℕ → List Token → Type 0
 OfTrace spec trace text tokens = IsOnlyTraceText (ports_of spec) text tokens trace
+
+-- the tokens are a text of these lists of the specification, and of no others
+abbrev pub OfLists : Spec → PortLists → List ℕ → List Token → Type 0
+OfLists spec lists text tokens = IsOnlyListsText (ports_of spec) text tokens lists
 
 -- the tokens are a text of this explanation, and of no other
 abbrev pub OfExplanation : Explanation → List ℕ → List Token → Type 0
@@ -97,6 +103,12 @@ RefusesSpecification text tokens status place why =
 abbrev pub RefusesTrace : Spec → Refusals
 RefusesTrace spec text tokens status place why =
     (error : TraceError) × IsTraceRefusal (ports_of spec) text tokens error
+    × SaysOfTrace error status place why
+
+-- one trace for each port: at its first bad place
+abbrev pub RefusesLists : Spec → Refusals
+RefusesLists spec text tokens status place why =
+    (error : TraceError) × IsListsRefusal (ports_of spec) text tokens error
     × SaysOfTrace error status place why
 
 -- an explanation: at its first bad place

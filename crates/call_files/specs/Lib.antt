@@ -7,6 +7,7 @@ pub mod Memory
 pub mod MemoryFiles
 pub mod MemorySink
 pub mod Pieces
+pub mod PortReports
 pub mod ReadableReports
 pub mod Reads
 pub mod RefusalLines

@@ -6,22 +6,23 @@ use Rattle.std.specs.Str.Parse.{IsNumeral, digits_value}
 use Rattle.est_meaning.specs.declared.run.Limits.{Limits}
 use Rattle.call_files.specs.declared.words.Command.{Command}
 use Rattle.call_files.specs.declared.words.Command.TheVariants.{Check, Print, Explain, Replay}
-use Rattle.call_files.specs.declared.words.Command.TheVariants.{SelfRun}
+use Rattle.call_files.specs.declared.words.Command.TheVariants.{SelfRun, Ports}
 
 -- the bytes of each word
 abbrev pub bytes_of : List (String Global) → List (List ℕ)
 bytes_of words = map string_bytes words
 
--- What words ask for: to check a specification or to print it, to explain a trace, or to replay an
--- explanation of one, with the most silent firings in a row, the most firings that are tried, and
--- the most statements of a block or guard; or to make a trace from a seed, with at least so many
--- events, and to explain it.
+-- What words ask for: to check a specification or to print it, to explain a trace, or one trace per
+-- port, or to replay an explanation of a trace, with the most silent firings in a row, the most
+-- firings or moves that are tried, and the most statements of a block or guard; or to make a trace
+-- from a seed, with at least so many events, and to explain it.
 pub data Request : Type 0 where
   check : (specification : List ℕ) → Request
   print : (specification : List ℕ) → Request
   explain : (specification trace : List ℕ) (silent budget statements : ℕ) → Request
   replay : (specification trace explanation : List ℕ) (silent statements : ℕ) → Request
   selfrun : (specification : List ℕ) (seed count : ℕ) → Request
+  ports : (specification lists : List ℕ) (silent budget statements : ℕ) → Request
 
 -- the word is a decimal numeral of at most 20 digits, with this value, which is within the bounds
 pub record IsNumber (low high : ℕ) (word : List ℕ) (value : ℕ) : Type 0 where
@@ -35,7 +36,7 @@ pub record IsNumber (low high : ℕ) (word : List ℕ) (value : ℕ) : Type 0 wh
 abbrev pub most_silent : ℕ
 most_silent = 1000
 
--- the most firings to be tried that words can ask for
+-- the most firings, or moves, to be tried that words can ask for
 abbrev pub most_budget : ℕ
 most_budget = 4000000
 
@@ -104,6 +105,11 @@ pub data Asks (words : List (List ℕ)) : Request → Type 0 where
       → words ≡ codes "selfrun" ∷ specification ∷ first ∷ second ∷ []
       → specification ≢ [] → AreRecipe first second seed count
       → Asks words (selfrun specification seed count)
+  to_ports : (specification lists : List ℕ) (limits : List (List ℕ))
+      (silent budget statements : ℕ)
+      → words ≡ codes "ports" ∷ specification ∷ lists ∷ limits
+      → specification ≢ [] → lists ≢ [] → AreSearchLimits limits silent budget statements
+      → Asks words (ports specification lists silent budget statements)
 
 -- the words ask for nothing that the program does
 abbrev pub AsksNothing : List (String Global) → Type 0
@@ -115,14 +121,15 @@ AsksOfFile request (command ∷ specification ∷ []) =
     Asks (bytes_of (command ∷ specification ∷ [])) (request (string_bytes specification))
 AsksOfFile request _ = ⊥
 
--- the words ask to explain, within these limits, the trace that the third one names by the
--- specification that the second one names
-abbrev pub AsksToExplain : Limits → List (String Global) → Type 0
-AsksToExplain limits (command ∷ specification ∷ trace ∷ rest) =
-    Asks (bytes_of (command ∷ specification ∷ trace ∷ rest))
-    (explain (string_bytes specification) (string_bytes trace)
+-- the words ask for a search of this kind, within these limits, in the files that the second and the
+-- third one name
+abbrev pub AsksToSearch :
+    (List ℕ → List ℕ → ℕ → ℕ → ℕ → Request) → Limits → List (String Global) → Type 0
+AsksToSearch request limits (command ∷ specification ∷ searched ∷ rest) =
+    Asks (bytes_of (command ∷ specification ∷ searched ∷ rest))
+    (request (string_bytes specification) (string_bytes searched)
     limits.silent limits.budget limits.statements)
-AsksToExplain limits _ = ⊥
+AsksToSearch request limits _ = ⊥
 
 -- the words ask to replay, within these limits, the files that the second, third and fourth one
 -- name
@@ -144,6 +151,7 @@ AsksToSelfRun seed count _ = ⊥
 abbrev pub IsCommand : List (String Global) → Command → Type 0
 IsCommand words Check = AsksOfFile check words
 IsCommand words Print = AsksOfFile print words
-IsCommand words (Explain limits) = AsksToExplain limits words
+IsCommand words (Explain limits) = AsksToSearch explain limits words
 IsCommand words (Replay limits) = AsksToReplay limits words × (limits.budget ≡ usual_budget)
 IsCommand words (SelfRun seed count) = AsksToSelfRun seed count words
+IsCommand words (Ports limits) = AsksToSearch ports limits words

@@ -85,8 +85,8 @@ fn explained(head: String, moves: &[Move], claim: u32) -> Result<Vec<u8>, AllocE
     Ok(text)
 }
 
-// The line of a trace that is explained.
-fn accepted_report(alloc: Global, events: u32) -> Result<String, AllocError>
+/// The line of a trace that is explained.
+pub(crate) fn accepted_report(alloc: Global, events: u32) -> Result<String, AllocError>
     ensures { IfOk result (λ line. string_bytes line ≡ accepted_line events) }
 {
     format!(in alloc; "{{ accepted: {events} events }}\n")
@@ -177,8 +177,8 @@ fn over_firings_report(alloc: Global, tried: u32) -> Result<String, AllocError>
     format!(in alloc; "{{ over budget: {tried} firings tried }}\n")
 }
 
-// The line of a block or a guard that passes the limit of statements.
-fn over_action_report(
+/// The line of a block or a guard that passes the limit of statements.
+pub(crate) fn over_action_report(
     alloc: Global,
     limit: u32,
     firing: &Option<Firing>,

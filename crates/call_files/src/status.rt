@@ -15,7 +15,8 @@ pub enum Status {
     BadTrace = 3,
     /// The explanation's text has a fault.
     BadExplanation = 4,
-    /// The firings that may be tried were used up, or something passed its limit of statements.
+    /// The firings or moves that may be tried were used up, or something passed its limit of
+    /// statements.
     OverBudget = 5,
     /// A file is longer than its limit.
     TooLong = 6,

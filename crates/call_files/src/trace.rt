@@ -64,8 +64,8 @@ fn trace_of(alloc: Global, text: &[u8], checked: &Checked) -> Result<Trace, Stop
     }
 }
 
-// What is said of an error, unless memory ran out.
-fn said_of(error: TraceError) -> Option<Diagnostic>
+/// What is said of an error, unless memory ran out.
+pub(crate) fn said_of(error: TraceError) -> Option<Diagnostic>
     ensures said { IfSome result (λ said. SaysOfTrace error said.status said.place said.why.now) }
     ensures unsaid { IfNone result (IsMemoryOfTrace error) }
 {

@@ -2,7 +2,7 @@
 ghost use Rattle.std.specs.Prelude.{◌≡◌, ℕ, IfOk, IfSome, MatchOption, OnErr, codes};
 ghost use Rattle.call_files.specs.Requests.{AreLimits, AreRecipe, AreSearchLimits, AsksNothing};
 ghost use Rattle.call_files.specs.Requests.{IsCommand, IsNumber, bytes_of, usual_budget};
-ghost use Rattle.call_files.specs.inside.CommandWords.{BeginForFile, BeginWith};
+ghost use Rattle.call_files.specs.inside.CommandWords.{AreOfSearch, BeginForFile, BeginWith};
 
 use est_meaning::run::Limits;
 
@@ -16,7 +16,7 @@ pub const USUAL: Limits = Limits {
 // The most silent firings in a row that words can ask for.
 const MOST_SILENT: u32 = 1000;
 
-// The most firings to be tried that words can ask for.
+// The most firings, or moves, to be tried that words can ask for.
 const MOST_BUDGET: u32 = 4_000_000;
 
 // The most statements of a block or guard that words can ask for.
@@ -41,6 +41,9 @@ pub enum Command {
     /// To make a trace of a specification from a seed, until it has so many events, and to explain
     /// it. The word after `selfrun` names the file of the specification.
     SelfRun { seed: u64, count: u32 },
+    /// To explain one trace for each port. The words after `ports` name the files of the specification
+    /// and the lists.
+    Ports { limits: Limits },
 }
 
 /// The words ask for nothing that the program does.
@@ -58,6 +61,7 @@ pub fn read_words(words: &[String]) -> Result<Command, BadUsage>
         [command, ..] if command.as_str() == "explain" => read_explain(words),
         [command, ..] if command.as_str() == "replay" => read_replay(words),
         [command, ..] if command.as_str() == "selfrun" => read_self_run(words),
+        [command, ..] if command.as_str() == "ports" => read_ports(words),
         _ => Err(BadUsage),
     }
 }
@@ -80,15 +84,34 @@ fn read_explain(words: &[String]) -> Result<Command, BadUsage>
     ensures asked { IfOk result (IsCommand words.now) }
     ensures refused { OnErr result (AsksNothing words.now) }
 {
+    match read_search(words) {
+        Some(limits) => Ok(Command::Explain { limits }),
+        None => Err(BadUsage),
+    }
+}
+
+// Reads the words of a search along one trace for each port.
+fn read_ports(words: &[String]) -> Result<Command, BadUsage>
+    requires { BeginWith (codes "ports") words.now }
+    ensures asked { IfOk result (IsCommand words.now) }
+    ensures refused { OnErr result (AsksNothing words.now) }
+{
+    match read_search(words) {
+        Some(limits) => Ok(Command::Ports { limits }),
+        None => Err(BadUsage),
+    }
+}
+
+// Reads the words of a search after its first one: two files, and limits.
+fn read_search(words: &[String]) -> Option<Limits>
+    ensures { MatchOption result
+        ((silent budget statements : ℕ) → AreOfSearch words.now silent budget statements → ⊥)
+        (λ limits. AreOfSearch words.now limits.silent limits.budget limits.statements) }
+{
     match words {
-        [_, specification, trace, limits @ ..] if !specification.is_empty() && !trace.is_empty() =>
-            {
-                match read_search_limits(limits) {
-                    Some(limits) => Ok(Command::Explain { limits }),
-                    None => Err(BadUsage),
-                }
-            }
-        _ => Err(BadUsage),
+        [_, specification, searched, limits @ ..]
+            if !specification.is_empty() && !searched.is_empty() => read_search_limits(limits),
+        _ => None,
     }
 }
 

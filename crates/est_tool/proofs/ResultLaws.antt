@@ -29,9 +29,9 @@ use Rattle.call_files.specs.declared.status.Status.TheVariants.{OutOfMemory, NoS
 use Rattle.est_tool.specs.ReplayReports.{replay_status}
 use Rattle.call_files.specs.SearchReports.{verdict_status}
 use Rattle.call_files.specs.FileTexts.{Holds, Refusals, RefusesSpecification, RefusesTrace}
-use Rattle.call_files.specs.FileTexts.{RefusesExplanation, SaysOfSpecification}
+use Rattle.call_files.specs.FileTexts.{RefusesExplanation, RefusesLists, SaysOfSpecification}
 use Rattle.call_files.specs.FileTexts.{SaysOfTrace, SaysOfExplanation, IsReported}
-use Rattle.call_files.specs.Requests.{Request, check, print, explain, replay, selfrun}
+use Rattle.call_files.specs.Requests.{Request, check, print, explain, replay, selfrun, ports}
 use Rattle.call_files.specs.Seen.{Seen, Sent}
 use Rattle.call_files.specs.FileEnds.{End, reported, unread, EndsAt, longer, refused}
 use Rattle.call_files.specs.FileEnds.{failed, EndsAtText, text_longer, text_refused}
@@ -40,6 +40,11 @@ use Rattle.est_tool.specs.Ends.{TellsCounts, CheckEnds, at_its_file, good, at_sp
 use Rattle.est_tool.specs.Ends.{at_trace, at_explanation, replayed, Ends}
 use Rattle.est_tool.specs.Ends.{ends_at_specification, ends_at_trace, not_started}
 use Rattle.est_tool.specs.Ends.{start_over, searched}
+use Rattle.est_tool.specs.PortsEnds.{PortsEnds, refused_at_specification, refused_at_lists}
+use Rattle.est_tool.specs.PortsEnds.{no_start, long_start, judged}
+use Rattle.mean_ports.specs.declared.verdict.PortsVerdict.{PortsVerdict}
+use Rattle.mean_ports.specs.declared.verdict.PortsVerdict.TheVariants as merged
+use Rattle.call_files.specs.PortReports.{ports_status}
 use Rattle.est_tool.specs.Result.{Reports, Writes, IsResult}
 use Rattle.run_make.specs.declared.made.Made.{Made}
 use Rattle.est_syntax.specs.declared.specification.Spec.{Spec}
@@ -88,6 +93,12 @@ of_verdict (verdict.Refused at run faulted) = tt
 of_verdict (verdict.OverFirings tried) = tt
 of_verdict (verdict.OverAction run events firing) = tt
 
+of_merged : (verdict : PortsVerdict) → HasReport (ports_status verdict)
+of_merged (merged.Accepted merge run) = tt
+of_merged (merged.Refused most merge run) = tt
+of_merged (merged.OverTries tried) = tt
+of_merged (merged.OverAction merge run reached firing) = tt
+
 of_refused : (file : File) (Refuses : Refusals) (told : Option (List ℕ)) (status : Status)
     (report : List ℕ) → AreReportable Refuses
     → Holds file told (IsReported file Refuses status report) → HasReport status
@@ -124,6 +135,20 @@ of_check Says shelf name _ (at_its_file end is) = at_file RefusesSpecification e
     is
 of_check Says shelf name _ (good spec report holds says) = tt
 
+of_ports : (shelf : Seen) (s t : List ℕ) (silent budget statements : ℕ) (end : End)
+    → PortsEnds shelf s t silent budget statements end → IsReportable end
+of_ports shelf s t silent budget statements _ (refused_at_specification end is) =
+    at_file RefusesSpecification end (λ text tokens status place why refuses. of_specification
+    refuses.0 status place why refuses.2) is
+of_ports shelf s t silent budget statements _ (refused_at_lists spec end holds is) =
+    at_file (RefusesLists spec) end (λ text tokens status place why refuses. of_trace refuses.0
+    status place why refuses.2) is
+of_ports shelf s t silent budget statements _ (no_start spec lists fault holds listed is) = tt
+of_ports shelf s t silent budget statements _ (long_start spec lists holds listed is) = tt
+of_ports shelf s t silent budget statements _
+    (judged spec lists situation outs verdict holds listed begun allowed is fits) =
+    of_merged verdict
+
 -- how what the words ask for ends, a report has such a status
 pub ends_reportable : (shelf : Seen) (request : Request) (end : End) → Ends shelf request end
     → IsReportable end
@@ -157,6 +182,8 @@ ends_reportable shelf (selfrun name seed count) _ (stops_at_its_file end is) =
     refuses.0 status place why refuses.2) is
 ends_reportable shelf (selfrun name seed count) _ (makes spec made end holds is ends) =
     of_made spec made end ends
+ends_reportable shelf (ports s t silent budget statements) end ends =
+    of_ports shelf s t silent budget statements end ends
 
 -- WRITTEN REPORTS
 

@@ -13,6 +13,10 @@ use Rattle.call_files.specs.est_explanation.declared.explanation.Explanation.{Ex
 use Rattle.est_meaning.specs.declared.run.Limits.{Limits}
 use Rattle.est_tool.specs.declared.search.Searched.{Searched}
 use Rattle.est_tool.specs.declared.search.Searched.TheVariants as came
+use Rattle.est_tool.specs.declared.search.PortsSearched.{PortsSearched}
+use Rattle.est_tool.specs.declared.search.PortsSearched.TheVariants as ports_came
+use Rattle.mean_ports.specs.declared.lists.PortLists.{PortLists}
+use Rattle.est_meaning.specs.rule_declares.PortList.{ports_of}
 use Rattle.call_files.specs.declared.report.Report.{Report}
 use Rattle.call_files.specs.declared.stop.Stop.{Stop}
 use Rattle.call_files.specs.declared.stop.Stop.TheVariants.{Refused, ReadFault, OutOfMemory}
@@ -22,10 +26,10 @@ use Rattle.call_files.specs.Files.{limit_of}
 use Rattle.est_tool.specs.ReplayReports.{replay_status}
 use Rattle.call_files.specs.Seen.{Shelved, Seen, seen}
 use Rattle.call_files.specs.FileTexts.{Holds, Refusals, IsReported, OfSpecification}
-use Rattle.call_files.specs.FileTexts.{OfTrace, OfExplanation}
-use Rattle.call_files.specs.Requests.{Request, check, print, explain, replay, selfrun}
+use Rattle.call_files.specs.FileTexts.{OfTrace, OfLists, OfExplanation}
+use Rattle.call_files.specs.Requests.{Request, check, print, explain, replay, selfrun, ports}
 use Rattle.call_files.specs.FileEnds.{End, reported, IsTooLong, EndsAt, longer, refused, failed}
-use Rattle.call_files.specs.FileEnds.{HoldsSpecification, HoldsTrace}
+use Rattle.call_files.specs.FileEnds.{HoldsSpecification, HoldsTrace, HoldsLists}
 use Rattle.call_files.specs.FileEnds.{HoldsExplanation}
 use Rattle.call_files.specs.est_check.SentenceOf.{IsSentence}
 use Rattle.est_print.specs.PrintedText.{IsOfSentence, IsPrintedText}
@@ -35,12 +39,15 @@ use Rattle.est_tool.specs.Ends.{at_trace, at_explanation, replayed, Ends}
 use Rattle.est_tool.specs.Ends.{ExplainEnds, ends_at_specification, ends_at_trace}
 use Rattle.est_tool.specs.Ends.{not_started, start_over, searched}
 use Rattle.est_tool.specs.SelfRuns.{stops_at_its_file, makes}
-use Rattle.est_tool.specs.Started.{ExplainStarts, first_alone, both}
+use Rattle.est_tool.specs.PortsEnds.{PortsEnds, refused_at_specification, refused_at_lists}
+use Rattle.est_tool.specs.PortsEnds.{no_start, long_start, judged}
+use Rattle.est_tool.specs.Started.{SearchStarts, first_alone, both}
 use Rattle.est_tool.specs.Started.{ReplayStarts, one, two, three, Starts}
 use Rattle.call_files.specs.Reads.{IsStop, IsQuiet, ReadsFile}
 use Rattle.est_tool.specs.inside.Work.{IsMade, Gives, IsReport, IsFine}
 use Rattle.est_tool.specs.inside.Work.{IsAnswered, Tells, IsExplained, IsWork}
-use Rattle.est_tool.specs.inside.Searching.{IsSearched}
+use Rattle.est_tool.specs.inside.Work.{TellsPorts, IsMergedSo}
+use Rattle.est_tool.specs.inside.Searching.{IsSearched, IsPortsSearched}
 use Rattle.call_files.proofs.ReadLaws.{stop_then, stops_for, quiet_any, quiet_stop}
 
 -- what is held where a shelf tells the same as before was held before
@@ -140,6 +147,20 @@ module _ (before middle after : Shelved) (same : SameTold before.told middle.tol
       (file_before end at)
   ends_before (selfrun s n m) _ (makes spec made end holds is ends) = makes spec made end
       (text_before s spec holds) is ends
+  ends_before (ports s t n b m) _ (refused_at_specification end at) =
+      refused_at_specification end (file_before end at)
+  ends_before (ports s t n b m) _ (refused_at_lists spec end holds at) =
+      refused_at_lists spec end (text_before s spec holds) (file_before end at)
+  ends_before (ports s t n b m) _ (no_start spec lists fault holds listed is) =
+      no_start spec lists fault (text_before s spec holds)
+      (holds_before _ (OfLists spec lists) (same t) listed) is
+  ends_before (ports s t n b m) _ (long_start spec lists holds listed is) =
+      long_start spec lists (text_before s spec holds)
+      (holds_before _ (OfLists spec lists) (same t) listed) is
+  ends_before (ports s t n b m) _
+      (judged spec lists situation outs verdict holds listed begun allowed is fits) =
+      judged spec lists situation outs verdict (text_before s spec holds)
+      (holds_before _ (OfLists spec lists) (same t) listed) begun allowed is fits
 
   replay_starts_before : (s t e : List ℕ) (names : List (List ℕ))
       → ReplayStarts (seen middle after) s t e names → ReplayStarts (seen before after) s t e names
@@ -149,18 +170,19 @@ module _ (before middle after : Shelved) (same : SameTold before.told middle.tol
       three spec trace (text_before s spec holds)
       (holds_before _ (OfTrace spec trace) (same t) traced)
 
-  explain_starts_before : (s t : List ℕ) (names : List (List ℕ))
-      → ExplainStarts (seen middle after) s t names → ExplainStarts (seen before after) s t names
-  explain_starts_before s t _ first_alone = first_alone
-  explain_starts_before s t _ (both spec holds) = both spec (text_before s spec holds)
+  search_starts_before : (s t : List ℕ) (names : List (List ℕ))
+      → SearchStarts (seen middle after) s t names → SearchStarts (seen before after) s t names
+  search_starts_before s t _ first_alone = first_alone
+  search_starts_before s t _ (both spec holds) = both spec (text_before s spec holds)
 
   starts_before : (request : Request) (names : List (List ℕ))
       → Starts (seen middle after) request names → Starts (seen before after) request names
   starts_before (check s) names starts = starts
   starts_before (print s) names starts = starts
-  starts_before (explain s t n b m) names starts = explain_starts_before s t names starts
+  starts_before (explain s t n b m) names starts = search_starts_before s t names starts
   starts_before (replay s t e n m) names starts = replay_starts_before s t e names starts
   starts_before (selfrun s n m) names starts = starts
+  starts_before (ports s t n b m) names starts = search_starts_before s t names starts
 
   quiet_before : {A : Type 0} (r : Result A Stop) → IsQuiet (seen middle after) r
       → IsQuiet (seen before after) r
@@ -291,3 +313,35 @@ replay_reports shelf s t e silent statements spec trace read holds traced explai
     (subst (λ r. ReplayEnds shelf s t e silent statements (reported (replay_status is.0) r))
     (sym is.3)
     (replayed spec trace read is.0 holds traced explained is.1))
+
+-- ONE TRACE FOR EACH PORT
+
+-- an end with this status and this report
+merged_so : (shelf : Seen) (s t : List ℕ) (silent budget statements : ℕ) (a b : Status)
+    (r q : List ℕ) → (a ≡ b) × (r ≡ q)
+    → PortsEnds shelf s t silent budget statements (reported b q)
+    → PortsEnds shelf s t silent budget statements (reported a r)
+merged_so shelf s t silent budget statements a b r q same ends =
+    subst (λ z. PortsEnds shelf s t silent budget statements (reported z r)) (sym same.0)
+    (subst (λ z. PortsEnds shelf s t silent budget statements (reported b z)) (sym same.1) ends)
+
+ports_reports : (shelf : Seen) (s t : List ℕ) (limits : Limits) (spec : Spec) (lists : PortLists)
+    → HoldsSpecification shelf s spec → HoldsLists shelf t spec lists
+    → (status : Status) (report : List ℕ) (found : PortsSearched)
+    → IsPortsSearched limits spec lists found
+    → TellsPorts (ports_of spec) limits.statements found status report
+    → PortsEnds shelf s t limits.silent limits.budget limits.statements (reported status report)
+ports_reports shelf s t limits spec lists holds listed status report (ports_came.Found verdict) is
+    tells = merged_so shelf s t _ _ _ _ _ _ _ (tells.0, tells.1)
+    (judged spec lists is.0 is.1 verdict holds listed is.2 is.3 is.4 tells.2)
+ports_reports shelf s t limits spec lists holds listed status report (ports_came.Fault fault) is
+    tells = merged_so shelf s t _ _ _ _ _ _ _ tells (no_start spec lists fault holds listed is)
+ports_reports shelf s t limits spec lists holds listed status report ports_came.Limit is tells =
+    merged_so shelf s t _ _ _ _ _ _ _ tells (long_start spec lists holds listed is)
+
+pub lists_reports : (shelf : Seen) (s t : List ℕ) (limits : Limits) (spec : Spec)
+    (lists : PortLists) → HoldsSpecification shelf s spec → HoldsLists shelf t spec lists
+    → (status : Status) (report : List ℕ) → IsMergedSo limits spec lists status report
+    → PortsEnds shelf s t limits.silent limits.budget limits.statements (reported status report)
+lists_reports shelf s t limits spec lists holds listed status report is =
+    ports_reports shelf s t limits spec lists holds listed status report is.0 is.1 is.2

@@ -29,8 +29,9 @@ use Rattle.est_meaning.specs.Task.{setup_from}
 use Rattle.call_files.specs.SearchReports.{verdict_status}
 use Rattle.call_files.specs.FileTexts.{RefusesSpecification}
 use Rattle.call_files.specs.FileTexts.{RefusesTrace, RefusesExplanation}
-use Rattle.call_files.specs.Requests.{Request, check, print, explain, replay, selfrun}
+use Rattle.call_files.specs.Requests.{Request, check, print, explain, replay, selfrun, ports}
 use Rattle.est_print.specs.PrintedText.{IsPrintedText}
+use Rattle.est_tool.specs.PortsEnds.{PortsEnds}
 
 -- the report tells the numbers of the specification
 abbrev pub TellsCounts : Spec → List ℕ → Type 0
@@ -104,3 +105,5 @@ Ends shelf (explain specification trace silent budget statements) end =
 Ends shelf (replay specification trace explanation silent statements) end =
     ReplayEnds shelf specification trace explanation silent statements end
 Ends shelf (selfrun specification seed count) end = SelfRunEnds shelf specification seed count end
+Ends shelf (ports specification lists silent budget statements) end =
+    PortsEnds shelf specification lists silent budget statements end

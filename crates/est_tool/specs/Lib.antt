@@ -1,4 +1,5 @@
 pub mod Ends
+pub mod PortsEnds
 pub mod ReplayReports
 pub mod Result
 pub mod SelfRuns

@@ -4,7 +4,7 @@ use Rattle.est_syntax.specs.declared.specification.Spec.{Spec}
 use Rattle.est_meaning.specs.RecordedTraces.{Recorded}
 use Rattle.call_files.specs.Seen.{Seen}
 use Rattle.call_files.specs.FileEnds.{HoldsSpecification, HoldsTrace}
-use Rattle.call_files.specs.Requests.{Request, check, print, explain, replay, selfrun}
+use Rattle.call_files.specs.Requests.{Request, check, print, explain, replay, selfrun, ports}
 
 -- `replay` starts its files in their order, each once, and one only where those before it are good
 pub data ReplayStarts (shelf : Seen) (specification trace explanation : List ℕ)
@@ -17,12 +17,13 @@ pub data ReplayStarts (shelf : Seen) (specification trace explanation : List ℕ
       → ReplayStarts shelf specification trace explanation
       (specification ∷ trace ∷ explanation ∷ [])
 
--- `explain` starts its files in their order, each once, and the trace only where the specification
--- is good
-pub data ExplainStarts (shelf : Seen) (specification trace : List ℕ) : List (List ℕ) → Type 0 where
-  first_alone : ExplainStarts shelf specification trace (specification ∷ [])
+-- a search, `explain` or `ports`, starts its files in their order, each once, and the second one, a
+-- trace or lists, only where the specification is good
+pub data SearchStarts (shelf : Seen) (specification searched : List ℕ)
+    : List (List ℕ) → Type 0 where
+  first_alone : SearchStarts shelf specification searched (specification ∷ [])
   both : (spec : Spec) → HoldsSpecification shelf specification spec
-      → ExplainStarts shelf specification trace (specification ∷ trace ∷ [])
+      → SearchStarts shelf specification searched (specification ∷ searched ∷ [])
 
 -- the files of these names are all that is started for what the words ask for: `check`, `print` and
 -- `selfrun` start their file, once
@@ -30,7 +31,9 @@ abbrev pub Starts : Seen → Request → List (List ℕ) → Type 0
 Starts shelf (check specification) names = names ≡ specification ∷ []
 Starts shelf (print specification) names = names ≡ specification ∷ []
 Starts shelf (explain specification trace silent budget statements) names =
-    ExplainStarts shelf specification trace names
+    SearchStarts shelf specification trace names
 Starts shelf (replay specification trace explanation silent statements) names =
     ReplayStarts shelf specification trace explanation names
 Starts shelf (selfrun specification seed count) names = names ≡ specification ∷ []
+Starts shelf (ports specification lists silent budget statements) names =
+    SearchStarts shelf specification lists names

@@ -7,6 +7,7 @@ pub mod made;
 mod made_report;
 pub mod made_trace;
 mod made_words;
+mod ports;
 mod replay_report;
 pub mod search;
 mod self_run;

@@ -8,6 +8,7 @@ ghost use Rattle.est_tool.specs.inside.Written.{HasReport, IsReportable, Deliver
 use crate::commands::{
     ExplainFiles, ReplayFiles, check_file, explain_files, print_file, replay_files,
 };
+use crate::ports::{PortsFiles, ports_files};
 use crate::self_run::self_run_file;
 use call_files::status::Status;
 use call_files::words::{BadUsage, Command, read_words};
@@ -67,6 +68,13 @@ fn obey<S: Shelf>(
         }
         Command::SelfRun { seed, count } => {
             self_run_file(alloc, shelf, words[1].as_str(), seed, count)
+        }
+        Command::Ports { limits } => {
+            let files = PortsFiles {
+                specification: words[1].as_str(),
+                lists: words[2].as_str(),
+            };
+            ports_files(alloc, shelf, &files, &limits)
         }
     }
 }

@@ -2,7 +2,6 @@
 use Rattle.std.proofs.Common.{◌≡◌, ◌≢◌, ◌∙◌, ℕ, List, sym, subst, refl}
 use Rattle.std.specs.Prelude.{String}
 use Rattle.std.specs.Global.{Global}
-use Rattle.call_files.specs.FaultCounts.{Rose}
 use Rattle.mean_blocks.specs.Outcome.{Done, Fault, Limit}
 use Rattle.est_meaning.specs.Run.{Setup}
 use Rattle.est_meaning.specs.Trials.{IsTrial}
@@ -10,21 +9,17 @@ use Rattle.est_search.specs.declared.verdict.Verdict.{Verdict}
 use Rattle.est_search.specs.declared.verdict.Verdict.TheVariants as verdict
 use Rattle.est_search.specs.Verdict.{IsVerdict}
 use Rattle.est_search.proofs.OneVerdict.{too_many}
-use Rattle.call_files.specs.declared.file.File.{File}
 use Rattle.call_files.specs.declared.file.File.TheVariants.{Specification, Trace}
 use Rattle.est_tool.specs.declared.search.Searched.TheVariants as came
 use Rattle.call_files.specs.declared.status.Status.{Status}
-use Rattle.call_files.specs.declared.status.Status.TheVariants.{Fine, Refused, BadSpec, BadTrace}
-use Rattle.call_files.specs.declared.status.Status.TheVariants.{BadExplanation, OverBudget, TooLong}
-use Rattle.call_files.specs.declared.status.Status.TheVariants.{Usage, ReadFault, WriteFault}
-use Rattle.call_files.specs.declared.status.Status.TheVariants.{OutOfMemory, NoStart}
+use Rattle.call_files.specs.declared.status.Status.TheVariants.{Fine, Refused, OutOfMemory}
 use Rattle.law_calls.specs.Completeness.{IsSearchOf, IsJudged, IsWithinLimits, Decides}
 use Rattle.law_calls.specs.Completeness.{SearchIsComplete}
-use Rattle.call_files.specs.FileEnds.{End, reported, unread, EndsAt, longer, refused, failed}
+use Rattle.call_files.specs.FileEnds.{End, reported, unread}
 use Rattle.est_tool.specs.Ends.{Ends}
 use Rattle.est_tool.specs.Ends.{ExplainEnds, ends_at_specification, ends_at_trace}
 use Rattle.est_tool.specs.Ends.{not_started, start_over, searched}
-use Rattle.call_files.specs.FileTexts.{Refusals, OfSpecification, OfTrace}
+use Rattle.call_files.specs.FileTexts.{OfSpecification, OfTrace}
 use Rattle.call_files.specs.FileTexts.{RefusesSpecification, RefusesTrace}
 use Rattle.call_files.specs.Requests.{bytes_of}
 use Rattle.est_tool.specs.Result.{CallEnds, Reports, IsResult}
@@ -32,17 +27,10 @@ use Rattle.call_files.specs.Seen.{Seen, Sent}
 use Rattle.call_files.specs.SearchReports.{verdict_status}
 use Rattle.est_tool.specs.inside.Work.{IsExplained}
 use Rattle.law_calls.proofs.OneRequest.{request_one}
+use Rattle.law_calls.proofs.Judged.{unread_rose, judged, told_of}
 use Rattle.law_calls.proofs.Stages.{specifications_decided, traces_decided, stage_next}
 use Rattle.law_calls.proofs.SearchStages.{limits_of, Explains as Stages, Searches, explain_stages}
 use Rattle.law_calls.proofs.SearchStages.{verdict_at}
-
--- a file ends a call unread only where its count of faults rose
-pub unread_rose : (shelf : Seen) (file : File) (name : List ℕ) (Refuses : Refusals) (end : End)
-    → end ≡ unread → EndsAt shelf file name Refuses end
-    → Rose (shelf.before.faults name) (shelf.after.faults name)
-unread_rose shelf file name Refuses _ is (longer s r x) = absurd cc
-unread_rose shelf file name Refuses _ is (refused s r x) = absurd cc
-unread_rose shelf file name Refuses _ is (failed rose) = rose
 
 -- the verdict that a report tells
 record IsTold (c : Setup) (budget : ℕ) (status : Status) : Type 0 where
@@ -114,44 +102,24 @@ told_judged c budget status told = subst IsJudged (sym told.status_is) (verdict_
 
 module _ (words : List (String Global)) (shelf : Seen) (output : Sent) (budget : ℕ) (c : Setup)
     (search_of : IsSearchOf words shelf output budget c) where
-  -- a status with a report is that of a verdict
-  by_report : (status : Status) (P : List ℕ → Type 0)
-      → (report : List ℕ) × Reports words shelf status report × P report → IsTold c budget status
-  by_report status P is = report_told words shelf output budget c search_of status is.0 is.1
+  not_read : CallEnds words shelf unread → ⊥
+  not_read ends = not_unread words shelf output budget c search_of unread refl
+      (search_ends words shelf output budget c search_of unread ends)
 
   -- no status but these comes
-  judged : (status : Status) → IsResult words shelf output status → IsJudged status
-  judged Fine result = tt
-  judged Refused result = tt
-  judged OverBudget result = tt
-  judged OutOfMemory result = tt
-  judged BadSpec result = told_judged c budget BadSpec (by_report BadSpec _ result.written)
-  judged BadTrace result = told_judged c budget BadTrace (by_report BadTrace _ result.written)
-  judged BadExplanation result =
-      told_judged c budget BadExplanation (by_report BadExplanation _ result.written)
-  judged TooLong result = told_judged c budget TooLong (by_report TooLong _ result.written)
-  judged NoStart result = told_judged c budget NoStart (by_report NoStart _ result.written)
-  judged Usage result = result.usage.0 refl _ search_of.asked
-  judged ReadFault result =
-      not_unread words shelf output budget c search_of unread refl
-      (search_ends words shelf output budget c search_of unread (result.read_fault refl))
-  judged WriteFault result = search_of.written (result.write_fault refl)
+  search_judged : (status : Status) → IsResult words shelf output status → IsJudged status
+  search_judged status result =
+      judged words shelf output _ search_of.asked not_read search_of.written (IsTold c budget)
+      (λ s r reports. report_told words shelf output budget c search_of s r reports)
+      (λ s told. told_judged c budget s told) status result
 
   -- and unless memory ran out, a verdict is told
-  told_of : (status : Status) → IsResult words shelf output status → status ≢ OutOfMemory
+  search_told : (status : Status) → IsResult words shelf output status → status ≢ OutOfMemory
       → IsTold c budget status
-  told_of Fine result kept = by_report Fine _ result.written
-  told_of Refused result kept = by_report Refused _ result.written
-  told_of OverBudget result kept = by_report OverBudget _ result.written
-  told_of OutOfMemory result kept = absurd (kept refl)
-  told_of BadSpec result kept = by_report BadSpec _ result.written
-  told_of BadTrace result kept = by_report BadTrace _ result.written
-  told_of BadExplanation result kept = by_report BadExplanation _ result.written
-  told_of TooLong result kept = by_report TooLong _ result.written
-  told_of NoStart result kept = by_report NoStart _ result.written
-  told_of Usage result kept = absurd (judged Usage result)
-  told_of ReadFault result kept = absurd (judged ReadFault result)
-  told_of WriteFault result kept = absurd (judged WriteFault result)
+  search_told status result kept =
+      told_of words shelf output _ search_of.asked not_read search_of.written (IsTold c budget)
+      (λ s r reports. report_told words shelf output budget c search_of s r reports) status result
+      kept
 
 -- the verdict where the limits suffice
 decides : (c : Setup) (budget : ℕ) (status : Status) (v : Verdict) → IsVerdict c budget v
@@ -178,8 +146,8 @@ decides c budget status (verdict.OverAction run events firing) is same within =
 pub search_complete : SearchIsComplete
 search_complete = record {
   judged = λ words shelf output status budget c search_of result.
-      judged words shelf output budget c search_of status result;
+      search_judged words shelf output budget c search_of status result;
   decided = λ words shelf output status budget c search_of result within kept.
-      let told = told_of words shelf output budget c search_of status result kept in
+      let told = search_told words shelf output budget c search_of status result kept in
       decides c budget status told.told told.is told.status_is within;
 }

@@ -49,7 +49,7 @@ use Rattle.law_calls.proofs.Searches.{IsFound, Found, found_so, start_passed, fo
 -- WHAT IS HELD
 
 -- the same bytes hold the same
-retold : (file : File) (told told' : Option (List ℕ)) (bytes : List ℕ)
+pub retold : (file : File) (told told' : Option (List ℕ)) (bytes : List ℕ)
     (Is : List ℕ → List Token → Type 0) → told ≡ Some bytes → told' ≡ Some bytes
     → Holds file told Is → Holds file told' Is
 retold file told told' bytes Is e f h = subst (λ t. Holds file t Is) (e ∙ sym f) h
@@ -90,14 +90,14 @@ module _ (status status' : Status) (report report' : List ℕ)
       replayed f.spec f.recorded x (Confirmed x.claim) holds traced explained answers in
       let same = result_one b.shelf' b.shelf'
       (replay b.specification b.trace b.explanation b.silent b.statements) Fine status'
-      (replay_line (length f.recorded.events) (Confirmed x.claim)) report'
+      (replay_line (length f.recorded.events) (Confirmed x.claim)) report' tt
       ((s.0, s.2, s.2), (t.0, t.2, t.2), (report, b.fed, b.fed)) end b.replayed in
       (sym same.0, sym same.1)
 
 -- RUNS
 
 -- a run that does not explain the trace yields no more than it has
-yields_within : (c : Setup) (run : List Move) (k : ℕ) → (Explains c run → ⊥) → Yields c run k
+pub yields_within : (c : Setup) (run : List Move) (k : ℕ) → (Explains c run → ⊥) → Yields c run k
     → k ≤ length c.trace.events
 yields_within c run k none (inl y) = y.within
 yields_within c run k none (inr y) = absurd (none y.1)
@@ -122,14 +122,14 @@ follows_before c (m ∷ earlier) p r follows =
     (a.place, a.is_run, follows_grows c a.place p a.grows follows)
 
 -- a bounded run that follows the trace yields all its events
-inner_yields : (c : Setup) (run : List Move) (p : Place) → IsInner c run p
+pub run_yields : (c : Setup) (run : List Move) (p : Place) → IsBoundedRun c run p → Follows c p
     → Yields c run (length p.events)
-inner_yields c run p inner =
-    let first = first_taken c.trace.events p.events inner.follows in
+run_yields c run p is_run follows =
+    let first = first_taken c.trace.events p.events follows in
     inl record {
       place = p;
-      is_run = inner.is_run;
-      before = follows_before c run p inner.is_run inner.follows;
+      is_run = is_run;
+      before = follows_before c run p is_run follows;
       many = omega arith;
       within = first.0;
       agree = subst (λ es. AgreeAll (take (length p.events) c.trace.events) es)
@@ -162,16 +162,16 @@ passed_yields c run reached firing passes has =
     let same : has.place ≡ inner.0 =
     one_place c run has.place inner.0 has.is_run inner.1.is_run in
     subst (λ k. Yields c run k) (ap (λ (x : Place). length x.events) (sym same) ∙ has.count)
-    (inner_yields c run inner.0 inner.1)
+    (run_yields c run inner.0 inner.1.is_run inner.1.follows)
 
 -- VERDICTS
 
 -- the lines of a replay
-line_whole : (n : ℕ) → replay_line n (Confirmed (n + 1)) ≡ all_line n
+pub line_whole : (n : ℕ) → replay_line n (Confirmed (n + 1)) ≡ all_line n
 line_whole n = let e : nat_le (n + 1) n ≡ false = grind (arith, nat_tests) in
     ap (λ b. cond b (first_line (n + 1) n) (all_line n)) e
 
-line_first : (k n : ℕ) → k ≤ n → replay_line n (Confirmed k) ≡ first_line k n
+pub line_first : (k n : ℕ) → k ≤ n → replay_line n (Confirmed k) ≡ first_line k n
 line_first k n h = let e : nat_le k n ≡ true = grind (arith, nat_tests) in
     ap (λ b. cond b (first_line k n) (all_line n)) e
 

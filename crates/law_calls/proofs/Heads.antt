@@ -29,6 +29,7 @@ use Rattle.call_files.specs.Reports.{fault_text}
 use Rattle.call_files.specs.SearchReports.{accepted_line, refused_line, refused_at_line}
 use Rattle.call_files.specs.SearchReports.{refused_end_line, faulted_line, fault_line}
 use Rattle.call_files.specs.SearchReports.{firing_text, over_action_line}
+use Rattle.call_files.specs.PortReports.{refused_ports_line}
 
 -- WHAT THE HEADS SAY
 
@@ -42,6 +43,10 @@ refused_at_said at events =
 refused_end_said : ℕ → List ℕ
 refused_end_said events =
     codes "refused at the end after " ++ decimal events ++ codes " events"
+
+refused_ports_said : ℕ → ℕ → List ℕ
+refused_ports_said most events =
+    codes "refused: " ++ (decimal most ++ (codes " of " ++ (decimal events ++ codes " events")))
 
 fault_said : BlockFault → Firing → List ℕ
 fault_said fault firing =
@@ -105,6 +110,19 @@ refused_head at events little small = by (nat_le at events)
     by true = refused_at_head at events little small
     by false = refused_end_head events small
 
+pub refused_ports_head : (most events : ℕ) → most < 2 ^ 64 → events < 2 ^ 64
+    → IsHead (refused_ports_line most events)
+unfolding refused_ports_said
+refused_ports_head most events little small =
+    one_line (refused_ports_said most events) (refused_ports_line most events)
+    (clear_append (codes "refused: ")
+    (decimal most ++ (codes " of " ++ (decimal events ++ codes " events"))) refl
+    (clear_append (decimal most) (codes " of " ++ (decimal events ++ codes " events"))
+    (clear_decimal most little)
+    (clear_append (codes " of ") (decimal events ++ codes " events") refl
+    (clear_append (decimal events) (codes " events") (clear_decimal events small) refl))))
+    (simp append_assoc)
+
 fault_clear : (fault : BlockFault) → IsClear (fault_text fault)
 fault_clear Range = refl
 fault_clear Divide = refl
@@ -158,7 +176,7 @@ fault_head fault firing w =
     line_is (fault_text fault) firing ∙ e)
 
 -- no lines at all
-no_head : IsHead []
+pub no_head : IsHead []
 no_head = record { said = []; clear = All-nil IsClear; lines_are = refl }
 
 faulted_head : (faulted : Option Faulted) → IsReadableFault faulted
@@ -214,6 +232,13 @@ refused_heads at events faulted little small w =
     both_heads (refused_line at events) (faulted_line faulted) (refused_head at events little small)
     (faulted_head faulted w)
 
+-- such lines stand between the front of a text and what comes after them
+pub head_between : (lines text : List ℕ) → IsHead lines
+    → IsBetween (lines ++ text) 0 (length lines)
+head_between lines text head =
+    subst (λ l. IsBetween (l ++ text) 0 (length l)) (sym head.lines_are)
+    (comment_lines_are_comments head.said text head.clear)
+
 -- THE TEXT
 
 -- the text is one of the explanation, and of no other
@@ -241,6 +266,4 @@ after_comment front x w between =
 pub after_head : (lines : List ℕ) (x : Explanation) → IsHead lines → IsWritable x
     → IsTextOf x (lines ++ canonical x)
 after_head lines x head w =
-    subst (λ l. IsTextOf x (l ++ canonical x)) (sym head.lines_are)
-    (after_comment (comment_lines head.said) x w
-    (comment_lines_are_comments head.said (canonical x) head.clear))
+    after_comment lines x w (head_between lines (canonical x) head)

@@ -1,10 +1,16 @@
 pub mod Complete
 pub mod ConfirmedReports
 pub mod Heads
+pub mod Judged
 pub mod MadeEvents
 pub mod OneRequest
 pub mod OneResult
+pub mod PortsComplete
+pub mod PortsConfirmed
+pub mod PortsResults
+pub mod PortsStages
 pub mod Printings
+pub mod ReportParts
 pub mod SearchStages
 pub mod Searches
 pub mod SelfRunComplete

@@ -1,12 +1,13 @@
 -- Words ask for one thing at most.
 use Rattle.std.proofs.Common.{◌≡◌, ◌∙◌, ℕ, List, [], ◌∷◌, get_or, sym, ap, refl}
 use Rattle.std.specs.Str.Parse.{digits_value}
-use Rattle.call_files.specs.Requests.{check, print, explain, replay, selfrun}
+use Rattle.call_files.specs.Requests.{check, print, explain, replay, selfrun, ports, to_ports}
 use Rattle.call_files.specs.Requests.{to_check, to_print, to_explain, to_replay, to_self_run}
 use Rattle.call_files.specs.Requests.{AreLimits, left_out, given, AreSearchLimits, usual, told}
 use Rattle.call_files.specs.Requests.{IsNumber, most_silent, most_budget, most_statements}
 use Rattle.call_files.specs.Requests.{most_made, most_seed}
-use Rattle.call_files.proofs.WordLaws.{check_or_print, explain_or_self_run}
+use Rattle.call_files.proofs.WordLaws.{check_or_print, explain_or_self_run, check_or_ports}
+use Rattle.call_files.proofs.WordLaws.{print_or_ports}
 use Rattle.law_calls.specs.CallLaws.{OneRequest}
 
 -- a word is of one number
@@ -117,3 +118,35 @@ request_one words _ _ (to_replay specification trace explanation limits silent s
     (to_print other f named) = absurd cc
 request_one words _ _ (to_print name e named) (to_self_run other x y n m f p q) = absurd cc
 request_one words _ _ (to_self_run other x y n m e p q) (to_print name f named) = absurd cc
+request_one words _ _ (to_ports specification lists limits silent budget statements e p q l)
+    (to_ports specification' lists' limits' silent' budget' statements' f p' q' l') =
+    let one : specification ≡ specification' = cc in
+    let two : lists ≡ lists' = cc in
+    let rest : limits ≡ limits' = cc in
+    let same = one_search_limits limits limits' silent budget statements silent' budget' statements'
+    rest l l' in
+    λ i. ports (one i) (two i) (same.0 i) (same.1 i) (same.2 i)
+request_one words _ _ (to_ports specification lists limits silent budget statements e p q l)
+    (to_check name f named) =
+    absurd (check_or_ports _ (first_is words _ _ f) (first_is words _ _ e))
+request_one words _ _ (to_check name e named)
+    (to_ports specification lists limits silent budget statements f p q l) =
+    absurd (check_or_ports _ (first_is words _ _ e) (first_is words _ _ f))
+request_one words _ _ (to_ports specification lists limits silent budget statements e p q l)
+    (to_print name f named) =
+    absurd (print_or_ports _ (first_is words _ _ f) (first_is words _ _ e))
+request_one words _ _ (to_print name e named)
+    (to_ports specification lists limits silent budget statements f p q l) =
+    absurd (print_or_ports _ (first_is words _ _ e) (first_is words _ _ f))
+request_one words _ _ (to_ports specification lists limits silent budget statements e p q l)
+    (to_explain specification' trace limits' silent' budget' statements' f p' q' l') = absurd cc
+request_one words _ _ (to_explain specification trace limits silent budget statements e p q l)
+    (to_ports specification' lists limits' silent' budget' statements' f p' q' l') = absurd cc
+request_one words _ _ (to_ports specification lists limits silent budget statements e p q l)
+    (to_replay specification' trace explanation limits' silent' statements' f p' q' r' l') = absurd cc
+request_one words _ _ (to_replay specification trace explanation limits silent statements e p q r l)
+    (to_ports specification' lists limits' silent' budget' statements' f p' q' l') = absurd cc
+request_one words _ _ (to_ports specification lists limits silent budget statements e p q l)
+    (to_self_run name x y n m f p' q') = absurd cc
+request_one words _ _ (to_self_run name x y n m e p q)
+    (to_ports specification lists limits silent budget statements f p' q' l) = absurd cc

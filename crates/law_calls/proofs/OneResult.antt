@@ -12,7 +12,7 @@ use Rattle.est_tool.specs.ReplayReports.{replay_line}
 use Rattle.est_tool.specs.ReplayReports.{replay_status}
 use Rattle.call_files.specs.FileTexts.{OfSpecification, OfTrace, OfExplanation}
 use Rattle.call_files.specs.FileTexts.{RefusesSpecification, RefusesTrace, RefusesExplanation}
-use Rattle.call_files.specs.Requests.{check, print, explain, replay, selfrun}
+use Rattle.call_files.specs.Requests.{check, print, explain, replay, selfrun, ports}
 use Rattle.call_files.specs.Seen.{Seen}
 use Rattle.est_print.specs.PrintedText.{IsPrintedText}
 use Rattle.est_tool.specs.inside.Work.{IsFine, IsAnswered, IsExplained}
@@ -50,16 +50,16 @@ one_answered silent statements spec recorded read s s' r r' x y =
     )
 
 -- the stages of a replay
-abbrev Runs : Seen → List ℕ → List ℕ → ℕ → ℕ → Spec → Status → List ℕ → Type 0
+abbrev pub Runs : Seen → List ℕ → List ℕ → ℕ → ℕ → Spec → Status → List ℕ → Type 0
 Runs shelf trace explanation silent statements spec =
     AtTrace shelf trace spec (λ recorded. AtExplanation shelf explanation
     (IsAnswered silent statements spec recorded))
 
-abbrev Replays : Seen → List ℕ → List ℕ → List ℕ → ℕ → ℕ → Status → List ℕ → Type 0
+abbrev pub Replays : Seen → List ℕ → List ℕ → List ℕ → ℕ → ℕ → Status → List ℕ → Type 0
 Replays shelf specification trace explanation silent statements =
     AtSpecification shelf specification (Runs shelf trace explanation silent statements)
 
-replay_stages : (shelf : Seen) (specification trace explanation : List ℕ) (silent statements : ℕ)
+pub replay_stages : (shelf : Seen) (specification trace explanation : List ℕ) (silent statements : ℕ)
     (end : End) → ReplayEnds shelf specification trace explanation silent statements end
     → OfReport (Replays shelf specification trace explanation silent statements) end
 replay_stages shelf specification trace explanation silent statements _
@@ -153,23 +153,26 @@ one_self_run shelf shelf' name seed count s s' r r' told x y =
     shelf shelf' told.1 told.2 _ _ (one_made_report seed count) s s' r r' x y
 
 pub result_one : OneResult
-result_one shelf shelf' (check specification) s s' r r' told x y =
+result_one shelf shelf' (check specification) s s' r r' one told x y =
     one_check TellsCounts one_counted shelf shelf' specification s s' r r' told x y
-result_one shelf shelf' (print specification) s s' r r' told x y =
+result_one shelf shelf' (print specification) s s' r r' one told x y =
     one_check IsPrintedText one_printed shelf shelf' specification s s' r r' told x y
-result_one shelf shelf' (explain specification trace silent budget statements) s s' r r' told x y =
+result_one shelf shelf' (explain specification trace silent budget statements) s s' r r' one told x
+    y =
     one_explain shelf shelf' specification trace
     (record { silent = silent; budget = budget; statements = statements }) s s' r r'
     told.0 told.1
     (explain_stages shelf specification trace silent budget statements (reported s r) x)
     (explain_stages shelf' specification trace silent budget statements (reported s' r') y)
-result_one shelf shelf' (replay specification trace explanation silent statements) s s' r r' told x
-    y =
+result_one shelf shelf' (replay specification trace explanation silent statements) s s' r r' one
+    told x y =
     one_replay shelf shelf' specification trace explanation silent statements s s' r r' told.0
     told.1 told.2 (replay_stages shelf specification trace explanation silent statements
     (reported s r) x)
     (replay_stages shelf' specification trace explanation silent statements (reported s' r') y)
-result_one shelf shelf' (selfrun name seed count) s s' r r' told x y =
+result_one shelf shelf' (selfrun name seed count) s s' r r' one told x y =
     one_self_run shelf shelf' name seed count s s' r r' told
     (self_run_stages shelf name seed count (reported s r) x)
     (self_run_stages shelf' name seed count (reported s' r') y)
+result_one shelf shelf' (ports specification lists silent budget statements) s s' r r' one told x y =
+    absurd one

@@ -65,7 +65,7 @@ explain_stages shelf specification trace silent budget statements _
     (goes_on recorded traced (came.Found verdict, (s, outs, begun, is), (refl, refl, fits)))
 
 -- a start that is ready is so in one way
-one_start : (o : Outcome Situation (List Event)) (s t : Situation) (outs outs' : List Event)
+pub one_start : (o : Outcome Situation (List Event)) (s t : Situation) (outs outs' : List Event)
     → o ≡ Done outs s → o ≡ Done outs' t → (s ≡ t) × (outs ≡ outs')
 one_start o s t outs outs' x y = let same : Done outs s ≡ Done outs' t = sym x ∙ y in (cc, cc)
 

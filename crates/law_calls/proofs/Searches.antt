@@ -45,7 +45,7 @@ held file (Some text) Is h = (text, h.tokens, h.is)
 held file None Is h = (h.0, h.1.tokens, h.1.is)
 
 -- a refusal that is told has another status
-abbrev RefusesSo : Refusals → Type 0
+abbrev pub RefusesSo : Refusals → Type 0
 RefusesSo Refuses = (text : List ℕ) (tokens : List Token) (status : Status) (place : Option ℕ)
     (why : List ℕ) → Refuses text tokens status place why → IsDecision status → ⊥
 
@@ -58,11 +58,11 @@ specification_says (specification.BrokenRule at rule) status place why h d =
     subst IsDecision h.0 d
 specification_says (specification.Memory error) status place why h d = h
 
-refuses_specification : RefusesSo RefusesSpecification
+pub refuses_specification : RefusesSo RefusesSpecification
 refuses_specification text tokens status place why h d =
     specification_says h.0 status place why h.2 d
 
-trace_says : (error : TraceError) (status : Status) (place : Option ℕ) (why : List ℕ)
+pub trace_says : (error : TraceError) (status : Status) (place : Option ℕ) (why : List ℕ)
     → SaysOfTrace error status place why → IsDecision status → ⊥
 trace_says (trace.BadToken at) status place why h d = subst IsDecision h.0 d
 trace_says (trace.TooMany at) status place why h d = subst IsDecision h.0 d
@@ -75,7 +75,7 @@ status_of : (s t : Status) (q r : List ℕ) → reported s q ≡ reported t r �
 status_of s t q r e = cc
 
 -- a call that ends at a file has another status
-ends_not : (shelf : Seen) (file : File) (name : List ℕ) (Refuses : Refusals) → RefusesSo Refuses
+pub ends_not : (shelf : Seen) (file : File) (name : List ℕ) (Refuses : Refusals) → RefusesSo Refuses
     → (end : End) (status : Status) (report : List ℕ) → end ≡ reported status report
     → EndsAt shelf file name Refuses end → IsDecision status → ⊥
 ends_not shelf file name Refuses so _ status report e (longer s r x) d =

@@ -1,9 +1,7 @@
 -- Of a good specification what is made of it is told.
-use Rattle.std.proofs.Common.{◌≡◌, ◌≢◌, ℕ, List, subst, refl}
+use Rattle.std.proofs.Common.{◌≡◌, ℕ, List, subst, refl}
 use Rattle.std.specs.Prelude.{String}
 use Rattle.std.specs.Global.{Global}
-use Rattle.call_files.specs.FaultCounts.{Rose}
-use Rattle.call_files.specs.Pieces.{appended}
 use Rattle.est_syntax.specs.declared.specification.Spec.{Spec}
 use Rattle.run_make.specs.declared.made.Made.{Made}
 use Rattle.call_files.specs.declared.file.File.TheVariants.{Specification, Trace}
@@ -11,46 +9,17 @@ use Rattle.call_files.specs.FileEnds.{End, reported, unread, EndsAtText, text_lo
 use Rattle.call_files.specs.FileTexts.{OfSpecification, Refusals, RefusesSpecification}
 use Rattle.call_files.specs.Seen.{Seen, Sent}
 use Rattle.call_files.specs.declared.status.Status.{Status}
-use Rattle.call_files.specs.declared.status.Status.TheVariants.{Fine, Refused, BadSpec, BadTrace}
-use Rattle.call_files.specs.declared.status.Status.TheVariants.{BadExplanation, OverBudget, TooLong}
-use Rattle.call_files.specs.declared.status.Status.TheVariants.{Usage, ReadFault, WriteFault}
-use Rattle.call_files.specs.declared.status.Status.TheVariants.{OutOfMemory, NoStart}
-use Rattle.call_files.specs.Requests.{Request, Asks, bytes_of}
+use Rattle.call_files.specs.Requests.{bytes_of}
 use Rattle.est_tool.specs.Ends.{Ends}
-use Rattle.est_tool.specs.Result.{CallEnds, Reports, IsResult}
+use Rattle.est_tool.specs.Result.{CallEnds, Reports}
 use Rattle.est_tool.specs.SelfRuns.{MadeEnds, SelfRunEnds, written}
 use Rattle.est_tool.specs.SelfRuns.{faults, start_passes, passes, refuses, explains}
 use Rattle.est_tool.specs.SelfRuns.{stops_at_its_file, makes}
 use Rattle.law_calls.specs.Completeness.{IsSelfRunOf, TellsMade, SelfRunIsComplete}
-use Rattle.law_calls.proofs.Complete.{unread_rose}
+use Rattle.law_calls.proofs.Judged.{unread_rose, HasWritten, has_written}
 use Rattle.law_calls.proofs.OneRequest.{request_one}
 use Rattle.law_calls.proofs.Stages.{specifications_decided, stage_next}
 use Rattle.law_calls.proofs.SelfRunStages.{IsMadeReport, self_run_stages}
-
--- a report was made, and written whole
-abbrev HasWritten : List (String Global) → Seen → Sent → Status → Type 0
-HasWritten words shelf output status =
-    (report : List ℕ) × Reports words shelf status report
-    × (output.after.written ≡ appended output.before.written report)
-
--- a call that asks for something, and in which nothing fails, writes a report
-module _ (words : List (String Global)) (shelf : Seen) (output : Sent) (request : Request)
-    (asked : Asks (bytes_of words) request) (read : CallEnds words shelf unread → ⊥)
-    (kept : Rose output.before.faults output.after.faults → ⊥) where
-  has_written : (status : Status) → IsResult words shelf output status → status ≢ OutOfMemory
-      → HasWritten words shelf output status
-  has_written Fine result memory = result.written
-  has_written Refused result memory = result.written
-  has_written BadSpec result memory = result.written
-  has_written BadTrace result memory = result.written
-  has_written BadExplanation result memory = result.written
-  has_written OverBudget result memory = result.written
-  has_written TooLong result memory = result.written
-  has_written NoStart result memory = result.written
-  has_written Usage result memory = absurd (result.usage.0 refl request asked)
-  has_written ReadFault result memory = absurd (read (result.read_fault refl))
-  has_written WriteFault result memory = absurd (kept (result.write_fault refl))
-  has_written OutOfMemory result memory = absurd (memory refl)
 
 -- what is made ends no call unread
 text_is_read : (text : List ℕ) (Refuses : Refusals) (end : End) → end ≡ unread

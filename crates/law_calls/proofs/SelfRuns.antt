@@ -70,7 +70,7 @@ explained_is_not_refused c budget run (verdict.OverAction other events firing) e
 -- SENTENCES
 
 -- what the file of a good specification holds is a sentence
-sentence_held : (bytes : List ℕ) (spec : Spec)
+pub sentence_held : (bytes : List ℕ) (spec : Spec)
     → IsText Specification bytes (OfSpecification spec) → IsSentence spec
 sentence_held bytes spec is =
     let few = tokens_few bytes 0 is.tokens (omega arith) is.list in

@@ -1,5 +1,5 @@
 -- Each file of a call is refused in one way, or good with one value.
-use Rattle.std.proofs.Common.{◌≡◌, ◌∙◌, ◌⊎◌, inl, inr, ℕ, ◌+◌, ◌<◌, Bool, true, false}
+use Rattle.std.proofs.Common.{◌≡◌, ◌∙◌, ◌⊎◌, inl, inr, ℕ, ◌+◌, ◌<◌, ◌≤◌, Bool, true, false}
 use Rattle.std.proofs.Common.{List, [], ◌∷◌, length, codes, get_or, Option, Some, IfSome}
 use Rattle.std.proofs.Common.{if◌then◌else◌, slice_get, sym, subst, ap, refl, arith}
 use Rattle.est_lexer.specs.declared.kind.Token.{Token}
@@ -30,13 +30,15 @@ use Rattle.est_check.specs.LeastFault.{IsGood, IsLeastFault}
 use Rattle.est_check.specs.declared.specification_error.SpecificationError.{SpecificationError}
 use Rattle.est_check.specs.declared.specification_error.SpecificationError.TheVariants as specification
 use Rattle.est_check.proofs.Unique.{same_specification}
-use Rattle.est_trace.specs.TraceText.{IsOnlyTraceText, IsTraceRefusal, IsFull}
+use Rattle.est_trace.specs.TraceText.{IsTraceText, IsTraceRefusal, IsFull}
+use Rattle.est_trace.specs.ListText.{IsOnlyListsText, IsListsRefusal, IsEventTooMany}
 use Rattle.est_trace.specs.declared.error.TraceError.{TraceError}
 use Rattle.est_trace.specs.declared.error.TraceError.TheVariants as trace
 use Rattle.est_explanation.specs.ExplanationText.{IsOnlyExplanationText, IsExplanationRefusal}
 use Rattle.est_explanation.specs.declared.error.ExplanationError.{ExplanationError}
 use Rattle.est_explanation.specs.declared.error.ExplanationError.TheVariants as explanation
 use Rattle.est_explanation.specs.declared.explanation.Explanation.{Explanation}
+use Rattle.mean_ports.specs.declared.lists.PortLists.{PortLists}
 use Rattle.call_files.specs.declared.file.File.{File}
 use Rattle.call_files.specs.declared.file.File.TheVariants.{Specification, Trace}
 use Rattle.call_files.specs.declared.file.File.TheVariants.{Explanation as Explaining}
@@ -44,10 +46,10 @@ use Rattle.call_files.specs.declared.status.Status.{Status}
 use Rattle.call_files.specs.declared.status.Status.TheVariants.{BadSpec}
 use Rattle.call_files.specs.Files.{limit_of}
 use Rattle.call_files.specs.RefusalLines.{rule_text}
-use Rattle.call_files.specs.FileTexts.{IsText, Holds, OfSpecification, OfTrace, OfExplanation}
-use Rattle.call_files.specs.FileTexts.{Refusals, RefusesSpecification, RefusesTrace}
-use Rattle.call_files.specs.FileTexts.{RefusesExplanation, SaysOfSpecification, SaysOfTrace}
-use Rattle.call_files.specs.FileTexts.{SaysOfExplanation, IsReported, refusal_at}
+use Rattle.call_files.specs.FileTexts.{IsText, Holds, OfSpecification, OfTrace, OfLists}
+use Rattle.call_files.specs.FileTexts.{OfExplanation, Refusals, RefusesSpecification, RefusesTrace}
+use Rattle.call_files.specs.FileTexts.{RefusesLists, RefusesExplanation, SaysOfSpecification}
+use Rattle.call_files.specs.FileTexts.{SaysOfTrace, SaysOfExplanation, IsReported, refusal_at}
 use Rattle.call_files.specs.Seen.{Seen}
 use Rattle.call_files.specs.FileEnds.{End, reported, unread, IsTooLong, EndsAt, longer, refused}
 use Rattle.call_files.specs.FileEnds.{failed}
@@ -285,11 +287,11 @@ module _ (spec : Spec) (text : List ℕ) (tokens : List Token) where
   traces_alike (trace.Memory error) b s s' place place' why why' x e y f = absurd e
   traces_alike a (trace.Memory error) s s' place place' why why' x e y f = absurd f
 
-  trace_not_refused : (recorded : Recorded) (error : TraceError) (s : Status) (place : Option ℕ)
-      (why : List ℕ) → IsOnlyTraceText (ports_of spec) text tokens recorded
+  pub trace_not_refused : (recorded : Recorded) (error : TraceError) (s : Status)
+      (place : Option ℕ) (why : List ℕ) → IsTraceText (ports_of spec) text tokens recorded
       → IsTraceRefusal (ports_of spec) text tokens error → SaysOfTrace error s place why → ⊥
-  trace_not_refused recorded (trace.BadToken at) s place why is x e = x.0.no_tree _ is.0.1
-  trace_not_refused recorded (trace.TooMany at) s place why is x e = x.0.no_tree _ is.0.1
+  trace_not_refused recorded (trace.BadToken at) s place why is x e = x.0.no_tree _ is.1
+  trace_not_refused recorded (trace.TooMany at) s place why is x e = x.0.no_tree _ is.1
   trace_not_refused recorded (trace.Memory error) s place why is x e = e
 
 pub traces_decided : (spec : Spec) → IsDecided (RefusesTrace spec) (OfTrace spec)
@@ -297,7 +299,51 @@ traces_decided spec = record {
   one_refusal = λ text tokens s s' place place' why why' x y. traces_alike spec text tokens x.0 y.0
       s s' place place' why why' x.1 x.2 y.1 y.2;
   not_both = λ recorded text tokens s place why is x.
-      trace_not_refused spec text tokens recorded x.0 s place why is x.1 x.2;
+      trace_not_refused spec text tokens recorded x.0 s place why is.0 x.1 x.2;
+  one_value = λ a b text tokens x y. y.1 a x.0;
+}
+
+-- ONE TRACE FOR EACH PORT
+
+module _ (spec : Spec) (text : List ℕ) (tokens : List Token) where
+  lists_alike : (a b : TraceError) (s s' : Status) (place place' : Option ℕ) (why why' : List ℕ)
+      → IsListsRefusal (ports_of spec) text tokens a → SaysOfTrace a s place why
+      → IsListsRefusal (ports_of spec) text tokens b → SaysOfTrace b s' place' why'
+      → AreAlike s s' place place' why why'
+  lists_alike (trace.BadToken at) (trace.BadToken at') s s' place place' why why' x e y f = (
+    e.0 ∙ sym f.0,
+    e.1 ∙ ap (λ n. Some n) (at_most_one_bad_place _ _ _ _ at at' x.0 y.0)
+        ∙ sym f.1,
+    e.2 ∙ sym f.2,
+  )
+  lists_alike (trace.TooMany at) (trace.TooMany at') s s' place place' why why' x e y f = (
+    e.0 ∙ sym f.0,
+    e.1 ∙ ap (λ n. Some n) (at_most_one_bad_place _ _ _ _ at at' x.0 y.0)
+        ∙ sym f.1,
+    e.2 ∙ sym f.2,
+  )
+  lists_alike (trace.BadToken at) (trace.TooMany at') s s' place place' why why' x e y f =
+      absurd (x.1 (subst (λ n. IsEventTooMany (ports_of spec) text tokens n)
+      (at_most_one_bad_place _ _ _ _ at' at y.0 x.0) y.1))
+  lists_alike (trace.TooMany at) (trace.BadToken at') s s' place place' why why' x e y f =
+      absurd (y.1 (subst (λ n. IsEventTooMany (ports_of spec) text tokens n)
+      (at_most_one_bad_place _ _ _ _ at at' x.0 y.0) x.1))
+  lists_alike (trace.Memory error) b s s' place place' why why' x e y f = absurd e
+  lists_alike a (trace.Memory error) s s' place place' why why' x e y f = absurd f
+
+  lists_not_refused : (listed : PortLists) (error : TraceError) (s : Status) (place : Option ℕ)
+      (why : List ℕ) → IsOnlyListsText (ports_of spec) text tokens listed
+      → IsListsRefusal (ports_of spec) text tokens error → SaysOfTrace error s place why → ⊥
+  lists_not_refused listed (trace.BadToken at) s place why is x e = x.0.no_tree _ is.0.1
+  lists_not_refused listed (trace.TooMany at) s place why is x e = x.0.no_tree _ is.0.1
+  lists_not_refused listed (trace.Memory error) s place why is x e = e
+
+pub lists_decided : (spec : Spec) → IsDecided (RefusesLists spec) (OfLists spec)
+lists_decided spec = record {
+  one_refusal = λ text tokens s s' place place' why why' x y. lists_alike spec text tokens x.0 y.0
+      s s' place place' why why' x.1 x.2 y.1 y.2;
+  not_both = λ listed text tokens s place why is x.
+      lists_not_refused spec text tokens listed x.0 s place why is x.1 x.2;
   one_value = λ a b text tokens x y. y.1 a x.0;
 }
 
@@ -346,6 +392,15 @@ at_once file {bytes = bytes} Is Js e f x y both =
     let same : q.tokens ≡ p.tokens = tokens_unique bytes 0 q.tokens p.tokens q.list p.list in
     both p.tokens p.is (subst (λ ts. Js bytes ts) same q.is)
 
+-- a file within its limit is not too long
+pub not_long : (shelf : Seen) (file : File) (name bytes : List ℕ) (s : Status) (r : List ℕ)
+    → shelf.before.told name ≡ Some bytes → length bytes ≤ limit_of file
+    → IsTooLong shelf file name s r → ⊥
+not_long shelf file name bytes s r told short long =
+    let l : limit_of file < length bytes = subst (λ t. IfSome t (λ b. limit_of file < length b)) told
+    long.longer in
+    omega (arith, l, short)
+
 -- a file that is too long holds no text
 holds_none : (shelf shelf' : Seen) (file : File) (name bytes : List ℕ) (Is : List ℕ → List Token
     → Type 0) (s : Status) (r : List ℕ) → shelf.before.told name ≡ Some bytes
@@ -353,9 +408,7 @@ holds_none : (shelf shelf' : Seen) (file : File) (name bytes : List ℕ) (Is : L
     → IsTooLong shelf file name s r → Holds file (shelf'.before.told name) Is → ⊥
 holds_none shelf shelf' file name bytes Is s r e f long x =
     let p : IsText file bytes Is = subst (λ t. Holds file t Is) f x in
-    let l : limit_of file < length bytes = subst (λ t. IfSome t (λ b. limit_of file < length b)) e
-    long.longer in
-    omega (arith, l, p.short)
+    not_long shelf file name bytes s r e p.short long
 
 -- a file is too long, or its text is refused
 abbrev pub IsStopped : Seen → File → List ℕ → Refusals → Status → List ℕ → Type 0
@@ -417,20 +470,31 @@ module _ {A : Type 0} (file : File) (name bytes : List ℕ) (Refuses : Refusals)
         (IsReported file Refuses s' r') told told' x y (λ tokens n m. one_report s s' r r' tokens n
         m)
 
-    -- a stage has one result where what comes after it has one
+    -- two results of a stage are alike where those of what comes after it are
+    pub alike_stage : (Alike : Status → Status → List ℕ → List ℕ → Type 0)
+        → ((s s' : Status) (r r' : List ℕ) → AreSame s s' r r' → Alike s s' r r')
+        → (Next Next' : A → Status → List ℕ → Type 0)
+        → ((x : A) (s s' : Status) (r r' : List ℕ) → Next x s r → Next' x s' r' → Alike s s' r r')
+        → (s s' : Status) (r r' : List ℕ) → Stage shelf file name Refuses Good Next s r
+        → Stage shelf' file name Refuses Good Next' s' r' → Alike s s' r r'
+    alike_stage Alike weaker Next Next' next s s' r r' (stops x) (stops y) =
+        weaker s s' r r' (one_stop s s' r r' x y)
+    alike_stage Alike weaker Next Next' next s s' r r' (stops x) (goes_on b g y) =
+        absurd (good_goes_on shelf shelf' told told' b s r x g)
+    alike_stage Alike weaker Next Next' next s s' r r' (goes_on a f x) (stops y) =
+        absurd (good_goes_on shelf' shelf told' told a s' r' y f)
+    alike_stage Alike weaker Next Next' next s s' r r' (goes_on a f x) (goes_on b g y) =
+        let same : a ≡ b = at_once file (Good a) (Good b) told told' f g
+        (λ tokens n m. decided.one_value a b bytes tokens n m) in
+        next a s s' r r' x (subst (λ z. Next' z s' r') (sym same) y)
+
+    -- so a stage has one result where what comes after it has one
     pub one_stage : (Next Next' : A → Status → List ℕ → Type 0)
         → ((x : A) (s s' : Status) (r r' : List ℕ) → Next x s r → Next' x s' r' → AreSame s s' r r')
         → (s s' : Status) (r r' : List ℕ) → Stage shelf file name Refuses Good Next s r
         → Stage shelf' file name Refuses Good Next' s' r' → AreSame s s' r r'
-    one_stage Next Next' next s s' r r' (stops x) (stops y) = one_stop s s' r r' x y
-    one_stage Next Next' next s s' r r' (stops x) (goes_on b g y) =
-        absurd (good_goes_on shelf shelf' told told' b s r x g)
-    one_stage Next Next' next s s' r r' (goes_on a f x) (stops y) =
-        absurd (good_goes_on shelf' shelf told' told a s' r' y f)
-    one_stage Next Next' next s s' r r' (goes_on a f x) (goes_on b g y) =
-        let same : a ≡ b = at_once file (Good a) (Good b) told told' f g
-        (λ tokens n m. decided.one_value a b bytes tokens n m) in
-        next a s s' r r' x (subst (λ z. Next' z s' r') (sym same) y)
+    one_stage Next Next' next s s' r r' x y =
+        alike_stage AreSame (λ s s' r r' same. same) Next Next' next s s' r r' x y
 
   -- a stage whose file holds a good text goes on with its value
   pub stage_next : (shelf : Seen) → shelf.before.told name ≡ Some bytes
@@ -455,6 +519,10 @@ AtSpecification shelf name Next = Stage shelf Specification name RefusesSpecific
 abbrev pub AtTrace : Seen → List ℕ → Spec → (Recorded → Status → List ℕ → Type 0) → Status
     → List ℕ → Type 0
 AtTrace shelf name spec Next = Stage shelf Trace name (RefusesTrace spec) (OfTrace spec) Next
+
+abbrev pub AtLists : Seen → List ℕ → Spec → (PortLists → Status → List ℕ → Type 0) → Status
+    → List ℕ → Type 0
+AtLists shelf name spec Next = Stage shelf Trace name (RefusesLists spec) (OfLists spec) Next
 
 abbrev pub AtExplanation : Seen → List ℕ → (Explanation → Status → List ℕ → Type 0) → Status
     → List ℕ → Type 0

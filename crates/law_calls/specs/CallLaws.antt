@@ -4,7 +4,8 @@ use Rattle.call_files.specs.declared.status.Status.{Status}
 use Rattle.call_files.specs.Seen.{Seen}
 use Rattle.call_files.specs.FileEnds.{reported}
 use Rattle.est_tool.specs.Ends.{Ends}
-use Rattle.call_files.specs.Requests.{Request, check, print, explain, replay, selfrun, Asks}
+use Rattle.call_files.specs.Requests.{Request, check, print, explain, replay, selfrun, ports}
+use Rattle.call_files.specs.Requests.{Asks}
 
 -- two shelves tell a file, and tell the same bytes of it
 abbrev pub TellAlike : Seen → Seen → List ℕ → Type 0
@@ -23,13 +24,21 @@ TellFilesAlike shelf shelf' (replay specification trace explanation silent state
     × TellAlike shelf shelf' explanation
 TellFilesAlike shelf shelf' (selfrun specification seed count) =
     TellAlike shelf shelf' specification
+TellFilesAlike shelf shelf' (ports specification lists silent budget statements) =
+    TellAlike shelf shelf' specification × TellAlike shelf shelf' lists
 
--- Two calls that ask for the same, and are told the same bytes of their files, have the same status
--- and report, where both end with a report.
+-- One report is right. Of several merges `ports` may report any.
+abbrev pub HasOneReport : Request → Type 0
+HasOneReport (ports specification lists silent budget statements) = ⊥
+HasOneReport _ = Unit {0}
+
+-- Two calls that ask for the same, of which one report is right, and are told the same bytes of their
+-- files, have the same status and report, where both end with a report.
 abbrev pub OneResult : Type 0
 OneResult =
     (shelf shelf' : Seen) (request : Request) (status status' : Status) (report report' : List ℕ)
-    → TellFilesAlike shelf shelf' request → Ends shelf request (reported status report)
+    → HasOneReport request → TellFilesAlike shelf shelf' request
+    → Ends shelf request (reported status report)
     → Ends shelf' request (reported status' report') → (status ≡ status') × (report ≡ report')
 
 -- Words ask for one thing at most.

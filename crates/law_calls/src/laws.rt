@@ -8,7 +8,8 @@ pub fn one_request()
 {}
 
 /// What a call reports, and with which status, is determined by its words and the bytes that it is
-/// told of its files. It says nothing of a call that ends without a report.
+/// told of its files. It says nothing of a call that ends without a report, nor of a search along
+/// one trace for each port (`ports::ports_results_agree`).
 pub fn one_result()
     ensures { OneResult }
 {}

@@ -6,6 +6,7 @@
 pub mod confirmed;
 pub mod laws;
 pub mod made_events;
+pub mod ports;
 pub mod printed;
 pub mod self_runs;
 pub mod sound_traces;

@@ -10,6 +10,7 @@ pub mod NamedAnys
 pub mod NamedKinds
 pub mod ReadAnys
 pub mod ReadBodies
+pub mod ReadablePorts
 pub mod ReadableVerdicts
 pub mod RegionsStay
 pub mod WritableRuns

@@ -40,15 +40,15 @@ module _ (c : Setup) (short : IsShort c.spec) (begun : IsBegun c)
     (few : length c.trace.events ≤ most_events) where
   -- MOVES
 
-  moves : (run : List Move) (p : Place) → IsBoundedRun c (reverse run) p → All IsWritableMove run
+  pub moves : (run : List Move) (p : Place) → IsBoundedRun c (reverse run) p → All IsWritableMove run
   moves run p is = reversed_all IsWritableMove run
       (runs_writable c (reverse run) p short begun is)
 
-  yielding : (run : List Move) (k : ℕ) → Yields c (reverse run) k → All IsWritableMove run
+  pub yielding : (run : List Move) (k : ℕ) → Yields c (reverse run) k → All IsWritableMove run
   yielding run k (inl y) = moves run y.place y.is_run
   yielding run k (inr y) = moves run y.1.place y.1.is_run
 
-  yielded_few : (run : List Move) (k : ℕ) → Yields c run k → k ≤ most_events + 1
+  pub yielded_few : (run : List Move) (k : ℕ) → Yields c run k → k ≤ most_events + 1
   yielded_few run k (inl y) = let l = y.within in omega (arith, few, l)
   yielded_few run k (inr y) = let e = y.0 in omega (arith, few, e)
 

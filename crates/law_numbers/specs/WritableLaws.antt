@@ -28,6 +28,11 @@ use Rattle.est_search.specs.declared.verdict.Verdict.{Verdict}
 use Rattle.est_search.specs.Verdict.{IsVerdict}
 use Rattle.est_explanation.specs.CanonicalExplanation.{IsWritableFiring, IsWritableMove}
 use Rattle.call_files.specs.ReadableReports.{IsReadable}
+use Rattle.call_files.specs.PortReports.{IsReadablePorts}
+use Rattle.mean_ports.specs.declared.lists.PortLists.{PortLists}
+use Rattle.mean_ports.specs.declared.verdict.PortsVerdict.{PortsVerdict}
+use Rattle.mean_ports.specs.Merges.{AreAllowedLists}
+use Rattle.mean_ports.specs.PortsVerdict.{IsPortsVerdict}
 
 -- INSTANCES
 
@@ -105,3 +110,9 @@ abbrev pub VerdictsAreReadable : Type 0
 VerdictsAreReadable = (c : Setup) (budget : ℕ) (verdict : Verdict) → IsShort c.spec → IsBegun c
     → length c.trace.events ≤ most_events → c.limit < 2 ^ 64 → IsVerdict c budget verdict
     → IsReadable c.limit (length c.trace.events) verdict
+
+-- so have those along one trace for each port, of lists within their limits
+abbrev pub PortsVerdictsAreReadable : Type 0
+PortsVerdictsAreReadable = (c : Setup) (lists : PortLists) (budget : ℕ) (verdict : PortsVerdict)
+    → IsShort c.spec → IsBegun c → AreAllowedLists c.spec lists → c.limit < 2 ^ 64
+    → IsPortsVerdict c lists budget verdict → IsReadablePorts c.limit verdict

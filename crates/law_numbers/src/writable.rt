@@ -3,7 +3,7 @@
 ghost use Rattle.law_numbers.specs.WritableLaws.{InstancesAreFew, TransitionsAreFew};
 ghost use Rattle.law_numbers.specs.WritableLaws.{AnysHaveTheirNames, ChoicesAreFew};
 ghost use Rattle.law_numbers.specs.WritableLaws.{FiringsAreWritable, RunsAreWritable};
-ghost use Rattle.law_numbers.specs.WritableLaws.{VerdictsAreReadable};
+ghost use Rattle.law_numbers.specs.WritableLaws.{VerdictsAreReadable, PortsVerdictsAreReadable};
 
 /// No instance of a run has a number above 999,999,999.
 pub fn instances_are_few()
@@ -35,4 +35,9 @@ pub fn runs_are_writable()
 /// So have verdicts on such a sentence.
 pub fn verdicts_are_readable()
     ensures { VerdictsAreReadable }
+{}
+
+/// So have verdicts along one trace for each port.
+pub fn ports_verdicts_are_readable()
+    ensures { PortsVerdictsAreReadable }
 {}

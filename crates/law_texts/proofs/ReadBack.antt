@@ -1,10 +1,10 @@
 -- What is written of a trace is read as what it was written of.
-use Rattle.std.proofs.Common.{◌≡◌, ℕ, ◌≤◌, List, [], ◌∷◌, length, drop, get_or, refl, sym, subst}
-use Rattle.std.proofs.Common.{arith, length-drop}
+use Rattle.std.proofs.Common.{◌≡◌, ℕ, ◌≤◌, List, [], ◌∷◌, ◌++◌, length, drop, get_or, refl, sym}
+use Rattle.std.proofs.Common.{subst, arith, length-append, length-drop}
 use Rattle.std.specs.Prelude.{Result, Ok, Err}
-use Rattle.std.proofs.lemmas.List.{append-nil}
+use Rattle.std.proofs.lemmas.List.{append-nil, drop_at}
 use Rattle.est_lexer.specs.declared.kind.Token.{Token}
-use Rattle.est_lexer.specs.Between.{nothing}
+use Rattle.est_lexer.specs.Between.{IsBetween, nothing}
 use Rattle.est_lexer.specs.TokenList.{IsTokenList}
 use Rattle.est_lexer.proofs.Unique.{tokens_unique}
 use Rattle.text_reader.specs.Grammar.{Tree}
@@ -56,25 +56,39 @@ module _ (ports : List Port) (recorded : Recorded)
     (w : Writes NoStar (length recorded.events) (trace ports)
     (λ t. ShowsTrace ports recorded t) (trace_text ports recorded))
     (few : length recorded.events ≤ most_events) where
+  -- the words stand after what is before them
+  words_there : (front : List ℕ)
+      → drop (length front) (front ++ text_of w.words) ≡ text_of w.words
+  words_there front = drop_at front (text_of w.words) (length front) refl
+
   -- the tokens of the words are a text of the trace
-  words_are_text : IsTraceText ports (text_of w.words) (tokens_at 0 w.words) recorded
-  words_are_text =
-      let text = text_of w.words in
-      let s = tokens_at 0 w.words in
-      let h = are_written text 0 w.words refl in
+  words_are_text : (front : List ℕ)
+      → IsTraceText ports (front ++ text_of w.words) (tokens_at (length front) w.words) recorded
+  words_are_text front =
+      let text = front ++ text_of w.words in
+      let s = tokens_at (length front) w.words in
+      let h = are_written text (length front) w.words (words_there front) in
       all_read ports text s recorded (w.read text s most_events 0 [] few
       (subst (λ ws. AreWritten text s ws) (sym (append-nil w.words)) h))
 
-  pub written_text : (tokens : List Token) → IsTokenList (trace_text ports recorded) tokens
-      → IsTraceText ports (trace_text ports recorded) tokens recorded
-  written_text tokens h =
-      let text = text_of w.words in
-      let list = are_tokens text 0 0 w.words (nothing 0) (omega arith) refl
+  -- so is what is written, after blanks and comments
+  pub written_text : (front : List ℕ) (tokens : List Token)
+      → IsBetween (front ++ trace_text ports recorded) 0 (length front)
+      → IsTokenList (front ++ trace_text ports recorded) tokens
+      → IsTraceText ports (front ++ trace_text ports recorded) tokens recorded
+  written_text front tokens between h =
+      let text = front ++ text_of w.words in
+      let before = subst (λ bytes. IsBetween (front ++ bytes) 0 (length front)) (sym w.spelled)
+      between in
+      let inside : length front ≤ length text =
+      omega (arith, length-append front (text_of w.words)) in
+      let list = are_tokens text 0 (length front) w.words before inside (words_there front)
       (all_whole w.words (w.whole [] refl)) in
-      let mine = subst (λ bytes. IsTokenList bytes tokens) (sym w.spelled) h in
-      subst (λ bytes. IsTraceText ports bytes tokens recorded) w.spelled
+      let mine = subst (λ bytes. IsTokenList (front ++ bytes) tokens) (sym w.spelled) h in
+      subst (λ bytes. IsTraceText ports (front ++ bytes) tokens recorded) w.spelled
       (subst (λ ts. IsTraceText ports text ts recorded)
-      (tokens_unique text 0 (tokens_at 0 w.words) tokens list mine) words_are_text)
+      (tokens_unique text 0 (tokens_at (length front) w.words) tokens list mine)
+      (words_are_text front))
 
 -- an event that may stand in a trace stands at a port
 at_ports : (spec : Spec) (e : Event) → IsAllowed spec e → IsAtPorts (ports_of spec) e
@@ -112,16 +126,24 @@ expected_at spec (Partly port signal seen) h = (
   h.partly,
 )
 
+pub texts_after : (spec : Spec) (recorded : Recorded) (front : List ℕ) (tokens : List Token)
+    → AreReadablePorts (ports_of spec) → IsAllowedTrace spec recorded
+    → IsBetween (front ++ trace_text (ports_of spec) recorded) 0 (length front)
+    → IsTokenList (front ++ trace_text (ports_of spec) recorded) tokens
+    → IsTraceText (ports_of spec) (front ++ trace_text (ports_of spec) recorded) tokens recorded
+texts_after spec recorded front tokens readable allowed between h =
+    let ports = ports_of spec in
+    let at : AreAtPorts ports recorded.events = λ i d l.
+    expected_at spec (get_or recorded.events i d) (allowed.each i d l) in
+    let w = trace_written ports (good_ports spec) readable recorded at in
+    written_text ports recorded w allowed.few front tokens between h
+
 pub texts : (spec : Spec) (recorded : Recorded) (tokens : List Token)
     → AreReadablePorts (ports_of spec) → IsAllowedTrace spec recorded
     → IsTokenList (trace_text (ports_of spec) recorded) tokens
     → IsTraceText (ports_of spec) (trace_text (ports_of spec) recorded) tokens recorded
 texts spec recorded tokens readable allowed h =
-    let ports = ports_of spec in
-    let at : AreAtPorts ports recorded.events = λ i d l.
-    expected_at spec (get_or recorded.events i d) (allowed.each i d l) in
-    let w = trace_written ports (good_ports spec) readable recorded at in
-    written_text ports recorded w allowed.few tokens h
+    texts_after spec recorded [] tokens readable allowed (nothing 0) h
 
 -- the answer to a text of the trace
 answered : (ports : List Port) (text : List ℕ) (tokens : List Token) (recorded : Recorded)

@@ -8,6 +8,8 @@ use Rattle.call_files.specs.declared.stop.Stop.TheVariants.{OutOfMemory}
 use Rattle.call_files.specs.declared.status.Status.{Status}
 use Rattle.call_files.specs.declared.status.Status.TheVariants.{Fine, OverBudget, NoStart}
 use Rattle.est_syntax.specs.declared.specification.Spec.{Spec}
+use Rattle.est_syntax.specs.declared.ports.Port.{Port}
+use Rattle.est_meaning.specs.rule_declares.PortList.{ports_of}
 use Rattle.est_meaning.specs.RecordedTraces.{Recorded}
 use Rattle.call_files.specs.est_explanation.Replay.{IsReplay}
 use Rattle.call_files.specs.est_explanation.declared.explanation.Explanation.{Explanation}
@@ -26,7 +28,11 @@ use Rattle.est_meaning.specs.declared.run.Limits.{Limits}
 use Rattle.est_tool.specs.declared.search.Searched.{Searched}
 use Rattle.est_tool.specs.declared.search.Searched.TheVariants as searched
 use Rattle.call_files.specs.Reads.{IsStop, IsQuiet}
-use Rattle.est_tool.specs.inside.Searching.{IsSearched}
+use Rattle.est_tool.specs.inside.Searching.{IsSearched, IsPortsSearched}
+use Rattle.est_tool.specs.declared.search.PortsSearched.{PortsSearched}
+use Rattle.est_tool.specs.declared.search.PortsSearched.TheVariants as ports_searched
+use Rattle.mean_ports.specs.declared.lists.PortLists.{PortLists}
+use Rattle.call_files.specs.PortReports.{IsReadablePorts, ports_report, ports_status}
 
 -- a command ends with a report, or stops before
 abbrev pub IsMade : (End → Type 0) → Result Report Stop → Type 0
@@ -67,6 +73,23 @@ abbrev pub IsExplained : Limits → Spec → Recorded → Status → List ℕ �
 IsExplained limits spec trace status report =
     (found : Searched) × IsSearched limits spec trace found
     × Tells limits.statements (length trace.events) found status report
+
+-- the report of what came of a search along one trace for each port, at these ports and within this
+-- limit of statements
+abbrev pub TellsPorts : List Port → ℕ → PortsSearched → Status → List ℕ → Type 0
+TellsPorts ports limit (ports_searched.Found verdict) status report =
+    (status ≡ ports_status verdict) × (report ≡ ports_report ports limit verdict)
+    × IsReadablePorts limit verdict
+TellsPorts ports limit (ports_searched.Fault fault) status report =
+    IsReport NoStart (no_start_line fault) status report
+TellsPorts ports limit ports_searched.Limit status report =
+    IsReport OverBudget (over_start_line limit) status report
+
+-- the report of such a search within limits, by a thing that may come of it
+abbrev pub IsMergedSo : Limits → Spec → PortLists → Status → List ℕ → Type 0
+IsMergedSo limits spec lists status report =
+    (found : PortsSearched) × IsPortsSearched limits spec lists found
+    × TellsPorts (ports_of spec) limits.statements found status report
 
 -- the work of a request is done, of which these files were started before
 pub record IsWork
