@@ -7,7 +7,8 @@ under any load. SPIN's counts are those that its verifiers took on the same even
 (bench/alternating_bit.pml is one of them); they are no part of a run. The last column has what it takes to read an event.
 With --against PROGRAM the same is counted of another program, as one of an earlier commit, and three shares follow, of
 explain, replay and reading: the instructions over those of the other one. With --record the rows go to
-bench/results/instructions.tsv.
+bench/results/instructions.tsv. With --ports the same events are searched for as lists of `ports`, each at its port, and the
+table has the instructions of an event in both searches.
 """
 
 import pathlib
@@ -63,6 +64,35 @@ def row(folder, program, protocol):
     return [round((more[i] - less[i]) / events) for i in (0, 1, 2)]
 
 
+def listed(event):
+    """The same event in lists of `ports`."""
+    kind, _, rest = event.partition(" ")
+    port, _, item = rest.partition(".")
+    return event if kind == "time" else f"port {port} {kind} {item}"
+
+
+def in_lists(folder, protocol, turns):
+    """The instructions of `ports` along the events of a protocol, so many times over."""
+    events = EVENTS[protocol] * turns
+    (folder / "a.ports").write_text("ports 1\n" + "\n".join(map(listed, events)) + "\nend\n")
+    specification = str(TOP / "examples" / f"{protocol}.est")
+    count, told = counted(folder, PROGRAM, "ports", specification, "a.ports", "30", "4000000", "10000")
+    if "accepted" not in told.partition("\n")[0]:
+        sys.exit(f"{protocol}: {told[:100]}")
+    return count
+
+
+def compare_lists(folder, chosen):
+    """A row for each protocol: the instructions of an event in both searches, and how many times they are."""
+    print("| Protocol | `explain` | `ports` | times |\n|---|---|---|---|")
+    for protocol in chosen:
+        turns = len(EVENTS[protocol])
+        events = (LONG // turns - SHORT // turns) * turns
+        ours = row(folder, PROGRAM, protocol)[0]
+        lists = (in_lists(folder, protocol, LONG // turns) - in_lists(folder, protocol, SHORT // turns)) / events
+        print(f"| `{protocol}` | {ours:,} | {lists:,.0f} | {lists / ours:.2f} |", flush=True)
+
+
 def shares(folder, other, protocol, ours):
     """What these instructions are over those of another program."""
     return ", ".join(f"{one / theirs:.3f}" for one, theirs in zip(ours, row(folder, other, protocol)))
@@ -74,7 +104,13 @@ def main():
         at = words.index("--against")
         other = pathlib.Path(words[at + 1]).resolve()
         del words[at : at + 2]
+    is_lists = "--ports" in words
+    words = [word for word in words if word != "--ports"]
     chosen = words or ["alternating_bit", "connection", "ring_election", "sessions", "two_phase_commit"]
+    if is_lists:
+        with tempfile.TemporaryDirectory() as name:
+            compare_lists(pathlib.Path(name), chosen)
+        return
     titles = ["Protocol", "`explain`", "`replay`", "SPIN", "read", *(["over the other"] if other else [])]
     print(f"| {' | '.join(titles)} |\n{'|---' * len(titles)}|")
     with tempfile.TemporaryDirectory() as name:

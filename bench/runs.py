@@ -4,7 +4,8 @@
 Each row of the first is the least processor time of some runs of one command, at a size and at twice that
 size; the last column is the one time over the other, near 2 where the work is linear. The second table
 is of searches: first along traces that are made as well, and then a row for each of six protocols of
-examples/, along a trace of some 10,000 events, which repeats what the protocol does. The program is the one of
+examples/, along a trace of some 10,000 events, which repeats what the protocol does. Rows follow of `ports`: as many
+tries in vain as firings of `explain`, and lists of 100 ports, which are read. The program is the one of
 these sources. With --record the rows go to bench/results/replays.tsv and searches.tsv.
 """
 
@@ -231,6 +232,25 @@ end.
     return specification, f"trace 1\n{trace}end\n", "explanation 1\nyields 0\n"
 
 
+MANY_PORTS = f"""specification Measured;
+default individual queue;
+channel C(A, B); by A: Ask(n: integer); by B: Num(n: integer);
+module M systemactivity; ip P: array [1..100] of C(B); end;
+body MB for M; end;{TAIL}"""
+
+
+def at_many_ports(size):
+    """A trace of so many arrivals at 100 ports in turn, which is read."""
+    trace = "trace 1\n" + "".join(f"in p[{n % 100 + 1}].ask({n})\n" for n in range(size)) + "end\n"
+    return MANY_PORTS, trace, "explanation 1\nyields 0\n"
+
+
+def many_lists(size):
+    """Lists of so many arrivals at 100 ports, which are read before the budget ends at once."""
+    lists = (f"port p[{port}]\n" + "".join(f"in ask({n})\n" for n in range(size // 100)) for port in range(1, 101))
+    return MANY_PORTS, f"ports 1\n{''.join(lists)}end\n", ["ports", "a.est", "a.trace", "8", "0", "10000"]
+
+
 ROWS = [
     ("statements: `while`, an assignment with a subscript, a comparison", statements, 400_000),
     ("calls of a procedure with two parameters", calls, 150_000),
@@ -247,6 +267,23 @@ ROWS = [
     ("items that wait, attached and detached 20 times", moved, 99_000),
     ("arrivals with record values, read", records, 60_000),
     ("arrivals at 60,000 ports with 10,000 signals, read", elements, 75_000),
+    ("arrivals at 100 ports, read", at_many_ports, 100_000),
+]
+
+def in_vain(command):
+    """A call of the command that ends after so many firings or tries: silent ones, two after each run."""
+    specification = HEAD + """body MB for M;
+  trans begin end; begin end;
+end;""" + TAIL
+    first = {"explain": "trace 1\nout p.num(1)\nend\n", "ports": "ports 1\nport p\nout num(1)\nend\n"}[command]
+    return lambda size: (specification, first, [command, "a.est", "a.trace", "1000", str(size), MOST_STATEMENTS])
+
+
+# Calls that end at their budget.
+OVER = [
+    ("firings of `explain`, in vain", in_vain("explain"), 500_000),
+    ("tries of `ports`, in vain", in_vain("ports"), 500_000),
+    ("lists of 100 ports, read", many_lists, 100_000),
 ]
 
 SEARCHES = [
@@ -278,14 +315,14 @@ PROTOCOLS = {
 }
 
 
-def measured(command, folder):
+def measured(command, folder, wanted=0):
     """The least processor time of some runs, in seconds, the most memory, in MiB, and what was told."""
     best, most = None, 0
     for _ in range(RUNS):
         process = subprocess.Popen([PROGRAM, *command], cwd=folder, stdout=subprocess.PIPE)
         told = process.stdout.read().decode()
         _, status, used = os.wait4(process.pid, 0)
-        if os.waitstatus_to_exitcode(status) != 0:
+        if os.waitstatus_to_exitcode(status) != wanted:
             sys.exit(f"{' '.join(command)}: {told[:400]}")
         taken = used.ru_utime + used.ru_stime
         best = taken if best is None else min(best, taken)
@@ -314,6 +351,14 @@ def searched(folder, made):
     if "accepted" not in told[:40]:
         sys.exit(told[:100])
     return taken, most
+
+
+def over(folder, made):
+    """A call that ends at its budget."""
+    specification, trace, command = made
+    (folder / "a.est").write_text(specification)
+    (folder / "a.trace").write_text(trace)
+    return measured(command, folder, 5)[:2]
 
 
 def along(folder, protocol, turns):
@@ -356,6 +401,7 @@ def main():
             turns = 10_000 // len(lines)
             half, _ = along(folder, protocol, turns // 2)
             tell("searches", f"`{protocol}`", len(lines) * turns, half, *along(folder, protocol, turns))
+        compare("searches", OVER, over, folder)
 
 
 if __name__ == "__main__":

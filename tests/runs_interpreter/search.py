@@ -133,6 +133,16 @@ class Replay:
 
     def confirm(self):
         """Raises Rejected unless the moves yield the claim."""
+        situation, total = self.moved(), len(self.trace.events)
+        if self.claim <= total:
+            is_yielded = self.count >= self.claim
+        else:
+            is_yielded = self.claim == total + 1 and ends(self.world, self.trace, situation, self.count)
+        if not is_yielded:
+            raise Rejected(len(self.moves) + 1, "not all")
+
+    def moved(self):
+        """The situation after the moves, none of which is rejected."""
         try:
             situation, sent = self.world.start()
         except Fault as fault:
@@ -145,13 +155,7 @@ class Replay:
                 situation = self.take(number, situation)
             else:
                 situation = self.fire(number, situation, move)
-        total = len(self.trace.events)
-        if self.claim <= total:
-            is_yielded = self.count >= self.claim
-        else:
-            is_yielded = self.claim == total + 1 and ends(self.world, self.trace, situation, self.count)
-        if not is_yielded:
-            raise Rejected(len(self.moves) + 1, "not all")
+        return situation
 
     def compare(self, number, sent):
         """Compares what is sent with the trace; after the last move only as far as the claim goes."""

@@ -1,8 +1,9 @@
-"""Runs the cases of `explain`, `replay` and `selfrun` that the gate has. How they are written is told in texts.cases."""
+"""Runs the cases of `explain`, `replay`, `selfrun` and `ports`. How they are written is told in texts.cases."""
 
 import re
 
 from .answers import Unknown, explained, replayed, self_run
+from .port_runs import ported, wrong
 
 ESCAPES = {"n": b"\n", "t": b"\t", "r": b"\r", "s": b" ", "e": b"", "c": b"", "\\": b"\\"}
 ESCAPE = re.compile(r"\\(x[0-9A-Fa-f]{2}|.)|\$(\w+)|([^\\$]+)")
@@ -79,10 +80,10 @@ def answer(words, files, explanation=None):
     """(status, report) of a call."""
     if words[0] == "selfrun":
         return self_run(files.get(words[1], b""), *map(int, words[2:]))
-    count = 3 if words[0] == "explain" else 4
+    count = 4 if words[0] == "replay" else 3
     texts, limits = [files.get(name, b"") for name in words[1:count]], map(int, words[count:])
-    if words[0] == "explain":
-        return explained(*texts, *limits)
+    if words[0] in ("explain", "ports"):
+        return (explained if words[0] == "explain" else ported)(*texts, *limits)
     if explanation is not None:
         texts[2] = explanation
     return replayed(*texts, *limits)
@@ -96,6 +97,8 @@ def difference(cells, folder):
     """What is answered and what is expected, where these differ."""
     words = cells["words"].decode().split()
     files = files_of(words, cells, folder)
+    if words[0] == "ports":
+        return port_difference(words, files, cells["gives"].decode("latin-1"))
     status, report = answer(words, files)
     pairs = [(told(status, report), cells["gives"])]
     if "replayed" in cells:
@@ -106,9 +109,19 @@ def difference(cells, folder):
     return differing[0] if bool(differing) != (cells.get("expectation") == b"wrong") else None
 
 
+def port_difference(words, files, gives):
+    """Why one answer is not right, that of the case or that of the interpreter, and the answer."""
+    status, _, report = gives.partition(" ")
+    for found in (int(status), report.rstrip("\n") + "\n"), answer(words, files):
+        texts = [files.get(name, b"") for name in words[1:3]]
+        if why := wrong(found, *texts, *map(int, words[3:])):
+            return why, told(*found)
+    return None
+
+
 def is_looked_at(cells):
     words = cells.get("words", b"").split()
-    if not words or words[0] not in (b"explain", b"replay", b"selfrun") or LEFT_OUT & set(cells):
+    if not words or words[0] not in (b"explain", b"replay", b"selfrun", b"ports") or LEFT_OUT & set(cells):
         return False
     behaviour = cells.get("shelf", b"") + cells.get("sink", b"")
     if b"fails" in behaviour or "specification" not in cells and behaviour != b"files":
