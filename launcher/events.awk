@@ -1,11 +1,12 @@
-# Takes a good trace apart: a line for each event, and one for the `end`, with how many bytes stand before it, the number
-# of its line, and its text without comments, of which no more than some 200 bytes are told:
+# Takes a good trace apart, or good lists of `ports`: a line for each event, and one for the `end`, with how many bytes stand
+# before it, the number of its line, and its text without comments, of which no more than some 200 bytes are told. An event of
+# lists is told with its port, as in a trace:
 #
 #     LC_ALL=C awk -f launcher/events.awk TRACE
 #
 # An event begins at the first word after the one before it: after the number of a `time`, or the values of a signal, or
 # the signal where no values follow. What is awaited is one of: trace, version, event, units, port, point (what follows
-# a port), signal, values (what follows a signal).
+# a port), signal, values (what follows a signal); in lists also name, and subscripts (what follows the name of a port).
 
 BEGIN { awaited = "trace"; OFS = "\t"; most = 200 }
 
@@ -39,17 +40,34 @@ function take_next() {
 
 # judge: what a token is, with so many bytes before it.
 function judge(token, before) {
-    if (awaited == "values" && token != "(" && !depth) awaited = "event"
-    if (awaited == "event") {
-        tell()
-        start = before; line = NR; text = ""; blank = ""; is_open = 1
-        awaited = tolower(token) == "time" ? "units" : "port"
-    } else if (awaited == "trace") awaited = "version"
-    else if (awaited == "version" || awaited == "units") awaited = "event"
+    if (!depth && (awaited == "values" && token != "(" || awaited == "subscripts" && token != "[")) awaited = "event"
+    if (awaited == "event") begin(token, before)
+    else if (awaited == "trace") {
+        is_lists = tolower(token) == "ports"
+        awaited = "version"
+    } else if (awaited == "version" || awaited == "units") awaited = "event"
     else if (awaited == "port") awaited = "point"
-    else if (awaited == "signal") awaited = "values"
-    else within(token)
-    if (length(text) < most) text = text blank token
+    else if (awaited == "signal") {
+        awaited = "values"
+        if (is_lists) token = port "." token
+    } else if (awaited == "name") {
+        awaited = "subscripts"
+        port = token
+    } else {
+        if (awaited == "subscripts") port = port blank token
+        within(token)
+    }
+    if (is_open && length(text) < most) text = text blank token
+}
+
+# begin: the first word of an event, of the `end`, or in lists of a port, with so many bytes before it.
+function begin(token, before) {
+    tell()
+    is_open = !is_lists || tolower(token) != "port"
+    start = before; line = NR; text = ""; blank = ""
+    if (!is_open) awaited = "name"
+    else if (tolower(token) == "time") awaited = "units"
+    else awaited = is_lists ? "signal" : "port"
 }
 
 # within: a token of the subscripts of a port, or of the values of a signal.
@@ -57,7 +75,7 @@ function within(token) {
     if (token ~ /^[[(]$/) depth++
     else if (token ~ /^[])]$/) depth--
     else if (!depth && token == ".") awaited = "signal"
-    if (!depth && token == ")") awaited = "event"
+    if (!depth && (token == ")" || awaited == "subscripts")) awaited = "event"
 }
 
 function tell() {
