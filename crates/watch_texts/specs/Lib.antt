@@ -1,0 +1,4 @@
+pub mod WatchAnswers
+pub mod WatchEndings
+pub mod WatchEnds
+pub mod WatchLines
