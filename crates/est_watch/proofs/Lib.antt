@@ -1,0 +1,12 @@
+pub mod AnswerLaws
+pub mod BackLaws
+pub mod CallLaws
+pub mod FiringLaws
+pub mod GiveLaws
+pub mod GrowLaws
+pub mod KeptLaws
+pub mod KnownLaws
+pub mod Sought
+pub mod StartLaws
+pub mod StepLaws
+pub mod WatcherLaws
