@@ -1,5 +1,5 @@
 -- Events at the ports of a checked specification may stand in its traces.
-use Rattle.std.proofs.Common.{◌≡◌, ◌≤◌, List, length, get_or, subst}
+use Rattle.std.proofs.Common.{All, ◌≡◌, ◌≤◌, List, length, get_or, subst}
 use Rattle.std.specs.Prelude.{Result, Ok, Err, IfOk}
 use Rattle.est_syntax.specs.declared.ports.Port.{Port}
 use Rattle.est_syntax.specs.declared.specification.Spec.{Spec}
@@ -62,3 +62,9 @@ pub allowed_trace : (s : Spec) (ports : List Port) (r : Result Recorded TraceErr
 allowed_trace s ports (Ok x) e h l =
     all_allowed s x (subst (λ v. AreAtPorts v x.events) e h) l
 allowed_trace s ports (Err error) e h l = tt
+
+pub allowed_events : (s : Spec) (ports : List Port) (r : Result (List Event) TraceError)
+    → ports ≡ ports_of s → IfOk r (All (IsAtPorts ports)) → IfOk r (All (IsAllowed s))
+allowed_events s ports (Ok es) e h =
+    λ k d z. allowed s (get_or es k d) (subst (λ v. IsAtPorts v (get_or es k d)) e (h k d z))
+allowed_events s ports (Err error) e h = tt

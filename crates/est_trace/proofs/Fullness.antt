@@ -30,7 +30,7 @@ use Rattle.est_trace.proofs.Events.{event_partial, flat_not_deep, BeginsEvent}
 
 module _ (tokens : Tokens) (ports : List Port) where
   -- the tokens up to a full place and one more have a partial tree with one more level
-  full_goes_on : (f : Format) (d a i : ℕ) (ts : List Shape)
+  pub full_goes_on : (f : Format) (d a i : ℕ) (ts : List Shape)
       → Tree (traces (text_of tokens)) (tokens_of tokens) (length (tokens_of tokens))
       (rule (events_at f ports)) d a i (nested ts nothing)
       → length ts ≡ d → i < length (tokens_of tokens) → BeginsEvent tokens f ports i

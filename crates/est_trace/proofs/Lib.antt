@@ -13,11 +13,13 @@ pub mod GrowingLists
 pub mod Images
 pub mod InsideTokens
 pub mod Interactions
+pub mod KnownEvents
+pub mod LineAnswers
 pub mod LineLoop
 pub mod LineReadings
-pub mod Lines
 pub mod ListAnswers
 pub mod ListItems
+pub mod ListLines
 pub mod Listed
 pub mod Lookups
 pub mod Names
@@ -35,5 +37,6 @@ pub mod Shown
 pub mod Tuples
 pub mod Unseen
 pub mod Versions
+pub mod WholeLines
 pub mod Written
 pub mod WrittenPorts

@@ -148,7 +148,7 @@ module _ (ports : List Port) (good : GoodPorts ports) where
   one_event f x y (right (right t)) d e = one_passing Sends f x y t d e
   one_event f x y _ d e = absurd d
 
-  same_events : (f : Format) (xs ys : List Expected) (t : Shape) → ShowsEvents f ports xs t
+  pub same_events : (f : Format) (xs ys : List Expected) (t : Shape) → ShowsEvents f ports xs t
       → ShowsEvents f ports ys t → xs ≡ ys
   same_events f [] [] t d e = refl
   same_events f [] (y ∷ ys) nothing d e = absurd e
@@ -356,7 +356,7 @@ module _ (text : List ℕ) (s : List Token) (n : ℕ) where
         passing_at f Sends e.port e.signal x (at_port f Sends e.port e.signal x y e.shown)
     event_at f x t y e = absurd e
 
-    all_at_ports : (f : Format) (xs : List Expected) {d a b : ℕ} (t : Shape)
+    pub all_at_ports : (f : Format) (xs : List Expected) {d a b : ℕ} (t : Shape)
         → Tree_of (rule (events_at f ports)) d a b t → ShowsEvents f ports xs t
         → AreAtPorts ports xs
     all_at_ports f [] t x e = λ k d l. absurd (omega (arith, l))
@@ -365,7 +365,7 @@ module _ (text : List ℕ) (s : List Token) (n : ℕ) where
     all_at_ports f (y ∷ ys) t x e = absurd e
 
   -- there are no more events than levels
-  few : (f : Format) (ports : List Port) (xs : List Expected) {d a b : ℕ} (t : Shape)
+  pub few : (f : Format) (ports : List Port) (xs : List Expected) {d a b : ℕ} (t : Shape)
       → Tree_of (rule (events_at f ports)) d a b t → ShowsEvents f ports xs t → length xs ≤ d
   few f ports [] t x e = omega arith
   few f ports (y ∷ ys) (some (both t u)) (t_rule (t_opt_in (t_deeper (t_seq x z)))) e =

@@ -1,4 +1,6 @@
 pub mod Directories
+pub mod LineReaders
+pub mod LineText
 pub mod ListShapes
 pub mod ListText
 pub mod PortNameLaws

@@ -9,4 +9,5 @@ pub mod Lookups
 pub mod Parts
 pub mod Subscripts
 pub mod Versions
+pub mod WholeLines
 pub mod Wholes

@@ -9,6 +9,7 @@ mod growing;
 mod heads;
 pub mod hints;
 mod interaction;
+pub mod lines;
 pub mod lists;
 mod lookup;
 pub mod trace;

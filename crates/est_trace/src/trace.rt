@@ -155,8 +155,8 @@ fn quiet(reader: &mut Reader) -> bool
     }
 }
 
-// { event }, each event within a level of its own: the levels count the events.
-fn events(
+/// { event }, each event within a level of its own: the levels count the events.
+pub(crate) fn events(
     reader: &mut Reader,
     directory: &Directory,
     hints: &mut Hints,

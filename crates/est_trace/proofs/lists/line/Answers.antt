@@ -5,7 +5,7 @@ use Rattle.text_values.specs.TraceGrammar.{list_starts}
 use Rattle.est_trace.specs.inside.GrowingLists.{GrowsBy}
 use Rattle.est_trace.specs.inside.ListReading.{named, signals_named, TakesLine}
 use Rattle.est_trace.proofs.GrowingLists.{counted}
-use Rattle.est_trace.proofs.Lines.{port_taken, time_taken, event_taken}
+use Rattle.est_trace.proofs.ListLines.{port_taken, time_taken, event_taken}
 use Rattle.est_trace.proofs.lists.line.Goals as goal
 
 pub returns-then-sees_word : goal.returns-then-sees_word
