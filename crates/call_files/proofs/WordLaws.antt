@@ -9,12 +9,13 @@ use Rattle.std.specs.Global.{Global}
 use Rattle.est_meaning.specs.declared.run.Limits.{Limits}
 use Rattle.call_files.specs.declared.words.Command.{Command}
 use Rattle.call_files.specs.declared.words.Command.TheVariants.{Check, Print, Explain, Replay}
-use Rattle.call_files.specs.declared.words.Command.TheVariants.{SelfRun, Ports}
+use Rattle.call_files.specs.declared.words.Command.TheVariants.{SelfRun, Ports, Watch}
 use Rattle.call_files.specs.Requests.{Request, check, print, explain, ports, Asks, AreLimits}
 use Rattle.call_files.specs.Requests.{AreRecipe, AreSearchLimits, AsksNothing, AsksOfFile}
-use Rattle.call_files.specs.Requests.{AsksToReplay, AsksToSearch, AsksToSelfRun, IsCommand}
+use Rattle.call_files.specs.Requests.{AsksToReplay, AsksToSearch, AsksToSelfRun, AsksToWatch}
+use Rattle.call_files.specs.Requests.{IsCommand}
 use Rattle.call_files.specs.Requests.{to_check, to_print, to_explain, to_replay, to_self_run}
-use Rattle.call_files.specs.Requests.{to_ports, bytes_of}
+use Rattle.call_files.specs.Requests.{to_ports, to_watch, bytes_of}
 use Rattle.call_files.specs.Requests.{usual, told, left_out, given}
 use Rattle.call_files.specs.Requests.{IsNumber, usual_budget, most_silent, most_budget}
 use Rattle.call_files.specs.Requests.{most_statements}
@@ -48,6 +49,24 @@ pub print_or_ports : (word : List ℕ) → word ≡ codes "print" → word ≡ c
 print_or_ports word one other =
     let second : 114 ≡ 111 = ap (λ w. get_or w 1 0) (sym one ∙ other) in
     absurd (omega (arith, second))
+
+-- words that begin with `check` do not begin with `watch`
+pub check_or_watch : (word : List ℕ) → word ≡ codes "check" → word ≡ codes "watch" → ⊥
+check_or_watch word one other =
+    let first : 99 ≡ 119 = ap (λ w. get_or w 0 0) (sym one ∙ other) in
+    absurd (omega (arith, first))
+
+-- words that begin with `print` do not begin with `watch`
+pub print_or_watch : (word : List ℕ) → word ≡ codes "print" → word ≡ codes "watch" → ⊥
+print_or_watch word one other =
+    let first : 112 ≡ 119 = ap (λ w. get_or w 0 0) (sym one ∙ other) in
+    absurd (omega (arith, first))
+
+-- words that begin with `ports` do not begin with `watch`
+pub ports_or_watch : (word : List ℕ) → word ≡ codes "ports" → word ≡ codes "watch" → ⊥
+ports_or_watch word one other =
+    let first : 112 ≡ 119 = ap (λ w. get_or w 0 0) (sym one ∙ other) in
+    absurd (omega (arith, first))
 
 -- words that begin with `explain` do not begin with `selfrun`
 pub explain_or_self_run : (word : List ℕ) → word ≡ codes "explain" → word ≡ codes "selfrun" → ⊥
@@ -106,6 +125,7 @@ is_for_file (Explain limits) words specification begin long short at named = abs
 is_for_file (Replay limits) words specification begin long short at named = absurd begin
 is_for_file (SelfRun seed count) words specification begin long short at named = absurd begin
 is_for_file (Ports limits) words specification begin long short at named = absurd begin
+is_for_file (Watch limits) words specification begin long short at named = absurd begin
 
 -- words of such a command are two, and the second one is a name
 pub record IsForFileOf (words : List (String Global)) : Type 0 where
@@ -132,36 +152,42 @@ other_word word other (a ∷ words) rest apart begin are =
 -- what words ask for that begin with a word that is for one file alone
 of_file : (word : List ℕ) (words : List (String Global)) → (word ≡ codes "explain" → ⊥)
     → (word ≡ codes "replay" → ⊥) → (word ≡ codes "selfrun" → ⊥) → (word ≡ codes "ports" → ⊥)
-    → BeginWith word words
+    → (word ≡ codes "watch" → ⊥) → BeginWith word words
     → (request : Request) → Asks (bytes_of words) request → IsForFileOf words
-of_file word words no_search no_replay no_run no_ports begin _ (to_check name are named) =
+of_file word words no_search no_replay no_run no_ports no_watch begin _ (to_check name are named) =
     two_of words (codes "check") name are named
-of_file word words no_search no_replay no_run no_ports begin _ (to_print name are named) =
+of_file word words no_search no_replay no_run no_ports no_watch begin _ (to_print name are named) =
     two_of words (codes "print") name are named
-of_file word words no_search no_replay no_run no_ports begin _
+of_file word words no_search no_replay no_run no_ports no_watch begin _
     (to_explain s t limits n b m are s_named t_named is) =
     absurd (other_word word (codes "explain") words _ no_search begin are)
-of_file word words no_search no_replay no_run no_ports begin _
+of_file word words no_search no_replay no_run no_ports no_watch begin _
     (to_replay s t e limits n m are s_named t_named e_named is) =
     absurd (other_word word (codes "replay") words _ no_replay begin are)
-of_file word words no_search no_replay no_run no_ports begin _ (to_self_run name x y n m are named is) =
+of_file word words no_search no_replay no_run no_ports no_watch begin _ (to_self_run name x y n m are named is) =
     absurd (other_word word (codes "selfrun") words _ no_run begin are)
-of_file word words no_search no_replay no_run no_ports begin _
+of_file word words no_search no_replay no_run no_ports no_watch begin _
     (to_ports s t limits n b m are s_named t_named is) =
     absurd (other_word word (codes "ports") words _ no_ports begin are)
+of_file word words no_search no_replay no_run no_ports no_watch begin _
+    (to_watch name limits n b m are named is) =
+    absurd (other_word word (codes "watch") words _ no_watch begin are)
 
 pub is_for_file_of : (command : Command) (words : List (String Global)) → BeginForFile command words
     → (request : Request) → Asks (bytes_of words) request → IsForFileOf words
 is_for_file_of Check words begin request asked =
-    of_file (codes "check") words (λ e. cc) (λ e. cc) (λ e. cc) (λ e. check_or_ports _ refl e) begin
+    of_file (codes "check") words (λ e. cc) (λ e. cc) (λ e. cc) (λ e. check_or_ports _ refl e)
+    (λ e. check_or_watch _ refl e) begin
     request asked
 is_for_file_of Print words begin request asked =
-    of_file (codes "print") words (λ e. cc) (λ e. cc) (λ e. cc) (λ e. print_or_ports _ refl e) begin
+    of_file (codes "print") words (λ e. cc) (λ e. cc) (λ e. cc) (λ e. print_or_ports _ refl e)
+    (λ e. print_or_watch _ refl e) begin
     request asked
 is_for_file_of (Explain limits) words begin request asked = absurd begin
 is_for_file_of (Replay limits) words begin request asked = absurd begin
 is_for_file_of (SelfRun seed count) words begin request asked = absurd begin
 is_for_file_of (Ports limits) words begin request asked = absurd begin
+is_for_file_of (Watch limits) words begin request asked = absurd begin
 
 -- SEARCH
 
@@ -296,6 +322,7 @@ is_explain_of (a ∷ words) begin _ (to_replay s t e limits n m are s_named t_na
 is_explain_of (a ∷ words) begin _ (to_self_run name x y n m are named is) =
     absurd (explain_or_self_run (string_bytes a) begin (ap (λ ws. get_or ws 0 []) are))
 is_explain_of (a ∷ words) begin _ (to_ports s t limits n b m are s_named t_named is) = absurd cc
+is_explain_of (a ∷ words) begin _ (to_watch name limits n b m are named is) = absurd cc
 
 pub is_ports_of : (words : List (String Global)) → BeginWith (codes "ports") words
     → (request : Request) → Asks (bytes_of words) request → IsSearchOf words
@@ -310,6 +337,8 @@ is_ports_of (a ∷ words) begin _ (to_replay s t e limits n m are s_named t_name
 is_ports_of (a ∷ words) begin _ (to_self_run name x y n m are named is) = absurd cc
 is_ports_of (a ∷ words) begin _ (to_ports s t limits n b m are s_named t_named is) =
     search_of (a ∷ words) (codes "ports") s t limits n b m are s_named t_named is
+is_ports_of (a ∷ words) begin _ (to_watch name limits n b m are named is) =
+    absurd (ports_or_watch (string_bytes a) begin (ap (λ ws. get_or ws 0 []) are))
 
 -- limits of a search that are left out
 pub none_told : (words : List (String Global)) → length words < 1
@@ -358,6 +387,63 @@ pub not_told : (words : List (String Global)) (a b c : String Global) (r : Optio
 not_told words a b c None are is never = λ n m k limits.
     never (told_words (bytes_of words) _ _ _ n m k (ap bytes_of are) limits)
 not_told words a b c (Some x) are is never = absurd cc
+
+-- A TRACE THAT IS WATCHED
+
+-- words that begin so ask to watch
+pub is_watch : (words : List (String Global)) (specification : String Global) (limits : Limits)
+    → BeginWith (codes "watch") words → 2 ≤ length words
+    → specification ≡ get_or words 1 specification → string_bytes specification ≢ []
+    → AreSearchLimits (bytes_of (take (length words - 2) (drop 2 words)))
+    limits.silent limits.budget limits.statements
+    → AsksToWatch limits words
+is_watch [] s limits begin long at_s named are = absurd begin
+is_watch (a ∷ []) s limits begin long at_s named are = absurd (omega arith)
+is_watch (a ∷ b ∷ rest) s limits begin long at_s named are =
+    let all : take (length (a ∷ b ∷ rest) - 2) rest ≡ rest = take_all _ rest (omega arith) in
+    to_watch (string_bytes b) (bytes_of rest) limits.silent limits.budget limits.statements
+    (ap (λ w. w ∷ string_bytes b ∷ bytes_of rest) begin)
+    (subst (λ w. string_bytes w ≢ []) at_s named)
+    (subst (λ ws. AreSearchLimits (bytes_of ws) limits.silent limits.budget limits.statements) all
+    are)
+
+-- words that ask to watch are two or more: the second one is a name, and those after it are the
+-- limits
+pub record IsWatchOf (words : List (String Global)) : Type 0 where
+  pub two : 2 ≤ length words
+  pub named : (word : String Global) → word ≡ get_or words 1 word → string_bytes word ≢ []
+  pub silent : ℕ
+  pub budget : ℕ
+  pub statements : ℕ
+  pub limits : AreSearchLimits (bytes_of (take (length words - 2) (drop 2 words)))
+      silent budget statements
+
+-- what words that begin so ask for
+pub is_watch_of : (words : List (String Global)) → BeginWith (codes "watch") words
+    → (request : Request) → Asks (bytes_of words) request → IsWatchOf words
+is_watch_of [] begin request asked = absurd begin
+is_watch_of (a ∷ words) begin _ (to_check name are named) =
+    absurd (check_or_watch (string_bytes a) (ap (λ ws. get_or ws 0 []) are) begin)
+is_watch_of (a ∷ words) begin _ (to_print name are named) =
+    absurd (print_or_watch (string_bytes a) (ap (λ ws. get_or ws 0 []) are) begin)
+is_watch_of (a ∷ words) begin _ (to_explain s t limits n b m are s_named t_named is) = absurd cc
+is_watch_of (a ∷ words) begin _ (to_replay s t e limits n m are s_named t_named e_named is) =
+    absurd cc
+is_watch_of (a ∷ words) begin _ (to_self_run name x y n m are named is) = absurd cc
+is_watch_of (a ∷ words) begin _ (to_ports s t limits n b m are s_named t_named is) =
+    absurd (ports_or_watch (string_bytes a) (ap (λ ws. get_or ws 0 []) are) begin)
+is_watch_of (a ∷ []) begin _ (to_watch s limits n b m are named is) = absurd cc
+is_watch_of (a ∷ x ∷ rest) begin _ (to_watch s limits n b m are named is) =
+    let all : take (length (a ∷ x ∷ rest) - 2) rest ≡ rest = take_all _ rest (omega arith) in
+    let same : limits ≡ bytes_of rest = cc in
+    record {
+      two = omega arith;
+      named = λ word at. subst (λ w. w ≢ []) (let q : s ≡ string_bytes word = cc in q) named;
+      silent = n;
+      budget = b;
+      statements = m;
+      limits = subst (λ ws. AreSearchLimits ws n b m) (same ∙ ap bytes_of (sym all)) is;
+    }
 
 -- REPLAY
 
@@ -409,6 +495,7 @@ is_replay_of (a ∷ words) begin _ (to_print name are named) = absurd cc
 is_replay_of (a ∷ words) begin _ (to_explain s t limits n b m are s_named t_named is) = absurd cc
 is_replay_of (a ∷ words) begin _ (to_self_run name x y n m are named is) = absurd cc
 is_replay_of (a ∷ words) begin _ (to_ports s t limits n b m are s_named t_named is) = absurd cc
+is_replay_of (a ∷ words) begin _ (to_watch name limits n b m are named is) = absurd cc
 is_replay_of (a ∷ []) begin _ (to_replay s t e limits n m are s_named t_named e_named is) =
     absurd cc
 is_replay_of (a ∷ x ∷ []) begin _ (to_replay s t e limits n m are s_named t_named e_named is) =
@@ -489,6 +576,7 @@ is_self_run_of (a ∷ words) begin _ (to_explain s t limits n b m are s_named t_
 is_self_run_of (a ∷ words) begin _ (to_replay s t e limits n m are s_named t_named e_named is) =
     absurd cc
 is_self_run_of (a ∷ words) begin _ (to_ports s t limits n b m are s_named t_named is) = absurd cc
+is_self_run_of (a ∷ words) begin _ (to_watch name limits n b m are named is) = absurd cc
 is_self_run_of (a ∷ []) begin _ (to_self_run s x y n m are named is) = absurd cc
 is_self_run_of (a ∷ b ∷ []) begin _ (to_self_run s x y n m are named is) = absurd cc
 is_self_run_of (a ∷ b ∷ c ∷ []) begin _ (to_self_run s x y n m are named is) = absurd cc
@@ -521,6 +609,13 @@ search_asks request (a ∷ []) limits asked nothing = asked
 search_asks request (a ∷ b ∷ []) limits asked nothing = asked
 search_asks request (a ∷ b ∷ c ∷ words) limits asked nothing = nothing _ asked
 
+-- words that ask to watch ask for something
+watch_asks : (words : List (String Global)) (limits : Limits) → AsksToWatch limits words
+    → AsksNothing words → ⊥
+watch_asks [] limits asked nothing = asked
+watch_asks (a ∷ []) limits asked nothing = asked
+watch_asks (a ∷ b ∷ words) limits asked nothing = nothing _ asked
+
 -- words that ask for a replay ask for something
 replay_asks : (words : List (String Global)) (limits : Limits) → AsksToReplay limits words
     → AsksNothing words → ⊥
@@ -549,3 +644,4 @@ command_asks words (Explain limits) asked nothing = search_asks explain words li
 command_asks words (Replay limits) asked nothing = replay_asks words limits asked.0 nothing
 command_asks words (SelfRun seed count) asked nothing = self_run_asks words seed count asked nothing
 command_asks words (Ports limits) asked nothing = search_asks ports words limits asked nothing
+command_asks words (Watch limits) asked nothing = watch_asks words limits asked nothing

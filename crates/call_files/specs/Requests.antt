@@ -6,14 +6,14 @@ use Rattle.std.specs.Str.Parse.{IsNumeral, digits_value}
 use Rattle.est_meaning.specs.declared.run.Limits.{Limits}
 use Rattle.call_files.specs.declared.words.Command.{Command}
 use Rattle.call_files.specs.declared.words.Command.TheVariants.{Check, Print, Explain, Replay}
-use Rattle.call_files.specs.declared.words.Command.TheVariants.{SelfRun, Ports}
+use Rattle.call_files.specs.declared.words.Command.TheVariants.{SelfRun, Ports, Watch}
 
 -- the bytes of each word
 abbrev pub bytes_of : List (String Global) → List (List ℕ)
 bytes_of words = map string_bytes words
 
--- What words ask for: to check a specification or to print it, to explain a trace, or one trace per
--- port, or to replay an explanation of a trace, with the most silent firings in a row, the most
+-- What words ask for: to check a specification or to print it, to explain a trace, or one trace for
+-- each port, or to watch a trace while it is recorded, or to replay an explanation of a trace, with the most silent firings in a row, the most
 -- firings or moves that are tried, and the most statements of a block or guard; or to make a trace
 -- from a seed, with at least so many events, and to explain it.
 pub data Request : Type 0 where
@@ -23,6 +23,7 @@ pub data Request : Type 0 where
   replay : (specification trace explanation : List ℕ) (silent statements : ℕ) → Request
   selfrun : (specification : List ℕ) (seed count : ℕ) → Request
   ports : (specification lists : List ℕ) (silent budget statements : ℕ) → Request
+  watch : (specification : List ℕ) (silent budget statements : ℕ) → Request
 
 -- the word is a decimal numeral of at most 20 digits, with this value, which is within the bounds
 pub record IsNumber (low high : ℕ) (word : List ℕ) (value : ℕ) : Type 0 where
@@ -110,6 +111,10 @@ pub data Asks (words : List (List ℕ)) : Request → Type 0 where
       → words ≡ codes "ports" ∷ specification ∷ lists ∷ limits
       → specification ≢ [] → lists ≢ [] → AreSearchLimits limits silent budget statements
       → Asks words (ports specification lists silent budget statements)
+  to_watch : (specification : List ℕ) (limits : List (List ℕ)) (silent budget statements : ℕ)
+      → words ≡ codes "watch" ∷ specification ∷ limits
+      → specification ≢ [] → AreSearchLimits limits silent budget statements
+      → Asks words (watch specification silent budget statements)
 
 -- the words ask for nothing that the program does
 abbrev pub AsksNothing : List (String Global) → Type 0
@@ -130,6 +135,13 @@ AsksToSearch request limits (command ∷ specification ∷ searched ∷ rest) =
     (request (string_bytes specification) (string_bytes searched)
     limits.silent limits.budget limits.statements)
 AsksToSearch request limits _ = ⊥
+
+-- the words ask to watch runs of the specification that the second one names, within these limits
+abbrev pub AsksToWatch : Limits → List (String Global) → Type 0
+AsksToWatch limits (command ∷ specification ∷ rest) =
+    Asks (bytes_of (command ∷ specification ∷ rest))
+    (watch (string_bytes specification) limits.silent limits.budget limits.statements)
+AsksToWatch limits _ = ⊥
 
 -- the words ask to replay, within these limits, the files that the second, third and fourth one
 -- name
@@ -155,3 +167,4 @@ IsCommand words (Explain limits) = AsksToSearch explain limits words
 IsCommand words (Replay limits) = AsksToReplay limits words × (limits.budget ≡ usual_budget)
 IsCommand words (SelfRun seed count) = AsksToSelfRun seed count words
 IsCommand words (Ports limits) = AsksToSearch ports limits words
+IsCommand words (Watch limits) = AsksToWatch limits words

@@ -38,7 +38,7 @@ pub use est_trace;
 pub use est_trace::est_check;
 pub use memory::MemShelf;
 pub use memory_sink::MemSink;
-pub use report::{Report, line_report};
+pub use report::{Report, line_report, refusal_report, too_long_report};
 pub use shelf::{Failed, Shelf};
 pub use stop::Stop;
 pub use system::{FileShelf, OutSink};

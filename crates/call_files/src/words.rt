@@ -44,6 +44,9 @@ pub enum Command {
     /// To explain one trace for each port. The words after `ports` name the files of the specification
     /// and the lists.
     Ports { limits: Limits },
+    /// To watch a trace while it is recorded: its events are read from the standard input. The word
+    /// after `watch` names the file of the specification.
+    Watch { limits: Limits },
 }
 
 /// The words ask for nothing that the program does.
@@ -62,6 +65,7 @@ pub fn read_words(words: &[String]) -> Result<Command, BadUsage>
         [command, ..] if command.as_str() == "replay" => read_replay(words),
         [command, ..] if command.as_str() == "selfrun" => read_self_run(words),
         [command, ..] if command.as_str() == "ports" => read_ports(words),
+        [command, ..] if command.as_str() == "watch" => read_watch(words),
         _ => Err(BadUsage),
     }
 }
@@ -112,6 +116,23 @@ fn read_search(words: &[String]) -> Option<Limits>
         [_, specification, searched, limits @ ..]
             if !specification.is_empty() && !searched.is_empty() => read_search_limits(limits),
         _ => None,
+    }
+}
+
+// Reads the words of a trace that is watched: one file, and limits.
+fn read_watch(words: &[String]) -> Result<Command, BadUsage>
+    requires { BeginWith (codes "watch") words.now }
+    ensures asked { IfOk result (IsCommand words.now) }
+    ensures refused { OnErr result (AsksNothing words.now) }
+{
+    match words {
+        [_, specification, limits @ ..] if !specification.is_empty() => {
+            match read_search_limits(limits) {
+                Some(limits) => Ok(Command::Watch { limits }),
+                None => Err(BadUsage),
+            }
+        }
+        _ => Err(BadUsage),
     }
 }
 

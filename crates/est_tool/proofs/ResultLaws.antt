@@ -1,7 +1,8 @@
 -- What a call writes, from what its steps answered.
 use Rattle.std.proofs.Common.{◌≡◌, ◌≢◌, ◌∙◌, refl, ap, ℕ, List, Option}
 use Rattle.std.proofs.Common.{Some, None, sym, subst, Result, Ok, Err}
-use Rattle.std.specs.Prelude.{String}
+use Rattle.std.specs.Prelude.{String, string_bytes}
+use Rattle.std.proofs.Common.{[], ◌∷◌, get_or}
 use Rattle.std.specs.Global.{Global}
 use Rattle.call_files.specs.FaultCounts.{Rose, AllStay}
 use Rattle.call_files.specs.declared.report.Report.{Report}
@@ -32,7 +33,10 @@ use Rattle.call_files.specs.FileTexts.{Holds, Refusals, RefusesSpecification, Re
 use Rattle.call_files.specs.FileTexts.{RefusesExplanation, RefusesLists, SaysOfSpecification}
 use Rattle.call_files.specs.FileTexts.{SaysOfTrace, SaysOfExplanation, IsReported}
 use Rattle.call_files.specs.Requests.{Request, check, print, explain, replay, selfrun, ports}
-use Rattle.call_files.specs.Seen.{Seen, Sent}
+use Rattle.call_files.specs.Requests.{watch, Asks, AsksNothing, AsksToWatch, bytes_of}
+use Rattle.est_meaning.specs.declared.run.Limits.{Limits}
+use Rattle.call_files.proofs.RequestLaws.{watch_one}
+use Rattle.call_files.specs.Seen.{Shelved, Seen, seen, Sent, sent}
 use Rattle.call_files.specs.FileEnds.{End, reported, unread, EndsAt, longer, refused}
 use Rattle.call_files.specs.FileEnds.{failed, EndsAtText, text_longer, text_refused}
 use Rattle.est_print.specs.PrintedText.{IsPrintedText}
@@ -45,13 +49,16 @@ use Rattle.est_tool.specs.PortsEnds.{no_start, long_start, judged}
 use Rattle.mean_ports.specs.declared.verdict.PortsVerdict.{PortsVerdict}
 use Rattle.mean_ports.specs.declared.verdict.PortsVerdict.TheVariants as merged
 use Rattle.call_files.specs.PortReports.{ports_status}
-use Rattle.est_tool.specs.Result.{Reports, Writes, IsResult}
+use Rattle.est_tool.specs.Result.{Reports, Writes, IsResult, AsksForWatch, AsksForNoWatch}
+use Rattle.est_tool.specs.WatchEnds.{WatchStops, WatchDoes, stops_at_file, starts_badly}
+use Rattle.est_tool.specs.WatchEnds.{starts_too_long, cannot_go_on}
 use Rattle.run_make.specs.declared.made.Made.{Made}
 use Rattle.est_syntax.specs.declared.specification.Spec.{Spec}
 use Rattle.est_tool.specs.SelfRuns.{MadeEnds, faults, start_passes, passes, refuses, explains}
 use Rattle.est_tool.specs.SelfRuns.{stops_at_its_file, makes}
 use Rattle.call_files.specs.Reads.{IsQuiet}
-use Rattle.est_tool.specs.inside.Work.{IsMade, IsObeyed}
+use Rattle.est_tool.specs.inside.Watching.{IsWatchWork}
+use Rattle.est_tool.specs.inside.Work.{IsMade, IsObeyed, MakesReport}
 use Rattle.est_tool.specs.inside.Written.{HasReport, IsReportable, IsSent, whole}
 use Rattle.est_tool.specs.inside.Written.{broken_off, IsDelivered, Delivers, Sends}
 use Rattle.est_tool.proofs.WorkLaws.{made_then}
@@ -149,6 +156,15 @@ of_ports shelf s t silent budget statements _
     (judged spec lists situation outs verdict holds listed begun allowed is fits) =
     of_merged verdict
 
+pub of_watch : (shelf : Seen) (name : List ℕ) (statements : ℕ) (end : End)
+    → WatchStops shelf name statements end → IsReportable end
+of_watch shelf name statements _ (stops_at_file end is) =
+    at_file RefusesSpecification end (λ text tokens status place why refuses. of_specification
+    refuses.0 status place why refuses.2) is
+of_watch shelf name statements _ (starts_badly spec fault holds is) = tt
+of_watch shelf name statements _ (starts_too_long spec holds is) = tt
+of_watch shelf name statements _ (cannot_go_on spec outs situation holds ready rose) = tt
+
 -- how what the words ask for ends, a report has such a status
 pub ends_reportable : (shelf : Seen) (request : Request) (end : End) → Ends shelf request end
     → IsReportable end
@@ -184,6 +200,8 @@ ends_reportable shelf (selfrun name seed count) _ (makes spec made end holds is 
     of_made spec made end ends
 ends_reportable shelf (ports s t silent budget statements) end ends =
     of_ports shelf s t silent budget statements end ends
+ends_reportable shelf (watch name silent budget statements) end ends =
+    of_watch shelf name statements end ends
 
 -- WRITTEN REPORTS
 
@@ -232,7 +250,7 @@ module _ (Gives : Status → List ℕ → Type 0) where
 
 -- FAULTS OF READS
 
-sent_no_read_fault : (status : Status) (report : List ℕ) (answer : Status)
+pub sent_no_read_fault : (status : Status) (report : List ℕ) (answer : Status)
     (before after : Option (List ℕ)) → HasReport status → IsSent status report answer before after
     → answer ≡ ReadFault → ⊥
 sent_no_read_fault status report answer before after has (whole _ _ is) fault = let no : HasReport
@@ -263,7 +281,7 @@ obeyed_reportable words shelf made obeyed = made_then made (ends_reportable shel
     obeyed.work.ends
 
 -- no count of a file rose where the answer is no fault of a read
-delivered_quiet : (shelf : Seen) (made : Result Report Stop) (answer : Status)
+pub delivered_quiet : (shelf : Seen) (made : Result Report Stop) (answer : Status)
     (before after : Option (List ℕ))
     → IsQuiet shelf made → IsDelivered made answer before after → answer ≢ ReadFault
     → AllStay shelf.before.faults shelf.after.faults
@@ -272,11 +290,19 @@ delivered_quiet shelf (Err (stop.Refused made)) answer before after quiet sent n
 delivered_quiet shelf (Err stop.ReadFault) answer before after quiet none not = absurd (not none.0)
 delivered_quiet shelf (Err stop.OutOfMemory) answer before after quiet none not = quiet
 
+-- words that ask for a request of which one report is made do not ask to watch
+pub no_watch : (words : List (String Global)) (request : Request)
+    → Asks (bytes_of words) request → MakesReport request → AsksForNoWatch words
+no_watch words request asked made = λ s n b m asks.
+    let same = watch_one (bytes_of words) s n b m request asks asked in
+    let no : ⊥ = subst MakesReport (sym same) made in no
+
 -- what the words ask for was done, and its report was written
-pub obeyed_result : (words : List (String Global)) (shelf : Seen) (output : Sent)
+pub obeyed_result : (words : List (String Global)) (shelf : Seen) (asked : ℕ) (output : Sent)
     (made : Result Report Stop) (answer : Status)
-    → IsObeyed words shelf made → Delivers made output answer → IsResult words shelf output answer
-obeyed_result words shelf output made answer obeyed delivers =
+    → IsObeyed words shelf made → Delivers made output answer
+    → IsResult words shelf asked output answer
+obeyed_result words shelf asked output made answer obeyed delivers =
     let work = obeyed.work in
     let reportable = obeyed_reportable words shelf made obeyed in
     record {
@@ -294,13 +320,73 @@ obeyed_result words shelf output made answer obeyed delivers =
       no_read_fault = delivered_quiet shelf made answer _ _ work.quiet delivers.delivered;
       write_fault = delivers.answers.fault;
       no_write_fault = delivers.answers.quiet;
-      written = writes_delivered (Reports words shelf) (Ends shelf obeyed.request) made answer _ _
-          (λ status report is. (obeyed.request, obeyed.asked, is)) reportable work.ends
+      written = λ _. writes_delivered (Reports words shelf) (Ends shelf obeyed.request) made answer
+          _ _ (λ status report is. (obeyed.request, obeyed.asked, is)) reportable work.ends
           delivers.delivered;
+      watched = λ s n b m asks.
+          absurd (no_watch words obeyed.request obeyed.asked obeyed.makes s n b m asks);
       told = work.told;
       idle = λ is. absurd (delivers.answers.asked is);
       started = λ _. (obeyed.request, obeyed.asked, work.names, work.starts, work.started);
     }
+
+-- what a request to watch does
+abbrev DoesOf : Seen → ℕ → Option (List ℕ) → Option (List ℕ) → Status → Request → Type 0
+DoesOf shelf asked before after status (watch s n b m) =
+    WatchDoes shelf asked s n b m before after status
+DoesOf shelf asked before after status _ = Unit {0}
+
+-- the words ask to watch, and that was done
+pub watched_result : (words : List (String Global)) (specification : List ℕ)
+    (silent budget statements : ℕ) (shelf : Seen) (asked : ℕ) (output : Sent) (status : Status)
+    → AsksForWatch words specification silent budget statements
+    → IsWatchWork specification silent budget statements shelf asked output status
+    → IsResult words shelf asked output status
+watched_result words s n b m shelf asked output status asks work = record {
+  usage = (
+    λ is. absurd (work.answers.asked is),
+    λ nothing. absurd (nothing (watch s n b m) asks),
+  );
+  read_fault = λ is. (watch s n b m, asks, work.failed is);
+  no_read_fault = work.quiet;
+  write_fault = work.answers.fault;
+  no_write_fault = work.answers.quiet;
+  written = λ no. absurd (no s n b m asks);
+  watched = λ s' n' b' m' asks'.
+      let same = watch_one (bytes_of words) s n b m (watch s' n' b' m') asks asks' in
+      subst (DoesOf shelf asked output.before.written output.after.written status) same work.does;
+  told = work.told;
+  idle = λ is. absurd (work.answers.asked is);
+  started = λ _. (watch s n b m, asks, work.names, work.starts, work.started);
+}
+
+-- the words ask to watch within limits, of the specification that the second one names
+pub watch_asked : (words : List (String Global)) (limits : Limits) (name : List ℕ)
+    (specification : String Global) → AsksToWatch limits words
+    → specification ≡ get_or words 1 specification → name ≡ string_bytes specification
+    → AsksForWatch words name limits.silent limits.budget limits.statements
+watch_asked [] limits name specification asks at named = absurd asks
+watch_asked (a ∷ []) limits name specification asks at named = absurd asks
+watch_asked (a ∷ b ∷ rest) limits name specification asks at named =
+    subst (λ s. AsksForWatch (a ∷ b ∷ rest) s limits.silent limits.budget limits.statements)
+    (ap string_bytes (sym at) ∙ sym named) asks
+
+-- the words ask for nothing, and nothing was done
+pub usage_same : (words : List (String Global)) (s : Shelved) (asked : ℕ)
+    (written : Option (List ℕ)) (count : ℕ) → AsksNothing words
+    → IsResult words (seen s s) asked (sent written count written count) Usage
+usage_same words s asked written count nothing = record {
+  usage = (λ _. nothing, λ _. refl);
+  read_fault = λ e. absurd cc;
+  no_read_fault = λ _ name. refl;
+  write_fault = λ e. absurd cc;
+  no_write_fault = λ _. refl;
+  written = λ _. refl;
+  watched = λ s' n b m asks. absurd (nothing (watch s' n b m) asks);
+  told = λ name. refl;
+  idle = λ _. refl;
+  started = λ not. absurd (not refl);
+}
 
 -- a report has a status with which one is written
 no_usage : (status : Status) → HasReport status → status ≢ Usage

@@ -28,6 +28,7 @@ use Rattle.call_files.specs.Seen.{Shelved, Seen, seen}
 use Rattle.call_files.specs.FileTexts.{Holds, Refusals, IsReported, OfSpecification}
 use Rattle.call_files.specs.FileTexts.{OfTrace, OfLists, OfExplanation}
 use Rattle.call_files.specs.Requests.{Request, check, print, explain, replay, selfrun, ports}
+use Rattle.call_files.specs.Requests.{watch}
 use Rattle.call_files.specs.FileEnds.{End, reported, IsTooLong, EndsAt, longer, refused, failed}
 use Rattle.call_files.specs.FileEnds.{HoldsSpecification, HoldsTrace, HoldsLists}
 use Rattle.call_files.specs.FileEnds.{HoldsExplanation}
@@ -41,7 +42,11 @@ use Rattle.est_tool.specs.Ends.{not_started, start_over, searched}
 use Rattle.est_tool.specs.SelfRuns.{stops_at_its_file, makes}
 use Rattle.est_tool.specs.PortsEnds.{PortsEnds, refused_at_specification, refused_at_lists}
 use Rattle.est_tool.specs.PortsEnds.{no_start, long_start, judged}
-use Rattle.est_tool.specs.Started.{SearchStarts, first_alone, both}
+use Rattle.est_tool.specs.WatchEnds.{WatchStops, stops_at_file, starts_badly, starts_too_long}
+use Rattle.est_tool.specs.WatchEnds.{cannot_go_on}
+use Rattle.call_watch.specs.Endings.{standard_input}
+use Rattle.est_tool.specs.Started.{SearchStarts, first_alone, both, WatchStarts, its_file}
+use Rattle.est_tool.specs.Started.{and_text}
 use Rattle.est_tool.specs.Started.{ReplayStarts, one, two, three, Starts}
 use Rattle.call_files.specs.Reads.{IsStop, IsQuiet, ReadsFile}
 use Rattle.est_tool.specs.inside.Work.{IsMade, Gives, IsReport, IsFine}
@@ -108,6 +113,18 @@ module _ (before middle after : Shelved) (same : SameTold before.told middle.tol
       → HoldsSpecification (seen before after) name spec
   text_before name spec holds = holds_before _ (OfSpecification spec) (same name) holds
 
+  watch_before : (name : List ℕ) (statements : ℕ) (end : End)
+      → WatchStops (seen middle after) name statements end
+      → WatchStops (seen before after) name statements end
+  watch_before name statements _ (stops_at_file end at) = stops_at_file end (file_before end at)
+  watch_before name statements _ (starts_badly spec fault holds is) =
+      starts_badly spec fault (text_before name spec holds) is
+  watch_before name statements _ (starts_too_long spec holds is) =
+      starts_too_long spec (text_before name spec holds) is
+  watch_before name statements _ (cannot_go_on spec outs situation holds ready rose) =
+      cannot_go_on spec outs situation (text_before name spec holds) ready
+      (rose_then stay standard_input rose)
+
   check_before : (Says : Spec → List ℕ → Type 0) (name : List ℕ) (end : End)
       → CheckEnds Says (seen middle after) name end → CheckEnds Says (seen before after) name end
   check_before Says name _ (at_its_file end at) = at_its_file end (file_before end at)
@@ -161,6 +178,7 @@ module _ (before middle after : Shelved) (same : SameTold before.told middle.tol
       (judged spec lists situation outs verdict holds listed begun allowed is fits) =
       judged spec lists situation outs verdict (text_before s spec holds)
       (holds_before _ (OfLists spec lists) (same t) listed) begun allowed is fits
+  ends_before (watch s n b m) end ends = watch_before s m end ends
 
   replay_starts_before : (s t e : List ℕ) (names : List (List ℕ))
       → ReplayStarts (seen middle after) s t e names → ReplayStarts (seen before after) s t e names
@@ -175,6 +193,13 @@ module _ (before middle after : Shelved) (same : SameTold before.told middle.tol
   search_starts_before s t _ first_alone = first_alone
   search_starts_before s t _ (both spec holds) = both spec (text_before s spec holds)
 
+  watch_starts_before : (s : List ℕ) (statements : ℕ) (names : List (List ℕ))
+      → WatchStarts (seen middle after) s statements names
+      → WatchStarts (seen before after) s statements names
+  watch_starts_before s statements _ its_file = its_file
+  watch_starts_before s statements _ (and_text spec outs situation holds ready) =
+      and_text spec outs situation (text_before s spec holds) ready
+
   starts_before : (request : Request) (names : List (List ℕ))
       → Starts (seen middle after) request names → Starts (seen before after) request names
   starts_before (check s) names starts = starts
@@ -183,6 +208,7 @@ module _ (before middle after : Shelved) (same : SameTold before.told middle.tol
   starts_before (replay s t e n m) names starts = replay_starts_before s t e names starts
   starts_before (selfrun s n m) names starts = starts
   starts_before (ports s t n b m) names starts = search_starts_before s t names starts
+  starts_before (watch s n b m) names starts = watch_starts_before s m names starts
 
   quiet_before : {A : Type 0} (r : Result A Stop) → IsQuiet (seen middle after) r
       → IsQuiet (seen before after) r

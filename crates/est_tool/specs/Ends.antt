@@ -30,8 +30,10 @@ use Rattle.call_files.specs.SearchReports.{verdict_status}
 use Rattle.call_files.specs.FileTexts.{RefusesSpecification}
 use Rattle.call_files.specs.FileTexts.{RefusesTrace, RefusesExplanation}
 use Rattle.call_files.specs.Requests.{Request, check, print, explain, replay, selfrun, ports}
+use Rattle.call_files.specs.Requests.{watch}
 use Rattle.est_print.specs.PrintedText.{IsPrintedText}
 use Rattle.est_tool.specs.PortsEnds.{PortsEnds}
+use Rattle.est_tool.specs.WatchEnds.{WatchStops}
 
 -- the report tells the numbers of the specification
 abbrev pub TellsCounts : Spec → List ℕ → Type 0
@@ -107,3 +109,5 @@ Ends shelf (replay specification trace explanation silent statements) end =
 Ends shelf (selfrun specification seed count) end = SelfRunEnds shelf specification seed count end
 Ends shelf (ports specification lists silent budget statements) end =
     PortsEnds shelf specification lists silent budget statements end
+Ends shelf (watch specification silent budget statements) end =
+    WatchStops shelf specification statements end

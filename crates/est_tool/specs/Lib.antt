@@ -7,4 +7,5 @@ pub mod Started
 pub mod TraceEnds
 pub mod TraceResult
 pub mod TraceWords
+pub mod WatchEnds
 pub mod inside

@@ -10,7 +10,8 @@ use Rattle.call_files.specs.Seen.{Seen, Sent}
 use Rattle.call_files.specs.FileEnds.{End, reported, unread}
 use Rattle.est_tool.specs.Ends.{Ends}
 use Rattle.est_tool.specs.Started.{Starts}
-use Rattle.call_files.specs.Requests.{Request, Asks, AsksNothing, bytes_of}
+use Rattle.call_files.specs.Requests.{Request, watch, Asks, AsksNothing, bytes_of}
+use Rattle.est_tool.specs.WatchEnds.{WatchDoes}
 
 -- the words ask for something, and that ends so
 abbrev pub CallEnds : List (String Global) → Seen → End → Type 0
@@ -40,9 +41,20 @@ StartsItsFiles words shelf = (request : Request) × Asks (bytes_of words) reques
     × (names : List (List ℕ)) × Starts shelf request names
     × (shelf.after.started ≡ shelf.before.started ++ names)
 
--- What a call does that ends with a status, by its words, and by what is seen of its files and of
--- its output.
-pub record IsResult (words : List (String Global)) (shelf : Seen) (output : Sent) (status : Status)
+-- the words ask to watch
+abbrev pub AsksForWatch : List (String Global) → List ℕ → ℕ → ℕ → ℕ → Type 0
+AsksForWatch words specification silent budget statements =
+    Asks (bytes_of words) (watch specification silent budget statements)
+
+-- they do not
+abbrev pub AsksForNoWatch : List (String Global) → Type 0
+AsksForNoWatch words = (specification : List ℕ) (silent budget statements : ℕ)
+    → AsksForWatch words specification silent budget statements → ⊥
+
+-- What a call does that ends with a status, by its words, by what is seen of its files, of the last
+-- of which bytes were asked for so often, and by what is seen of its output.
+pub record IsResult
+    (words : List (String Global)) (shelf : Seen) (asked : ℕ) (output : Sent) (status : Status)
     : Type 0 where
   -- the words ask for nothing that the program does, and nothing else ends so
   pub usage : (status ≡ Usage) ↔ AsksNothing words
@@ -56,7 +68,13 @@ pub record IsResult (words : List (String Global)) (shelf : Seen) (output : Sent
   -- else it is as it was
   pub no_write_fault : status ≢ WriteFault → output.after.faults ≡ output.before.faults
   -- one report is written, whole unless a write failed
-  pub written : Writes (Reports words shelf) status output.before.written output.after.written
+  pub written : AsksForNoWatch words
+      → Writes (Reports words shelf) status output.before.written output.after.written
+  -- and where they ask to watch, each answer by itself
+  pub watched : (specification : List ℕ) (silent budget statements : ℕ)
+      → AsksForWatch words specification silent budget statements
+      → WatchDoes shelf asked specification silent budget statements
+      output.before.written output.after.written status
   -- what the shelf holds stays
   pub told : SameTold shelf.before.told shelf.after.told
   -- nothing is started where the words ask for nothing that the program does

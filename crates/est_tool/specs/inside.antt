@@ -2,5 +2,6 @@
 pub mod Searching
 pub mod SelfRunning
 pub mod TraceWork
+pub mod Watching
 pub mod Work
 pub mod Written

@@ -11,6 +11,8 @@ mod ports;
 mod replay_report;
 pub mod search;
 mod self_run;
+mod sending;
 pub mod top;
+mod watch;
 
 pub use call_files;

@@ -2,21 +2,23 @@
 ghost use Rattle.call_files.specs.Seen.{seen, shelved, sent};
 ghost use Rattle.est_tool.specs.Result.{IsResult};
 ghost use Rattle.call_files.specs.Requests.{IsCommand};
-ghost use Rattle.est_tool.specs.inside.Work.{IsMade, IsObeyed};
-ghost use Rattle.est_tool.specs.inside.Written.{HasReport, IsReportable, Delivers, Sends};
+ghost use Rattle.est_tool.specs.inside.Work.{HasReportMade, IsObeyed};
 
 use crate::commands::{
     ExplainFiles, ReplayFiles, check_file, explain_files, print_file, replay_files,
 };
 use crate::ports::{PortsFiles, ports_files};
 use crate::self_run::self_run_file;
+use crate::sending::deliver;
+use crate::watch::watch_file;
 use call_files::status::Status;
 use call_files::words::{BadUsage, Command, read_words};
-use call_files::{Report, Shelf, Sink, Stop, write_whole};
+use call_files::{Report, Shelf, Sink, Stop};
 use std::alloc::Global;
 
 /// Does what the words ask for: reads the files that they name, and writes one report. The report
-/// is made whole before its first byte is written.
+/// is made whole before its first byte is written. Where a trace is watched, each answer is written
+/// by itself, before more of the trace is asked for.
 pub fn run<S: Shelf, K: Sink>(
     alloc: Global,
     words: &[String],
@@ -26,11 +28,17 @@ pub fn run<S: Shelf, K: Sink>(
     ensures { IsResult words.now (seen
         (shelved (S.told shelf.old) (S.faults shelf.old) (S.started shelf.old) (S.taken shelf.old))
         (shelved (S.told shelf.new) (S.faults shelf.new) (S.started shelf.new) (S.taken shelf.new)))
+        (S.asked shelf.new)
         (sent (K.written sink.old) (K.faults sink.old) (K.written sink.new) (K.faults sink.new))
         result }
 {
     match read_words(words) {
-        Ok(command) => deliver(obey(alloc, words, command, shelf), sink),
+        Ok(command) => match command {
+            Command::Watch { limits } => {
+                watch_file(alloc, shelf, sink, words[1].as_str(), &limits)
+            }
+            _ => deliver(obey(alloc, words, command, shelf), sink),
+        },
         Err(BadUsage) => Status::Usage,
     }
 }
@@ -42,7 +50,8 @@ fn obey<S: Shelf>(
     command: Command,
     shelf: &mut S,
 ) -> Result<Report, Stop>
-    requires { IsCommand words.now command }
+    requires asked { IsCommand words.now command }
+    requires made { HasReportMade command }
     ensures { IsObeyed words.now (seen
         (shelved (S.told shelf.old) (S.faults shelf.old) (S.started shelf.old) (S.taken shelf.old))
         (shelved (S.told shelf.new) (S.faults shelf.new) (S.started shelf.new) (S.taken shelf.new)))
@@ -76,33 +85,6 @@ fn obey<S: Shelf>(
             };
             ports_files(alloc, shelf, &files, &limits)
         }
-    }
-}
-
-// Writes a report that was made, and answers its status where that went well.
-fn deliver<K: Sink>(made: Result<Report, Stop>, sink: &mut K) -> Status
-    requires { IsMade IsReportable made }
-    ensures { Delivers made
-        (sent (K.written sink.old) (K.faults sink.old) (K.written sink.new) (K.faults sink.new))
-        result }
-{
-    match made {
-        Ok(report) => send(report, sink),
-        Err(Stop::Refused(report)) => send(report, sink),
-        Err(Stop::ReadFault) => Status::ReadFault,
-        Err(Stop::OutOfMemory) => Status::OutOfMemory,
-    }
-}
-
-// Writes a report, and answers its status where that went well.
-fn send<K: Sink>(report: Report, sink: &mut K) -> Status
-    requires { HasReport report.status }
-    ensures { Sends report
-        (sent (K.written sink.old) (K.faults sink.old) (K.written sink.new) (K.faults sink.new))
-        result }
-{
-    match write_whole(sink, report.text.as_slice()) {
-        Ok(()) => report.status,
-        Err(_) => Status::WriteFault,
+        Command::Watch { .. } => unreachable!(),
     }
 }

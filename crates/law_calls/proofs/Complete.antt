@@ -22,7 +22,8 @@ use Rattle.est_tool.specs.Ends.{not_started, start_over, searched}
 use Rattle.call_files.specs.FileTexts.{OfSpecification, OfTrace}
 use Rattle.call_files.specs.FileTexts.{RefusesSpecification, RefusesTrace}
 use Rattle.call_files.specs.Requests.{bytes_of}
-use Rattle.est_tool.specs.Result.{CallEnds, Reports, IsResult}
+use Rattle.est_tool.specs.Result.{CallEnds, Reports, IsResult, AsksForNoWatch}
+use Rattle.est_tool.proofs.ResultLaws.{no_watch}
 use Rattle.call_files.specs.Seen.{Seen, Sent}
 use Rattle.call_files.specs.SearchReports.{verdict_status}
 use Rattle.est_tool.specs.inside.Work.{IsExplained}
@@ -106,18 +107,22 @@ module _ (words : List (String Global)) (shelf : Seen) (output : Sent) (budget :
   not_read ends = not_unread words shelf output budget c search_of unread refl
       (search_ends words shelf output budget c search_of unread ends)
 
+  unwatched : AsksForNoWatch words
+  unwatched = no_watch words _ search_of.asked tt
+
   -- no status but these comes
-  search_judged : (status : Status) → IsResult words shelf output status → IsJudged status
-  search_judged status result =
-      judged words shelf output _ search_of.asked not_read search_of.written (IsTold c budget)
+  search_judged : (calls : ℕ) (status : Status) → IsResult words shelf calls output status
+      → IsJudged status
+  search_judged calls status result =
+      judged words shelf calls output _ search_of.asked unwatched not_read search_of.written (IsTold c budget)
       (λ s r reports. report_told words shelf output budget c search_of s r reports)
       (λ s told. told_judged c budget s told) status result
 
   -- and unless memory ran out, a verdict is told
-  search_told : (status : Status) → IsResult words shelf output status → status ≢ OutOfMemory
-      → IsTold c budget status
-  search_told status result kept =
-      told_of words shelf output _ search_of.asked not_read search_of.written (IsTold c budget)
+  search_told : (calls : ℕ) (status : Status) → IsResult words shelf calls output status
+      → status ≢ OutOfMemory → IsTold c budget status
+  search_told calls status result kept =
+      told_of words shelf calls output _ search_of.asked unwatched not_read search_of.written (IsTold c budget)
       (λ s r reports. report_told words shelf output budget c search_of s r reports) status result
       kept
 
@@ -145,9 +150,9 @@ decides c budget status (verdict.OverAction run events firing) is same within =
 
 pub search_complete : SearchIsComplete
 search_complete = record {
-  judged = λ words shelf output status budget c search_of result.
-      search_judged words shelf output budget c search_of status result;
-  decided = λ words shelf output status budget c search_of result within kept.
-      let told = search_told words shelf output budget c search_of status result kept in
+  judged = λ words shelf calls output status budget c search_of result.
+      search_judged words shelf output budget c search_of calls status result;
+  decided = λ words shelf calls output status budget c search_of result within kept.
+      let told = search_told words shelf output budget c search_of calls status result kept in
       decides c budget status told.told told.is told.status_is within;
 }

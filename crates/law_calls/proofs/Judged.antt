@@ -14,7 +14,7 @@ use Rattle.call_files.specs.FileTexts.{Refusals}
 use Rattle.call_files.specs.declared.file.File.{File}
 use Rattle.call_files.specs.Requests.{Request, Asks, bytes_of}
 use Rattle.call_files.specs.Seen.{Seen, Sent}
-use Rattle.est_tool.specs.Result.{CallEnds, Reports, IsResult}
+use Rattle.est_tool.specs.Result.{CallEnds, Reports, IsResult, AsksForNoWatch}
 use Rattle.law_calls.specs.Completeness.{IsJudged}
 
 -- a file ends a call unread only where its count of faults rose
@@ -32,19 +32,20 @@ HasWritten words shelf output status =
     × (output.after.written ≡ appended output.before.written report)
 
 -- a call that asks for something, and in which nothing fails outside, writes a report
-module _ (words : List (String Global)) (shelf : Seen) (output : Sent) (request : Request)
-    (asked : Asks (bytes_of words) request) (read : CallEnds words shelf unread → ⊥)
+module _ (words : List (String Global)) (shelf : Seen) (calls : ℕ) (output : Sent)
+    (request : Request) (asked : Asks (bytes_of words) request) (unwatched : AsksForNoWatch words)
+    (read : CallEnds words shelf unread → ⊥)
     (kept : Rose output.before.faults output.after.faults → ⊥) where
-  pub has_written : (status : Status) → IsResult words shelf output status → status ≢ OutOfMemory
+  pub has_written : (status : Status) → IsResult words shelf calls output status → status ≢ OutOfMemory
       → HasWritten words shelf output status
-  has_written Fine result memory = result.written
-  has_written Refused result memory = result.written
-  has_written BadSpec result memory = result.written
-  has_written BadTrace result memory = result.written
-  has_written BadExplanation result memory = result.written
-  has_written OverBudget result memory = result.written
-  has_written TooLong result memory = result.written
-  has_written NoStart result memory = result.written
+  has_written Fine result memory = result.written unwatched
+  has_written Refused result memory = result.written unwatched
+  has_written BadSpec result memory = result.written unwatched
+  has_written BadTrace result memory = result.written unwatched
+  has_written BadExplanation result memory = result.written unwatched
+  has_written OverBudget result memory = result.written unwatched
+  has_written TooLong result memory = result.written unwatched
+  has_written NoStart result memory = result.written unwatched
   has_written Usage result memory = absurd (result.usage.0 refl request asked)
   has_written ReadFault result memory = absurd (read (result.read_fault refl))
   has_written WriteFault result memory = absurd (kept (result.write_fault refl))
@@ -54,14 +55,14 @@ module _ (words : List (String Global)) (shelf : Seen) (output : Sent) (request 
   module _ (IsTold : Status → Type 0)
       (told : (status : Status) (report : List ℕ) → Reports words shelf status report
       → IsTold status) where
-    pub told_of : (status : Status) → IsResult words shelf output status → status ≢ OutOfMemory
+    pub told_of : (status : Status) → IsResult words shelf calls output status → status ≢ OutOfMemory
         → IsTold status
     told_of status result memory =
         let h = has_written status result memory in told status h.0 h.1
 
     -- and where that is a decision, no other status comes
     pub judged : ((status : Status) → IsTold status → IsJudged status) → (status : Status)
-        → IsResult words shelf output status → IsJudged status
+        → IsResult words shelf calls output status → IsJudged status
     judged decision Fine result = tt
     judged decision Refused result = tt
     judged decision OverBudget result = tt

@@ -1,20 +1,13 @@
 -- Words ask for one thing at most.
-use Rattle.std.proofs.Common.{◌≡◌, ◌∙◌, ℕ, List, [], ◌∷◌, get_or, sym, ap, refl}
-use Rattle.std.specs.Str.Parse.{digits_value}
+use Rattle.std.proofs.Common.{◌≡◌, ℕ, List, sym, ap, refl}
 use Rattle.call_files.specs.Requests.{check, print, explain, replay, selfrun, ports, to_ports}
 use Rattle.call_files.specs.Requests.{to_check, to_print, to_explain, to_replay, to_self_run}
-use Rattle.call_files.specs.Requests.{AreLimits, left_out, given, AreSearchLimits, usual, told}
-use Rattle.call_files.specs.Requests.{IsNumber, most_silent, most_budget, most_statements}
-use Rattle.call_files.specs.Requests.{most_made, most_seed}
+use Rattle.call_files.specs.Requests.{to_watch, AreLimits, left_out, given}
+use Rattle.call_files.specs.Requests.{most_silent, most_statements, most_made, most_seed}
+use Rattle.call_files.proofs.RequestLaws.{one_number, one_search_limits, first_is, watch_one}
 use Rattle.call_files.proofs.WordLaws.{check_or_print, explain_or_self_run, check_or_ports}
 use Rattle.call_files.proofs.WordLaws.{print_or_ports}
 use Rattle.law_calls.specs.CallLaws.{OneRequest}
-
--- a word is of one number
-one_number : (low high : ℕ) (word other : List ℕ) (a b : ℕ) → word ≡ other
-    → IsNumber low high word a → IsNumber low high other b → a ≡ b
-one_number low high word other a b same x y = x.valued ∙ ap (λ w. digits_value 10 w) same
-    ∙ sym y.valued
 
 -- words are of one pair of limits
 one_limits : (words other : List (List ℕ)) (a b c d : ℕ) → words ≡ other → AreLimits words a b
@@ -30,28 +23,13 @@ one_limits words other _ _ _ _ same (given first second a b e m n) (given first'
       one_number 1 most_statements second second' b d two n q,
     )
 
--- words are of one triple of limits
-one_search_limits : (words other : List (List ℕ)) (a b c d e f : ℕ) → words ≡ other
-    → AreSearchLimits words a b c → AreSearchLimits other d e f → (a ≡ d) × (b ≡ e) × (c ≡ f)
-one_search_limits words other _ _ _ _ _ _ same (usual p) (usual q) = (refl, refl, refl)
-one_search_limits words other _ _ _ _ _ _ same (usual p) (told x y z d e f q k l m) = absurd cc
-one_search_limits words other _ _ _ _ _ _ same (told x y z a b c p k l m) (usual q) = absurd cc
-one_search_limits words other _ _ _ _ _ _ same (told x y z a b c p k l m)
-    (told x' y' z' d e f q k' l' m') =
-    let one : x ≡ x' = cc in
-    let two : y ≡ y' = cc in
-    let three : z ≡ z' = cc in (
-      one_number 0 most_silent x x' a d one k k',
-      one_number 0 most_budget y y' b e two l l',
-      one_number 1 most_statements z z' c f three m m',
-    )
-
--- a first word is the same however the words are told
-first_is : (words rest : List (List ℕ)) (word : List ℕ) → words ≡ word ∷ rest
-    → get_or words 0 [] ≡ word
-first_is words rest word e = ap (λ ws. get_or ws 0 []) e
-
 pub request_one : OneRequest
+request_one words _ other (to_watch specification limits silent budget statements e p l) asked =
+    watch_one words specification silent budget statements other
+    (to_watch specification limits silent budget statements e p l) asked
+request_one words one _ asked (to_watch specification limits silent budget statements e p l) =
+    sym (watch_one words specification silent budget statements one
+    (to_watch specification limits silent budget statements e p l) asked)
 request_one words _ _ (to_check name e named) (to_check other f named') = let same : name ≡ other =
     cc in ap check same
 request_one words _ _ (to_check name e named) (to_replay specification trace explanation limits

@@ -12,7 +12,7 @@ use Rattle.est_tool.specs.ReplayReports.{replay_line}
 use Rattle.est_tool.specs.ReplayReports.{replay_status}
 use Rattle.call_files.specs.FileTexts.{OfSpecification, OfTrace, OfExplanation}
 use Rattle.call_files.specs.FileTexts.{RefusesSpecification, RefusesTrace, RefusesExplanation}
-use Rattle.call_files.specs.Requests.{check, print, explain, replay, selfrun, ports}
+use Rattle.call_files.specs.Requests.{check, print, explain, replay, selfrun, ports, watch}
 use Rattle.call_files.specs.Seen.{Seen}
 use Rattle.est_print.specs.PrintedText.{IsPrintedText}
 use Rattle.est_tool.specs.inside.Work.{IsFine, IsAnswered, IsExplained}
@@ -175,4 +175,6 @@ result_one shelf shelf' (selfrun name seed count) s s' r r' one told x y =
     (self_run_stages shelf name seed count (reported s r) x)
     (self_run_stages shelf' name seed count (reported s' r') y)
 result_one shelf shelf' (ports specification lists silent budget statements) s s' r r' one told x y =
+    absurd one
+result_one shelf shelf' (watch specification silent budget statements) s s' r r' one told x y =
     absurd one

@@ -29,7 +29,8 @@ use Rattle.est_tool.specs.Ends.{Ends}
 use Rattle.est_tool.specs.inside.Work.{IsMergedSo}
 use Rattle.est_tool.specs.PortsEnds.{PortsEnds, setup_at, refused_at_specification}
 use Rattle.est_tool.specs.PortsEnds.{refused_at_lists, no_start, long_start, judged as is_judged}
-use Rattle.est_tool.specs.Result.{CallEnds, Reports, IsResult}
+use Rattle.est_tool.specs.Result.{CallEnds, Reports, IsResult, AsksForNoWatch}
+use Rattle.est_tool.proofs.ResultLaws.{no_watch}
 use Rattle.law_calls.specs.Completeness.{IsJudged}
 use Rattle.law_calls.specs.PortsCalls.{IsPortsOf, SomeMergeIsExplained, PortsAreComplete}
 use Rattle.law_calls.proofs.Judged.{unread_rose, judged, told_of}
@@ -106,10 +107,13 @@ module _ (words : List (String Global)) (shelf : Seen) (output : Sent) (budget :
       (OfLists c.spec) (lists_decided c.spec) shelf of.lists_told.told _ lists
       of.holds status report after)
 
-  ports_told : (status : Status) → IsResult words shelf output status → status ≢ OutOfMemory
-      → IsTold c lists budget status
-  ports_told status result kept =
-      told_of words shelf output _ of.asked not_read of.written (IsTold c lists budget)
+  unwatched : AsksForNoWatch words
+  unwatched = no_watch words _ of.asked tt
+
+  ports_told : (calls : ℕ) (status : Status) → IsResult words shelf calls output status
+      → status ≢ OutOfMemory → IsTold c lists budget status
+  ports_told calls status result kept =
+      told_of words shelf calls output _ of.asked unwatched not_read of.written (IsTold c lists budget)
       (λ s r reports. report_told s r reports) status result kept
 
 -- a verdict has such a status
@@ -124,11 +128,13 @@ told_judged : (c : Setup) (lists : PortLists) (budget : ℕ) (status : Status)
 told_judged c lists budget status told =
     subst IsJudged (sym told.status_is) (verdict_judged told.told)
 
-ports_judged : (words : List (String Global)) (shelf : Seen) (output : Sent) (status : Status)
-    (budget : ℕ) (c : Setup) (lists : PortLists) → IsPortsOf words shelf output budget c lists
-    → IsResult words shelf output status → IsJudged status
-ports_judged words shelf output status budget c lists of result =
-    judged words shelf output _ of.asked
+ports_judged : (words : List (String Global)) (shelf : Seen) (calls : ℕ) (output : Sent)
+    (status : Status) (budget : ℕ) (c : Setup) (lists : PortLists)
+    → IsPortsOf words shelf output budget c lists
+    → IsResult words shelf calls output status → IsJudged status
+ports_judged words shelf calls output status budget c lists of result =
+    judged words shelf calls output _ of.asked
+    (unwatched words shelf output budget c lists of)
     (λ ends. not_read words shelf output budget c lists of ends) of.written
     (IsTold c lists budget)
     (λ s r reports. report_told words shelf output budget c lists of s r reports)
@@ -168,13 +174,13 @@ module _ (c : Setup) (lists : PortLists) (budget : ℕ) (status : Status)
 
 pub ports_complete : PortsAreComplete
 ports_complete = record {
-  judged = λ words shelf output status budget c lists of result.
-      ports_judged words shelf output status budget c lists of result;
-  accepted = λ words shelf output status budget c lists of result kept size.
-      let told = ports_told words shelf output budget c lists of status result kept in
+  judged = λ words shelf calls output status budget c lists of result.
+      ports_judged words shelf calls output status budget c lists of result;
+  accepted = λ words shelf calls output status budget c lists of result kept size.
+      let told = ports_told words shelf output budget c lists of calls status result kept in
       accepts c lists budget status size told.told told.is told.status_is;
-  refused = λ words shelf output status budget c lists of result kept size within.
-      let told = ports_told words shelf output budget c lists of status result kept in
+  refused = λ words shelf calls output status budget c lists of result kept size within.
+      let told = ports_told words shelf output budget c lists of calls status result kept in
       refuses c lists budget status size of.begun told.allowed within told.told told.is
       told.status_is;
 }

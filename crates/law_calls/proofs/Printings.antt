@@ -29,6 +29,7 @@ use Rattle.call_files.specs.Requests.{bytes_of, print}
 use Rattle.call_files.specs.Seen.{Seen}
 use Rattle.est_tool.specs.Ends.{TellsCounts, CheckEnds, at_its_file, good, Ends}
 use Rattle.est_tool.specs.Result.{Reports}
+use Rattle.est_tool.proofs.ResultLaws.{no_watch}
 use Rattle.est_tool.specs.inside.Work.{IsFine}
 use Rattle.law_calls.specs.PrintedCalls.{Prints, PrintedTextsAreWritten, OneTextIsWritten}
 use Rattle.law_calls.specs.PrintedCalls.{PrintingIsStable, IsReadBack, WrittenTextsAreRead}
@@ -82,7 +83,7 @@ module _ (spec : Spec) (source text : List ℕ) (p : Prints spec source text) wh
       subst (IsPrintedText spec) same fine.1
 
   is_printed : IsPrintedText spec text
-  is_printed = let has = p.fine.written in printed_by has.0 has.1 has.2
+  is_printed = let has = p.fine.written (no_watch p.words _ p.asked tt) in printed_by has.0 has.1 has.2
 
 pub texts_written : PrintedTextsAreWritten
 texts_written spec source text p = is_printed spec source text p

@@ -12,6 +12,7 @@ use Rattle.call_files.specs.declared.status.Status.{Status}
 use Rattle.call_files.specs.Requests.{bytes_of}
 use Rattle.est_tool.specs.Ends.{Ends}
 use Rattle.est_tool.specs.Result.{CallEnds, Reports}
+use Rattle.est_tool.proofs.ResultLaws.{no_watch}
 use Rattle.est_tool.specs.SelfRuns.{MadeEnds, SelfRunEnds, written}
 use Rattle.est_tool.specs.SelfRuns.{faults, start_passes, passes, refuses, explains}
 use Rattle.est_tool.specs.SelfRuns.{stops_at_its_file, makes}
@@ -65,9 +66,9 @@ module _ (words : List (String Global)) (shelf : Seen) (output : Sent) (seed cou
       record { made = is.0; is = is.1; report = has.0; ends = is.2; whole = has.2 }
 
 pub self_run_complete : SelfRunIsComplete
-self_run_complete words shelf output status seed count spec of result memory =
+self_run_complete words shelf calls output status seed count spec of result memory =
     told_made words shelf output seed count spec of status
-    (has_written words shelf output _ of.asked
+    (has_written words shelf calls output _ of.asked (no_watch words _ of.asked tt)
     (λ ends. not_unread words shelf output seed count spec of unread refl
     (self_run_ends words shelf output seed count spec of unread ends))
     of.written status result memory)

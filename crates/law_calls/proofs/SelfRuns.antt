@@ -194,7 +194,7 @@ module _ (spec : Spec) (seed count : ℕ) (es : List Event) (run : List Move)
   agrees output WriteFault tells = told_agrees output WriteFault (tells (λ same. cc))
 
 pub self_runs_agree : SelfRunsAgree
-self_runs_agree words shelf output status seed count spec trace run of is_made few result =
+self_runs_agree words shelf calls output status seed count spec trace run of is_made few result =
     let held : IsText Specification of.named.bytes (OfSpecification spec) =
     subst (λ t. Holds Specification t (OfSpecification spec)) of.named.told of.good in
     let es = is_made.last.events in
@@ -204,4 +204,4 @@ self_runs_agree words shelf output status seed count spec trace run of is_made f
     (agrees spec seed count es run (sentence_held of.named.bytes spec held) held.is.good
     (subst (λ w. IsMadeOf spec seed count (made.Trace w run)) is_made.trace_is is_made)
     (omega arith) output status
-    (λ memory. self_run_complete words shelf output status seed count spec of result memory))
+    (λ memory. self_run_complete words shelf calls output status seed count spec of result memory))

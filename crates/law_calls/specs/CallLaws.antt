@@ -5,7 +5,7 @@ use Rattle.call_files.specs.Seen.{Seen}
 use Rattle.call_files.specs.FileEnds.{reported}
 use Rattle.est_tool.specs.Ends.{Ends}
 use Rattle.call_files.specs.Requests.{Request, check, print, explain, replay, selfrun, ports}
-use Rattle.call_files.specs.Requests.{Asks}
+use Rattle.call_files.specs.Requests.{watch, Asks}
 
 -- two shelves tell a file, and tell the same bytes of it
 abbrev pub TellAlike : Seen → Seen → List ℕ → Type 0
@@ -26,9 +26,13 @@ TellFilesAlike shelf shelf' (selfrun specification seed count) =
     TellAlike shelf shelf' specification
 TellFilesAlike shelf shelf' (ports specification lists silent budget statements) =
     TellAlike shelf shelf' specification × TellAlike shelf shelf' lists
+TellFilesAlike shelf shelf' (watch specification silent budget statements) =
+    TellAlike shelf shelf' specification
 
--- One report is right. Of several merges `ports` may report any.
+-- One report is right. Of several merges `ports` may report any, and `watch` writes an answer to each
+-- event.
 abbrev pub HasOneReport : Request → Type 0
+HasOneReport (watch specification silent budget statements) = ⊥
 HasOneReport (ports specification lists silent budget statements) = ⊥
 HasOneReport _ = Unit {0}
 

@@ -61,12 +61,12 @@ pub record Decides (c : Setup) (status : Status) : Type 0 where
 -- A search is complete: of good texts whose start is ready a verdict is told, unless memory runs
 -- out; and where the limits suffice, this is whether a run explains the trace.
 pub record SearchIsComplete : Type 0 where
-  pub judged : (words : List (String Global)) (shelf : Seen) (output : Sent) (status : Status)
-      (budget : ℕ) (c : Setup) → IsSearchOf words shelf output budget c
-      → IsResult words shelf output status → IsJudged status
-  pub decided : (words : List (String Global)) (shelf : Seen) (output : Sent) (status : Status)
-      (budget : ℕ) (c : Setup) → IsSearchOf words shelf output budget c
-      → IsResult words shelf output status → IsWithinLimits c budget → status ≢ OutOfMemory
+  pub judged : (words : List (String Global)) (shelf : Seen) (asked : ℕ) (output : Sent)
+      (status : Status) (budget : ℕ) (c : Setup) → IsSearchOf words shelf output budget c
+      → IsResult words shelf asked output status → IsJudged status
+  pub decided : (words : List (String Global)) (shelf : Seen) (asked : ℕ) (output : Sent)
+      (status : Status) (budget : ℕ) (c : Setup) → IsSearchOf words shelf output budget c
+      → IsResult words shelf asked output status → IsWithinLimits c budget → status ≢ OutOfMemory
       → Decides c status
 
 -- the words ask for a trace to be made of this specification: its file is told and holds it, and no
@@ -91,7 +91,8 @@ pub record TellsMade (output : Sent) (status : Status) (seed count : ℕ) (spec 
 -- of a good specification what is made of it is told, unless memory runs out
 abbrev pub SelfRunIsComplete : Type 0
 SelfRunIsComplete =
-    (words : List (String Global)) (shelf : Seen) (output : Sent) (status : Status)
-    (seed count : ℕ) (spec : Spec) → IsSelfRunOf words shelf output seed count spec
-    → IsResult words shelf output status → status ≢ OutOfMemory
+    (words : List (String Global)) (shelf : Seen) (asked : ℕ) (output : Sent)
+    (status : Status) (seed count : ℕ) (spec : Spec)
+    → IsSelfRunOf words shelf output seed count spec
+    → IsResult words shelf asked output status → status ≢ OutOfMemory
     → TellsMade output status seed count spec

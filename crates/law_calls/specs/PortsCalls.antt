@@ -91,17 +91,20 @@ SomeMergeIsExplained c lists =
 -- a bounded run explains one, and there alone; and where moreover nothing passes its limit, the lists
 -- are refused where none does.
 pub record PortsAreComplete : Type 0 where
-  pub judged : (words : List (String Global)) (shelf : Seen) (output : Sent) (status : Status)
-      (budget : ℕ) (c : Setup) (lists : PortLists) → IsPortsOf words shelf output budget c lists
-      → IsResult words shelf output status → IsJudged status
-  pub accepted : (words : List (String Global)) (shelf : Seen) (output : Sent) (status : Status)
-      (budget : ℕ) (c : Setup) (lists : PortLists) → IsPortsOf words shelf output budget c lists
-      → IsResult words shelf output status → status ≢ OutOfMemory
+  pub judged : (words : List (String Global)) (shelf : Seen) (asked : ℕ) (output : Sent)
+      (status : Status) (budget : ℕ) (c : Setup) (lists : PortLists)
+      → IsPortsOf words shelf output budget c lists
+      → IsResult words shelf asked output status → IsJudged status
+  pub accepted : (words : List (String Global)) (shelf : Seen) (asked : ℕ) (output : Sent)
+      (status : Status) (budget : ℕ) (c : Setup) (lists : PortLists)
+      → IsPortsOf words shelf output budget c lists
+      → IsResult words shelf asked output status → status ≢ OutOfMemory
       → HasAtMost (IsPortTrial c lists) budget
       → (status ≡ Fine) ↔ SomeMergeIsExplained c lists
-  pub refused : (words : List (String Global)) (shelf : Seen) (output : Sent) (status : Status)
-      (budget : ℕ) (c : Setup) (lists : PortLists) → IsPortsOf words shelf output budget c lists
-      → IsResult words shelf output status → status ≢ OutOfMemory
+  pub refused : (words : List (String Global)) (shelf : Seen) (asked : ℕ) (output : Sent)
+      (status : Status) (budget : ℕ) (c : Setup) (lists : PortLists)
+      → IsPortsOf words shelf output budget c lists
+      → IsResult words shelf asked output status → status ≢ OutOfMemory
       → HasAtMost (IsPortTrial c lists) budget → (PassesOnTree c lists → ⊥)
       → (status ≡ Refused) ↔ NoneExplains c lists
 

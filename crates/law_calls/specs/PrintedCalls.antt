@@ -16,18 +16,19 @@ use Rattle.call_files.specs.Seen.{Seen, Sent}
 use Rattle.est_tool.specs.Ends.{Ends}
 use Rattle.est_tool.specs.Result.{IsResult}
 
--- A call prints a file: the bytes of the file are told, and are the source of the specification. The
--- call ends well, and its output, which was empty, has this text.
+-- A call prints a file: the bytes of the file are told, and are the source of the specification; so
+-- often bytes were asked for. The call ends well, and its output, which was empty, has this text.
 pub record Prints (spec : Spec) (source text : List ℕ) : Type 0 where
   pub words : List (String Global)
   pub shelf : Seen
+  pub calls : ℕ
   pub output : Sent
   pub name : List ℕ
   pub asked : Asks (bytes_of words) (print name)
   pub told : shelf.before.told name ≡ Some source
   pub good : HoldsSpecification shelf name spec
   pub empty : output.before.written ≡ Some []
-  pub fine : IsResult words shelf output Fine
+  pub fine : IsResult words shelf calls output Fine
   pub wrote : output.after.written ≡ Some text
 
 -- What is written is the printed text of the specification.

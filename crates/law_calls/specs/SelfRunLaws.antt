@@ -44,8 +44,8 @@ Agrees spec trace _ = ⊥
 -- is made that has no more events than a trace may have.
 abbrev pub SelfRunsAgree : Type 0
 SelfRunsAgree =
-    (words : List (String Global)) (shelf : Seen) (output : Sent) (status : Status)
-    (seed count : ℕ) (spec : Spec) (trace : Recorded) (run : List Move)
+    (words : List (String Global)) (shelf : Seen) (asked : ℕ) (output : Sent)
+    (status : Status) (seed count : ℕ) (spec : Spec) (trace : Recorded) (run : List Move)
     → IsSelfRunOf words shelf output seed count spec
     → IsMadeOf spec seed count (made.Trace trace run) → length trace.events ≤ most_events
-    → IsResult words shelf output status → Agrees spec trace status
+    → IsResult words shelf asked output status → Agrees spec trace status

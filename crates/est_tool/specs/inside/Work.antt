@@ -23,7 +23,9 @@ use Rattle.call_files.specs.Seen.{Seen}
 use Rattle.call_files.specs.FileEnds.{End, reported}
 use Rattle.est_tool.specs.Ends.{Ends}
 use Rattle.est_tool.specs.Started.{Starts}
-use Rattle.call_files.specs.Requests.{Request, Asks, bytes_of}
+use Rattle.call_files.specs.Requests.{Request, watch, Asks, bytes_of}
+use Rattle.call_files.specs.declared.words.Command.{Command}
+use Rattle.call_files.specs.declared.words.Command.TheVariants.{Watch}
 use Rattle.est_meaning.specs.declared.run.Limits.{Limits}
 use Rattle.est_tool.specs.declared.search.Searched.{Searched}
 use Rattle.est_tool.specs.declared.search.Searched.TheVariants as searched
@@ -102,9 +104,20 @@ pub record IsWork
   pub starts : Starts shelf request (done ++ names)
   pub ends : IsMade (Ends shelf request) result
 
--- the words ask for something, and that is done
+-- one report is made of what is asked for: of all but to watch
+abbrev pub MakesReport : Request → Type 0
+MakesReport (watch specification silent budget statements) = ⊥
+MakesReport _ = Unit {0}
+
+-- one report is made of the command
+abbrev pub HasReportMade : Command → Type 0
+HasReportMade (Watch limits) = ⊥
+HasReportMade _ = Unit {0}
+
+-- the words ask for something, of which one report is made, and that is done
 pub record IsObeyed
     (words : List (String Global)) (shelf : Seen) (result : Result Report Stop) : Type 0 where
   pub request : Request
+  pub makes : MakesReport request
   pub asked : Asks (bytes_of words) request
   pub work : IsWork [] request shelf result

@@ -1,0 +1,6 @@
+-- The pieces of the format, regrouped.
+use Rattle.std.proofs.Common.{rules, append_assoc}
+use Rattle.call_watch.proofs.report.accepted.Goals as goal
+
+pub returns : goal.returns
+returns c = search (rules, append_assoc)
