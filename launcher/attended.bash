@@ -1,8 +1,9 @@
 # shellcheck shell=bash
 # It is sourced by the scripts that start a program and go on when it has ended.
 
-# Files that go where a signal ends the shell.
+# Files that go where a signal ends the shell, and the process that ends with the command, if there is one.
 temporary=()
+beside=''
 
 # attended COMMAND..: runs it, and answers its status. A signal that ends this shell ends the command too. It stands in the
 # background, since a shell heeds no signal while it waits for the foreground, with the standard input that there is. Where
@@ -34,10 +35,19 @@ end_attended() {
     trap '' INT TERM HUP
     kill -TERM "$attended" 2>/dev/null
     wait "$attended" 2>/dev/null
+    end_beside
     end_ticks
     rm -f "${temporary[@]}"
     trap - INT TERM HUP
     kill "-$1" "$BASHPID"
+}
+
+# end_beside: ends the process beside the command.
+end_beside() {
+    [ -n "$beside" ] || return 0
+    kill "$beside" 2>/dev/null
+    wait "$beside" 2>/dev/null
+    beside=''
 }
 
 # probe, end_probe: what else is told of a command that lasts, as `found`, and the end of what finds it. A script may have

@@ -50,6 +50,10 @@ class Call:
         """Whether what the program says is what it is to say."""
         return said == want
 
+    def told(self, want):
+        """What is counted of an answer."""
+        return told_as(want)
+
     def differs(self, program, folder):
         """What the program says and what it is to say, where these differ."""
         said, want = self.said(program, folder), self.answer()
@@ -190,7 +194,7 @@ class Comparison:
         except RecursionError:
             self.told["too deep for the interpreter"] += 1
             return
-        self.told[told_as(want)] += 1
+        self.told[call.told(want)] += 1
         if not call.agrees(call.said(self.program, self.folder), want):
             self.keep(call)
 

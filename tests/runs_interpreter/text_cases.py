@@ -1,14 +1,15 @@
-"""Runs the cases of `explain`, `replay`, `selfrun` and `ports`. How they are written is told in texts.cases."""
+"""Runs the cases of `explain`, `replay`, `selfrun`, `ports` and `watch`. How they are written is told in texts.cases."""
 
 import re
 
 from .answers import Unknown, explained, replayed, self_run
 from .port_runs import ported, wrong
+from .watch_lines import watched, wrong_watch
 
 ESCAPES = {"n": b"\n", "t": b"\t", "r": b"\r", "s": b" ", "e": b"", "c": b"", "\\": b"\\"}
 ESCAPE = re.compile(r"\\(x[0-9A-Fa-f]{2}|.)|\$(\w+)|([^\\$]+)")
 # The columns in which the files of a call stand.
-FILES = {"a.est": "specification", "b": "trace", "c": "explanation"}
+FILES = {"a.est": "specification", "b": "trace", "c": "explanation", "-": "input"}
 # The most bytes of a trace, and the most events of one that is made, that are looked at here: longer ones take long.
 LONGEST, MOST = 100000, 1000
 # Columns of what is not looked at here.
@@ -80,6 +81,8 @@ def answer(words, files, explanation=None):
     """(status, report) of a call."""
     if words[0] == "selfrun":
         return self_run(files.get(words[1], b""), *map(int, words[2:]))
+    if words[0] == "watch":
+        return watched(files.get(words[1], b""), files.get("-", b""), *map(int, words[2:]))
     count = 4 if words[0] == "replay" else 3
     texts, limits = [files.get(name, b"") for name in words[1:count]], map(int, words[count:])
     if words[0] in ("explain", "ports"):
@@ -97,8 +100,8 @@ def difference(cells, folder):
     """What is answered and what is expected, where these differ."""
     words = cells["words"].decode().split()
     files = files_of(words, cells, folder)
-    if words[0] == "ports":
-        return port_difference(words, files, cells["gives"].decode("latin-1"))
+    if words[0] in ("ports", "watch"):
+        return difference_of_several(words, files, cells)
     status, report = answer(words, files)
     pairs = [(told(status, report), cells["gives"])]
     if "replayed" in cells:
@@ -109,24 +112,28 @@ def difference(cells, folder):
     return differing[0] if bool(differing) != (cells.get("expectation") == b"wrong") else None
 
 
-def port_difference(words, files, gives):
+def difference_of_several(words, files, cells):
     """Why one answer is not right, that of the case or that of the interpreter, and the answer."""
-    status, _, report = gives.partition(" ")
-    for found in (int(status), report.rstrip("\n") + "\n"), answer(words, files):
-        texts = [files.get(name, b"") for name in words[1:3]]
-        if why := wrong(found, *texts, *map(int, words[3:])):
+    status, _, report = cells["gives"].decode("latin-1").partition(" ")
+    texts, limits = [files.get(name, b"") for name in words[1:3]], words[3:]
+    if words[0] == "watch":
+        texts, limits = [files.get(name, b"") for name in (words[1], "-")], words[2:]
+    given, own = (int(status), report.rstrip("\n") + "\n"), answer(words, files)
+    for found, is_to_be_wrong in (given, cells.get("expectation") == b"wrong"), (own, False):
+        why = (wrong_watch if words[0] == "watch" else wrong)(found, *texts, *map(int, limits))
+        if bool(why) != is_to_be_wrong:
             return why, told(*found)
     return None
 
 
 def is_looked_at(cells):
     words = cells.get("words", b"").split()
-    if not words or words[0] not in (b"explain", b"replay", b"selfrun", b"ports") or LEFT_OUT & set(cells):
+    if not words or words[0] not in (b"explain", b"replay", b"selfrun", b"ports", b"watch") or LEFT_OUT & set(cells):
         return False
     behaviour = cells.get("shelf", b"") + cells.get("sink", b"")
     if b"fails" in behaviour or "specification" not in cells and behaviour != b"files":
         return False
-    is_short = len(cells.get("trace", b"")) <= LONGEST and (words[0] != b"selfrun" or int(words[3]) <= MOST)
+    is_short = len(cells.get("trace", b"") + cells.get("input", b"")) <= LONGEST and (words[0] != b"selfrun" or int(words[3]) <= MOST)
     return is_short and cells["gives"].split()[0] not in (b"7", b"8", b"9", b"10", b"12")
 
 

@@ -24,7 +24,7 @@ use std::process::ExitCode;
 use std::str;
 
 // The files of cases, in the order in which they are run. The first has the texts that all share.
-const FILES: [&str; 31] = [
+const FILES: [&str; 32] = [
     "texts.cases",
     "words.cases",
     "tokens.cases",
@@ -56,6 +56,7 @@ const FILES: [&str; 31] = [
     "faults.cases",
     "made.cases",
     "merges.cases",
+    "watches.cases",
 ];
 
 // Runs the cases, and ends with 0 where none fails.

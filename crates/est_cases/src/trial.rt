@@ -263,6 +263,10 @@ impl Trial<'_, '_> {
             let text = self.expanded(cell)?;
             shelf.add("c", text.as_slice())?;
         }
+        if let Some(cell) = self.cells.input {
+            let text = self.expanded(cell)?;
+            shelf.add("-", text.as_slice())?;
+        }
         Ok(())
     }
 
