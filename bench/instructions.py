@@ -8,7 +8,8 @@ under any load. SPIN's counts are those that its verifiers took on the same even
 With --against PROGRAM the same is counted of another program, as one of an earlier commit, and three shares follow, of
 explain, replay and reading: the instructions over those of the other one. With --record the rows go to
 bench/results/instructions.tsv. With --ports the same events are searched for as lists of `ports`, each at its port, and the
-table has the instructions of an event in both searches.
+table has the instructions of an event in both searches; with --watch they are watched by `watch`, an event a line. With
+--most N the longer trace has up to N events, and not 3,000.
 """
 
 import pathlib
@@ -28,10 +29,10 @@ EVENTS = PROTOCOLS | {"two_phase_commit": [line.strip() for line in STORES.split
 SPIN = {"alternating_bit": 6_108, "connection": 14_458, "ring_election": 24_872, "sessions": 13_590}
 
 
-def counted(folder, program, *words):
-    """The instructions of a run, and what it told."""
+def counted(folder, program, *words, source=None):
+    """The instructions of a run, of which standard input may be a text, and what it told."""
     command = ["valgrind", "--tool=callgrind", "--callgrind-out-file=/dev/null", program, *words]
-    told = subprocess.run(command, cwd=folder, capture_output=True, text=True)
+    told = subprocess.run(command, cwd=folder, input=source, capture_output=True, text=True)
     count = re.search(r"Collected : (\d+)", told.stderr)
     if not count:
         sys.exit(f"{' '.join(words)}: {told.stdout[:200]}{told.stderr[-400:]}")
@@ -82,15 +83,25 @@ def in_lists(folder, protocol, turns):
     return count
 
 
-def compare_lists(folder, chosen):
-    """A row for each protocol: the instructions of an event in both searches, and how many times they are."""
-    print("| Protocol | `explain` | `ports` | times |\n|---|---|---|---|")
+def as_it_comes(folder, protocol, turns):
+    """The instructions of `watch` along the events of a protocol, so many times over."""
+    text = "trace 1\n" + "\n".join(EVENTS[protocol] * turns) + "\nend\n"
+    specification = str(TOP / "examples" / f"{protocol}.est")
+    count, told = counted(folder, PROGRAM, "watch", specification, "30", "4000000", "10000", source=text)
+    if "accepted" not in told.splitlines()[-1]:
+        sys.exit(f"{protocol}: {told[-100:]}")
+    return count
+
+
+def compare_with(command, other, folder, chosen):
+    """A row for each protocol: the instructions of an event in `explain` and in another command, and how many times they are."""
+    print(f"| Protocol | `explain` | `{command}` | times |\n|---|---|---|---|")
     for protocol in chosen:
         turns = len(EVENTS[protocol])
         events = (LONG // turns - SHORT // turns) * turns
         ours = row(folder, PROGRAM, protocol)[0]
-        lists = (in_lists(folder, protocol, LONG // turns) - in_lists(folder, protocol, SHORT // turns)) / events
-        print(f"| `{protocol}` | {ours:,} | {lists:,.0f} | {lists / ours:.2f} |", flush=True)
+        theirs = (other(folder, protocol, LONG // turns) - other(folder, protocol, SHORT // turns)) / events
+        print(f"| `{protocol}` | {ours:,} | {theirs:,.0f} | {theirs / ours:.2f} |", flush=True)
 
 
 def shares(folder, other, protocol, ours):
@@ -99,17 +110,24 @@ def shares(folder, other, protocol, ours):
 
 
 def main():
+    global LONG
     words, other = recording.words(), None
     if "--against" in words:
         at = words.index("--against")
         other = pathlib.Path(words[at + 1]).resolve()
         del words[at : at + 2]
-    is_lists = "--ports" in words
-    words = [word for word in words if word != "--ports"]
+    if "--most" in words:
+        at = words.index("--most")
+        LONG = int(words[at + 1])
+        del words[at : at + 2]
+    others = {"--ports": in_lists, "--watch": as_it_comes}
+    compared = [word for word in words if word in others]
+    words = [word for word in words if word not in others]
     chosen = words or ["alternating_bit", "connection", "ring_election", "sessions", "two_phase_commit"]
-    if is_lists:
+    if compared:
         with tempfile.TemporaryDirectory() as name:
-            compare_lists(pathlib.Path(name), chosen)
+            for word in compared:
+                compare_with(word[2:], others[word], pathlib.Path(name), chosen)
         return
     titles = ["Protocol", "`explain`", "`replay`", "SPIN", "read", *(["over the other"] if other else [])]
     print(f"| {' | '.join(titles)} |\n{'|---' * len(titles)}|")

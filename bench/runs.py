@@ -5,7 +5,8 @@ Each row of the first is the least processor time of some runs of one command, a
 size; the last column is the one time over the other, near 2 where the work is linear. The second table
 is of searches: first along traces that are made as well, and then a row for each of six protocols of
 examples/, along a trace of some 10,000 events, which repeats what the protocol does. Rows follow of `ports`: as many
-tries in vain as firings of `explain`, and lists of 100 ports, which are read. The program is the one of
+tries in vain as firings of `explain`, and lists of 100 ports, which are read; and of `watch`: the same protocol as in the
+row of its name, and lines with a comment alone, whose bytes come one by one. The program is the one of
 these sources. With --record the rows go to bench/results/replays.tsv and searches.tsv.
 """
 
@@ -286,6 +287,23 @@ OVER = [
     ("lists of 100 ports, read", many_lists, 100_000),
 ]
 
+
+def watched_events(size):
+    """So many events of a protocol, each in a line."""
+    lines = PROTOCOLS["alternating_bit"]
+    return "alternating_bit", "trace 1\n" + "\n".join(lines * (size // len(lines))) + "\nend\n"
+
+
+def watched_bytes(size):
+    """So many bytes of comments in lines of 100 bytes."""
+    return "skel", "trace 1\n" + ("{" + 97 * "x" + "}\n") * (size // 100) + "end\n"
+
+
+WATCHED = [
+    ("`alternating_bit`, watched", watched_events, 100_000),
+    ("bytes of comments, watched", watched_bytes, 4_000_000),
+]
+
 SEARCHES = [
     ("items that one firing sends, each tried with a wrong answer first", tried, 100_000),
 ]
@@ -315,11 +333,12 @@ PROTOCOLS = {
 }
 
 
-def measured(command, folder, wanted=0):
+def measured(command, folder, wanted=0, source=os.devnull):
     """The least processor time of some runs, in seconds, the most memory, in MiB, and what was told."""
     best, most = None, 0
     for _ in range(RUNS):
-        process = subprocess.Popen([PROGRAM, *command], cwd=folder, stdout=subprocess.PIPE)
+        with open(folder / source, "rb") as given:
+            process = subprocess.Popen([PROGRAM, *command], cwd=folder, stdin=given, stdout=subprocess.PIPE)
         told = process.stdout.read().decode()
         _, status, used = os.wait4(process.pid, 0)
         if os.waitstatus_to_exitcode(status) != wanted:
@@ -371,6 +390,17 @@ def along(folder, protocol, turns):
     return taken, most
 
 
+def watched(folder, made):
+    """A trace that is watched."""
+    specification, trace = made
+    (folder / "a.trace").write_text(trace)
+    command = ["watch", str(TOP / "examples" / f"{specification}.est"), "30", "4000000", "10000"]
+    taken, most, told = measured(command, folder, source="a.trace")
+    if "accepted" not in told[-40:]:
+        sys.exit(told[-100:])
+    return taken, most
+
+
 def tell(table, what, size, half, whole, most):
     """A row of a table: the times at half the size and at the size, and the memory."""
     cells = [f"{size:,}", f"{whole:.3f}", f"{whole / size * 1e6:.2f}", f"{most:,.0f}"]
@@ -402,6 +432,7 @@ def main():
             half, _ = along(folder, protocol, turns // 2)
             tell("searches", f"`{protocol}`", len(lines) * turns, half, *along(folder, protocol, turns))
         compare("searches", OVER, over, folder)
+        compare("searches", WATCHED, watched, folder)
 
 
 if __name__ == "__main__":
