@@ -68,6 +68,7 @@ use plain_effects::plain_operands::reached::{
     Reached, begun, loaded, placed, result_begun, take_part, with_component, with_field,
     with_subscript,
 };
+use plain_effects::plain_operands::scalars::scalar_of;
 use plain_effects::plain_operands::site::{
     Site, declared_of, dims_of, head_at, is_given_place, meaning_at,
 };
@@ -94,6 +95,9 @@ pub fn value_of(
         result left.new }
     ensures world { OnOk result (LooksSame working.old working.new) }
 {
+    if let Some(z) = scalar_of(alloc, site, e, working) {
+        return Ok(Value::Ordinal(z));
+    }
     let mut value = Value::Undefined;
     evaluate(alloc, site, e, &mut value, working, left)?;
     Ok(value)
@@ -680,8 +684,7 @@ pub fn values_in(
 {
     let mut slots = Slots::new(alloc);
     for e in exprs {
-        let mut value = Value::Undefined;
-        evaluate(alloc, site, e, &mut value, working, left)?;
+        let mut value = value_of(alloc, site, e, working, left)?;
         add_value(&mut slots, &mut value)?;
     }
     Ok(slots)

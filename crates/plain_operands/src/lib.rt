@@ -8,6 +8,7 @@ pub mod lone;
 pub mod loops;
 pub mod operands;
 pub mod reached;
+pub mod scalars;
 pub mod site;
 
 pub use plain_frames;

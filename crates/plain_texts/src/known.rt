@@ -32,11 +32,15 @@ pub(crate) struct KnownInteraction<'t> {
     pub(crate) interaction: Option<u32>,
 }
 
-/// Names of a text that declares this, each looked up once. What is asked of another name is looked
-/// up then.
+// No number of a name that is kept.
+const NONE: u32 = u32::MAX;
+
+/// Names of a text that declares this, each looked up once, and their numbers by their places. What
+/// is asked of another name is looked up then.
 pub struct KnownNames<'t> {
     outline: &'t Outline,
-    names: IndexMap<u32, KnownName<'t>>,
+    names: Vec<KnownName<'t>>,
+    numbers: Vec<u32>,
     interactions: IndexMap<u32, KnownInteraction<'t>>,
 }
 
@@ -46,9 +50,11 @@ impl<'t> Drop for KnownNames<'t> {
         let KnownNames {
             outline: _,
             names,
+            numbers,
             interactions,
         } = self;
         drop(names);
+        drop(numbers);
         drop(interactions);
     }
 }
@@ -65,7 +71,7 @@ impl<'t> Model for KnownNames<'t> {
 
     ghost view = { λ t. t.outline.now };
 
-    ghost invariant = { λ t. AreKnown t.outline.now t.names.entries
+    ghost invariant = { λ t. AreKnown t.outline.now t.names.items
         × AreKnownInteractions t.outline.now t.interactions.entries };
 }
 
@@ -83,7 +89,8 @@ impl<'t> KnownNames<'t> {
     {
         KnownNames {
             outline,
-            names: IndexMap::new(alloc),
+            names: Vec::new(alloc),
+            numbers: Vec::new(alloc),
             interactions: IndexMap::new(alloc),
         }
     }
@@ -95,11 +102,19 @@ impl<'t> KnownNames<'t> {
         self.outline
     }
 
+    // What is kept of the name at a place, if there is one.
+    fn kept(&self, place: u32) -> Option<&KnownName<'t>> {
+        match self.numbers.get(place as usize) {
+            None => None,
+            Some(number) => self.names.get(*number as usize),
+        }
+    }
+
     // What is kept of a name.
     fn found(&self, used: &Used) -> Option<&KnownName<'t>>
         ensures { IfSome result (λ known. IsOf self.now used.now known.now) }
     {
-        match self.names.get(&used.place) {
+        match self.kept(used.place) {
             None => None,
             Some(known) => if is_same(known.used, used) {
                 Some(known)
@@ -107,6 +122,16 @@ impl<'t> KnownNames<'t> {
                 None
             },
         }
+    }
+
+    // Makes room for the number of a name at a place.
+    fn reach(&mut self, place: u32) -> Result<(), AllocError>
+        ensures { OnOk result (self.new ≡ self.old) }
+    {
+        while self.numbers.len() <= place as usize {
+            self.numbers.push(NONE)?;
+        }
+        Ok(())
     }
 
     /// What a name means at its place.
@@ -147,15 +172,18 @@ impl<'t> KnownNames<'t> {
     pub fn note(&mut self, used: &'t Used) -> Result<(), AllocError>
         ensures { OnOk result (self.new ≡ self.old) }
     {
-        if self.names.get(&used.place).is_some() {
+        if self.kept(used.place).is_some() {
             return Ok(());
         }
+        self.reach(used.place)?;
         let known = KnownName {
             used,
             meant: self.outline.meaning(used),
             head: head(self.outline, used),
         };
-        self.names.insert(used.place, known)?;
+        let number = u32::try_from(self.names.len()).map_err(|_| AllocError)?;
+        self.names.push(known)?;
+        self.numbers[used.place as usize] = number;
         Ok(())
     }
 

@@ -178,7 +178,7 @@ fn is_included(xs: &[i32], ys: &[i32]) -> bool
 }
 
 // Whether two have the same members.
-fn are_equal(xs: &[i32], ys: &[i32]) -> bool
+pub fn are_equal(xs: &[i32], ys: &[i32]) -> bool
     ensures { result ≡ are_equal xs.now ys.now }
 {
     is_included(xs, ys) && is_included(ys, xs)
