@@ -14,6 +14,7 @@ ghost use Rattle.plain_choices.specs.inside.SystemOffers.{IsFound, IsFoundBelow,
 use crate::offers::{Instance, Offer, gather, instance_at};
 use est_meaning::answers::Offers;
 use est_meaning::firing::Firing;
+use plain_clauses::missed::{First, firsts_of};
 use plain_systems::system::Working;
 use plain_transitions::behaviour::Behaviour;
 use std::alloc::{AllocError, Global};
@@ -108,6 +109,7 @@ fn add_instance(
     behaviour: &Behaviour,
     limit: u32,
     instance: Instance,
+    firsts: &[First],
     working: &mut Working,
     found: &mut Found,
 ) -> Result<Offers, AllocError>
@@ -120,7 +122,7 @@ fn add_instance(
         (situation_of working.new.system ≡ situation_of working.old.system) }
 {
     let mut offers = Vec::new(alloc);
-    match gather(alloc, behaviour, limit, instance, working, &mut offers)? {
+    match gather(alloc, behaviour, limit, instance, firsts, working, &mut offers)? {
         Offers::Settled => {}
         Offers::Unsettled => return Ok(Offers::Unsettled),
     }
@@ -144,11 +146,13 @@ pub fn find(
     ensures system { OnOk result
         (situation_of working.new.system ≡ situation_of working.old.system) }
 {
+    let firsts = firsts_of(alloc, &working.system)?;
     for at in 0..working.system.rows.get().len() {
         match instance_at(&working.system, at) {
             None => return Ok(Offers::Settled),
             Some(instance) => {
-                match add_instance(alloc, behaviour, limit, instance, working, found)? {
+                let firsts = firsts.as_slice();
+                match add_instance(alloc, behaviour, limit, instance, firsts, working, found)? {
                     Offers::Settled => {}
                     Offers::Unsettled => return Ok(Offers::Unsettled),
                 }

@@ -10,12 +10,13 @@ ghost use Rattle.plain_choices.specs.inside.InstanceOffers.{IsGathered};
 
 use est_meaning::answers::Offers;
 use est_meaning::firing::Firing;
-use est_meaning::mean_blocks::frame::Frame;
 use plain_clauses::candidate::Candidate;
-use plain_clauses::missed::is_missed;
-use plain_guards::judging::judge;
+use plain_clauses::missed::{First, is_missed};
+use plain_clauses::sights::begin;
+use plain_guards::judging::judge_open;
 use plain_systems::system::{System, Working};
 use plain_transitions::behaviour::Behaviour;
+use plain_transitions::choices::next_choice;
 use plain_transitions::fits::Fits;
 use std::alloc::{AllocError, Global};
 
@@ -59,7 +60,6 @@ fn add_choice(
     limit: u32,
     candidate: &Candidate,
     choice: u32,
-    chosen: Frame,
     working: &mut Working,
     offers: &mut Vec<Offer>,
 ) -> Result<Offers, AllocError>
@@ -72,7 +72,7 @@ fn add_choice(
     ensures system { OnOk result
         (situation_of working.new.system ≡ situation_of working.old.system) }
 {
-    let verdict = judge(alloc, behaviour.text(), limit, candidate, chosen, working)?;
+    let verdict = judge_open(alloc, behaviour.text(), limit, candidate, working)?;
     if verdict.passes {
         return Ok(Offers::Unsettled);
     }
@@ -108,16 +108,22 @@ fn add_choices(
     ensures system { OnOk result
         (situation_of working.new.system ≡ situation_of working.old.system) }
 {
-    let variables = &candidate.transition.variables;
+    let transition = candidate.transition;
+    let Some(chosen) = behaviour.chosen(alloc, transition, 1)? else {
+        return Ok(Offers::Settled);
+    };
+    begin(alloc, chosen, working)?;
     let mut choice: u32 = 1;
-    while let Some(chosen) = behaviour.choice_frame(alloc, variables, choice)? {
+    let mut more = true;
+    while more {
         match add_choice(
-            alloc, behaviour, limit, candidate, choice, chosen, working, offers,
+            alloc, behaviour, limit, candidate, choice, working, offers,
         )? {
             Offers::Settled => {}
             Offers::Unsettled => return Ok(Offers::Unsettled),
         }
         choice = choice.checked_add(1).ok_or(AllocError)?;
+        more = next_choice(alloc, transition, choice, &mut working.frames.items[0])?;
     }
     Ok(Offers::Settled)
 }
@@ -128,6 +134,7 @@ fn add_candidate(
     behaviour: &Behaviour,
     limit: u32,
     candidate: &Candidate,
+    firsts: &[First],
     working: &mut Working,
     offers: &mut Vec<Offer>,
 ) -> Result<Offers, AllocError>
@@ -139,7 +146,7 @@ fn add_candidate(
     ensures system { OnOk result
         (situation_of working.new.system ≡ situation_of working.old.system) }
 {
-    if is_missed(alloc, behaviour.text(), candidate, &working.system) {
+    if is_missed(candidate, firsts) {
         return Ok(Offers::Settled);
     }
     add_choices(alloc, behaviour, limit, candidate, working, offers)
@@ -153,6 +160,7 @@ fn add_transition(
     instance: Instance,
     fits: &Fits,
     number: u32,
+    firsts: &[First],
     working: &mut Working,
     offers: &mut Vec<Offer>,
 ) -> Result<Offers, AllocError>
@@ -178,7 +186,7 @@ fn add_transition(
                 number,
                 transition,
             };
-            add_candidate(alloc, behaviour, limit, &candidate, working, offers)
+            add_candidate(alloc, behaviour, limit, &candidate, firsts, working, offers)
         }
     }
 }
@@ -189,6 +197,7 @@ pub fn gather(
     behaviour: &Behaviour,
     limit: u32,
     instance: Instance,
+    firsts: &[First],
     working: &mut Working,
     offers: &mut Vec<Offer>,
 ) -> Result<Offers, AllocError>
@@ -203,7 +212,7 @@ pub fn gather(
     let mut after: u32 = 0;
     while let Some(number) = fits.next(after) {
         match add_transition(
-            alloc, behaviour, limit, instance, &fits, number, working, offers,
+            alloc, behaviour, limit, instance, &fits, number, firsts, working, offers,
         )? {
             Offers::Settled => {}
             Offers::Unsettled => return Ok(Offers::Unsettled),

@@ -11,7 +11,6 @@ use est_meaning::mean_blocks::situation::{InteractionPoint, Item};
 use est_meaning::rule_scope::declaration::Sort;
 use est_meaning::rule_scope::outline::Outline;
 use est_syntax::est_items::Twin;
-use est_syntax::name::Used;
 use est_values::Chunks;
 use est_values::value::{Value, Values};
 use plain_queues::heads::head_at;
@@ -21,23 +20,20 @@ use plain_queues::plain_systems::system::System;
 use plain_queues::plain_texts::text::Text;
 use std::alloc::{AllocError, Global};
 
-// Whether an item is the interaction of a name, and came through an interaction point.
-fn came_through(text: &Text, signal: &Used, point: &InteractionPoint, item: &Item) -> bool
+// Whether an item is an interaction, and came through an interaction point.
+fn came_through(signal: Option<u32>, point: &InteractionPoint, item: &Item) -> bool
     ensures { result ≡ came_through text.now.outline signal.now point.now item.now }
 {
-    if !is_point(point, &item.at) {
-        return false;
-    }
-    match text.interaction_of(point.declared, signal) {
+    match signal {
         None => false,
-        Some(declared) => item.signal == declared,
+        Some(declared) => item.signal == declared && is_point(point, &item.at),
     }
 }
 
 /// The item that is awaited at an interaction point, if it is the first of its queue.
 pub fn arrived_through<'s>(
     text: &Text,
-    signal: &Used,
+    signal: Option<u32>,
     point: &InteractionPoint,
     system: &'s System,
 ) -> Option<&'s Item>
@@ -47,7 +43,7 @@ pub fn arrived_through<'s>(
     match head_at(text, point, system) {
         None => None,
         Some(item) => {
-            if came_through(text, signal, point, item) {
+            if came_through(signal, point, item) {
                 Some(item)
             } else {
                 None
@@ -71,7 +67,31 @@ fn bound(alloc: Global, declared: u32, value: &Value) -> Result<Binding, AllocEr
 fn bound_all(alloc: Global, places: &[u32], values: &Values) -> Result<Frame, AllocError>
     ensures { IfOk result (λ frame. frame ≡ bound_all places.now values.now) }
 {
-    let mut frame = Chunks::new(alloc)?;
+    let frame = Chunks::new(alloc)?;
+    bound_in(alloc, places, values, frame)
+}
+
+/// The same beside a frame, with which it shares what holds nothing.
+pub fn bound_beside(
+    alloc: Global,
+    places: &[u32],
+    values: &Values,
+    open: &Frame,
+) -> Result<Frame, AllocError>
+    ensures { IfOk result (λ frame. frame ≡ bound_all places.now values.now) }
+{
+    let frame = open.emptied(alloc, places.len())?;
+    bound_in(alloc, places, values, frame)
+}
+
+// The same in a frame without names.
+fn bound_in(
+    alloc: Global,
+    places: &[u32],
+    values: &Values,
+    empty: Frame,
+) -> Result<Frame, AllocError> {
+    let mut frame = empty;
     for i in 0..places.len() {
         let Some(value) = values.get(i) else {
             return Ok(frame);

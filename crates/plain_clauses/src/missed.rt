@@ -8,29 +8,101 @@ ghost use Rattle.est_meaning.specs.TransitionChoices.{Choice};
 ghost use Rattle.plain_clauses.specs.JudgedGuards.{IsOf, IsVerdict, says_nothing};
 
 use crate::candidate::Candidate;
-use est_meaning::mean_blocks::situation::InteractionPoint;
-use est_syntax::est_items::Items;
-use plain_queues::heads::head_at;
-use plain_queues::plain_systems::points::is_point;
-use plain_queues::plain_systems::system::System;
+use crate::evaluated::site_at;
+use est_syntax::expression::Expr;
+use plain_operands::scalars::scalar_of;
+use plain_operands::site::Site;
+use plain_queues::plain_systems::system::{System, Working};
 use plain_queues::plain_texts::text::Text;
-use std::alloc::Global;
+use plain_transitions::written::Fixed;
+use std::alloc::{AllocError, Global};
 
-// Whether the first item of the queue of an interaction point came through it, and is an
-// interaction that is declared at a place.
-fn is_first(text: &Text, signal: u32, point: &InteractionPoint, system: &System) -> bool
-    ensures { result ≡ option_map_or (λ i. is_point point.now i.at && nat_eq i.signal signal)
-        (head_at text.now point.now (situation_of system.now)) false }
-{
-    match head_at(text, point, system) {
-        None => false,
-        Some(item) => is_point(point, &item.at) && item.signal == signal,
-    }
+/// The first item of a queue: through which interaction point it came, but for its subscripts, and
+/// which interaction it is.
+#[derive(Clone, Copy)]
+pub struct First {
+    pub instance: u32,
+    pub declared: u32,
+    pub signal: u32,
 }
 
-/// Whether the `when` of a candidate has no subscripts, and what it awaits is not the first of its
-/// queue. Then each of its choices says nothing, and none needs to be looked at.
-pub fn is_missed(alloc: Global, text: &Text, candidate: &Candidate, system: &System) -> bool
+/// The first items of all queues.
+pub fn firsts_of(alloc: Global, system: &System) -> Result<Vec<First>, AllocError> {
+    let mut firsts = Vec::new(alloc);
+    for waiting in system.queues.get().as_slice() {
+        if let Some(item) = waiting.items.head() {
+            firsts.push(First {
+                instance: item.at.instance,
+                declared: item.at.declared,
+                signal: item.signal,
+            })?;
+        }
+    }
+    Ok(firsts)
+}
+
+// Whether a first item may be what is awaited.
+fn is_awaited(instance: u32, fixed: Fixed, first: &First) -> bool {
+    first.signal == fixed.signal && first.declared == fixed.point && first.instance == instance
+}
+
+// Whether subscripts may be those of an interaction point.
+fn may_be(
+    alloc: Global,
+    site: &Site,
+    index: &[Expr],
+    ordinals: &[i32],
+    working: &Working,
+) -> bool {
+    if index.len() != ordinals.len() {
+        return false;
+    }
+    for i in 0..index.len() {
+        if let Some(z) = scalar_of(alloc, site, &index[i], working) {
+            if z != ordinals[i] {
+                return false;
+            }
+        }
+    }
+    true
+}
+
+/// Whether in no queue the first item is what a choice awaits, whose frame is open, by subscripts
+/// that call nothing. Then it says nothing.
+pub fn is_elsewhere(
+    alloc: Global,
+    text: &Text,
+    candidate: &Candidate,
+    working: &Working,
+) -> bool {
+    let Some(fixed) = candidate.transition.fixed else {
+        return false;
+    };
+    let Some(awaits) = candidate.transition.awaits else {
+        return false;
+    };
+    let index = awaits.at.index.as_slice();
+    if index.is_empty() {
+        return false;
+    }
+    let site = site_at(text, candidate.instance);
+    for waiting in working.system.queues.get().as_slice() {
+        if let Some(item) = waiting.items.head() {
+            if item.signal == fixed.signal
+                && item.at.declared == fixed.point
+                && item.at.instance == candidate.instance
+                && may_be(alloc, &site, index, item.at.index.as_slice(), working)
+            {
+                return false;
+            }
+        }
+    }
+    true
+}
+
+/// Whether the subscripts of the `when` of a candidate call nothing, and what it awaits is the first
+/// of no queue. Then each of its choices says nothing, and none needs to be looked at.
+pub fn is_missed(candidate: &Candidate, firsts: &[First]) -> bool
     ensures { result ≡ true → (limit : ℕ) (chosen : Frame) (c : Choice)
         → IsOf text.now candidate.now chosen c
         → IsVerdict limit text.now (situation_of system.now) c says_nothing }
@@ -38,12 +110,5 @@ pub fn is_missed(alloc: Global, text: &Text, candidate: &Candidate, system: &Sys
     let Some(fixed) = candidate.transition.fixed else {
         return false;
     };
-    let point = InteractionPoint {
-        instance: candidate.instance,
-        declared: fixed.point,
-        index: Items::new(alloc),
-    };
-    let first = is_first(text, fixed.signal, &point, system);
-    drop(point);
-    !first
+    !firsts.iter().any(|first| is_awaited(candidate.instance, fixed, first))
 }

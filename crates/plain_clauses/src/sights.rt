@@ -6,13 +6,15 @@ ghost use Rattle.est_meaning.specs.GuardParts.{arrived_through};
 ghost use Rattle.plain_clauses.specs.EvaluatedParts.{fits_places};
 ghost use Rattle.plain_clauses.specs.JudgedClauses.{Takes};
 
-use crate::arrivals::{arrived_through, parameters_of};
+use crate::arrivals::{arrived_through, bound_beside, parameters_of};
 use est_meaning::mean_blocks::frame::Frame;
-use est_meaning::mean_blocks::situation::InteractionPoint;
+use est_meaning::mean_blocks::situation::{InteractionPoint, Item};
+use est_meaning::rule_scope::outline::Outline;
 use est_syntax::est_items::Items;
 use est_syntax::name::Used;
-use plain_queues::plain_systems::system::Working;
+use plain_queues::plain_systems::system::{Frames, Working};
 use plain_queues::plain_texts::text::Text;
+use plain_transitions::written::Written;
 use std::alloc::{AllocError, Global};
 
 /// Whether the `from` and the `when` of a choice hold, at which interaction point an interaction is
@@ -60,18 +62,49 @@ pub fn begin(alloc: Global, chosen: Frame, working: &mut Working) -> Result<(), 
     ensures frames { OnOk result (working.new.frames ≡ chosen ∷ []) }
     ensures system { OnOk result (working.new.system ≡ working.old.system) }
 {
-    let mut frames = Items {
-        items: Vec::with_capacity(alloc, 2)?,
-    };
-    frames.push(chosen)?;
-    working.frames = frames;
+    working.frames.items.clear();
+    working.frames.items.try_reserve_exact(2)?;
+    working.frames.push(chosen)?;
     Ok(())
+}
+
+// Where the interaction is declared that is awaited at an interaction point.
+fn signal_awaited(
+    text: &Text,
+    transition: &Written,
+    declared: u32,
+    signal: &Used,
+) -> Option<u32> {
+    if let Some(fixed) = transition.fixed {
+        if fixed.point == declared {
+            return Some(fixed.signal);
+        }
+    }
+    text.interaction_of(declared, signal)
+}
+
+// The parameters of an interaction, with the values of an item, beside open frames.
+fn parameters_by(
+    alloc: Global,
+    outline: &Outline,
+    transition: &Written,
+    item: &Item,
+    frames: &Frames,
+) -> Result<Frame, AllocError> {
+    if let (Some(fixed), Some(open)) = (transition.fixed, frames.as_slice().first()) {
+        if fixed.signal == item.signal {
+            let places = transition.parameters.as_slice();
+            return bound_beside(alloc, places, &item.values, open);
+        }
+    }
+    parameters_of(alloc, outline, item)
 }
 
 /// What is seen and taken at an interaction point.
 pub fn take(
     alloc: Global,
     text: &Text,
+    transition: &Written,
     signal: &Used,
     point: InteractionPoint,
     passes: bool,
@@ -83,11 +116,12 @@ pub fn take(
     ensures passes { IfOk result (λ sight. sight.passes ≡ passes) }
     ensures system { OnOk result (working.new.system ≡ working.old.system) }
 {
+    let signal = signal_awaited(text, transition, point.declared, signal);
     let Some(item) = arrived_through(text, signal, &point, &working.system) else {
         drop(point);
         return Ok(nothing(passes));
     };
-    let frame = parameters_of(alloc, text.outline(), item)?;
+    let frame = parameters_by(alloc, text.outline(), transition, item, &working.frames)?;
     working.frames.push(frame)?;
     Ok(Sight {
         holds: true,

@@ -11,11 +11,12 @@ ghost use Rattle.plain_clauses.specs.JudgedClauses.{IsBefore, IsArrival};
 use crate::subscripts::subscripts_at;
 use est_meaning::mean_blocks::frame::Frame;
 use est_meaning::mean_blocks::situation::InteractionPoint;
+use est_syntax::est_items::Items;
 use plain_clauses::candidate::Candidate;
 use plain_clauses::evaluated::{is_some_past, ordinals_held, site_at};
 use plain_clauses::plain_systems::system::Working;
 use plain_clauses::plain_texts::text::Text;
-use plain_clauses::plain_transitions::written::Awaits;
+use plain_clauses::plain_transitions::written::{Awaits, Written};
 use plain_clauses::sights::{Sight, begin, fits, nothing, take};
 use std::alloc::{AllocError, Global};
 
@@ -25,6 +26,7 @@ fn await_at(
     text: &Text,
     limit: u32,
     instance: u32,
+    transition: &Written,
     awaits: &Awaits,
     declared: u32,
     working: &mut Working,
@@ -37,6 +39,15 @@ fn await_at(
 {
     let site = site_at(text, instance);
     let index = awaits.at.index.as_slice();
+    if index.is_empty() {
+        let point = InteractionPoint {
+            instance,
+            declared,
+            index: Items::new(alloc),
+        };
+        let sight = take(alloc, text, transition, awaits.signal, point, false, working)?;
+        return Ok(sight);
+    }
     let parts = subscripts_at(alloc, &site, limit, declared, index, working)?;
     let passes = is_some_past(parts.as_slice());
     let ordinals = ordinals_held(alloc, parts.as_slice());
@@ -49,17 +60,25 @@ fn await_at(
         declared,
         index,
     };
-    let sight = take(alloc, text, awaits.signal, point, passes, working)?;
+    let sight = take(alloc, text, transition, awaits.signal, point, passes, working)?;
     Ok(sight)
 }
 
-// What is seen and taken by a choice whose `from` holds.
-fn await_one(
+// Where the interaction point of a `when` is declared.
+fn point_awaited(text: &Text, transition: &Written, awaits: &Awaits) -> Option<u32> {
+    match transition.fixed {
+        Some(fixed) => Some(fixed.point),
+        None => text.declared_at(&awaits.at.name),
+    }
+}
+
+/// What is seen and taken by a choice whose `from` holds, beside its frame.
+pub fn await_one(
     alloc: Global,
     text: &Text,
     limit: u32,
     instance: u32,
-    awaits: Option<Awaits>,
+    transition: &Written,
     working: &mut Working,
 ) -> Result<Sight, AllocError>
     ensures sight { IfOk result (λ sight. (c : Choice) → IsBefore instance working.old.frames c
@@ -67,17 +86,19 @@ fn await_one(
         (option_map awaited_of awaits.entry) working.new.frames sight) }
     ensures system { OnOk result (working.new.system ≡ working.old.system) }
 {
-    let Some(awaits) = awaits else {
+    let Some(awaits) = transition.awaits else {
         return Ok(Sight {
             holds: true,
             taken: None,
             passes: false,
         });
     };
-    let Some(declared) = text.declared_at(&awaits.at.name) else {
+    let Some(declared) = point_awaited(text, transition, &awaits) else {
         return Ok(nothing(false));
     };
-    let sight = await_at(alloc, text, limit, instance, &awaits, declared, working)?;
+    let sight = await_at(
+        alloc, text, limit, instance, transition, &awaits, declared, working,
+    )?;
     Ok(sight)
 }
 
@@ -107,7 +128,7 @@ pub fn look(
         text,
         limit,
         candidate.instance,
-        transition.awaits,
+        transition,
         working,
     )?;
     Ok(sight)

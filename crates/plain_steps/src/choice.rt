@@ -22,21 +22,18 @@ use est_meaning::mean_blocks::fault::BlockFault;
 use est_meaning::mean_blocks::frame::Frame;
 use est_meaning::mean_blocks::situation::InteractionPoint;
 use est_meaning::mean_blocks::stop::Stop;
-use est_meaning::rule_scope::declaration::Sort;
-use est_meaning::rule_scope::outline::Outline;
-use est_syntax::body::Block;
-use est_syntax::est_items::Items;
+use est_syntax::est_items::{Items, Twin};
 use plain_births::births::set_state;
 use plain_blocks::statements::statements_in;
 use plain_clauses::candidate::Candidate;
-use plain_frames::plain_declared::declared::places_of;
 use plain_frames::plain_systems::system::{System, Working};
 use plain_frames::routines::frame_of;
 use plain_guards::sight::look;
 use plain_operands::site::Site;
 use plain_queues::heads::take_head;
 use plain_queues::plain_texts::text::Text;
-use plain_transitions::choices::choice_frame;
+use plain_transitions::behaviour::Behaviour;
+use plain_transitions::written::Written;
 use std::alloc::{AllocError, Global};
 
 // How many levels calls and initialize parts may open within one another.
@@ -86,20 +83,22 @@ fn begin(
 }
 
 // The variables of a block, which begin undefined.
-fn own_frame(alloc: Global, outline: &Outline, block: &Block) -> Result<Frame, Stop>
-    ensures { Says (Ok (own_frame outline.now block.now)) result }
-{
-    let places = places_of(alloc, outline, Sort::Variable, block.place)?;
-    frame_of(alloc, outline, places.as_slice(), Items::new(alloc))
+fn own_frame(alloc: Global, behaviour: &Behaviour, transition: &Written) -> Result<Frame, Stop> {
+    let places = transition.own.as_slice();
+    if places.is_empty() {
+        let frame = behaviour.unbound().twin(alloc)?;
+        return Ok(frame);
+    }
+    frame_of(alloc, behaviour.text().outline(), places, Items::new(alloc))
 }
 
 // Executes a block of an instance, which sees the frames that are open and its own variables.
 fn run(
     alloc: Global,
-    text: &Text,
+    behaviour: &Behaviour,
     limit: u32,
     instance: u32,
-    block: &Block,
+    transition: &Written,
     working: &mut Working,
 ) -> Result<(), Stop>
     ensures { Ends (block_meaning text.now instance
@@ -107,11 +106,11 @@ fn run(
         (out-Block block.now).statements limit (situation_of working.old.system))
         result working.new }
 {
-    let frame = own_frame(alloc, text.outline(), block)?;
+    let frame = own_frame(alloc, behaviour, transition)?;
     working.frames.push(frame)?;
     working.outs = Items::new(alloc);
     let site = Site {
-        text,
+        text: behaviour.text(),
         instance,
         function: false,
         levels: MOST_LEVELS,
@@ -120,7 +119,7 @@ fn run(
     statements_in(
         alloc,
         &site,
-        block.statements.as_slice(),
+        transition.block.statements.as_slice(),
         working,
         &mut left,
     )
@@ -129,7 +128,7 @@ fn run(
 // What comes of a choice with these values of its `any` variables.
 fn perform(
     alloc: Global,
-    text: &Text,
+    behaviour: &Behaviour,
     limit: u32,
     candidate: &Candidate,
     chosen: Frame,
@@ -139,14 +138,14 @@ fn perform(
         → Leads text.now (restamped limit text.now (Some f))
         (fired_by limit text.now (situation_of working.old.system) f c) result working.new }
 {
-    begin(alloc, text, limit, candidate, chosen, working)?;
+    begin(alloc, behaviour.text(), limit, candidate, chosen, working)?;
     let transition = candidate.transition;
     run(
         alloc,
-        text,
+        behaviour,
         limit,
         candidate.instance,
-        transition.block,
+        transition,
         working,
     )?;
     set_state(
@@ -161,7 +160,7 @@ fn perform(
 /// What comes of the choice of a number of a transition, but for the stamps.
 pub fn fire_choice(
     alloc: Global,
-    text: &Text,
+    behaviour: &Behaviour,
     limit: u32,
     candidate: &Candidate,
     number: u32,
@@ -175,14 +174,8 @@ pub fn fire_choice(
         (choice_by text.now r candidate.now.number number x) (Fault Undefined))
         result working.new }
 {
-    let Some(chosen) = choice_frame(
-        alloc,
-        text.outline(),
-        &candidate.transition.variables,
-        number,
-    )?
-    else {
+    let Some(chosen) = behaviour.chosen(alloc, candidate.transition, number)? else {
         return Err(Stop::Fault(BlockFault::Undefined));
     };
-    perform(alloc, text, limit, candidate, chosen, working)
+    perform(alloc, behaviour, limit, candidate, chosen, working)
 }

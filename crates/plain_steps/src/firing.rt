@@ -47,7 +47,7 @@ fn fire_in(
     };
     fire_choice(
         alloc,
-        behaviour.text(),
+        behaviour,
         limit,
         &candidate,
         firing.choice,

@@ -51,7 +51,7 @@ fn stamp_transition(
         number,
         transition,
     };
-    if is_timed(alloc, behaviour.text(), limit, &candidate, working)? {
+    if is_timed(alloc, behaviour, limit, &candidate, working)? {
         let since = since(fired, &working.system, living.number, number);
         stamps.push(Stamp {
             instance: living.number,
@@ -81,6 +81,9 @@ fn stamp_instance(
         (situation_of working.new.system ≡ situation_of working.old.system) }
 {
     let fits = behaviour.fits(living.body, living.state);
+    if !fits.is_timed() {
+        return Ok(());
+    }
     let mut last = 0;
     while let Some(number) = fits.next(last) {
         stamp_transition(
@@ -150,6 +153,9 @@ pub fn restamp(
     ensures { OnOk result (situation_of working.new.system
         ≡ restamped limit behaviour.now fired (situation_of working.old.system)) }
 {
+    if !behaviour.is_timed() && working.system.stamps.get().len() == 0 {
+        return Ok(());
+    }
     let mut stamps = Items::new(alloc);
     stamp_rows(alloc, behaviour, limit, fired, &mut stamps, working)?;
     working.system.stamps = Shared::new(alloc, stamps)?;

@@ -5,7 +5,7 @@ ghost use Rattle.est_meaning.specs.ClauseContexts.{FullTransition, transitions_o
 ghost use Rattle.est_meaning.specs.TransitionChoices.{any_frame, any_places, any_tuples, numbered};
 ghost use Rattle.plain_transitions.specs.FittingTransitions.{IsTransition};
 
-use crate::choices::choice_frame;
+use crate::choices::{choice_frame, chosen_frame};
 use crate::fits::Fits;
 use crate::tables::{Tables, tables_of};
 use crate::written::Written;
@@ -26,6 +26,8 @@ pub struct Behaviour<'t> {
     tables: Tables<'t>,
     // What a choice without `any` variables has, which all such choices share.
     unbound: Frame,
+    // Whether a transition has a delay.
+    timed: bool,
 }
 
 // In words, so that where it is let go of there is one call.
@@ -35,6 +37,7 @@ impl<'t> Drop for Behaviour<'t> {
             text,
             tables,
             unbound,
+            timed: _,
         } = self;
         drop(text);
         drop(tables);
@@ -59,6 +62,18 @@ impl<'t> Model for Behaviour<'t> {
     ghost invariant = { λ b. HasTables b.text b.tables.entries × (b.unbound ≡ []) };
 }
 
+// Whether a transition of one of these has a delay.
+fn are_timed(tables: &Tables) -> bool {
+    for number in 0..tables.len() {
+        if let Some((_, table)) = tables.get_index(number) {
+            if table.is_timed() {
+                return true;
+            }
+        }
+    }
+    false
+}
+
 impl<'t> Behaviour<'t> {
     /// The behaviour of a specification that declares this.
     pub fn new(
@@ -77,11 +92,13 @@ impl<'t> Behaviour<'t> {
                 return Err(error);
             }
         };
+        let timed = are_timed(&tables);
         match Frame::new(alloc) {
             Ok(unbound) => Ok(Behaviour {
                 text,
                 tables,
                 unbound,
+                timed,
             }),
             Err(error) => {
                 drop(text);
@@ -96,6 +113,18 @@ impl<'t> Behaviour<'t> {
         ensures { result.now ≡ self.now }
     {
         &self.text
+    }
+
+    /// Whether a transition of some body has a delay.
+    pub fn is_timed(&self) -> bool {
+        self.timed
+    }
+
+    /// A frame without variables.
+    pub fn unbound(&self) -> &Frame
+        ensures { result.now ≡ [] }
+    {
+        &self.unbound
     }
 
     /// The transition of a body that has a number, which begins at 1.
@@ -121,6 +150,7 @@ impl<'t> Behaviour<'t> {
             written: &[],
             each: &[],
             named: &[],
+            timed: false,
         }
     }
 
@@ -163,5 +193,18 @@ impl<'t> Behaviour<'t> {
             return self.only_frame(alloc, number);
         }
         choice_frame(alloc, self.text.outline(), variables, number)
+    }
+
+    /// The same of a transition of the text.
+    pub fn chosen(
+        &self,
+        alloc: Global,
+        transition: &Written,
+        number: u32,
+    ) -> Result<Option<Frame>, AllocError> {
+        if transition.variables.as_slice().is_empty() {
+            return self.only_frame(alloc, number);
+        }
+        chosen_frame(alloc, transition, number)
     }
 }

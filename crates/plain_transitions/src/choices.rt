@@ -11,12 +11,14 @@ ghost use Rattle.est_meaning.specs.TransitionChoices.{numbered};
 ghost use Rattle.plain_transitions.specs.inside.ChosenTuples.{kinds_held, variables_of};
 
 use crate::tuples::tuple_at;
+use crate::written::Written;
 use est_meaning::mean_blocks::frame::{Binding, Frame, Slot};
 use est_meaning::rule_scope::declaration::Sort;
 use est_meaning::rule_scope::outline::Outline;
 use est_syntax::est_items::Items;
 use est_syntax::kind::Kind;
 use est_values::Chunks;
+use est_values::ordinals::{first_ordinal, last_ordinal};
 use est_values::value::Value;
 use plain_names::plain_declared::declared::{Places, kind_at, places_of};
 use std::alloc::{AllocError, Global};
@@ -35,8 +37,8 @@ pub(crate) fn variables_of(
     }
 }
 
-// The kinds of what is declared at some places.
-fn kinds_at<'o>(
+/// The kinds of what is declared at some places.
+pub(crate) fn kinds_at<'o>(
     alloc: Global,
     outline: &'o Outline,
     places: &[u32],
@@ -86,6 +88,90 @@ fn bound_all(alloc: Global, places: &[u32], ordinals: &[i32]) -> Result<Frame, A
         }
     }
     Ok(frame)
+}
+
+/// The same of a transition, whose kinds are known.
+pub fn chosen_frame(
+    alloc: Global,
+    transition: &Written,
+    number: u32,
+) -> Result<Option<Frame>, AllocError> {
+    if number == 0 {
+        return Ok(None);
+    }
+    let Some(tuple) = tuple_at(alloc, transition.kinds.as_slice(), number - 1)? else {
+        return Ok(None);
+    };
+    let frame = bound_all(alloc, transition.variables.as_slice(), tuple.as_slice())?;
+    Ok(Some(frame))
+}
+
+// The ordinal of a variable of a choice.
+fn ordinal_bound(frame: &Frame, at: usize) -> Option<i32> {
+    match frame.get(at) {
+        None => None,
+        Some(binding) => match &binding.slot {
+            Slot::Value(Value::Ordinal(ordinal)) => Some(*ordinal),
+            _ => None,
+        },
+    }
+}
+
+// Gives a variable of a choice an ordinal.
+fn put_ordinal(
+    alloc: Global,
+    declared: u32,
+    ordinal: i32,
+    at: usize,
+    frame: &mut Frame,
+) -> Result<(), AllocError> {
+    if frame.len() <= at {
+        return Ok(());
+    }
+    let slot = Slot::Value(Value::Ordinal(ordinal));
+    frame.set(alloc, at, Binding { declared, slot })
+}
+
+// Goes on to the next choice, if there is one, where each variable has a kind.
+fn turn_choice(
+    alloc: Global,
+    transition: &Written,
+    frame: &mut Frame,
+) -> Result<bool, AllocError> {
+    let places = transition.variables.as_slice();
+    let mut at = places.len();
+    while 0 < at {
+        at -= 1;
+        let kind = transition.kinds[at];
+        let Some(ordinal) = ordinal_bound(frame, at) else {
+            return Ok(false);
+        };
+        if ordinal < last_ordinal(kind) {
+            put_ordinal(alloc, places[at], ordinal + 1, at, frame)?;
+            return Ok(true);
+        }
+        put_ordinal(alloc, places[at], first_ordinal(kind), at, frame)?;
+    }
+    Ok(false)
+}
+
+/// Goes on from a choice to that of the next number, if there is one.
+pub fn next_choice(
+    alloc: Global,
+    transition: &Written,
+    number: u32,
+    frame: &mut Frame,
+) -> Result<bool, AllocError> {
+    if transition.variables.len() == transition.kinds.len() {
+        return turn_choice(alloc, transition, frame);
+    }
+    match chosen_frame(alloc, transition, number)? {
+        None => Ok(false),
+        Some(next) => {
+            *frame = next;
+            Ok(true)
+        }
+    }
 }
 
 /// The `any` variables at some places with their values in the choice of a number, which begins at

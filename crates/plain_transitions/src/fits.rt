@@ -19,6 +19,7 @@ pub struct Fits<'b, 't> {
     pub(crate) written: &'b [Written<'t>],
     pub(crate) each: &'b [u32],
     pub(crate) named: &'b [u32],
+    pub(crate) timed: bool,
 }
 
 impl<'b, 't> Model for Fits<'b, 't> {
@@ -54,6 +55,11 @@ impl<'b, 't> Fits<'b, 't> {
             return None;
         }
         item_at(self.written, number as usize - 1)
+    }
+
+    /// Whether a transition of the body has a delay.
+    pub fn is_timed(&self) -> bool {
+        self.timed
     }
 
     /// The number of the first transition after this one whose `from` fits the state.

@@ -27,6 +27,7 @@ pub(crate) struct Table<'t> {
     place: u32,
     written: Vec<Written<'t>>,
     fitting: Fitting,
+    timed: bool,
 }
 
 // In words, so that where it is let go of there is one call.
@@ -38,6 +39,7 @@ impl<'t> Drop for Table<'t> {
             place: _,
             written,
             fitting,
+            timed: _,
         } = self;
         drop(written);
         drop(fitting);
@@ -68,7 +70,7 @@ impl<'t> Model for Table<'t> {
 // The transitions of a body.
 fn written_in<'t>(
     alloc: Global,
-    outline: &Outline,
+    outline: &'t Outline,
     body: &'t Body,
 ) -> Result<Vec<Written<'t>>, AllocError>
     ensures { IfOk result (λ written. AllZip (IsWritten outline.now)
@@ -114,7 +116,17 @@ fn naming(fitting: &Fitting, state: Option<u32>) -> &[u32]
     }
 }
 
+// Whether a transition has a delay.
+fn has_delays(written: &[Written<'_>]) -> bool {
+    written.iter().any(|transition| transition.delay.is_some())
+}
+
 impl<'t> Table<'t> {
+    /// Whether a transition has a delay.
+    pub(crate) fn is_timed(&self) -> bool {
+        self.timed
+    }
+
     /// The table of the body whose name stands at a place. Errs where memory runs out, or where 32
     /// bits do not number its transitions.
     pub(crate) fn new(alloc: Global, text: &Text<'t>, place: u32) -> Result<Table<'t>, AllocError>
@@ -125,12 +137,14 @@ impl<'t> Table<'t> {
             return Err(AllocError);
         }
         let fitting = fitting_of(alloc, written.as_slice())?;
+        let timed = has_delays(written.as_slice());
         Ok(Table {
             spec: text.spec(),
             outline: text.outline(),
             place,
             written,
             fitting,
+            timed,
         })
     }
 
@@ -160,6 +174,7 @@ impl<'t> Table<'t> {
             written: self.written.as_slice(),
             each: self.fitting.each.as_slice(),
             named: naming(&self.fitting, state),
+            timed: self.timed,
         }
     }
 }

@@ -17,7 +17,7 @@ ghost use Rattle.plain_transitions.specs.inside.HeldClauses.{ruling_in};
 ghost use Rattle.plain_transitions.specs.inside.AddedTransitions.{provided_by, written_after};
 ghost use Rattle.plain_transitions.specs.inside.AddedTransitions.{AreAdded};
 
-use crate::choices::variables_of;
+use crate::choices::{kinds_at, variables_of};
 use crate::clauses::{
     any_of, condition_in, delay_of, from_of, priority_of, ruling_of, to_of, when_of,
 };
@@ -25,12 +25,17 @@ use crate::conditions::{Given, given_in, referred};
 use crate::contexts::give_all;
 use crate::written::{Awaits, Fixed, Provision, Written};
 use est_meaning::rule_kinds::constants::constant_value;
+use est_meaning::mean_blocks::rule_declares::variables::bare;
+use est_meaning::rule_scope::declaration::Sort;
 use est_meaning::rule_scope::outline::Outline;
 use est_syntax::body::Block;
 use est_syntax::est_items::Items;
+use est_syntax::expression::{Expr, Factor};
 use est_syntax::name::Used;
 use est_syntax::transition::{Clause, Group, Transition};
-use plain_names::plain_declared::declared::{declared_at, interaction_of};
+use plain_names::plain_declared::declared::{Places, declared_at, interaction_of, places_of};
+use plain_names::plain_declared::heads::Head;
+use plain_names::plain_declared::names::head;
 use std::alloc::{AllocError, Global};
 
 // The states of the state set that is declared at a place.
@@ -128,11 +133,38 @@ fn next_state(outline: &Outline, context: &[&Clause]) -> Option<u32>
     }
 }
 
-// What a `when` awaits, where it has no subscripts and both names are declared.
+// Whether an expression is a number alone.
+fn is_number(e: &Expr) -> bool {
+    if e.relation.is_some() || e.left.sign.is_some() || !e.left.rest.as_slice().is_empty() {
+        return false;
+    }
+    if !e.left.first.rest.as_slice().is_empty() {
+        return false;
+    }
+    match &e.left.first.first {
+        Factor::Number { .. } => true,
+        _ => false,
+    }
+}
+
+// Whether an expression is a number or the name of a constant or a variable alone, so that nothing
+// is called for it.
+fn is_calm(outline: &Outline, e: &Expr) -> bool {
+    match bare(e) {
+        None => is_number(e),
+        Some(variable) => match head(outline, variable.name) {
+            Head::Function(_, _) => false,
+            Head::Modules(_) => false,
+            _ => variable.path.is_empty(),
+        },
+    }
+}
+
+// What a `when` awaits, where its subscripts call nothing and both names are declared.
 fn fixed_at(outline: &Outline, awaits: &Awaits) -> Option<Fixed>
     ensures { IsFixed outline.now (Some (awaited_of awaits.now)) result }
 {
-    if !awaits.at.index.as_slice().is_empty() {
+    if !awaits.at.index.as_slice().iter().all(|e| is_calm(outline, e)) {
         return None;
     }
     let point = declared_at(outline, &awaits.at.name)?;
@@ -146,6 +178,18 @@ fn fixed_of(outline: &Outline, context: &[&Clause]) -> Option<Fixed>
 {
     let awaits = when_of(context)?;
     fixed_at(outline, &awaits)
+}
+
+// The places of the parameters of what is awaited, where that is known.
+fn parameters_at(
+    alloc: Global,
+    outline: &Outline,
+    fixed: Option<Fixed>,
+) -> Result<Places, AllocError> {
+    match fixed {
+        None => Ok(Items::new(alloc)),
+        Some(fixed) => places_of(alloc, outline, Sort::Variable, fixed.signal),
+    }
 }
 
 // What is provided in a context, by the clause of it that says so.
@@ -186,7 +230,7 @@ fn provision<'t>(
 // A transition with the clauses of a context.
 fn write<'t>(
     alloc: Global,
-    outline: &Outline,
+    outline: &'t Outline,
     given: &[Given<'t>],
     context: &[&'t Clause],
     block: &'t Block,
@@ -197,24 +241,31 @@ fn write<'t>(
     let priority = priority(outline, context)?;
     let states = states_of(alloc, outline, context)?;
     let variables = variables_of(alloc, outline, any_of(context))?;
+    let kinds = kinds_at(alloc, outline, variables.as_slice())?;
     let condition = provision(alloc, given, context)?;
+    let fixed = fixed_of(outline, context);
+    let parameters = parameters_at(alloc, outline, fixed)?;
+    let own = places_of(alloc, outline, Sort::Variable, block.place)?;
     Ok(Written {
         states,
         awaits: when_of(context),
-        fixed: fixed_of(outline, context),
+        fixed,
+        parameters,
         variables,
+        kinds,
         condition,
         delay: delay_of(context),
         priority,
         next_state: next_state(outline, context),
         block,
+        own,
     })
 }
 
 // Writes a transition with its clauses, given after a context.
 fn write_next<'t>(
     alloc: Global,
-    outline: &Outline,
+    outline: &'t Outline,
     given: &[Given<'t>],
     transition: &'t Transition,
     context: &mut Vec<&'t Clause>,
@@ -235,7 +286,7 @@ fn write_next<'t>(
 // Writes transitions after a context.
 fn write_all<'t>(
     alloc: Global,
-    outline: &Outline,
+    outline: &'t Outline,
     given: &[Given<'t>],
     transitions: &'t [Transition],
     context: &mut Vec<&'t Clause>,
@@ -253,7 +304,7 @@ fn write_all<'t>(
 // Writes the transitions after one `trans`.
 fn write_group<'t>(
     alloc: Global,
-    outline: &Outline,
+    outline: &'t Outline,
     group: &'t Group,
     into: &mut Vec<Written<'t>>,
 ) -> Result<(), AllocError>
@@ -277,7 +328,7 @@ fn write_group<'t>(
 /// Writes the transitions of groups.
 pub(crate) fn write_groups<'t>(
     alloc: Global,
-    outline: &Outline,
+    outline: &'t Outline,
     groups: &'t [Group],
     into: &mut Vec<Written<'t>>,
 ) -> Result<(), AllocError>
