@@ -86,7 +86,11 @@ pub fn element(reader: &mut Reader, directory: &Directory, head: u32) -> u32
     ensures { Reads (grammar.subscripts (kinds_of (slice_get directory.now.ports.now head)))
         (ShowsElement directory.now.ports.now head result) reader.old reader.new }
 {
-    let index = subscripts(reader, directory.kinds(head));
+    let kinds = directory.kinds(head);
+    if kinds.is_empty() {
+        return head;
+    }
+    let index = subscripts(reader, kinds);
     directory.element(head, index.as_slice()).unwrap_or(0)
 }
 

@@ -6,9 +6,10 @@ ghost use Rattle.plain_texts.specs.mean_blocks.Attachments.{leads_to, above, fol
 ghost use Rattle.plain_systems.specs.HeldSystems.{linked, situation_of};
 ghost use Rattle.plain_attachments.specs.LinksOfPoints.{above_in};
 
-use crate::instances::external_of;
+use crate::instances::{external_of, header_of};
 use crate::links::linked;
 use est_syntax::est_items::Twin;
+use plain_points::declared::is_declared;
 use plain_systems::points::is_point;
 use plain_systems::rows::row_of;
 use plain_systems::system::{Links, System};
@@ -64,8 +65,56 @@ fn leading(
     }
 }
 
-// The external interaction point of an instance that is attached to one of a child.
-fn above_in(
+// Interaction points of an instance from which links lead to one: none, one, or more.
+#[derive(Clone, Copy)]
+enum Leading<'l> {
+    None,
+    One(&'l InteractionPoint),
+    More,
+}
+
+// The interaction points of an instance from which links lead to another.
+fn leading_from<'l>(links: &'l Links, instance: u32, to: &InteractionPoint) -> Leading<'l> {
+    let mut leading = Leading::None;
+    for link in links.as_slice() {
+        if link.from.instance == instance && is_point(to, &link.to) {
+            match leading {
+                Leading::None => leading = Leading::One(&link.from),
+                _ => return Leading::More,
+            }
+        }
+    }
+    leading
+}
+
+// An interaction point from which links lead to another, where the header of its instance declares
+// it.
+fn declared_above(
+    alloc: Global,
+    text: &Text,
+    system: &System,
+    from: &InteractionPoint,
+    to: &InteractionPoint,
+) -> Result<Option<InteractionPoint>, AllocError> {
+    if !leads_to(system.downs.get(), from, to) {
+        return Ok(None);
+    }
+    match header_of(text.outline(), system, from.instance) {
+        None => Ok(None),
+        Some(header) => {
+            if is_declared(alloc, text.outline(), header, from)? {
+                let outer = from.twin(alloc)?;
+                Ok(Some(outer))
+            } else {
+                Ok(None)
+            }
+        }
+    }
+}
+
+// The external interaction point of an instance that is attached to one of a child, found among all
+// of them.
+fn above_among(
     alloc: Global,
     text: &Text,
     system: &System,
@@ -79,6 +128,24 @@ fn above_in(
     let outer = leading(alloc, system.downs.get(), points.as_slice(), point);
     drop(points);
     outer
+}
+
+// The external interaction point of an instance that is attached to one of a child.
+fn above_in(
+    alloc: Global,
+    text: &Text,
+    system: &System,
+    parent: u32,
+    point: &InteractionPoint,
+) -> Result<Option<InteractionPoint>, AllocError>
+    ensures { IfOk result (λ outer. outer
+        ≡ above_in text.now (situation_of system.now) parent point.now) }
+{
+    match leading_from(system.downs.get(), parent, point) {
+        Leading::None => Ok(None),
+        Leading::One(from) => declared_above(alloc, text, system, from, point),
+        Leading::More => above_among(alloc, text, system, parent, point),
+    }
 }
 
 /// The interaction point of the parent that is attached to one of a child, if there is one. Errs

@@ -30,7 +30,7 @@ pub struct First {
 pub fn firsts_of(alloc: Global, system: &System) -> Result<Vec<First>, AllocError> {
     let mut firsts = Vec::new(alloc);
     for waiting in system.queues.get().as_slice() {
-        if let Some(item) = waiting.items.head() {
+        if let Some(item) = waiting.get().items.head() {
             firsts.push(First {
                 instance: item.at.instance,
                 declared: item.at.declared,
@@ -87,7 +87,7 @@ pub fn is_elsewhere(
     }
     let site = site_at(text, candidate.instance);
     for waiting in working.system.queues.get().as_slice() {
-        if let Some(item) = waiting.items.head() {
+        if let Some(item) = waiting.get().items.head() {
             if item.signal == fixed.signal
                 && item.at.declared == fixed.point
                 && item.at.instance == candidate.instance

@@ -27,13 +27,14 @@ use est_values::value::{Value, Values};
 use mean_blocks::fault::BlockFault;
 use mean_blocks::frame::{Frame, Slot};
 use mean_blocks::rule_scope::declaration::Sort;
+use mean_blocks::rule_scope::outline::Outline;
 use mean_blocks::situation::{Element, InteractionPoint, Item};
 use mean_blocks::stop::Stop;
 use plain_births::births::set_state;
 use plain_births::inits;
-use plain_operands::plain_declared::declared::{first_state, places_of};
+use plain_operands::plain_declared::declared::{first_state, kind_at, places_of};
 use plain_operands::plain_frames::children::child_of;
-use plain_operands::plain_frames::routines::{Slots, frame_of};
+use plain_operands::plain_frames::routines::{Slots, frame_of, given_first};
 use plain_operands::site::Site;
 use plain_outputs::outputs::deliver;
 use plain_outputs::plain_attachments::instances;
@@ -109,28 +110,26 @@ pub fn external_points(
 }
 
 // The value in a slot.
-fn slot_value(alloc: Global, slot: &Slot) -> Result<Value, AllocError>
-    ensures { IfOk result (λ value. value ≡ slot_value slot.now) }
+fn slot_value(slot: Slot) -> Value
+    ensures { result ≡ slot_value slot }
 {
     match slot {
-        Slot::Value(value) => value.twin(alloc),
-        _ => Ok(Value::Undefined),
+        Slot::Value(value) => value,
+        Slot::Place(place) => {
+            drop(place);
+            Value::Undefined
+        }
+        Slot::Instance(_) => Value::Undefined,
     }
 }
 
-// The values in a frame.
-fn values_in_frame(alloc: Global, frame: &Frame) -> Result<Values, AllocError>
-    ensures { IfOk result (λ values. values ≡ map bound_value frame.now) }
+// The values of parameters, of which the first are given these values.
+fn values_by(alloc: Global, outline: &Outline, places: &[u32], slots: &Slots) -> Result<Values, Stop>
 {
     let mut values = Values::new(alloc)?;
-    for i in 0..frame.len() {
-        match frame.get(i) {
-            None => return Ok(values),
-            Some(binding) => {
-                let value = slot_value(alloc, &binding.slot)?;
-                values.push(alloc, value)?;
-            }
-        }
+    for (i, place) in places.iter().enumerate() {
+        let slot = given_first(alloc, kind_at(outline, *place), slots.get(i))?;
+        values.push(alloc, slot_value(slot))?;
     }
     Ok(values)
 }
@@ -141,10 +140,10 @@ fn values_with(alloc: Global, site: &Site, declared: u32, slots: Slots) -> Resul
 {
     let outline = site.text.outline();
     let places = places_of(alloc, outline, Sort::Variable, declared)?;
-    let frame = frame_of(alloc, outline, places.as_slice(), slots)?;
+    let values = values_by(alloc, outline, places.as_slice(), &slots);
     drop(places);
-    let values = values_in_frame(alloc, &frame)?;
-    Ok(values)
+    drop(slots);
+    values
 }
 
 /// The item of an output at an interaction point, with these arguments.

@@ -40,8 +40,8 @@ fn given(alloc: Global, kind: &Kind, slot: &Slot) -> Result<Slot, Stop>
     }
 }
 
-// What a variable begins with, and a parameter that is given something.
-fn given_first(alloc: Global, kind: Option<&Kind>, slot: Option<&Slot>) -> Result<Slot, Stop>
+/// What a variable begins with, and a parameter that is given something.
+pub fn given_first(alloc: Global, kind: Option<&Kind>, slot: Option<&Slot>) -> Result<Slot, Stop>
     ensures { Says (given_first (option_copied kind.entry) (option_copied slot.entry)) result }
 {
     match slot {

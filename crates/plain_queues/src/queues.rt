@@ -21,7 +21,7 @@ fn position(key: &QueueKey, queues: &Queues) -> Option<usize>
     queues
         .as_slice()
         .iter()
-        .position(|waiting| is_queue(key, &waiting.queue))
+        .position(|waiting| is_queue(key, &waiting.get().queue))
 }
 
 // A queue in which no item waits.
@@ -45,7 +45,7 @@ fn room(alloc: Global, key: &QueueKey, queues: &mut Queues) -> Result<usize, All
         None => {
             let at = queues.len();
             let waiting = fresh(alloc, key)?;
-            queues.push(waiting)?;
+            queues.push(Shared::new(alloc, waiting)?)?;
             Ok(at)
         }
     }
@@ -74,7 +74,8 @@ pub fn put(
 {
     let queues = queues.own(alloc)?;
     let at = room(alloc, key, queues)?;
-    queues.items[at].items.put(alloc, item)?;
+    let waiting = queues.items[at].own(alloc)?;
+    waiting.items.put(alloc, item)?;
     Ok(())
 }
 
@@ -90,7 +91,8 @@ pub fn append(
 {
     let queues = queues.own(alloc)?;
     let at = room(alloc, key, queues)?;
-    put_all(alloc, items, &mut queues.items[at].items)?;
+    let waiting = queues.items[at].own(alloc)?;
+    put_all(alloc, items, &mut waiting.items)?;
     Ok(())
 }
 
@@ -109,7 +111,8 @@ pub fn take(
         None => Ok(None),
         Some(at) => {
             let queues = queues.own(alloc)?;
-            let item = queues.items[at].items.take(alloc)?;
+            let waiting = queues.items[at].own(alloc)?;
+            let item = waiting.items.take(alloc)?;
             Ok(item)
         }
     }
@@ -227,7 +230,8 @@ fn take_out(
         None => Ok(Items::new(alloc)),
         Some(at) => {
             let queues = queues.own(alloc)?;
-            let moved = withdraw(alloc, from, to, &mut queues.items[at].items)?;
+            let waiting = queues.items[at].own(alloc)?;
+            let moved = withdraw(alloc, from, to, &mut waiting.items)?;
             Ok(moved)
         }
     }

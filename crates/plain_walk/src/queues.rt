@@ -37,7 +37,8 @@ pub(crate) fn queues_with(
     match item {
         None => Shared::new(alloc, queues),
         Some(item) => {
-            queues.push(waiting_of(alloc, text, item)?)?;
+            let waiting = waiting_of(alloc, text, item)?;
+            queues.push(Shared::new(alloc, waiting)?)?;
             Shared::new(alloc, queues)
         }
     }
