@@ -12,6 +12,7 @@ use est_meaning::rule_kinds::hosts::count;
 use est_syntax::kind::Kind;
 use est_syntax::name::{Bytes, Name};
 use est_syntax::ports::Signal;
+use est_values::value::Values;
 use rule_ports::ports::Ports;
 use std::alloc::{AllocError, Global};
 
@@ -20,6 +21,7 @@ use std::alloc::{AllocError, Global};
 pub struct Directory<'p> {
     pub ports: &'p Ports,
     heads: HeadTable,
+    pub none: Values,
 }
 
 // A name of these bytes.
@@ -100,8 +102,9 @@ pub fn directory_of<'p>(alloc: Global, ports: &'p Ports) -> Result<Directory<'p>
     if count > u32::MAX as u64 {
         return Err(AllocError);
     }
+    let none = Values::new(alloc)?;
     let heads = heads_of(alloc, ports, count as u32)?;
-    Ok(Directory { ports, heads })
+    Ok(Directory { ports, heads, none })
 }
 
 impl<'p> Directory<'p> {

@@ -62,6 +62,7 @@ pub fn port_signal(
     brackets(
         reader,
         parameters_at(signals, signal),
+        &directory.none,
         place,
         direction,
         format,
@@ -115,6 +116,7 @@ pub fn signal(
 fn brackets(
     reader: &mut Reader,
     kinds: &[Kind],
+    none: &Values,
     place: Place,
     direction: Direction,
     format: Format,
@@ -125,9 +127,9 @@ fn brackets(
         reader.old reader.new }
 {
     match direction {
-        Direction::Receives => arrival(place, values(reader, kinds)),
+        Direction::Receives => arrival(place, values(reader, kinds, none)),
         Direction::Sends => match format {
-            Format::Complete => departure(place, values(reader, kinds)),
+            Format::Complete => departure(place, values(reader, kinds, none)),
             Format::Partial => seen_departure(reader, kinds, place),
         },
     }

@@ -17,7 +17,7 @@ use plain_guards::judging::judge_open;
 use plain_systems::system::{System, Working};
 use plain_transitions::behaviour::Behaviour;
 use plain_transitions::choices::next_choice;
-use plain_transitions::fits::Fits;
+use plain_transitions::fits::{Fits, before_all};
 use std::alloc::{AllocError, Global};
 
 /// A living instance by its number, with its body and its state.
@@ -209,15 +209,14 @@ pub fn gather(
         (situation_of working.new.system ≡ situation_of working.old.system) }
 {
     let fits = behaviour.fits(instance.body, instance.state);
-    let mut after: u32 = 0;
-    while let Some(number) = fits.next(after) {
+    let mut cursor = before_all();
+    while let Some(number) = fits.go_on(&mut cursor) {
         match add_transition(
             alloc, behaviour, limit, instance, &fits, number, firsts, working, offers,
         )? {
             Offers::Settled => {}
             Offers::Unsettled => return Ok(Offers::Unsettled),
         }
-        after = number;
     }
     Ok(Offers::Settled)
 }

@@ -57,13 +57,14 @@ pub fn fits(states: &Option<Items<u32>>, state: Option<u32>) -> bool
     }
 }
 
-/// The only frame is this one; there is room for the parameters of an interaction beside it.
+/// The only frame is this one; there is room beside it for the parameters of an interaction, the
+/// variables of a block and those of a routine.
 pub fn begin(alloc: Global, chosen: Frame, working: &mut Working) -> Result<(), AllocError>
     ensures frames { OnOk result (working.new.frames ≡ chosen ∷ []) }
     ensures system { OnOk result (working.new.system ≡ working.old.system) }
 {
     working.frames.items.clear();
-    working.frames.items.try_reserve_exact(2)?;
+    working.frames.items.try_reserve_exact(4)?;
     working.frames.push(chosen)?;
     Ok(())
 }

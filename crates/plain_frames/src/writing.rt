@@ -43,6 +43,17 @@ fn rewritten(alloc: Global, slot: Slot, path: &[u32], part: Value) -> Result<Val
     }
 }
 
+// Whether a binding has a value.
+fn is_value(at: usize, frame: &Frame) -> bool {
+    match frame.get(at) {
+        None => false,
+        Some(binding) => match &binding.slot {
+            Slot::Value(_) => true,
+            _ => false,
+        },
+    }
+}
+
 // Writes a part of the value under a name: the value is taken out, changed and put back.
 fn write(
     alloc: Global,
@@ -57,6 +68,14 @@ fn write(
         drop(part);
         return Err(Stop::Fault(BlockFault::Undefined));
     };
+    if path.is_empty() && is_value(at, frame) {
+        let new = Binding {
+            declared,
+            slot: Slot::Value(part),
+        };
+        frame.set(alloc, at, new)?;
+        return Ok(());
+    }
     let hole = Binding {
         declared,
         slot: Slot::Value(Value::Undefined),

@@ -46,7 +46,44 @@ impl<'b, 't> Model for Fits<'b, 't> {
     }) f.written.now f.each.now f.named.now };
 }
 
+/// How many numbers of transitions have been met, of those that fit each state and of those that
+/// name the state.
+#[derive(Clone, Copy)]
+pub struct Cursor {
+    each: usize,
+    named: usize,
+}
+
+/// None of them.
+pub fn before_all() -> Cursor {
+    Cursor { each: 0, named: 0 }
+}
+
 impl<'b, 't> Fits<'b, 't> {
+    /// The number of the next transition whose `from` fits the state.
+    pub fn go_on(&self, cursor: &mut Cursor) -> Option<u32> {
+        match (self.each.get(cursor.each), self.named.get(cursor.named)) {
+            (None, None) => None,
+            (Some(number), None) => {
+                cursor.each += 1;
+                Some(*number)
+            }
+            (None, Some(number)) => {
+                cursor.named += 1;
+                Some(*number)
+            }
+            (Some(one), Some(other)) => {
+                if *one < *other {
+                    cursor.each += 1;
+                    Some(*one)
+                } else {
+                    cursor.named += 1;
+                    Some(*other)
+                }
+            }
+        }
+    }
+
     /// The transition of the body that has a number, which begins at 1.
     pub fn transition(&self, number: u32) -> Option<&'b Written<'t>>
         ensures { IsTransition self.now.text self.now.body number result }
