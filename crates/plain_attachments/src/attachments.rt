@@ -67,24 +67,24 @@ fn leading(
 
 // Interaction points of an instance from which links lead to one: none, one, or more.
 #[derive(Clone, Copy)]
-enum Leading<'l> {
-    None,
+enum Sources<'l> {
+    Nothing,
     One(&'l InteractionPoint),
     More,
 }
 
 // The interaction points of an instance from which links lead to another.
-fn leading_from<'l>(links: &'l Links, instance: u32, to: &InteractionPoint) -> Leading<'l> {
-    let mut leading = Leading::None;
+fn sources_of<'l>(links: &'l Links, instance: u32, to: &InteractionPoint) -> Sources<'l> {
+    let mut sources = Sources::Nothing;
     for link in links.as_slice() {
         if link.from.instance == instance && is_point(to, &link.to) {
-            match leading {
-                Leading::None => leading = Leading::One(&link.from),
-                _ => return Leading::More,
+            match sources {
+                Sources::Nothing => sources = Sources::One(&link.from),
+                _ => return Sources::More,
             }
         }
     }
-    leading
+    sources
 }
 
 // An interaction point from which links lead to another, where the header of its instance declares
@@ -141,10 +141,10 @@ fn above_in(
     ensures { IfOk result (λ outer. outer
         ≡ above_in text.now (situation_of system.now) parent point.now) }
 {
-    match leading_from(system.downs.get(), parent, point) {
-        Leading::None => Ok(None),
-        Leading::One(from) => declared_above(alloc, text, system, from, point),
-        Leading::More => above_among(alloc, text, system, parent, point),
+    match sources_of(system.downs.get(), parent, point) {
+        Sources::Nothing => Ok(None),
+        Sources::One(from) => declared_above(alloc, text, system, from, point),
+        Sources::More => above_among(alloc, text, system, parent, point),
     }
 }
 

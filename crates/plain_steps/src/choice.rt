@@ -101,9 +101,9 @@ fn run(
     transition: &Written,
     working: &mut Working,
 ) -> Result<(), Stop>
-    ensures { Ends (block_meaning text.now instance
-        (working.old.frames ++ own_frame text.now.outline block.now ∷ [])
-        (out-Block block.now).statements limit (situation_of working.old.system))
+    ensures { Ends (block_meaning behaviour.now instance
+        (working.old.frames ++ own_frame behaviour.now.outline transition.now.block.now ∷ [])
+        (out-Block transition.now.block.now).statements limit (situation_of working.old.system))
         result working.new }
 {
     let frame = own_frame(alloc, behaviour, transition)?;
@@ -134,9 +134,9 @@ fn perform(
     chosen: Frame,
     working: &mut Working,
 ) -> Result<(), Stop>
-    ensures { (f : Firing) (c : Choice) → IsOf text.now candidate.now chosen c
-        → Leads text.now (restamped limit text.now (Some f))
-        (fired_by limit text.now (situation_of working.old.system) f c) result working.new }
+    ensures { (f : Firing) (c : Choice) → IsOf behaviour.now candidate.now chosen c
+        → Leads behaviour.now (restamped limit behaviour.now (Some f))
+        (fired_by limit behaviour.now (situation_of working.old.system) f c) result working.new }
 {
     begin(alloc, behaviour.text(), limit, candidate, chosen, working)?;
     let transition = candidate.transition;
@@ -168,10 +168,10 @@ pub fn fire_choice(
 ) -> Result<(), Stop>
     ensures { (f : Firing) (r : Row) (x : FullTransition)
         → r.number ≡ candidate.now.instance → r.state ≡ candidate.now.state
-        → IsWritten text.now.outline x candidate.now.transition.now
-        → Leads text.now (restamped limit text.now (Some f))
-        (option_map_or (fired_by limit text.now (situation_of working.old.system) f)
-        (choice_by text.now r candidate.now.number number x) (Fault Undefined))
+        → IsWritten behaviour.now.outline x candidate.now.transition.now
+        → Leads behaviour.now (restamped limit behaviour.now (Some f))
+        (option_map_or (fired_by limit behaviour.now (situation_of working.old.system) f)
+        (choice_by behaviour.now r candidate.now.number number x) (Fault Undefined))
         result working.new }
 {
     let Some(chosen) = behaviour.chosen(alloc, candidate.transition, number)? else {

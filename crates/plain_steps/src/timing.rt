@@ -61,9 +61,9 @@ pub fn is_timed(
 ) -> Result<bool, AllocError>
     ensures timed { IfOk result (λ timed. (r : Row) (x : FullTransition)
         → r.number ≡ candidate.now.instance → r.state ≡ candidate.now.state
-        → IsWritten text.now.outline x candidate.now.transition.now → timed
-        ≡ option_map_or (is_waiting limit text.now (situation_of working.old.system))
-        (choice_by text.now r candidate.now.number 1 x) false) }
+        → IsWritten behaviour.now.outline x candidate.now.transition.now → timed
+        ≡ option_map_or (is_waiting limit behaviour.now (situation_of working.old.system))
+        (choice_by behaviour.now r candidate.now.number 1 x) false) }
     ensures system { OnOk result
         (situation_of working.new.system ≡ situation_of working.old.system) }
 {
