@@ -17,9 +17,10 @@ use crate::tuples::tuple_of;
 use est_meaning::event::{Event, Events, Interaction};
 use est_meaning::mean_blocks::situation::{InteractionPoint, Item};
 use est_meaning::rule_declares::lookups::{side_at, started_header};
+use est_meaning::rule_kinds::hosts::count;
 use est_meaning::rule_scope::outline::Outline;
 use est_syntax::est_items::{Items, Twin};
-use est_syntax::kind::Ordinals;
+use est_syntax::kind::Kind;
 use est_syntax::name::Name;
 use est_syntax::ports::Signal;
 use est_syntax::specification::Spec;
@@ -49,6 +50,63 @@ fn told(number: Option<usize>) -> Result<Option<u32>, AllocError>
     }
 }
 
+// Where an interaction point is declared whose first port has a number, if it is.
+#[derive(Clone, Copy)]
+struct Declared {
+    first: u32,
+    place: Option<u32>,
+}
+
+// How many elements there are with these subscripts, as far as 64 bits go.
+fn elements(kinds: &[Kind]) -> u64 {
+    let mut all: u64 = 1;
+    for kind in kinds {
+        all = count(kind).saturating_mul(all);
+    }
+    all
+}
+
+// Where a header declares a name.
+fn place_of(
+    alloc: Global,
+    outline: &Outline,
+    header: Option<u32>,
+    bytes: &[u8],
+) -> Result<Option<u32>, AllocError> {
+    let Some(header) = header else {
+        return Ok(None);
+    };
+    let name = name_of(alloc, bytes)?;
+    match outline.standing(header, &name) {
+        None => Ok(None),
+        Some(standing) => Ok(Some(standing.place)),
+    }
+}
+
+// Where the interaction points of a header are declared, by their first ports.
+fn declared_in(
+    alloc: Global,
+    outline: &Outline,
+    header: Option<u32>,
+    ports: &Ports,
+) -> Result<Vec<Declared>, AllocError> {
+    let mut all = Vec::new(alloc);
+    let mut next: u64 = 0;
+    while next < ports.count() && next <= u32::MAX as u64 {
+        let first = next as u32;
+        let Some(bytes) = ports.name(first) else {
+            return Ok(all);
+        };
+        let Some(kinds) = ports.kinds(first) else {
+            return Ok(all);
+        };
+        let place = place_of(alloc, outline, header, bytes)?;
+        all.push(Declared { first, place })?;
+        next = next.saturating_add(elements(kinds.as_slice()).max(1));
+    }
+    Ok(all)
+}
+
 /// The ports of a specification, found by their numbers and by their interaction points.
 pub struct Outside<'t> {
     spec: &'t Spec,
@@ -57,6 +115,8 @@ pub struct Outside<'t> {
     // The header of the root, and the first name of it that stands at each place.
     header: Option<u32>,
     names: IndexMap<u32, Name>,
+    // The interaction points of the root by their first ports, ascending.
+    declared: Vec<Declared>,
 }
 
 // In words, so that where it is let go of there is one call.
@@ -68,8 +128,10 @@ impl<'t> Drop for Outside<'t> {
             ports: _,
             header: _,
             names,
+            declared,
         } = self;
         drop(names);
+        drop(declared);
     }
 }
 
@@ -106,12 +168,14 @@ impl<'t> Outside<'t> {
     {
         let header = started_header(outline, &spec.first);
         let names = names_by_place(alloc, outline, header)?;
+        let declared = declared_in(alloc, outline, header, ports)?;
         Ok(Outside {
             spec,
             outline,
             ports,
             header,
             names,
+            declared,
         })
     }
 
@@ -232,66 +296,22 @@ impl<'t> Outside<'t> {
         Ok(events)
     }
 
-    // The number of the first port of an interaction point, which has this port too.
-    fn first_of(&self, alloc: Global, name: &Name, port: u32) -> Result<Option<u32>, AllocError>
-        ensures { IfOk result (IsFirstOf self.now.spec name.now.bytes port) }
-    {
-        let Some(kinds) = self.ports.kinds(port) else {
-            return Ok(None);
-        };
-        match tuple_of(alloc, kinds.as_slice(), 0)? {
-            None => Ok(None),
-            Some(index) => Ok(self.ports.find(name, index.as_slice())),
+    // The interaction point of the root that has the port of a number among its elements.
+    fn declared_by(&self, port: u32) -> Option<Declared> {
+        let mut low = 0;
+        let mut high = self.declared.len();
+        while low < high {
+            let middle = low + (high - low) / 2;
+            if self.declared[middle].first <= port {
+                low = middle + 1;
+            } else {
+                high = middle;
+            }
         }
-    }
-
-    // The subscripts of the port of a number, whose name this is.
-    fn subscripts(
-        &self,
-        alloc: Global,
-        name: &Name,
-        port: u32,
-    ) -> Result<Option<Ordinals>, AllocError>
-        requires { option_map (λ p. p.name.bytes) (slice_get (ports_of self.now.spec) port)
-            ≡ Some name.now.bytes }
-        ensures { IfOk result (λ index. index
-            ≡ option_map (λ p. p.index) (slice_get (ports_of self.now.spec) port)) }
-    {
-        let Some(kinds) = self.ports.kinds(port) else {
-            return Ok(None);
-        };
-        let Some(first) = self.first_of(alloc, name, port)? else {
-            return Ok(None);
-        };
-        tuple_of(alloc, kinds.as_slice(), port - first)
-    }
-
-    // The interaction point that the port of a number is, whose name this is.
-    fn point_named(
-        &self,
-        alloc: Global,
-        name: &Name,
-        port: u32,
-    ) -> Result<Option<InteractionPoint>, AllocError>
-        requires { option_map (λ p. p.name.bytes) (slice_get (ports_of self.now.spec) port)
-            ≡ Some name.now.bytes }
-        ensures { IfOk result (λ point. point
-            ≡ option_and_then (port_point self.now) (slice_get (ports_of self.now.spec) port)) }
-    {
-        let Some(header) = self.header else {
-            return Ok(None);
-        };
-        let Some(standing) = self.outline.standing(header, name) else {
-            return Ok(None);
-        };
-        let Some(index) = self.subscripts(alloc, name, port)? else {
-            return Ok(None);
-        };
-        Ok(Some(InteractionPoint {
-            instance: 1,
-            declared: standing.place,
-            index,
-        }))
+        if low == 0 {
+            return None;
+        }
+        Some(self.declared[low - 1])
     }
 
     // The interaction point that the port of a number is, if there is one.
@@ -299,11 +319,23 @@ impl<'t> Outside<'t> {
         ensures { IfOk result (λ point. point
             ≡ option_and_then (port_point self.now) (slice_get (ports_of self.now.spec) port)) }
     {
-        let Some(bytes) = self.ports.name(port) else {
+        let Some(kinds) = self.ports.kinds(port) else {
             return Ok(None);
         };
-        let name = name_of(alloc, bytes)?;
-        self.point_named(alloc, &name, port)
+        let Some(Declared { first, place }) = self.declared_by(port) else {
+            return Ok(None);
+        };
+        let Some(declared) = place else {
+            return Ok(None);
+        };
+        let Some(index) = tuple_of(alloc, kinds.as_slice(), port - first)? else {
+            return Ok(None);
+        };
+        Ok(Some(InteractionPoint {
+            instance: 1,
+            declared,
+            index,
+        }))
     }
 
     // The item that an interaction is at an interaction point, if it is one.
