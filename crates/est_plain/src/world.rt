@@ -16,6 +16,7 @@ use est_meaning::rule_scope::outline::Outline;
 use est_meaning::world::World;
 use est_syntax::specification::Spec;
 use plain_choices::options;
+use plain_choices::options::Desk;
 use plain_outside::outside::Outside;
 use plain_steps::firing;
 use plain_steps::start::start_of;
@@ -31,6 +32,7 @@ pub struct PlainWorld<'c> {
     limit: u32,
     fired: u64,
     history: History,
+    desk: Desk,
     ghost behaviour_is: { behaviour ≡ text_of behaviour.spec },
     ghost outside_is: { outside ≡ behaviour },
 }
@@ -44,10 +46,12 @@ impl<'c> Drop for PlainWorld<'c> {
             limit: _,
             fired: _,
             history,
+            desk,
         } = self;
         drop(behaviour);
         drop(outside);
         drop(history);
+        drop(desk);
     }
 }
 
@@ -68,7 +72,7 @@ impl<'c> World for PlainWorld<'c> {
 
     fn options(&mut self, alloc: Global, into: &mut Vec<Firing>) -> Result<Offers, AllocError> {
         let mut working = self.history.working(alloc)?;
-        options::options(alloc, &self.behaviour, self.limit, &mut working, into)
+        options::options(alloc, &self.behaviour, self.limit, &mut working, &mut self.desk, into)
     }
 
     fn due_any(&mut self, alloc: Global) -> Result<bool, AllocError> {
@@ -185,6 +189,7 @@ impl<'c> PlainWorld<'c> {
                         limit: statements,
                         fired: 0,
                         history: History::new(alloc, system),
+                        desk: Desk::new(alloc),
                     },
                     outs,
                 })

@@ -14,7 +14,7 @@ ghost use Rattle.plain_choices.specs.inside.SystemOffers.{IsFound, IsFoundBelow,
 use crate::offers::{Instance, Offer, gather, instance_at};
 use est_meaning::answers::Offers;
 use est_meaning::firing::Firing;
-use plain_clauses::missed::{First, firsts_of};
+use plain_clauses::missed::{First, note_firsts};
 use plain_systems::system::Working;
 use plain_transitions::behaviour::Behaviour;
 use std::alloc::{AllocError, Global};
@@ -25,6 +25,28 @@ use std::alloc::{AllocError, Global};
 pub struct Found {
     pub firings: Vec<Firing>,
     pub dues: Vec<u32>,
+}
+
+/// What is made for each list of options, whose room is kept for the next one.
+#[derive(Drop)]
+pub struct Desk {
+    pub(crate) found: Found,
+    offers: Vec<Offer>,
+    firsts: Vec<First>,
+}
+
+impl Desk {
+    /// With no room yet.
+    pub fn new(alloc: Global) -> Desk {
+        Desk {
+            found: Found {
+                firings: Vec::new(alloc),
+                dues: Vec::new(alloc),
+            },
+            offers: Vec::new(alloc),
+            firsts: Vec::new(alloc),
+        }
+    }
 }
 
 // Whether a priority goes before another.
@@ -111,6 +133,7 @@ fn add_instance(
     instance: Instance,
     firsts: &[First],
     working: &mut Working,
+    offers: &mut Vec<Offer>,
     found: &mut Found,
 ) -> Result<Offers, AllocError>
     requires living { IsLiving (situation_of working.old.system) instance }
@@ -121,8 +144,8 @@ fn add_instance(
     ensures system { OnOk result
         (situation_of working.new.system ≡ situation_of working.old.system) }
 {
-    let mut offers = Vec::new(alloc);
-    match gather(alloc, behaviour, limit, instance, firsts, working, &mut offers)? {
+    offers.clear();
+    match gather(alloc, behaviour, limit, instance, firsts, working, offers)? {
         Offers::Settled => {}
         Offers::Unsettled => return Ok(Offers::Unsettled),
     }
@@ -136,7 +159,7 @@ pub fn find(
     behaviour: &Behaviour,
     limit: u32,
     working: &mut Working,
-    found: &mut Found,
+    desk: &mut Desk,
 ) -> Result<Offers, AllocError>
     requires numbered { AreNumbered (situation_of working.old.system) }
     requires firings { found.old.firings.items ≡ [] }
@@ -146,13 +169,23 @@ pub fn find(
     ensures system { OnOk result
         (situation_of working.new.system ≡ situation_of working.old.system) }
 {
-    let firsts = firsts_of(alloc, &working.system)?;
+    desk.found.firings.clear();
+    desk.found.dues.clear();
+    note_firsts(&working.system, &mut desk.firsts)?;
     for at in 0..working.system.rows.get().len() {
         match instance_at(&working.system, at) {
             None => return Ok(Offers::Settled),
             Some(instance) => {
-                let firsts = firsts.as_slice();
-                match add_instance(alloc, behaviour, limit, instance, firsts, working, found)? {
+                match add_instance(
+                    alloc,
+                    behaviour,
+                    limit,
+                    instance,
+                    desk.firsts.as_slice(),
+                    working,
+                    &mut desk.offers,
+                    &mut desk.found,
+                )? {
                     Offers::Settled => {}
                     Offers::Unsettled => return Ok(Offers::Unsettled),
                 }

@@ -7,7 +7,8 @@ ghost use Rattle.est_meaning.specs.QuietSituations.{HasDue};
 ghost use Rattle.est_meaning.specs.TransitionSelection.{IsSettled};
 
 use crate::ancestors::keep_unpreceded;
-use crate::found::{Found, find};
+use crate::found::find;
+pub use crate::found::Desk;
 use est_meaning::answers::Offers;
 use est_meaning::firing::Firing;
 use plain_systems::system::Working;
@@ -21,6 +22,7 @@ pub fn options(
     behaviour: &Behaviour,
     limit: u32,
     working: &mut Working,
+    desk: &mut Desk,
     into: &mut Vec<Firing>,
 ) -> Result<Offers, AllocError>
     requires { AreNumbered (situation_of working.old.system) }
@@ -30,15 +32,11 @@ pub fn options(
         (situation_of working.new.system ≡ situation_of working.old.system) }
 {
     into.clear();
-    let mut found = Found {
-        firings: Vec::new(alloc),
-        dues: Vec::new(alloc),
-    };
-    match find(alloc, behaviour, limit, working, &mut found)? {
+    match find(alloc, behaviour, limit, working, desk)? {
         Offers::Settled => {}
         Offers::Unsettled => return Ok(Offers::Unsettled),
     }
-    keep_unpreceded(&working.system, &found, into)?;
+    keep_unpreceded(&working.system, &desk.found, into)?;
     Ok(Offers::Settled)
 }
 
@@ -54,13 +52,10 @@ pub fn due_any(
     ensures { IfOk result (λ due. IsTrue due ↔ HasDue limit behaviour.now
         (situation_of working.old.system)) }
 {
-    let mut found = Found {
-        firings: Vec::new(alloc),
-        dues: Vec::new(alloc),
-    };
-    match find(alloc, behaviour, limit, working, &mut found)? {
+    let mut desk = Desk::new(alloc);
+    match find(alloc, behaviour, limit, working, &mut desk)? {
         Offers::Settled => {}
         Offers::Unsettled => unreachable!(),
     }
-    Ok(!found.dues.is_empty())
+    Ok(!desk.found.dues.is_empty())
 }

@@ -26,9 +26,9 @@ pub struct First {
     pub signal: u32,
 }
 
-/// The first items of all queues.
-pub fn firsts_of(alloc: Global, system: &System) -> Result<Vec<First>, AllocError> {
-    let mut firsts = Vec::new(alloc);
+/// Puts down the first items of all queues.
+pub fn note_firsts(system: &System, firsts: &mut Vec<First>) -> Result<(), AllocError> {
+    firsts.clear();
     for waiting in system.queues.get().as_slice() {
         if let Some(item) = waiting.get().items.head() {
             firsts.push(First {
@@ -38,7 +38,7 @@ pub fn firsts_of(alloc: Global, system: &System) -> Result<Vec<First>, AllocErro
             })?;
         }
     }
-    Ok(firsts)
+    Ok(())
 }
 
 // Whether a first item may be what is awaited.

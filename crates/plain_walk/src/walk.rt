@@ -16,6 +16,7 @@ use est_meaning::mean_blocks::stop::Stop;
 use est_plain::est_check::Checked;
 use est_syntax::est_items::{Items, Shared, Twin};
 use plain_choices::options;
+use plain_choices::options::Desk;
 use plain_frames::plain_systems::system::{Queues, System, Working};
 use plain_outside::outside::Outside;
 use plain_steps::firing;
@@ -141,6 +142,7 @@ impl<'c> Walk<'c> {
             &self.behaviour,
             self.limit,
             &mut working,
+            &mut Desk::new(alloc),
             &mut firings,
         )? {
             Offers::Unsettled => Ok(Vec::new(alloc)),
