@@ -107,11 +107,14 @@ pub fn is_declared(
     ensures { IfOk result (λ declared. declared
         ≡ list_any (is_at outline.now point.now) (places_of outline.now sort.Point header)) }
 {
-    let places = places_of(alloc, outline, Sort::Point, header)?;
-    Ok(
-        places
-            .as_slice()
-            .iter()
-            .any(|place| is_at(outline, point, *place)),
-    )
+    let Some(names) = outline.names(header) else {
+        return Ok(false);
+    };
+    for number in 0..names.len() {
+        let (_, standing) = names.entry(number);
+        if is_at(outline, point, standing.place) && outline.is_sort(Sort::Point, standing.place) {
+            return Ok(true);
+        }
+    }
+    Ok(false)
 }
