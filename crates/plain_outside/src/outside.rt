@@ -322,13 +322,13 @@ impl<'t> Outside<'t> {
         let Some(kinds) = self.ports.kinds(port) else {
             return Ok(None);
         };
-        let Some(Declared { first, place }) = self.declared_by(port) else {
+        let Some(known) = self.declared_by(port) else {
             return Ok(None);
         };
-        let Some(declared) = place else {
+        let Some(declared) = known.place else {
             return Ok(None);
         };
-        let Some(index) = tuple_of(alloc, kinds.as_slice(), port - first)? else {
+        let Some(index) = tuple_of(alloc, kinds.as_slice(), port - known.first)? else {
             return Ok(None);
         };
         Ok(Some(InteractionPoint {
