@@ -29,7 +29,7 @@ use est_values::value::Values;
 use text_reader::Reader;
 use text_values::formats::Format;
 use text_values::seens::seens;
-use text_values::values::{subscripts, values};
+use text_values::values::{subscripts, values_beside};
 
 // A signal of a port, by their numbers.
 #[derive(Clone, Copy)]
@@ -127,9 +127,9 @@ fn brackets(
         reader.old reader.new }
 {
     match direction {
-        Direction::Receives => arrival(place, values(reader, kinds, none)),
+        Direction::Receives => arrival(place, values_beside(reader, kinds, none)),
         Direction::Sends => match format {
-            Format::Complete => departure(place, values(reader, kinds, none)),
+            Format::Complete => departure(place, values_beside(reader, kinds, none)),
             Format::Partial => seen_departure(reader, kinds, place),
         },
     }

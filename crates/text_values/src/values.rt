@@ -21,14 +21,30 @@ use est_values::ordinals::ordinal_count;
 use est_values::value::{Value, Values};
 use text_reader::Reader;
 
-/// The values of parameters of these kinds in parentheses, or nothing where there are no kinds. What
-/// holds nothing is shared with others. None where memory runs out.
-pub fn values(reader: &mut Reader, kinds: &[Kind], others: &Values) -> Option<Values>
+/// The values of parameters of these kinds in parentheses, or nothing where there are no kinds.
+/// None where memory runs out.
+pub fn values(reader: &mut Reader, kinds: &[Kind]) -> Option<Values>
     ensures { Reads (grammar.parameters kinds.now)
         (λ t. IsSomeAnd result (λ vs. AreBracketed ShowsValue kinds.now vs t))
         reader.old reader.new }
 {
-    let mut values = no_parts(reader, others, kinds.len())?;
+    let values = no_values(reader)?;
+    bracketed(reader, kinds, values)
+}
+
+/// The same beside others, with which what holds nothing is shared.
+pub fn values_beside(reader: &mut Reader, kinds: &[Kind], others: &Values) -> Option<Values>
+    ensures { Reads (grammar.parameters kinds.now)
+        (λ t. IsSomeAnd result (λ vs. AreBracketed ShowsValue kinds.now vs t))
+        reader.old reader.new }
+{
+    let values = no_parts(reader, others, kinds.len())?;
+    bracketed(reader, kinds, values)
+}
+
+// Adds the values in parentheses, where there are kinds.
+fn bracketed(reader: &mut Reader, kinds: &[Kind], none: Values) -> Option<Values> {
+    let mut values = none;
     if kinds.is_empty() {
         return Some(values);
     }
@@ -65,6 +81,20 @@ fn next_ordinal(reader: &mut Reader, before: u64, kind: &Kind, index: &mut Ordin
     comma(reader, before);
     let next = ordinal(reader, kind);
     reader.keep(index, next);
+}
+
+// No values. None where memory runs out.
+fn no_values(reader: &mut Reader) -> Option<Values>
+    ensures still { Still reader.old reader.new }
+    ensures empty { MatchOption result (reader.new.outcome ≡ Well → ⊥) (λ values. values ≡ []) }
+{
+    match Values::new(reader.alloc) {
+        Ok(values) => Some(values),
+        Err(_) => {
+            reader.spend();
+            None
+        }
+    }
 }
 
 // No values, with room for so many, beside others. None where memory runs out.
