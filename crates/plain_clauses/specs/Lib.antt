@@ -1,3 +1,4 @@
+pub mod FirstItems
 pub mod EvaluatedParts
 pub mod JudgedClauses
 pub mod JudgedGuards

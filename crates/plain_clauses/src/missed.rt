@@ -1,10 +1,10 @@
 //! Choices whose `when` fails whatever else they say.
-ghost use Rattle.std.specs.Prelude.{◌≡◌, ◌&&◌, true, false, nat_eq, ℕ};
-ghost use Rattle.std.specs.Option.{option_map_or};
-ghost use Rattle.est_meaning.specs.mean_blocks.GlobalSituation.{Frame, is_point};
-ghost use Rattle.est_meaning.specs.mean_blocks.QueueEffects.{head_at};
+ghost use Rattle.std.specs.Prelude.{◌≡◌, ◌∷◌, [], true, ℕ, OnOk};
+ghost use Rattle.est_meaning.specs.mean_blocks.GlobalSituation.{Frame, Situation};
+ghost use Rattle.est_meaning.specs.mean_blocks.TextByPlace.{Text};
 ghost use Rattle.plain_queues.specs.plain_systems.HeldSystems.{situation_of};
 ghost use Rattle.est_meaning.specs.TransitionChoices.{Choice};
+ghost use Rattle.plain_clauses.specs.FirstItems.{AreFirsts};
 ghost use Rattle.plain_clauses.specs.JudgedGuards.{IsOf, IsVerdict, says_nothing};
 
 use crate::candidate::Candidate;
@@ -27,7 +27,10 @@ pub struct First {
 }
 
 /// Puts down the first items of all queues.
-pub fn note_firsts(system: &System, firsts: &mut Vec<First>) -> Result<(), AllocError> {
+pub fn note_firsts(system: &System, firsts: &mut Vec<First>) -> Result<(), AllocError>
+    ensures { OnOk result
+        ((t : Text) → AreFirsts t (situation_of system.now) firsts.new.items) }
+{
     firsts.clear();
     for waiting in system.queues.get().as_slice() {
         if let Some(item) = waiting.get().items.head() {
@@ -74,7 +77,11 @@ pub fn is_elsewhere(
     text: &Text,
     candidate: &Candidate,
     working: &Working,
-) -> bool {
+) -> bool
+    ensures { result ≡ true → (limit : ℕ) (chosen : Frame) (c : Choice)
+        → working.now.frames ≡ chosen ∷ [] → IsOf text.now candidate.now chosen c
+        → IsVerdict limit text.now (situation_of working.now.system) c says_nothing }
+{
     let Some(fixed) = candidate.transition.fixed else {
         return false;
     };
@@ -103,9 +110,9 @@ pub fn is_elsewhere(
 /// Whether the subscripts of the `when` of a candidate call nothing, and what it awaits is the first
 /// of no queue. Then each of its choices says nothing, and none needs to be looked at.
 pub fn is_missed(candidate: &Candidate, firsts: &[First]) -> bool
-    ensures { result ≡ true → (limit : ℕ) (chosen : Frame) (c : Choice)
-        → IsOf text.now candidate.now chosen c
-        → IsVerdict limit text.now (situation_of system.now) c says_nothing }
+    ensures { result ≡ true → (limit : ℕ) (t : Text) (s : Situation) (chosen : Frame) (c : Choice)
+        → AreFirsts t s firsts.now → IsOf t candidate.now chosen c
+        → IsVerdict limit t s c says_nothing }
 {
     let Some(fixed) = candidate.transition.fixed else {
         return false;

@@ -88,8 +88,11 @@ pub fn judge_open(
     candidate: &Candidate,
     working: &mut Working,
 ) -> Result<Verdict, AllocError>
-    ensures verdict { IfOk result (λ verdict. (c : Choice) → IsOf text.now candidate.now chosen c
+    ensures verdict { IfOk result (λ verdict. (chosen : Frame) (c : Choice)
+        → working.old.frames ≡ chosen ∷ [] → IsOf text.now candidate.now chosen c
         → IsVerdict limit text.now (situation_of working.old.system) c verdict) }
+    ensures frames { OnOk result ((chosen : Frame) → working.old.frames ≡ chosen ∷ []
+        → working.new.frames ≡ chosen ∷ []) }
     ensures system { OnOk result
         (situation_of working.new.system ≡ situation_of working.old.system) }
 {

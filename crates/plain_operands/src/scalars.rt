@@ -1,10 +1,10 @@
 //! Ordinals of expressions that are found at once: nothing is called for them, and nothing copied.
-ghost use Rattle.std.specs.Prelude.{◌≡◌, ℕ, IfSome};
-ghost use Rattle.est_values.specs.declared.value.Value.TheVariants.{Ordinal};
-ghost use Rattle.mean_blocks.specs.ExpressionValues.{value_of, simple_of, term_of, factor_of};
-ghost use Rattle.mean_blocks.specs.ExpressionValues.{variable_value};
-ghost use Rattle.mean_blocks.specs.Outcome.{Done};
+ghost use Rattle.std.specs.Option.{option_copied};
+ghost use Rattle.mean_blocks.specs.ExpressionValues.{value_of, related, simple_of, term_of};
+ghost use Rattle.mean_blocks.specs.ExpressionValues.{factor_of, variable_value};
+ghost use Rattle.mean_blocks.specs.Outcome.{◌>>=◌};
 ghost use Rattle.plain_operands.specs.ExecutionSites.{view_of};
+ghost use Rattle.plain_operands.specs.ScalarValues.{Finds, FindsMembers};
 
 use crate::reached::with_subscript;
 use crate::site::{Site, dims_of, head_at};
@@ -38,8 +38,7 @@ struct Part<'v, 't> {
 /// The ordinal of an expression, where it has one that is found at once.
 #[cycle(scalar)]
 pub fn scalar_of(alloc: Global, site: &Site, e: &Expr, working: &Working) -> Option<i32>
-    ensures { IfSome result (λ z. (n : ℕ)
-        → value_of e.now (view_of site.now working.now) n ≡ Done (Ordinal z) n) }
+    ensures { Finds (value_of e.now (view_of site.now working.now)) result }
 {
     match &e.relation {
         None => scalar_simple(alloc, site, &e.left, working),
@@ -55,7 +54,10 @@ fn scalar_related(
     left: &Simple,
     relation: &Relation,
     working: &Working,
-) -> Option<i32> {
+) -> Option<i32>
+    ensures { Finds (simple_of left.now (view_of site.now working.now)
+        >>= λ a. related relation.now a (view_of site.now working.now)) result }
+{
     match relation.operator {
         Operator::Within => {
             let z = scalar_simple(alloc, site, left, working)?;
@@ -115,7 +117,9 @@ fn signed(sign: Option<Sign>, z: i32) -> Option<i32> {
 
 // The ordinal of a sum.
 #[cycle(scalar)]
-fn scalar_simple(alloc: Global, site: &Site, simple: &Simple, working: &Working) -> Option<i32> {
+fn scalar_simple(alloc: Global, site: &Site, simple: &Simple, working: &Working) -> Option<i32>
+    ensures { Finds (simple_of simple.now (view_of site.now working.now)) result }
+{
     let first = scalar_term(alloc, site, &simple.first, working)?;
     let mut z = signed(simple.sign, first)?;
     for step in simple.rest.as_slice() {
@@ -129,7 +133,9 @@ fn scalar_simple(alloc: Global, site: &Site, simple: &Simple, working: &Working)
 
 // The ordinal of a product.
 #[cycle(scalar)]
-fn scalar_term(alloc: Global, site: &Site, term: &Term, working: &Working) -> Option<i32> {
+fn scalar_term(alloc: Global, site: &Site, term: &Term, working: &Working) -> Option<i32>
+    ensures { Finds (term_of term.now (view_of site.now working.now)) result }
+{
     let mut z = scalar_factor(alloc, site, &term.first, working)?;
     for step in term.rest.as_slice() {
         if !stops(step.operator, z) {
@@ -142,7 +148,9 @@ fn scalar_term(alloc: Global, site: &Site, term: &Term, working: &Working) -> Op
 
 // The ordinal of an operand.
 #[cycle(scalar)]
-fn scalar_factor(alloc: Global, site: &Site, factor: &Factor, working: &Working) -> Option<i32> {
+fn scalar_factor(alloc: Global, site: &Site, factor: &Factor, working: &Working) -> Option<i32>
+    ensures { Finds (factor_of factor.now (view_of site.now working.now)) result }
+{
     match factor {
         Factor::Number { number, .. } => if *number <= MAXINT as u64 {
             Some(*number as i32)
@@ -171,7 +179,9 @@ fn scalar_variable(
     name: &Used,
     path: &[Selector],
     working: &Working,
-) -> Option<i32> {
+) -> Option<i32>
+    ensures { Finds (variable_value name.now path.now (view_of site.now working.now)) result }
+{
     match head_at(site, name) {
         Head::Constant(z) => Some(z),
         Head::Variable(declared, kind) => {
@@ -194,7 +204,9 @@ fn members_of<'w>(
     site: &Site,
     simple: &Simple,
     working: &'w Working,
-) -> Option<&'w [i32]> {
+) -> Option<&'w [i32]>
+    ensures { FindsMembers (simple_of simple.now (view_of site.now working.now)) (option_copied result) }
+{
     if simple.sign.is_some() || !simple.rest.as_slice().is_empty() {
         return None;
     }
