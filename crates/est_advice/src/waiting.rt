@@ -7,7 +7,7 @@ use advice_tokens::note::{append_note, printed};
 use est_meaning::answers::Started;
 use est_meaning::firing::Firing;
 use est_meaning::mean_blocks::situation::Item;
-use est_syntax::est_items::{Shared, Twin};
+use est_syntax::est_items::Twin;
 use est_values::Queue;
 use plain_systems::rows::row_of;
 use plain_systems::system::{System, Waiting};
@@ -79,11 +79,11 @@ fn push_items(
 fn push_queues(
     alloc: Global,
     looked: &Looked,
-    queues: &[Shared<Waiting>],
+    queues: &[Waiting],
     told: &mut Told,
 ) -> Result<(), AllocError> {
     for waiting in queues {
-        push_items(alloc, looked, &waiting.get().items, told)?;
+        push_items(alloc, looked, &waiting.items, told)?;
     }
     Ok(())
 }

@@ -6,7 +6,7 @@ use advice_lines::sheet::{Effect, EffectKind};
 use est_meaning::event::Event;
 use est_meaning::mean_blocks::situation::Item;
 use est_meaning::trace::{Expected, agrees};
-use est_syntax::est_items::{Shared, Twin};
+use est_syntax::est_items::Twin;
 use est_values::Queue;
 use plain_frames::plain_systems::system::Waiting;
 use std::alloc::{AllocError, Global};
@@ -46,11 +46,11 @@ fn push_items(
 pub(crate) fn push_arrivals(
     alloc: Global,
     source: &Source,
-    queues: &[Shared<Waiting>],
+    queues: &[Waiting],
     effects: &mut Vec<Effect>,
 ) -> Result<(), AllocError> {
     for waiting in queues {
-        push_items(alloc, source, &waiting.get().items, effects)?;
+        push_items(alloc, source, &waiting.items, effects)?;
     }
     Ok(())
 }

@@ -68,7 +68,7 @@ use plain_effects::plain_operands::reached::{
     Reached, begun, loaded, placed, result_begun, take_part, with_component, with_field,
     with_subscript,
 };
-use plain_effects::plain_operands::scalars::scalar_of;
+use plain_effects::plain_operands::scalars::{scalar_of, scene_of};
 use plain_effects::plain_operands::site::{
     Site, declared_of, dims_of, head_at, is_given_place, meaning_at,
 };
@@ -95,7 +95,7 @@ pub fn value_of(
         result left.new }
     ensures world { OnOk result (LooksSame working.old working.new) }
 {
-    if let Some(z) = scalar_of(alloc, site, e, working) {
+    if let Some(z) = scalar_of(alloc, site, e, &scene_of(working)) {
         return Ok(Value::Ordinal(z));
     }
     let mut value = Value::Undefined;

@@ -10,10 +10,10 @@ ghost use Rattle.plain_choices.specs.inside.InstanceOffers.{IsGathered};
 
 use est_meaning::answers::Offers;
 use est_meaning::firing::Firing;
+use est_meaning::mean_blocks::frame::Frame;
 use plain_clauses::candidate::Candidate;
 use plain_clauses::missed::{First, is_missed};
-use plain_clauses::sights::begin;
-use plain_guards::judging::judge_open;
+use plain_guards::judging::judge_lent;
 use plain_systems::system::{System, Working};
 use plain_transitions::behaviour::Behaviour;
 use plain_transitions::choices::next_choice;
@@ -60,6 +60,7 @@ fn add_choice(
     limit: u32,
     candidate: &Candidate,
     choice: u32,
+    chosen: &Frame,
     working: &mut Working,
     offers: &mut Vec<Offer>,
 ) -> Result<Offers, AllocError>
@@ -72,7 +73,7 @@ fn add_choice(
     ensures system { OnOk result
         (situation_of working.new.system ≡ situation_of working.old.system) }
 {
-    let verdict = judge_open(alloc, behaviour.text(), limit, candidate, working)?;
+    let verdict = judge_lent(alloc, behaviour.text(), limit, candidate, chosen, working)?;
     if verdict.passes {
         return Ok(Offers::Unsettled);
     }
@@ -109,21 +110,21 @@ fn add_choices(
         (situation_of working.new.system ≡ situation_of working.old.system) }
 {
     let transition = candidate.transition;
-    let Some(chosen) = behaviour.chosen(alloc, transition, 1)? else {
+    let Some(first) = behaviour.chosen(alloc, transition, 1)? else {
         return Ok(Offers::Settled);
     };
-    begin(alloc, chosen, working)?;
+    let mut chosen = first;
     let mut choice: u32 = 1;
     let mut more = true;
     while more {
         match add_choice(
-            alloc, behaviour, limit, candidate, choice, working, offers,
+            alloc, behaviour, limit, candidate, choice, &chosen, working, offers,
         )? {
             Offers::Settled => {}
             Offers::Unsettled => return Ok(Offers::Unsettled),
         }
         choice = choice.checked_add(1).ok_or(AllocError)?;
-        more = next_choice(alloc, transition, choice, &mut working.frames.items[0])?;
+        more = next_choice(alloc, transition, choice, &mut chosen)?;
     }
     Ok(Offers::Settled)
 }

@@ -2,7 +2,7 @@
 #![tactic(auto)]
 
 pub mod ages;
-mod arrivals;
+pub mod arrivals;
 pub mod candidate;
 pub mod evaluated;
 pub mod met;

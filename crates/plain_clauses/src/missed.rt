@@ -1,5 +1,5 @@
 //! Choices whose `when` fails whatever else they say.
-ghost use Rattle.std.specs.Prelude.{◌≡◌, ◌∷◌, [], true, ℕ, OnOk};
+ghost use Rattle.std.specs.Prelude.{◌≡◌, true, ℕ, OnOk};
 ghost use Rattle.est_meaning.specs.mean_blocks.GlobalSituation.{Frame, Situation};
 ghost use Rattle.est_meaning.specs.mean_blocks.TextByPlace.{Text};
 ghost use Rattle.plain_queues.specs.plain_systems.HeldSystems.{situation_of};
@@ -8,12 +8,7 @@ ghost use Rattle.plain_clauses.specs.FirstItems.{AreFirsts};
 ghost use Rattle.plain_clauses.specs.JudgedGuards.{IsOf, IsVerdict, says_nothing};
 
 use crate::candidate::Candidate;
-use crate::evaluated::site_at;
-use est_syntax::expression::Expr;
-use plain_operands::scalars::scalar_of;
-use plain_operands::site::Site;
-use plain_queues::plain_systems::system::{System, Working};
-use plain_queues::plain_texts::text::Text;
+use plain_queues::plain_systems::system::System;
 use plain_transitions::written::Fixed;
 use std::alloc::{AllocError, Global};
 
@@ -33,7 +28,7 @@ pub fn note_firsts(system: &System, firsts: &mut Vec<First>) -> Result<(), Alloc
 {
     firsts.clear();
     for waiting in system.queues.get().as_slice() {
-        if let Some(item) = waiting.get().items.head() {
+        if let Some(item) = waiting.items.head() {
             firsts.push(First {
                 instance: item.at.instance,
                 declared: item.at.declared,
@@ -47,64 +42,6 @@ pub fn note_firsts(system: &System, firsts: &mut Vec<First>) -> Result<(), Alloc
 // Whether a first item may be what is awaited.
 fn is_awaited(instance: u32, fixed: Fixed, first: &First) -> bool {
     first.signal == fixed.signal && first.declared == fixed.point && first.instance == instance
-}
-
-// Whether subscripts may be those of an interaction point.
-fn may_be(
-    alloc: Global,
-    site: &Site,
-    index: &[Expr],
-    ordinals: &[i32],
-    working: &Working,
-) -> bool {
-    if index.len() != ordinals.len() {
-        return false;
-    }
-    for i in 0..index.len() {
-        if let Some(z) = scalar_of(alloc, site, &index[i], working) {
-            if z != ordinals[i] {
-                return false;
-            }
-        }
-    }
-    true
-}
-
-/// Whether in no queue the first item is what a choice awaits, whose frame is open, by subscripts
-/// that call nothing. Then it says nothing.
-pub fn is_elsewhere(
-    alloc: Global,
-    text: &Text,
-    candidate: &Candidate,
-    working: &Working,
-) -> bool
-    ensures { result ≡ true → (limit : ℕ) (chosen : Frame) (c : Choice)
-        → working.now.frames ≡ chosen ∷ [] → IsOf text.now candidate.now chosen c
-        → IsVerdict limit text.now (situation_of working.now.system) c says_nothing }
-{
-    let Some(fixed) = candidate.transition.fixed else {
-        return false;
-    };
-    let Some(awaits) = candidate.transition.awaits else {
-        return false;
-    };
-    let index = awaits.at.index.as_slice();
-    if index.is_empty() {
-        return false;
-    }
-    let site = site_at(text, candidate.instance);
-    for waiting in working.system.queues.get().as_slice() {
-        if let Some(item) = waiting.get().items.head() {
-            if item.signal == fixed.signal
-                && item.at.declared == fixed.point
-                && item.at.instance == candidate.instance
-                && may_be(alloc, &site, index, item.at.index.as_slice(), working)
-            {
-                return false;
-            }
-        }
-    }
-    true
 }
 
 /// Whether the subscripts of the `when` of a candidate call nothing, and what it awaits is the first

@@ -7,15 +7,15 @@ ghost use Rattle.plain_clauses.specs.JudgedClauses.{AreJudged};
 
 use crate::conditions::is_provided;
 use crate::delays::delay_waited;
-use crate::sight::await_one;
+use crate::quick::quick_verdict;
+use crate::sight::look;
 use est_meaning::mean_blocks::frame::Frame;
+use est_syntax::est_items::Twin;
 use plain_clauses::ages::age_of;
 use plain_clauses::candidate::Candidate;
 use plain_clauses::evaluated::site_at;
-use plain_clauses::missed::is_elsewhere;
 use plain_clauses::plain_systems::system::Working;
 use plain_clauses::plain_texts::text::Text;
-use plain_clauses::sights::{begin, fits};
 use plain_clauses::verdict::{Verdict, joined};
 use std::alloc::{AllocError, Global};
 
@@ -42,25 +42,6 @@ fn judge_seen(
     Ok(joined(passed, met, waited))
 }
 
-// What a guard says whose `from` or whose `when` fails.
-fn nothing(passes: bool) -> Verdict {
-    Verdict {
-        passes,
-        enabled: false,
-        offered: false,
-        due: false,
-    }
-}
-
-// Closes the frame of the parameters, if one was opened.
-fn close_parameters(working: &mut Working) {
-    if 1 < working.frames.len() {
-        if let Some(frame) = working.frames.items.pop() {
-            drop(frame);
-        }
-    }
-}
-
 /// Evaluates the guard of a choice, each part once and with a limit of statements for itself. The
 /// system of the working state looks as before.
 pub fn judge(
@@ -76,47 +57,40 @@ pub fn judge(
     ensures system { OnOk result
         (situation_of working.new.system ≡ situation_of working.old.system) }
 {
-    begin(alloc, chosen, working)?;
-    judge_open(alloc, text, limit, candidate, working)
-}
-
-/// The same of a choice whose frame is the only one, as it is then.
-pub fn judge_open(
-    alloc: Global,
-    text: &Text,
-    limit: u32,
-    candidate: &Candidate,
-    working: &mut Working,
-) -> Result<Verdict, AllocError>
-    ensures verdict { IfOk result (λ verdict. (chosen : Frame) (c : Choice)
-        → working.old.frames ≡ chosen ∷ [] → IsOf text.now candidate.now chosen c
-        → IsVerdict limit text.now (situation_of working.old.system) c verdict) }
-    ensures frames { OnOk result ((chosen : Frame) → working.old.frames ≡ chosen ∷ []
-        → working.new.frames ≡ chosen ∷ []) }
-    ensures system { OnOk result
-        (situation_of working.new.system ≡ situation_of working.old.system) }
-{
-    if !fits(&candidate.transition.states, candidate.state) {
-        return Ok(nothing(false));
-    }
-    if is_elsewhere(alloc, text, candidate, working) {
-        return Ok(nothing(false));
-    }
-    let sight = await_one(
-        alloc,
-        text,
-        limit,
-        candidate.instance,
-        candidate.transition,
-        working,
-    )?;
+    let sight = look(alloc, text, limit, candidate, chosen, working)?;
     let holds = sight.holds;
     let passes = sight.passes;
     drop(sight);
     if !holds {
-        return Ok(nothing(passes));
+        return Ok(Verdict {
+            passes,
+            enabled: false,
+            offered: false,
+            due: false,
+        });
     }
     let verdict = judge_seen(alloc, text, limit, candidate, passes, working)?;
-    close_parameters(working);
     Ok(verdict)
+}
+
+/// The same of a choice whose frame is lent. Where no part calls anything nothing is copied.
+pub fn judge_lent(
+    alloc: Global,
+    text: &Text,
+    limit: u32,
+    candidate: &Candidate,
+    chosen: &Frame,
+    working: &mut Working,
+) -> Result<Verdict, AllocError>
+    ensures verdict { IfOk result (λ verdict. (c : Choice)
+        → IsOf text.now candidate.now chosen.now c
+        → IsVerdict limit text.now (situation_of working.old.system) c verdict) }
+    ensures system { OnOk result
+        (situation_of working.new.system ≡ situation_of working.old.system) }
+{
+    if let Some(verdict) = quick_verdict(alloc, text, candidate, chosen, &working.system) {
+        return Ok(verdict);
+    }
+    let chosen = chosen.twin(alloc)?;
+    judge(alloc, text, limit, candidate, chosen, working)
 }

@@ -5,5 +5,6 @@ mod conditions;
 mod delays;
 pub mod judging;
 mod parts;
+mod quick;
 pub mod sight;
 mod subscripts;

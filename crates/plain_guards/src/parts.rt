@@ -7,7 +7,7 @@ ghost use Rattle.plain_blocks.specs.plain_operands.ExecutionSites.{view_of};
 use est_syntax::est_items::Twin;
 use est_syntax::expression::Expr;
 use plain_blocks::expressions::value_of;
-use plain_blocks::plain_operands::scalars::scalar_of;
+use plain_blocks::plain_operands::scalars::{scalar_of, scene_of};
 use plain_blocks::plain_operands::site::Site;
 use plain_clauses::evaluated::{Evaluated, ordinal_of};
 use plain_clauses::plain_systems::system::Working;
@@ -24,7 +24,7 @@ pub fn part_of(
     ensures { IfOk result (λ part. part
         ≡ held (part_of limit e.now (view_of site.now working.now))) }
 {
-    if let Some(z) = scalar_of(alloc, site, e, working) {
+    if let Some(z) = scalar_of(alloc, site, e, &scene_of(working)) {
         return Ok(Evaluated::Ordinal(z));
     }
     let mut copy = working.twin(alloc)?;

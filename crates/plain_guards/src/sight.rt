@@ -72,8 +72,8 @@ fn point_awaited(text: &Text, transition: &Written, awaits: &Awaits) -> Option<u
     }
 }
 
-/// What is seen and taken by a choice whose `from` holds, beside its frame.
-pub fn await_one(
+// What is seen and taken by a choice whose `from` holds.
+fn await_one(
     alloc: Global,
     text: &Text,
     limit: u32,

@@ -4,10 +4,21 @@ ghost use Rattle.std.specs.Prelude.{◌≡◌, OnOk};
 
 use crate::expression_names::{access, expr, exprs, selectors};
 use est_syntax::est_items::Boxed;
-use est_syntax::expression::Expr;
+use est_syntax::expression::{EndPoint, Expr};
 use est_syntax::statement::{Arm, Sending, Statement};
 use plain_texts::known::KnownNames;
 use std::alloc::AllocError;
+
+// Keeps the names of an end of a link. An interaction point of a child is declared elsewhere.
+fn end<'t>(one: &'t EndPoint, known: &mut KnownNames<'t>) -> Result<(), AllocError>
+    ensures { OnOk result (known.new ≡ known.old) }
+{
+    access(&one.first, known)?;
+    match &one.second {
+        None => Ok(()),
+        Some(point) => exprs(point.index.as_slice(), known),
+    }
+}
 
 // Keeps the names of sendings.
 fn sendings<'t>(list: &'t [Sending], known: &mut KnownNames<'t>) -> Result<(), AllocError>
@@ -49,13 +60,31 @@ fn plain<'t>(one: &'t Statement, known: &mut KnownNames<'t>) -> Result<(), Alloc
         Statement::Output { sendings: list, .. } => sendings(list.as_slice(), known),
         Statement::Init {
             target,
+            body,
             arguments,
             ..
         } => {
             access(target, known)?;
+            known.note(body)?;
             exprs(arguments.as_slice(), known)
         }
         Statement::Release { target, .. } => access(target, known),
+        Statement::Connect { one, other, .. } => {
+            end(one, known)?;
+            end(other, known)
+        }
+        Statement::Disconnect { end: one, .. } => end(one, known),
+        Statement::Attach {
+            own,
+            child,
+            point,
+            ..
+        } => {
+            access(own, known)?;
+            access(child, known)?;
+            exprs(point.index.as_slice(), known)
+        }
+        Statement::Detach { end: one, .. } => end(one, known),
         _ => Ok(()),
     }
 }

@@ -16,3 +16,15 @@ Finds f r = IfSome r (λ z. Yields f (Ordinal z))
 -- the same of the members of a set
 abbrev pub FindsMembers : Counts Value → Option (List ℤ) → Type 0
 FindsMembers f r = IfSome r (λ zs. Yields f (Set zs))
+
+-- the parameters of an interaction with their values, as the innermost frame, where they are given
+abbrev pub bound_in : Scene → List Frame
+bound_in x = option_to_list (option_map (bound_all x.places.now) (option_copied x.values))
+
+-- what an expression sees of a scene
+abbrev pub view_in : Site → Scene → View
+view_in s x = record {
+  site = site_of s;
+  situation = situation_of x.system.now;
+  frames = x.frames.now ++ option_to_list (option_copied x.chosen) ++ bound_in x;
+}

@@ -3,7 +3,7 @@ ghost use Rattle.std.specs.Option.{option_copied};
 ghost use Rattle.mean_blocks.specs.ExpressionValues.{value_of, related, simple_of, term_of};
 ghost use Rattle.mean_blocks.specs.ExpressionValues.{factor_of, variable_value};
 ghost use Rattle.mean_blocks.specs.Outcome.{◌>>=◌};
-ghost use Rattle.plain_operands.specs.ExecutionSites.{view_of};
+ghost use Rattle.plain_operands.specs.ScalarValues.{view_in};
 ghost use Rattle.plain_operands.specs.ScalarValues.{Finds, FindsMembers};
 
 use crate::reached::with_subscript;
@@ -13,13 +13,13 @@ use est_syntax::expression::{Expr, Factor, Operator, Relation, Selector, Simple,
 use est_syntax::kind::{Kind, MAXINT, Ordinals};
 use est_syntax::name::Used;
 use est_values::arithmetic::negative;
-use est_values::value::Value;
-use mean_blocks::frame::Slot;
+use est_values::value::{Value, Values};
+use mean_blocks::frame::{Frame, Slot};
 use plain_frames::children::child_of;
-use plain_frames::names::{found, value_in};
+use plain_frames::names::{found, slot_of, value_in};
 use plain_frames::places::read_at;
 use plain_frames::plain_systems::rows::row_of;
-use plain_frames::plain_systems::system::Working;
+use plain_frames::plain_systems::system::{System, Working};
 use plain_texts::plain_declared::declared::{declared_in_header, kind_at};
 use plain_texts::plain_declared::heads::Head;
 use plain_texts::plain_declared::kinds::{array_in, field_in};
@@ -27,6 +27,28 @@ use plain_values::ordinals::{is_true, operated, truth};
 use plain_values::sets::{are_equal, is_member};
 use plain_values::taking::component_at;
 use std::alloc::Global;
+
+/// What is looked at, without a copy: a system; frames, from the outermost on; within them a frame of
+/// `any` variables, and within that the parameters of an interaction with their values.
+#[derive(Clone, Copy)]
+pub struct Scene<'w> {
+    pub system: &'w System,
+    pub frames: &'w [Frame],
+    pub chosen: Option<&'w Frame>,
+    pub places: &'w [u32],
+    pub values: Option<&'w Values>,
+}
+
+/// A working state.
+pub fn scene_of(working: &Working) -> Scene<'_> {
+    Scene {
+        system: &working.system,
+        frames: working.frames.as_slice(),
+        chosen: None,
+        places: &[],
+        values: None,
+    }
+}
 
 // A part of a variable, and its kind.
 #[derive(Clone, Copy)]
@@ -37,12 +59,12 @@ struct Part<'v, 't> {
 
 /// The ordinal of an expression, where it has one that is found at once.
 #[cycle(scalar)]
-pub fn scalar_of(alloc: Global, site: &Site, e: &Expr, working: &Working) -> Option<i32>
-    ensures { Finds (value_of e.now (view_of site.now working.now)) result }
+pub fn scalar_of(alloc: Global, site: &Site, e: &Expr, scene: &Scene) -> Option<i32>
+    ensures { Finds (value_of e.now (view_in site.now scene.now)) result }
 {
     match &e.relation {
-        None => scalar_simple(alloc, site, &e.left, working),
-        Some(relation) => scalar_related(alloc, site, &e.left, relation, working),
+        None => scalar_simple(alloc, site, &e.left, scene),
+        Some(relation) => scalar_related(alloc, site, &e.left, relation, scene),
     }
 }
 
@@ -53,27 +75,27 @@ fn scalar_related(
     site: &Site,
     left: &Simple,
     relation: &Relation,
-    working: &Working,
+    scene: &Scene,
 ) -> Option<i32>
-    ensures { Finds (simple_of left.now (view_of site.now working.now)
-        >>= λ a. related relation.now a (view_of site.now working.now)) result }
+    ensures { Finds (simple_of left.now (view_in site.now scene.now)
+        >>= λ a. related relation.now a (view_in site.now scene.now)) result }
 {
     match relation.operator {
         Operator::Within => {
-            let z = scalar_simple(alloc, site, left, working)?;
-            let members = members_of(alloc, site, &relation.right, working)?;
+            let z = scalar_simple(alloc, site, left, scene)?;
+            let members = members_of(alloc, site, &relation.right, scene)?;
             Some(truth(is_member(members, z)))
         }
         Operator::Or => None,
         Operator::And => None,
-        operator => match scalar_simple(alloc, site, left, working) {
+        operator => match scalar_simple(alloc, site, left, scene) {
             Some(a) => {
-                let b = scalar_simple(alloc, site, &relation.right, working)?;
+                let b = scalar_simple(alloc, site, &relation.right, scene)?;
                 operated(operator, a, b).ok()
             }
             None => {
-                let xs = members_of(alloc, site, left, working)?;
-                let ys = members_of(alloc, site, &relation.right, working)?;
+                let xs = members_of(alloc, site, left, scene)?;
+                let ys = members_of(alloc, site, &relation.right, scene)?;
                 compared(operator, xs, ys)
             }
         },
@@ -117,14 +139,14 @@ fn signed(sign: Option<Sign>, z: i32) -> Option<i32> {
 
 // The ordinal of a sum.
 #[cycle(scalar)]
-fn scalar_simple(alloc: Global, site: &Site, simple: &Simple, working: &Working) -> Option<i32>
-    ensures { Finds (simple_of simple.now (view_of site.now working.now)) result }
+fn scalar_simple(alloc: Global, site: &Site, simple: &Simple, scene: &Scene) -> Option<i32>
+    ensures { Finds (simple_of simple.now (view_in site.now scene.now)) result }
 {
-    let first = scalar_term(alloc, site, &simple.first, working)?;
+    let first = scalar_term(alloc, site, &simple.first, scene)?;
     let mut z = signed(simple.sign, first)?;
     for step in simple.rest.as_slice() {
         if !stops(step.operator, z) {
-            let right = scalar_term(alloc, site, &step.right, working)?;
+            let right = scalar_term(alloc, site, &step.right, scene)?;
             z = both(step.operator, z, right)?;
         }
     }
@@ -133,13 +155,13 @@ fn scalar_simple(alloc: Global, site: &Site, simple: &Simple, working: &Working)
 
 // The ordinal of a product.
 #[cycle(scalar)]
-fn scalar_term(alloc: Global, site: &Site, term: &Term, working: &Working) -> Option<i32>
-    ensures { Finds (term_of term.now (view_of site.now working.now)) result }
+fn scalar_term(alloc: Global, site: &Site, term: &Term, scene: &Scene) -> Option<i32>
+    ensures { Finds (term_of term.now (view_in site.now scene.now)) result }
 {
-    let mut z = scalar_factor(alloc, site, &term.first, working)?;
+    let mut z = scalar_factor(alloc, site, &term.first, scene)?;
     for step in term.rest.as_slice() {
         if !stops(step.operator, z) {
-            let right = scalar_factor(alloc, site, &step.right, working)?;
+            let right = scalar_factor(alloc, site, &step.right, scene)?;
             z = both(step.operator, z, right)?;
         }
     }
@@ -148,8 +170,8 @@ fn scalar_term(alloc: Global, site: &Site, term: &Term, working: &Working) -> Op
 
 // The ordinal of an operand.
 #[cycle(scalar)]
-fn scalar_factor(alloc: Global, site: &Site, factor: &Factor, working: &Working) -> Option<i32>
-    ensures { Finds (factor_of factor.now (view_of site.now working.now)) result }
+fn scalar_factor(alloc: Global, site: &Site, factor: &Factor, scene: &Scene) -> Option<i32>
+    ensures { Finds (factor_of factor.now (view_in site.now scene.now)) result }
 {
     match factor {
         Factor::Number { number, .. } => if *number <= MAXINT as u64 {
@@ -158,13 +180,13 @@ fn scalar_factor(alloc: Global, site: &Site, factor: &Factor, working: &Working)
             None
         },
         Factor::Character { code, .. } => Some(i32::from(*code)),
-        Factor::Group { of, .. } => scalar_of(alloc, site, of.get(), working),
+        Factor::Group { of, .. } => scalar_of(alloc, site, of.get(), scene),
         Factor::Not { of, .. } => {
-            let z = scalar_factor(alloc, site, of.get(), working)?;
+            let z = scalar_factor(alloc, site, of.get(), scene)?;
             Some(truth(!is_true(z)))
         }
         Factor::Variable { name, path, .. } => {
-            scalar_variable(alloc, site, name, path.as_slice(), working)
+            scalar_variable(alloc, site, name, path.as_slice(), scene)
         }
         Factor::Set { .. } => None,
         Factor::Call { .. } => None,
@@ -178,19 +200,19 @@ fn scalar_variable(
     site: &Site,
     name: &Used,
     path: &[Selector],
-    working: &Working,
+    scene: &Scene,
 ) -> Option<i32>
-    ensures { Finds (variable_value name.now path.now (view_of site.now working.now)) result }
+    ensures { Finds (variable_value name.now path.now (view_in site.now scene.now)) result }
 {
     match head_at(site, name) {
         Head::Constant(z) => Some(z),
         Head::Variable(declared, kind) => {
-            let value = value_at(site.instance, declared, working)?;
-            let part = selected(alloc, site, path, Part { value, kind }, working)?;
+            let value = value_at(site.instance, declared, scene)?;
+            let part = selected(alloc, site, path, Part { value, kind }, scene)?;
             ordinal_in(part.value)
         }
         Head::Modules(declared) => {
-            let part = exported(alloc, site, declared, path, working)?;
+            let part = exported(alloc, site, declared, path, scene)?;
             ordinal_in(part.value)
         }
         _ => None,
@@ -203,9 +225,9 @@ fn members_of<'w>(
     alloc: Global,
     site: &Site,
     simple: &Simple,
-    working: &'w Working,
+    scene: &Scene<'w>,
 ) -> Option<&'w [i32]>
-    ensures { FindsMembers (simple_of simple.now (view_of site.now working.now)) (option_copied result) }
+    ensures { FindsMembers (simple_of simple.now (view_in site.now scene.now)) (option_copied result) }
 {
     if simple.sign.is_some() || !simple.rest.as_slice().is_empty() {
         return None;
@@ -216,8 +238,8 @@ fn members_of<'w>(
     match &simple.first.first {
         Factor::Variable { name, path, .. } => match head_at(site, name) {
             Head::Variable(declared, kind) => {
-                let value = value_at(site.instance, declared, working)?;
-                let part = selected(alloc, site, path.as_slice(), Part { value, kind }, working)?;
+                let value = value_at(site.instance, declared, scene)?;
+                let part = selected(alloc, site, path.as_slice(), Part { value, kind }, scene)?;
                 members_in(part.value)
             }
             _ => None,
@@ -247,20 +269,45 @@ fn members_in(value: &Value) -> Option<&[i32]> {
     }
 }
 
-// The value of a variable of an instance, and of the frames that are open.
-fn value_at(instance: u32, declared: u32, working: &Working) -> Option<&Value> {
-    match found(declared, working.frames.as_slice()) {
+// The value of a parameter of an interaction.
+fn bound_at<'w>(declared: u32, scene: &Scene<'w>) -> Option<&'w Value> {
+    let values = scene.values?;
+    for i in 0..scene.places.len() {
+        if scene.places[i] == declared {
+            return values.get(i);
+        }
+    }
+    None
+}
+
+// What stands under a name in the frame of a choice.
+fn chosen_at<'w>(declared: u32, scene: &Scene<'w>) -> Option<&'w Slot> {
+    slot_of(declared, scene.chosen?)
+}
+
+// The value in a slot.
+fn value_in_slot<'w>(slot: &'w Slot, scene: &Scene<'w>) -> Option<&'w Value> {
+    match slot {
+        Slot::Value(value) => Some(value),
+        Slot::Place(place) => read_at(place, scene.system, scene.frames).ok(),
+        Slot::Instance(_) => None,
+    }
+}
+
+// The value of a variable.
+fn value_at<'w>(instance: u32, declared: u32, scene: &Scene<'w>) -> Option<&'w Value> {
+    if let Some(value) = bound_at(declared, scene) {
+        return Some(value);
+    }
+    if let Some(slot) = chosen_at(declared, scene) {
+        return value_in_slot(slot, scene);
+    }
+    match found(declared, scene.frames) {
         None => {
-            let row = row_of(&working.system, instance)?;
+            let row = row_of(scene.system, instance)?;
             value_in(declared, &row.variables).ok()
         }
-        Some((_, slot)) => match slot {
-            Slot::Value(value) => Some(value),
-            Slot::Place(place) => {
-                read_at(place, &working.system, working.frames.as_slice()).ok()
-            }
-            Slot::Instance(_) => None,
-        },
+        Some((_, slot)) => value_in_slot(slot, scene),
     }
 }
 
@@ -282,11 +329,11 @@ fn selected<'v, 't>(
     site: &Site<'_, 't>,
     path: &[Selector],
     part: Part<'v, 't>,
-    working: &'v Working,
+    scene: &Scene<'v>,
 ) -> Option<Part<'v, 't>> {
     let mut part = part;
     for selector in path {
-        part = selected_by(alloc, site, selector, part, working)?;
+        part = selected_by(alloc, site, selector, part, scene)?;
     }
     Some(part)
 }
@@ -298,7 +345,7 @@ fn selected_by<'v, 't>(
     site: &Site<'_, 't>,
     selector: &Selector,
     part: Part<'v, 't>,
-    working: &'v Working,
+    scene: &Scene<'v>,
 ) -> Option<Part<'v, 't>> {
     match selector {
         Selector::Field(name) => {
@@ -306,7 +353,7 @@ fn selected_by<'v, 't>(
             component(part.value, kind, number)
         }
         Selector::Index { exprs, .. } => {
-            components(alloc, site, exprs.as_slice(), part, working)
+            components(alloc, site, exprs.as_slice(), part, scene)
         }
     }
 }
@@ -318,11 +365,11 @@ fn components<'v, 't>(
     site: &Site<'_, 't>,
     exprs: &[Expr],
     part: Part<'v, 't>,
-    working: &'v Working,
+    scene: &Scene<'v>,
 ) -> Option<Part<'v, 't>> {
     let mut part = part;
     for e in exprs {
-        let z = scalar_of(alloc, site, e, working)?;
+        let z = scalar_of(alloc, site, e, scene)?;
         let (index, kind) = array_in(part.kind)?;
         let number = component_at(index, z).ok()?;
         part = component(part.value, kind, number as usize)?;
@@ -330,18 +377,18 @@ fn components<'v, 't>(
     Some(part)
 }
 
-// The subscripts of module variables.
+/// Subscripts of these kinds.
 #[cycle(scalar)]
-fn scalars_in(
+pub fn scalars_in(
     alloc: Global,
     site: &Site,
     exprs: &[Expr],
     kinds: Option<&[Kind]>,
-    working: &Working,
+    scene: &Scene,
 ) -> Option<Ordinals> {
     let mut index = Ordinals::new(alloc);
     for e in exprs {
-        let Some(z) = scalar_of(alloc, site, e, working) else {
+        let Some(z) = scalar_of(alloc, site, e, scene) else {
             drop(index);
             return None;
         };
@@ -357,11 +404,10 @@ fn child_at(
     site: &Site,
     declared: u32,
     exprs: &[Expr],
-    working: &Working,
+    scene: &Scene,
 ) -> Option<u32> {
-    let index = scalars_in(alloc, site, exprs, dims_of(site, declared), working)?;
-    let frames = working.frames.as_slice();
-    let child = child_of(&working.system, frames, site.instance, declared, &index);
+    let index = scalars_in(alloc, site, exprs, dims_of(site, declared), scene)?;
+    let child = child_of(scene.system, scene.frames, site.instance, declared, &index);
     drop(index);
     child.ok()
 }
@@ -372,12 +418,12 @@ fn exported_by<'v, 't>(
     declared: u32,
     used: &Used,
     child: u32,
-    working: &'v Working,
+    scene: &Scene<'v>,
 ) -> Option<Part<'v, 't>> {
     let outline = site.text.outline();
     let place = declared_in_header(outline, declared, used)?;
     let kind = kind_at(outline, place)?;
-    let row = row_of(&working.system, child)?;
+    let row = row_of(scene.system, child)?;
     let value = value_in(place, &row.variables).ok()?;
     Some(Part { value, kind })
 }
@@ -390,23 +436,23 @@ fn exported<'v, 't>(
     site: &Site<'_, 't>,
     declared: u32,
     path: &[Selector],
-    working: &'v Working,
+    scene: &Scene<'v>,
 ) -> Option<Part<'v, 't>> {
     let (first, rest) = path.split_first()?;
     match first {
         Selector::Field(used) => {
-            let child = child_at(alloc, site, declared, &[], working)?;
-            let part = exported_by(site, declared, used, child, working)?;
-            selected(alloc, site, rest, part, working)
+            let child = child_at(alloc, site, declared, &[], scene)?;
+            let part = exported_by(site, declared, used, child, scene)?;
+            selected(alloc, site, rest, part, scene)
         }
         Selector::Index { exprs, .. } => {
             let (second, rest) = rest.split_first()?;
             let Selector::Field(used) = second else {
                 return None;
             };
-            let child = child_at(alloc, site, declared, exprs.as_slice(), working)?;
-            let part = exported_by(site, declared, used, child, working)?;
-            selected(alloc, site, rest, part, working)
+            let child = child_at(alloc, site, declared, exprs.as_slice(), scene)?;
+            let part = exported_by(site, declared, used, child, scene)?;
+            selected(alloc, site, rest, part, scene)
         }
     }
 }

@@ -33,14 +33,10 @@ fn queue_at<'s>(
 ) -> Option<&'s Waiting>
     ensures { option_copied result ≡ find (is_waiting (queue_by point.now discipline)) queues.now }
 {
-    match queues
+    queues
         .as_slice()
         .iter()
-        .find(|waiting| is_queue_by(point, discipline, &waiting.get().queue))
-    {
-        None => None,
-        Some(waiting) => Some(waiting.get()),
-    }
+        .find(|waiting| is_queue_by(point, discipline, &waiting.queue))
 }
 
 /// The first item of the queue in which those of an interaction point wait, if there is one. Of a

@@ -31,6 +31,6 @@ pub fn keep_queues(
     let queues = queues.own(alloc)?;
     queues
         .items
-        .retain(|waiting| !is_among(gone, owner(&waiting.get().queue)));
+        .retain(|waiting| !is_among(gone, owner(&waiting.queue)));
     Ok(())
 }

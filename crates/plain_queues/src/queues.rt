@@ -21,7 +21,7 @@ fn position(key: &QueueKey, queues: &Queues) -> Option<usize>
     queues
         .as_slice()
         .iter()
-        .position(|waiting| is_queue(key, &waiting.get().queue))
+        .position(|waiting| is_queue(key, &waiting.queue))
 }
 
 // A queue in which no item waits.
@@ -45,7 +45,7 @@ fn room(alloc: Global, key: &QueueKey, queues: &mut Queues) -> Result<usize, All
         None => {
             let at = queues.len();
             let waiting = fresh(alloc, key)?;
-            queues.push(Shared::new(alloc, waiting)?)?;
+            queues.push(waiting)?;
             Ok(at)
         }
     }
@@ -74,8 +74,7 @@ pub fn put(
 {
     let queues = queues.own(alloc)?;
     let at = room(alloc, key, queues)?;
-    let waiting = queues.items[at].own(alloc)?;
-    waiting.items.put(alloc, item)?;
+    queues.items[at].items.put(alloc, item)?;
     Ok(())
 }
 
@@ -91,8 +90,7 @@ pub fn append(
 {
     let queues = queues.own(alloc)?;
     let at = room(alloc, key, queues)?;
-    let waiting = queues.items[at].own(alloc)?;
-    put_all(alloc, items, &mut waiting.items)?;
+    put_all(alloc, items, &mut queues.items[at].items)?;
     Ok(())
 }
 
@@ -111,8 +109,7 @@ pub fn take(
         None => Ok(None),
         Some(at) => {
             let queues = queues.own(alloc)?;
-            let waiting = queues.items[at].own(alloc)?;
-            let item = waiting.items.take(alloc)?;
+            let item = queues.items[at].items.take(alloc)?;
             Ok(item)
         }
     }
@@ -230,8 +227,7 @@ fn take_out(
         None => Ok(Items::new(alloc)),
         Some(at) => {
             let queues = queues.own(alloc)?;
-            let waiting = queues.items[at].own(alloc)?;
-            let moved = withdraw(alloc, from, to, &mut waiting.items)?;
+            let moved = withdraw(alloc, from, to, &mut queues.items[at].items)?;
             Ok(moved)
         }
     }

@@ -12,7 +12,7 @@ ghost use Rattle.plain_steps.specs.inside.StampLists.{clocked};
 use est_meaning::firing::Firing;
 use plain_clauses::candidate::Candidate;
 use plain_frames::plain_systems::system::{Stamps, System, Working};
-use plain_guards::judging::judge;
+use plain_guards::judging::judge_lent;
 use plain_transitions::behaviour::Behaviour;
 use std::alloc::{AllocError, Global};
 
@@ -73,6 +73,6 @@ pub fn is_timed(
     let Some(chosen) = behaviour.chosen(alloc, candidate.transition, 1)? else {
         return Ok(false);
     };
-    let verdict = judge(alloc, behaviour.text(), limit, candidate, chosen, working)?;
+    let verdict = judge_lent(alloc, behaviour.text(), limit, candidate, &chosen, working)?;
     Ok(verdict.enabled)
 }

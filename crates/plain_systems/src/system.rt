@@ -34,7 +34,7 @@ pub struct Waiting {
 }
 
 /// Queues, of which the first with a key counts. One that is not there is empty.
-pub type Queues = Items<Shared<Waiting>>;
+pub type Queues = Items<Waiting>;
 
 /// Since when a delay transition of an instance is enabled. Transitions are numbered from 1 in the
 /// body.

@@ -7,7 +7,6 @@ ghost use Rattle.plain_declared.specs.ShownNames.{head_of};
 ghost use Rattle.plain_texts.specs.KnownNames.{IsOf};
 
 use est_syntax::name::Used;
-use indexmap::IndexMap;
 use plain_declared::declared::interaction_of;
 use plain_declared::heads::Head;
 use plain_declared::names::head;
@@ -41,7 +40,8 @@ pub struct KnownNames<'t> {
     outline: &'t Outline,
     names: Vec<KnownName<'t>>,
     numbers: Vec<u32>,
-    interactions: IndexMap<u32, KnownInteraction<'t>>,
+    interactions: Vec<KnownInteraction<'t>>,
+    signals: Vec<u32>,
 }
 
 // In words, so that where they are let go of there is one call.
@@ -52,10 +52,12 @@ impl<'t> Drop for KnownNames<'t> {
             names,
             numbers,
             interactions,
+            signals,
         } = self;
         drop(names);
         drop(numbers);
         drop(interactions);
+        drop(signals);
     }
 }
 
@@ -72,7 +74,7 @@ impl<'t> Model for KnownNames<'t> {
     ghost view = { λ t. t.outline.now };
 
     ghost invariant = { λ t. AreKnown t.outline.now t.names.items
-        × AreKnownInteractions t.outline.now t.interactions.entries };
+        × AreKnownInteractions t.outline.now t.interactions.items };
 }
 
 // Whether two names are one at one place.
@@ -91,7 +93,8 @@ impl<'t> KnownNames<'t> {
             outline,
             names: Vec::new(alloc),
             numbers: Vec::new(alloc),
-            interactions: IndexMap::new(alloc),
+            interactions: Vec::new(alloc),
+            signals: Vec::new(alloc),
         }
     }
 
@@ -122,6 +125,24 @@ impl<'t> KnownNames<'t> {
                 None
             },
         }
+    }
+
+    // What is kept of the name of an interaction at a place, if there is one.
+    fn kept_interaction(&self, place: u32) -> Option<&KnownInteraction<'t>> {
+        match self.signals.get(place as usize) {
+            None => None,
+            Some(number) => self.interactions.get(*number as usize),
+        }
+    }
+
+    // Makes room for the number of the name of an interaction at a place.
+    fn reach_signal(&mut self, place: u32) -> Result<(), AllocError>
+        ensures { OnOk result (self.new ≡ self.old) }
+    {
+        while self.signals.len() <= place as usize {
+            self.signals.push(NONE)?;
+        }
+        Ok(())
     }
 
     // Makes room for the number of a name at a place.
@@ -158,7 +179,7 @@ impl<'t> KnownNames<'t> {
     pub(crate) fn interaction_of(&self, point: u32, used: &Used) -> Option<u32>
         ensures { result ≡ interaction_of self.now point used.now }
     {
-        match self.interactions.get(&used.place) {
+        match self.kept_interaction(used.place) {
             None => interaction_of(self.outline, point, used),
             Some(known) => if known.point == point && is_same(known.used, used) {
                 known.interaction
@@ -192,9 +213,10 @@ impl<'t> KnownNames<'t> {
     pub fn note_interaction(&mut self, at: &Used, used: &'t Used) -> Result<(), AllocError>
         ensures { OnOk result (self.new ≡ self.old) }
     {
-        if self.interactions.get(&used.place).is_some() {
+        if self.kept_interaction(used.place).is_some() {
             return Ok(());
         }
+        self.reach_signal(used.place)?;
         let Meant::Seen(point) = self.meaning(at) else {
             return Ok(());
         };
@@ -203,7 +225,9 @@ impl<'t> KnownNames<'t> {
             point,
             interaction: interaction_of(self.outline, point, used),
         };
-        self.interactions.insert(used.place, known)?;
+        let number = u32::try_from(self.interactions.len()).map_err(|_| AllocError)?;
+        self.interactions.push(known)?;
+        self.signals[used.place as usize] = number;
         Ok(())
     }
 }

@@ -37,8 +37,7 @@ pub(crate) fn queues_with(
     match item {
         None => Shared::new(alloc, queues),
         Some(item) => {
-            let waiting = waiting_of(alloc, text, item)?;
-            queues.push(Shared::new(alloc, waiting)?)?;
+            queues.push(waiting_of(alloc, text, item)?)?;
             Shared::new(alloc, queues)
         }
     }
