@@ -44,8 +44,7 @@ pub(crate) fn verdict_of(
     choice: u32,
     working: &mut Working,
 ) -> Result<Option<Verdict>, AllocError> {
-    let variables = &candidate.transition.variables;
-    let Some(chosen) = scene.behaviour.choice_frame(alloc, variables, choice)? else {
+    let Some(chosen) = scene.behaviour.chosen(alloc, candidate.transition, choice)? else {
         return Ok(None);
     };
     let text = scene.behaviour.text();

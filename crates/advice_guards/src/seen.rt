@@ -31,8 +31,7 @@ pub(crate) fn choose(
     choice: u32,
     working: &mut Working,
 ) -> Result<bool, AllocError> {
-    let variables = &candidate.transition.variables;
-    match scene.behaviour.choice_frame(alloc, variables, choice)? {
+    match scene.behaviour.chosen(alloc, candidate.transition, choice)? {
         None => Ok(false),
         Some(chosen) => {
             working.frames.push(chosen)?;
@@ -65,8 +64,7 @@ pub(crate) fn see(
     choice: u32,
     working: &mut Working,
 ) -> Result<bool, AllocError> {
-    let variables = &candidate.transition.variables;
-    match scene.behaviour.choice_frame(alloc, variables, choice)? {
+    match scene.behaviour.chosen(alloc, candidate.transition, choice)? {
         None => Ok(false),
         Some(chosen) => see_chosen(alloc, scene, candidate, chosen, working),
     }

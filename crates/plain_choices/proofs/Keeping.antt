@@ -1,11 +1,9 @@
 -- Which firings are kept, one after another.
-use Rattle.std.proofs.Common.{◌≡◌, ◌<◌, ◌+◌, ◌⊎◌, refl, sym, ap, subst, ◌∙◌, inl, inr, ℕ, List, []}
-use Rattle.std.proofs.Common.{◌∷◌, ◌++◌, arith, length, drop, get_or, append_assoc, Some, None}
+use Rattle.std.proofs.Common.{◌≡◌, ◌<◌, ◌+◌, ◌⊎◌, refl, sym, ap, subst, inl, inr, ℕ, List, []}
+use Rattle.std.proofs.Common.{◌∷◌, ◌++◌, length, drop, get_or, append_assoc}
 use Rattle.est_syntax.specs.Least.{IsIn}
-use Rattle.est_meaning.specs.mean_blocks.GlobalSituation.{Situation, row_of}
-use Rattle.est_meaning.specs.mean_blocks.KeepingLaws.{AreNumbered}
+use Rattle.est_meaning.specs.mean_blocks.GlobalSituation.{Situation}
 use Rattle.est_meaning.specs.declared.firing.Firing.{Firing}
-use Rattle.est_meaning.specs.TransitionSelection.{IsAncestor, parent, beyond}
 use Rattle.est_meaning.specs.FiringOrder.{IsAscending}
 use Rattle.plain_choices.specs.inside.SystemOffers.{IsKept, IsPreceded}
 use Rattle.plain_choices.proofs.Members.{from_number, in_number, in_snoc, in_front, in_last}
@@ -13,7 +11,6 @@ use Rattle.plain_choices.proofs.Members.{at_number}
 use Rattle.plain_choices.proofs.Surveys.{not_both}
 use Rattle.std.proofs.Common.{Bool, true, false}
 use Rattle.plain_choices.proofs.Members.{ascending_without}
-use Rattle.plain_choices.proofs.Rows.{none_below}
 
 -- what is kept, but for those that are left
 pub record IsKeptBut (s : Situation) (dues : List ℕ) (found left kept : List Firing)
@@ -120,12 +117,3 @@ module _ (s : Situation) (dues : List ℕ) (found : List Firing) where
       append-nil : (xs : List Firing) → xs ++ [] ≡ xs
       append-nil [] = refl
       append-nil (x ∷ xs) = ap (λ ys. x ∷ ys) (append-nil xs)
-
--- no instance has the number 0
-pub zero_unpreceded : (s : Situation) (dues : List ℕ) → AreNumbered s → IsPreceded s dues 0 → ⊥
-zero_unpreceded s dues h (a, b, c) =
-    rooted s a 0 (none_below s.rows 1 s.next 0 h.1 (omega arith)) c
-  where
-    rooted : (s : Situation) (a n : ℕ) → row_of s n ≡ None → IsAncestor s a n → ⊥
-    rooted s a n e (parent _ r q k) = (let x : None ≡ Some r = sym e ∙ q in cc)
-    rooted s a n e (beyond _ r q k) = (let x : None ≡ Some r = sym e ∙ q in cc)

@@ -1,3 +1,4 @@
+pub mod Blocking
 pub mod Candidates
 pub mod Climbs
 pub mod Findings

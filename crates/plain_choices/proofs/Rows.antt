@@ -44,7 +44,7 @@ other m n lt = by (nat_eq m n) refl
     by false e = e
     by true e = (let q : m ≡ n = eqb-true m n e in absurd (omega arith))
 
-pub none_below : (rs : List Row) (least next m : ℕ) → AscendBelow least next rs → m < least
+none_below : (rs : List Row) (least next m : ℕ) → AscendBelow least next rs → m < least
     → find (is_numbered m) rs ≡ None
 none_below [] least next m h lt = refl
 none_below (r ∷ rs) least next m h lt =

@@ -108,9 +108,8 @@ fn add_choices(
     ensures system { OnOk result
         (situation_of working.new.system ≡ situation_of working.old.system) }
 {
-    let variables = &candidate.transition.variables;
     let mut choice: u32 = 1;
-    while let Some(chosen) = behaviour.choice_frame(alloc, variables, choice)? {
+    while let Some(chosen) = behaviour.chosen(alloc, candidate.transition, choice)? {
         match add_choice(
             alloc, behaviour, limit, candidate, choice, chosen, working, offers,
         )? {
@@ -139,7 +138,7 @@ fn add_candidate(
     ensures system { OnOk result
         (situation_of working.new.system ≡ situation_of working.old.system) }
 {
-    if is_missed(alloc, behaviour.text(), candidate, &working.system) {
+    if is_missed(candidate, &working.system) {
         return Ok(Offers::Settled);
     }
     add_choices(alloc, behaviour, limit, candidate, working, offers)

@@ -38,7 +38,7 @@ pub fn options(
         Offers::Settled => {}
         Offers::Unsettled => return Ok(Offers::Unsettled),
     }
-    keep_unpreceded(&working.system, &found, into)?;
+    keep_unpreceded(alloc, &working.system, &found, into)?;
     Ok(Offers::Settled)
 }
 

@@ -1,5 +1,9 @@
 pub mod ArrivalLaws
 pub mod ConditionLaws
 pub mod JudgedLaws
+pub mod KnownLaws
 pub mod MissedLaws
 pub mod PartLaws
+pub mod ReachedParts
+pub mod ScalarLaws
+pub mod SetLaws

@@ -39,7 +39,7 @@ ordinals_are (x ∷ xs) = λ i.
 
 -- SUBSCRIPTS, ONE BY ONE
 
-no_more : (limit : ℕ) (ks : List Kind) (v : View) → subscripts_of limit ks [] v ≡ []
+pub no_more : (limit : ℕ) (ks : List Kind) (v : View) → subscripts_of limit ks [] v ≡ []
 no_more limit [] v = refl
 no_more limit (k ∷ ks) v = refl
 

@@ -1,10 +1,13 @@
 -- What the clauses of a choice say, one by one.
-use Rattle.std.specs.Prelude.{◌≡◌, ℕ, Bool, true, false, ◌||◌, List, [], ◌∷◌, ◌++◌, map, Option}
-use Rattle.std.specs.Prelude.{Some, None, option_and_then}
+use Rattle.std.specs.Prelude.{◌≡◌, ℕ, Bool, true, false, ◌&&◌, ◌||◌, nat_eq, List, [], ◌∷◌, ◌++◌}
+use Rattle.std.specs.Prelude.{map, slice_get, Option, Some, None, option_and_then}
 use Rattle.std.specs.List.{list_any}
+use Rattle.std.specs.Option.{option_map_or}
 use Rattle.est_meaning.specs.mean_blocks.declared.situation.InteractionPoint.{InteractionPoint}
 use Rattle.est_meaning.specs.mean_blocks.declared.situation.Item.{Item}
+use Rattle.est_meaning.specs.rule_scope.declared.declaration.Sort.TheVariants as sort
 use Rattle.est_meaning.specs.rule_scope.Outline.{Outline}
+use Rattle.est_meaning.specs.mean_blocks.NamesInRuns.{places_of}
 use Rattle.est_meaning.specs.mean_blocks.TextByPlace.{Text}
 use Rattle.est_meaning.specs.mean_blocks.GlobalSituation.{Frame, Situation}
 use Rattle.est_meaning.specs.mean_blocks.WorkingState.{View}
@@ -16,6 +19,11 @@ use Rattle.est_meaning.specs.GuardParts.{awaited_point, parameters_of}
 use Rattle.est_meaning.specs.GuardParts.{conditions_in, is_provided, bounds_in, has_bounds}
 use Rattle.est_meaning.specs.GuardParts.{is_least_reached, is_most_reached}
 use Rattle.est_meaning.specs.TransitionSelection.{holds, holds_least, holds_most, is_waited}
+use Rattle.plain_queues.specs.plain_systems.declared.system.Waiting.{Waiting}
+use Rattle.plain_transitions.specs.WrittenTransitions.{IsFixed, awaited_of}
+use Rattle.plain_transitions.specs.declared.written.Awaits.{Awaits}
+use Rattle.plain_transitions.specs.declared.written.Fixed.{Fixed}
+use Rattle.plain_transitions.specs.declared.written.Written.{Written}
 use Rattle.plain_clauses.specs.JudgedGuards.{IsOf}
 use Rattle.plain_clauses.specs.declared.candidate.Candidate.{Candidate}
 use Rattle.plain_clauses.specs.declared.met.Met.{Met}
@@ -54,6 +62,26 @@ abbrev pub Takes : Outline → InteractionPoint → Option Item → List Frame �
 Takes o p None before frames x = x.holds ≡ false
 Takes o p (Some i) before frames x = (x.holds ≡ true)
     × ((x.taken ≡ Some p) × (frames ≡ before ++ parameters_of o i ∷ []))
+
+-- a transition has the places of the parameters of what it awaits, where that is known
+abbrev pub AreParameters : Outline → Written → Type 0
+AreParameters o x = (y : Fixed) → x.fixed ≡ Some y
+    → x.parameters ≡ places_of o sort.Variable y.signal
+
+-- what a transition is known to await is this, and it has the places of the parameters
+pub record IsKnown (o : Outline) (a : Awaits) (x : Written) : Type 0 where
+  pub fixed : IsFixed o (Some (awaited_of a)) x.fixed
+  pub parameters : AreParameters o x
+
+-- whether an item is what an instance awaits here, whatever the subscripts of the interaction point
+-- are through which it came
+abbrev pub is_awaited : ℕ → Fixed → Item → Bool
+is_awaited n f i =
+    nat_eq n i.at.instance && (nat_eq f.point i.at.declared && nat_eq i.signal f.signal)
+
+-- whether the first item of a queue is
+abbrev pub is_awaited_first : ℕ → Fixed → Waiting → Bool
+is_awaited_first n f w = option_map_or (is_awaited n f) (slice_get w.items 0) false
 
 -- PROVIDED
 

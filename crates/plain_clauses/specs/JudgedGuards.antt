@@ -3,10 +3,9 @@ use Rattle.std.specs.Prelude.{◌≡◌, ℕ, Bool, true, false, List, [], Optio
 use Rattle.std.specs.Prelude.{if◌then◌else◌}
 use Rattle.std.specs.List.{list_any}
 use Rattle.est_meaning.specs.mean_blocks.declared.situation.InteractionPoint.{InteractionPoint}
-use Rattle.est_meaning.specs.mean_blocks.declared.situation.Row.{Row}
 use Rattle.est_meaning.specs.mean_blocks.TextByPlace.{Text}
 use Rattle.est_meaning.specs.mean_blocks.GlobalSituation.{Frame, Situation}
-use Rattle.est_meaning.specs.ClauseContexts.{FullTransition, when_of}
+use Rattle.est_meaning.specs.ClauseContexts.{when_of}
 use Rattle.est_meaning.specs.TransitionChoices.{Choice}
 use Rattle.est_meaning.specs.GuardParts.{is_from, is_limit, seen_by, subscripts, view_of}
 use Rattle.est_meaning.specs.TransitionSelection.{passes_limit, is_enabled_choice}

@@ -5,8 +5,10 @@ pub mod ages;
 mod arrivals;
 pub mod candidate;
 pub mod evaluated;
+mod held;
 pub mod met;
 pub mod missed;
+pub mod scalars;
 pub mod sights;
 pub mod verdict;
 

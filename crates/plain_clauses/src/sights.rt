@@ -4,15 +4,15 @@ ghost use Rattle.std.specs.List.{list_any};
 ghost use Rattle.plain_queues.specs.plain_systems.HeldSystems.{situation_of};
 ghost use Rattle.est_meaning.specs.GuardParts.{arrived_through};
 ghost use Rattle.plain_clauses.specs.EvaluatedParts.{fits_places};
-ghost use Rattle.plain_clauses.specs.JudgedClauses.{Takes};
+ghost use Rattle.plain_clauses.specs.JudgedClauses.{IsKnown, Takes};
 
 use crate::arrivals::{arrived_through, parameters_of};
 use est_meaning::mean_blocks::frame::Frame;
 use est_meaning::mean_blocks::situation::InteractionPoint;
 use est_syntax::est_items::Items;
-use est_syntax::name::Used;
 use plain_queues::plain_systems::system::Working;
 use plain_queues::plain_texts::text::Text;
+use plain_transitions::written::{Awaits, Written};
 use std::alloc::{AllocError, Global};
 
 /// Whether the `from` and the `when` of a choice hold, at which interaction point an interaction is
@@ -72,22 +72,24 @@ pub fn begin(alloc: Global, chosen: Frame, working: &mut Working) -> Result<(), 
 pub fn take(
     alloc: Global,
     text: &Text,
-    signal: &Used,
+    transition: &Written,
+    awaits: &Awaits,
     point: InteractionPoint,
     passes: bool,
     working: &mut Working,
 ) -> Result<Sight, AllocError>
-    ensures sight { IfOk result (λ sight. Takes text.now.outline point
-        (arrived_through text.now (situation_of working.old.system) signal.now point)
-        working.old.frames working.new.frames sight) }
+    ensures sight { IfOk result (λ sight. IsKnown text.now.outline awaits.now transition.now
+        → Takes text.now.outline point (arrived_through text.now (situation_of working.old.system)
+        awaits.now.signal.now point) working.old.frames working.new.frames sight) }
     ensures passes { IfOk result (λ sight. sight.passes ≡ passes) }
     ensures system { OnOk result (working.new.system ≡ working.old.system) }
 {
-    let Some(item) = arrived_through(text, signal, &point, &working.system) else {
+    let fixed = transition.fixed;
+    let Some(item) = arrived_through(text, fixed, awaits, &point, &working.system) else {
         drop(point);
         return Ok(nothing(passes));
     };
-    let frame = parameters_of(alloc, text.outline(), item)?;
+    let frame = parameters_of(alloc, text.outline(), transition, item)?;
     working.frames.push(frame)?;
     Ok(Sight {
         holds: true,

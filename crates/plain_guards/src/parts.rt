@@ -10,9 +10,11 @@ use plain_blocks::expressions::value_of;
 use plain_blocks::plain_operands::site::Site;
 use plain_clauses::evaluated::{Evaluated, ordinal_of};
 use plain_clauses::plain_systems::system::Working;
+use plain_clauses::scalars::scalar_of;
 use std::alloc::{AllocError, Global};
 
-/// What comes of an expression, which has the whole limit of statements for itself.
+/// What comes of an expression, which has the whole limit of statements for itself. The working
+/// state is copied only where its ordinal is not found at once.
 pub fn part_of(
     alloc: Global,
     site: &Site,
@@ -23,6 +25,9 @@ pub fn part_of(
     ensures { IfOk result (λ part. part
         ≡ held (part_of limit e.now (view_of site.now working.now))) }
 {
+    if let Some(z) = scalar_of(alloc, site, e, working) {
+        return Ok(Evaluated::Ordinal(z));
+    }
     let mut copy = working.twin(alloc)?;
     let mut left = limit;
     let value = value_of(alloc, site, e, &mut copy, &mut left);

@@ -19,7 +19,7 @@ use Rattle.est_meaning.specs.ClauseContexts.{delay_of}
 use Rattle.est_meaning.specs.TransitionChoices.{Choice, numbered, any_tuples, any_frame, choice_by}
 use Rattle.est_meaning.specs.TransitionChoices.{choice_in}
 use Rattle.est_meaning.specs.GuardParts.{fits_state, is_from, frames_of, seen_by}
-use Rattle.est_meaning.specs.TransitionSelection.{holds}
+use Rattle.est_meaning.specs.TransitionSelection.{holds, is_enabled_choice}
 use Rattle.est_meaning.specs.DelayStamps.{first_choice, is_waiting, is_timed, since, stamp_after}
 use Rattle.est_meaning.proofs.Options.{map_some}
 use Rattle.plain_guards.specs.plain_transitions.declared.written.Written.{Written}
@@ -157,6 +157,43 @@ unfit limit t fired s l k h e g =
     (timed_at limit t s k r (ap (row_of s) e ∙ a.1)
     ∙ unfit_waits limit t s r k.transition (numbered (transitions_of t r.body) k.transition)
     (λ x i j. f (record { transition = x; is = i; fits = j })))
+
+-- a transition without a delay has no stamp
+abbrev first_of : Text → Row → ℕ → FullTransition → List ℤ → Choice
+first_of t r m x zs =
+    record { row = r; number = m; transition = x; chosen = any_frame t.outline x zs }
+
+first_waits : (limit : ℕ) (t : Text) (s : Situation) (r : Row) (m : ℕ) (x : FullTransition)
+    (o : Option (List ℤ)) → delay_of x ≡ None
+    → option_map_or (is_waiting limit t s) (option_map (first_of t r m x) o) false ≡ false
+first_waits limit t s r m x None h = refl
+first_waits limit t s r m x (Some zs) h =
+    ap (λ d. is_some d && is_enabled_choice limit t s (first_of t r m x zs)) h
+
+no_delay_waits : (limit : ℕ) (t : Text) (s : Situation) (r : Row) (m : ℕ)
+    (o : Option FullTransition) → ((x : FullTransition) → o ≡ Some x → delay_of x ≡ None)
+    → option_map_or (is_waiting limit t s) (option_and_then (choice_by t r m 1) o) false ≡ false
+no_delay_waits limit t s r m None h = refl
+no_delay_waits limit t s r m (Some x) h =
+    first_waits limit t s r m x (numbered (any_tuples t.outline x) 1) (h x refl)
+
+-- an instance of whose body no transition has a delay has no stamps
+pub untimed_instance : (limit : ℕ) (t : Text) (fired : Option Firing) (s : Situation) (l : Living)
+    (old : Map Clocked ℕ) → IsLiving s l → ((k : Clocked) → k.instance ≡ l.number → old k ≡ None)
+    → ((j : ℕ) (x : FullTransition) → numbered (transitions_of t l.body) j ≡ Some x
+    → delay_of x ≡ None) → AreOfInstance l.number (stamp_after limit t fired s) old old
+untimed_instance limit t fired s l old h none g =
+    let a = row_living s l h in
+    let r = a.0 in
+    record {
+      own = λ k e. none k e ∙ sym (untimed limit t fired s k
+          (timed_at limit t s k r (ap (row_of s) e ∙ a.1)
+          ∙ no_delay_waits limit t s r k.transition
+          (numbered (transitions_of t r.body) k.transition)
+          (λ x i. g k.transition x
+          (ap (λ (y : Living). numbered (transitions_of t y.body) k.transition) (sym a.2) ∙ i))));
+      others = λ k e. refl;
+    }
 
 -- ONE TRANSITION
 

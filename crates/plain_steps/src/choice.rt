@@ -22,21 +22,18 @@ use est_meaning::mean_blocks::fault::BlockFault;
 use est_meaning::mean_blocks::frame::Frame;
 use est_meaning::mean_blocks::situation::InteractionPoint;
 use est_meaning::mean_blocks::stop::Stop;
-use est_meaning::rule_scope::declaration::Sort;
-use est_meaning::rule_scope::outline::Outline;
-use est_syntax::body::Block;
 use est_syntax::est_items::Items;
 use plain_births::births::set_state;
 use plain_blocks::statements::statements_in;
 use plain_clauses::candidate::Candidate;
-use plain_frames::plain_declared::declared::places_of;
 use plain_frames::plain_systems::system::{System, Working};
 use plain_frames::routines::frame_of;
 use plain_guards::sight::look;
 use plain_operands::site::Site;
 use plain_queues::heads::take_head;
 use plain_queues::plain_texts::text::Text;
-use plain_transitions::choices::choice_frame;
+use plain_transitions::behaviour::Behaviour;
+use plain_transitions::written::Written;
 use std::alloc::{AllocError, Global};
 
 // How many levels calls and initialize parts may open within one another.
@@ -85,29 +82,36 @@ fn begin(
     Ok(())
 }
 
-// The variables of a block, which begin undefined.
-fn own_frame(alloc: Global, outline: &Outline, block: &Block) -> Result<Frame, Stop>
-    ensures { Says (Ok (own_frame outline.now block.now)) result }
+// The variables of the block of a transition, which begin undefined.
+fn own_frame(alloc: Global, text: &Text, transition: &Written) -> Result<Frame, Stop>
+    ensures { (x : FullTransition) → IsWritten text.now.outline x transition.now
+        → Says (Ok (own_frame text.now.outline x.block)) result }
 {
-    let places = places_of(alloc, outline, Sort::Variable, block.place)?;
-    frame_of(alloc, outline, places.as_slice(), Items::new(alloc))
+    frame_of(
+        alloc,
+        text.outline(),
+        transition.own.as_slice(),
+        Items::new(alloc),
+    )
 }
 
-// Executes a block of an instance, which sees the frames that are open and its own variables.
+// Executes the block of a transition of an instance, which sees the frames that are open and its own
+// variables.
 fn run(
     alloc: Global,
     text: &Text,
     limit: u32,
     instance: u32,
-    block: &Block,
+    transition: &Written,
     working: &mut Working,
 ) -> Result<(), Stop>
-    ensures { Ends (block_meaning text.now instance
-        (working.old.frames ++ own_frame text.now.outline block.now ∷ [])
-        (out-Block block.now).statements limit (situation_of working.old.system))
+    ensures { (x : FullTransition) → IsWritten text.now.outline x transition.now
+        → Ends (block_meaning text.now instance
+        (working.old.frames ++ own_frame text.now.outline x.block ∷ [])
+        (out-Block x.block).statements limit (situation_of working.old.system))
         result working.new }
 {
-    let frame = own_frame(alloc, text.outline(), block)?;
+    let frame = own_frame(alloc, text, transition)?;
     working.frames.push(frame)?;
     working.outs = Items::new(alloc);
     let site = Site {
@@ -120,7 +124,7 @@ fn run(
     statements_in(
         alloc,
         &site,
-        block.statements.as_slice(),
+        transition.block.statements.as_slice(),
         working,
         &mut left,
     )
@@ -141,14 +145,7 @@ fn perform(
 {
     begin(alloc, text, limit, candidate, chosen, working)?;
     let transition = candidate.transition;
-    run(
-        alloc,
-        text,
-        limit,
-        candidate.instance,
-        transition.block,
-        working,
-    )?;
+    run(alloc, text, limit, candidate.instance, transition, working)?;
     set_state(
         alloc,
         candidate.instance,
@@ -161,7 +158,7 @@ fn perform(
 /// What comes of the choice of a number of a transition, but for the stamps.
 pub fn fire_choice(
     alloc: Global,
-    text: &Text,
+    behaviour: &Behaviour,
     limit: u32,
     candidate: &Candidate,
     number: u32,
@@ -169,20 +166,14 @@ pub fn fire_choice(
 ) -> Result<(), Stop>
     ensures { (f : Firing) (r : Row) (x : FullTransition)
         → r.number ≡ candidate.now.instance → r.state ≡ candidate.now.state
-        → IsWritten text.now.outline x candidate.now.transition.now
-        → Leads text.now (restamped limit text.now (Some f))
-        (option_map_or (fired_by limit text.now (situation_of working.old.system) f)
-        (choice_by text.now r candidate.now.number number x) (Fault Undefined))
+        → IsWritten behaviour.now.outline x candidate.now.transition.now
+        → Leads behaviour.now (restamped limit behaviour.now (Some f))
+        (option_map_or (fired_by limit behaviour.now (situation_of working.old.system) f)
+        (choice_by behaviour.now r candidate.now.number number x) (Fault Undefined))
         result working.new }
 {
-    let Some(chosen) = choice_frame(
-        alloc,
-        text.outline(),
-        &candidate.transition.variables,
-        number,
-    )?
-    else {
+    let Some(chosen) = behaviour.chosen(alloc, candidate.transition, number)? else {
         return Err(Stop::Fault(BlockFault::Undefined));
     };
-    perform(alloc, text, limit, candidate, chosen, working)
+    perform(alloc, behaviour.text(), limit, candidate, chosen, working)
 }

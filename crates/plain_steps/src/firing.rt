@@ -45,14 +45,7 @@ fn fire_in(
         number: firing.transition,
         transition,
     };
-    fire_choice(
-        alloc,
-        behaviour.text(),
-        limit,
-        &candidate,
-        firing.choice,
-        working,
-    )
+    fire_choice(alloc, behaviour, limit, &candidate, firing.choice, working)
 }
 
 /// What comes of a firing.

@@ -51,7 +51,7 @@ fn stamp_transition(
         number,
         transition,
     };
-    if is_timed(alloc, behaviour.text(), limit, &candidate, working)? {
+    if is_timed(alloc, behaviour, limit, &candidate, working)? {
         let since = since(fired, &working.system, living.number, number);
         stamps.push(Stamp {
             instance: living.number,
@@ -62,7 +62,8 @@ fn stamp_transition(
     Ok(())
 }
 
-// Puts the stamps of an instance last, which has none there yet.
+// Puts the stamps of an instance last, which has none there yet. Where no transition of its body has a
+// delay, none gets one.
 fn stamp_instance(
     alloc: Global,
     behaviour: &Behaviour,
@@ -81,6 +82,9 @@ fn stamp_instance(
         (situation_of working.new.system ≡ situation_of working.old.system) }
 {
     let fits = behaviour.fits(living.body, living.state);
+    if !fits.is_timed() {
+        return Ok(());
+    }
     let mut last = 0;
     while let Some(number) = fits.next(last) {
         stamp_transition(

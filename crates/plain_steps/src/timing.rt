@@ -13,8 +13,7 @@ use est_meaning::firing::Firing;
 use plain_clauses::candidate::Candidate;
 use plain_frames::plain_systems::system::{Stamps, System, Working};
 use plain_guards::judging::judge;
-use plain_queues::plain_texts::text::Text;
-use plain_transitions::choices::choice_frame;
+use plain_transitions::behaviour::Behaviour;
 use std::alloc::{AllocError, Global};
 
 // Whether it is this transition that fired.
@@ -55,26 +54,25 @@ pub fn since(fired: Option<Firing>, system: &System, instance: u32, transition: 
 /// Whether a transition has a delay and is enabled.
 pub fn is_timed(
     alloc: Global,
-    text: &Text,
+    behaviour: &Behaviour,
     limit: u32,
     candidate: &Candidate,
     working: &mut Working,
 ) -> Result<bool, AllocError>
     ensures timed { IfOk result (λ timed. (r : Row) (x : FullTransition)
         → r.number ≡ candidate.now.instance → r.state ≡ candidate.now.state
-        → IsWritten text.now.outline x candidate.now.transition.now → timed
-        ≡ option_map_or (is_waiting limit text.now (situation_of working.old.system))
-        (choice_by text.now r candidate.now.number 1 x) false) }
+        → IsWritten behaviour.now.outline x candidate.now.transition.now → timed
+        ≡ option_map_or (is_waiting limit behaviour.now (situation_of working.old.system))
+        (choice_by behaviour.now r candidate.now.number 1 x) false) }
     ensures system { OnOk result
         (situation_of working.new.system ≡ situation_of working.old.system) }
 {
     if candidate.transition.delay.is_none() {
         return Ok(false);
     }
-    let Some(chosen) = choice_frame(alloc, text.outline(), &candidate.transition.variables, 1)?
-    else {
+    let Some(chosen) = behaviour.chosen(alloc, candidate.transition, 1)? else {
         return Ok(false);
     };
-    let verdict = judge(alloc, text, limit, candidate, chosen, working)?;
+    let verdict = judge(alloc, behaviour.text(), limit, candidate, chosen, working)?;
     Ok(verdict.enabled)
 }

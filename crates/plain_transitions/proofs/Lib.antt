@@ -1,4 +1,5 @@
 pub mod BodyLaws
+pub mod CalmLaws
 pub mod ContextLaws
 pub mod FrameLaws
 pub mod KeyLaws

@@ -1,34 +1,35 @@
 -- Transitions in the table of a body, and tables of bodies.
 use Rattle.std.proofs.Common.{◌≡◌, refl, sym, ap, subst, ◌∙◌, arith, ℕ, zero, suc, ◌+◌, ◌-◌, ◌<◌}
-use Rattle.std.proofs.Common.{Bool, true, false, cond, ◌||◌, nat_eq, List, [], ◌∷◌, ◌++◌, length}
+use Rattle.std.proofs.Common.{◌^◌, Bool, true, false, cond, ◌||◌, nat_eq, List, [], ◌∷◌, ◌++◌, length}
 use Rattle.std.proofs.Common.{get_or, take, Option, Some, None, is_some, slice_get}
 use Rattle.std.proofs.lemmas.Bool.Decides.{Decides-eqb}
 use Rattle.std.proofs.lemmas.List.{take_more, map-append}
 use Rattle.std.proofs.lemmas.List.Folds.{find-append}
 use Rattle.std.proofs.lemmas.Option.{same_Some}
 use Rattle.std.specs.Borrow.{Bor}
-use Rattle.std.specs.List.{AllZip, flat_map}
+use Rattle.std.specs.List.{AllZip, flat_map, list_any}
 use Rattle.std.specs.Map.{lookup}
-use Rattle.std.specs.Option.{option_copied, option_map_or, option_or}
+use Rattle.std.specs.Option.{option_copied, option_map, option_map_or, option_or}
 use Rattle.est_syntax.specs.declared.body.Body.{Body, out-Body}
 use Rattle.est_syntax.specs.declared.transition.Group.{Group}
 use Rattle.est_meaning.specs.rule_scope.Outline.{Outline}
 use Rattle.est_meaning.specs.mean_blocks.TextByPlace.{Text, body_at}
 use Rattle.est_meaning.specs.ClauseContexts.{FullTransition, transitions_of, from_of}
-use Rattle.est_meaning.specs.ClauseContexts.{group_transitions}
+use Rattle.est_meaning.specs.ClauseContexts.{group_transitions, delay_of}
 use Rattle.est_meaning.specs.GuardParts.{fits_state}
 use Rattle.est_meaning.specs.TransitionChoices.{numbered}
 use Rattle.plain_transitions.specs.declared.fitting.Fitting.{Fitting}
 use Rattle.plain_transitions.specs.declared.written.Written.{Written}
-use Rattle.plain_transitions.specs.WrittenTransitions.{IsWritten}
+use Rattle.plain_transitions.specs.WrittenTransitions.{IsWritten, bounds_of}
 use Rattle.plain_transitions.specs.FittingTransitions.{AtState, IsTransition, IsFitting}
-use Rattle.plain_transitions.specs.FittingTransitions.{IsNextFitting}
+use Rattle.plain_transitions.specs.FittingTransitions.{IsNextFitting, are_timed, AreUntimed}
 use Rattle.plain_transitions.specs.inside.BodyTables.{Sited, IsTable, fits_at, first_at, site}
 use Rattle.plain_transitions.specs.inside.BodyTables.{AreFitting, naming}
 use Rattle.plain_transitions.specs.inside.BodyTables.{AreTabled, bodies_held}
 use Rattle.plain_transitions.specs.inside.KeyedNumbers.{Ascend, IsLeastAbove, IsNext}
 use Rattle.plain_transitions.specs.inside.KeyedNumbers.{listed}
 use Rattle.plain_transitions.specs.inside.KeyedNumbers.{smaller}
+use Rattle.plain_transitions.specs.inside.StateNumbers.{AreByStates}
 use Rattle.plain_transitions.specs.inside.StateNumbers.{passes, fits_by, fits_each, names_state}
 use Rattle.plain_transitions.specs.inside.AddedTransitions.{AreAdded}
 use Rattle.plain_transitions.proofs.NumberLaws.{next_number, next_either}
@@ -86,7 +87,7 @@ smaller_none : (q : Option ℕ) → smaller q None ≡ q
 smaller_none None = refl
 smaller_none (Some n) = refl
 
-module _ (s : Sited) (ws : List Written) (f : Fitting) (t : IsTable s ws f) where
+module _ (s : Sited) (ws : List Written) (f : Fitting) (b : Bool) (t : IsTable s ws f b) where
   abbrev all_of : List FullTransition
   all_of = transitions_of s.text s.place
 
@@ -171,13 +172,89 @@ module _ (s : Sited) (ws : List Written) (f : Fitting) (t : IsTable s ws f) wher
 
   -- those that fit a state
   pub at_state : (state : Option ℕ) → AreFitting
-      (record { text = s.text; body = s.place; state = state }) ws f.each (naming f state)
+      (record { text = s.text; body = s.place; state = state }) ws f.each (naming f state) b
   at_state state = record {
     written = t.written;
     ascend_each = ascend_each;
     ascend_named = named_ascend state;
     next = next_by state;
+    delays = t.delays;
   }
+
+-- DELAYS
+
+any_same : {A B : Type 0} (R : A → B → Type 0) (f : A → Bool) (g : B → Bool)
+    → ((x : A) (y : B) → R x y → f x ≡ g y) → (xs : List A) (ys : List B) → AllZip R xs ys
+    → list_any f xs ≡ list_any g ys
+any_same R f g h [] [] z = refl
+any_same R f g h [] (y ∷ ys) z = absurd z
+any_same R f g h (x ∷ xs) [] z = absurd z
+any_same R f g h (x ∷ xs) (y ∷ ys) z = λ i. h x y z.0 i || any_same R f g h xs ys z.1 i
+
+there_mapped : {A B : Type 0} (f : A → B) (o : Option A)
+    → is_some (option_map f o) ≡ is_some o
+there_mapped f None = refl
+there_mapped f (Some x) = refl
+
+none_mapped : {A B : Type 0} (f : A → B) (o : Option A) → option_map f o ≡ None → o ≡ None
+none_mapped f None h = refl
+none_mapped f (Some x) h = absurd (cc)
+
+none_there : {A : Type 0} (o : Option A) → is_some o ≡ false → o ≡ None
+none_there None h = refl
+none_there (Some x) h = absurd (cc)
+
+-- whether one that is written has a delay
+timed_as_written : (t : Text) (body : ℕ) (ws : List Written)
+    → AllZip (IsWritten t.outline) (transitions_of t body) ws
+    → list_any (λ (w : Written). is_some w.delay) ws ≡ are_timed (transitions_of t body)
+timed_as_written t body ws h = sym (any_same (IsWritten t.outline)
+    (λ (x : FullTransition). is_some (delay_of x)) (λ (w : Written). is_some w.delay)
+    (λ x w is. ap is_some (sym is.delay) ∙ there_mapped bounds_of w.delay)
+    (transitions_of t body) ws h)
+
+-- a table of a text
+pub made_table : (t u : Text) (place : ℕ) (ws vs us : List Written) (f : Fitting) (b : Bool)
+    → u ≡ t → AllZip (IsWritten t.outline) (transitions_of t place) ws → length ws < 2 ^ 32
+    → vs ≡ ws → AreByStates vs (length vs) f → us ≡ ws
+    → b ≡ list_any (λ (w : Written). is_some w.delay) us
+    → IsTable (record { text = u; place = place }) ws f b
+made_table t u place ws vs us f b same written few is by all timed =
+    subst (λ (x : Text). IsTable (record { text = x; place = place }) ws f b) (sym same) (record {
+      written = written;
+      few = few;
+      fitting = subst (λ l. AreByStates l (length l) f) is by;
+      delays = timed ∙ ap (list_any (λ (w : Written). is_some w.delay)) all
+          ∙ timed_as_written t place ws written;
+    })
+
+neither : (a b : Bool) → (a || b) ≡ false → (a ≡ false) × (b ≡ false)
+neither true b h = absurd (cc)
+neither false b h = (refl, h)
+
+untimed_at : (xs : List FullTransition) (n : ℕ) (x : FullTransition) → are_timed xs ≡ false
+    → slice_get xs n ≡ Some x → delay_of x ≡ None
+untimed_at [] n x h there = absurd (cc)
+untimed_at (y ∷ xs) zero x h there =
+    let first = neither (is_some (delay_of y)) (are_timed xs) h in
+    none_there (delay_of x)
+    (ap (λ z. is_some (delay_of z)) (sym (same_Some y x there)) ∙ first.0)
+untimed_at (y ∷ xs) (suc n) x h there =
+    untimed_at xs n x (neither (is_some (delay_of y)) (are_timed xs) h).1 there
+
+untimed_by : (xs : List FullTransition) (n : ℕ) (x : FullTransition) → are_timed xs ≡ false
+    → numbered xs n ≡ Some x → delay_of x ≡ None
+untimed_by xs zero x h there = absurd (cc)
+untimed_by xs (suc n) x h there = untimed_at xs n x h there
+
+-- where none has a delay
+pub untimed_body : (t : Text) (body : ℕ) → are_timed (transitions_of t body) ≡ false
+    → AreUntimed t body
+untimed_body t body h = record {
+  full = λ n x there. untimed_by (transitions_of t body) n x h there;
+  held = λ n w is. none_mapped bounds_of w.now.delay
+      (is.2.delay ∙ untimed_by (transitions_of t body) n is.0 h is.1);
+}
 
 -- TRANSITIONS THAT ARE WRITTEN
 
@@ -332,12 +409,13 @@ none_fits t body state after q r none h k =
 
 -- a body that is not there has none
 pub no_fits : (t : Text) (body : ℕ) (state : Option ℕ) → transitions_of t body ≡ []
-    → AreFitting (record { text = t; body = body; state = state }) [] [] []
+    → AreFitting (record { text = t; body = body; state = state }) [] [] [] false
 no_fits t body state none = record {
   written = subst (λ l. AllZip (IsWritten t.outline) l []) (sym none) tt;
   ascend_each = nothing_ascends;
   ascend_named = nothing_ascends;
   next = λ after q r. none_fits t body state after q r none;
+  delays = sym (ap are_timed none);
 }
 
 module _ (t : Text) (place : ℕ) (s : Sited) (h : Some s ≡ site t place (body_at t place)) where

@@ -14,7 +14,8 @@ use Rattle.std.specs.Borrow.{Bor}
 use Rattle.est_syntax.specs.declared.kind.Kind.{Kind}
 use Rattle.est_values.specs.FittingValues.{first_ordinal, last_ordinal, ordinal_count}
 use Rattle.est_values.specs.OrdinalTuples.{ordinals_of, ordinal_tuples}
-use Rattle.plain_transitions.specs.inside.ChosenTuples.{kinds_held, IsAbove, IsTaken}
+use Rattle.plain_transitions.specs.WrittenTransitions.{kinds_held}
+use Rattle.plain_transitions.specs.inside.ChosenTuples.{IsAbove, IsTaken}
 use Rattle.plain_transitions.specs.inside.ChosenTuples.{IsDivided}
 
 -- THE ORDINALS OF A KIND

@@ -1,8 +1,9 @@
--- The transitions of a body whose `from` fits a state.
-use Rattle.std.specs.Prelude.{◌≡◌, ◌<◌, ℕ, true, Option, Some, None}
+-- The transitions of a body: those whose `from` fits a state, and whether one has a delay.
+use Rattle.std.specs.Prelude.{◌≡◌, ◌<◌, ℕ, Bool, true, List, Option, Some, None, is_some}
 use Rattle.std.specs.Borrow.{Bor}
+use Rattle.std.specs.List.{list_any}
 use Rattle.est_meaning.specs.mean_blocks.TextByPlace.{Text}
-use Rattle.est_meaning.specs.ClauseContexts.{FullTransition, transitions_of, from_of}
+use Rattle.est_meaning.specs.ClauseContexts.{FullTransition, transitions_of, from_of, delay_of}
 use Rattle.est_meaning.specs.TransitionChoices.{numbered}
 use Rattle.est_meaning.specs.GuardParts.{fits_state}
 use Rattle.plain_transitions.specs.declared.written.Written.{Written}
@@ -33,3 +34,14 @@ IsNextFitting t body state after (Some n) = (after < n) × IsFitting t body stat
     × ((m : ℕ) → after < m → m < n → IsFitting t body state m → ⊥)
 IsNextFitting t body state after None =
     (m : ℕ) → after < m → IsFitting t body state m → ⊥
+
+-- whether one of these transitions has a delay
+abbrev pub are_timed : List FullTransition → Bool
+are_timed xs = list_any (λ (x : FullTransition). is_some (delay_of x)) xs
+
+-- no transition of a body has a delay
+pub record AreUntimed (t : Text) (body : ℕ) : Type 0 where
+  pub full : (number : ℕ) (x : FullTransition)
+      → numbered (transitions_of t body) number ≡ Some x → delay_of x ≡ None
+  pub held : (number : ℕ) (w : Bor Written) → IsTransition t body number (Some w)
+      → w.now.delay ≡ None

@@ -2,10 +2,11 @@
 ghost use Rattle.std.specs.Prelude.{◌≡◌, [], ◌∷◌, IfOk};
 ghost use Rattle.std.specs.Option.{option_map};
 ghost use Rattle.est_meaning.specs.ClauseContexts.{FullTransition, transitions_of};
-ghost use Rattle.est_meaning.specs.TransitionChoices.{any_frame, any_places, any_tuples, numbered};
+ghost use Rattle.est_meaning.specs.TransitionChoices.{any_frame, any_tuples, numbered};
 ghost use Rattle.plain_transitions.specs.FittingTransitions.{IsTransition};
+ghost use Rattle.plain_transitions.specs.WrittenTransitions.{IsWritten};
 
-use crate::choices::choice_frame;
+use crate::choices::chosen_frame;
 use crate::fits::Fits;
 use crate::tables::{Tables, tables_of};
 use crate::written::Written;
@@ -13,7 +14,6 @@ use est_meaning::mean_blocks::frame::Frame;
 use est_meaning::rule_scope::outline::Outline;
 use est_syntax::est_items::Twin;
 use est_syntax::specification::Spec;
-use plain_names::plain_declared::declared::Places;
 use plain_names::plain_texts::text::Text;
 use plain_names::prepared::text_of;
 use std::alloc::{AllocError, Global};
@@ -121,6 +121,7 @@ impl<'t> Behaviour<'t> {
             written: &[],
             each: &[],
             named: &[],
+            timed: false,
         }
     }
 
@@ -146,22 +147,27 @@ impl<'t> Behaviour<'t> {
         Ok(Some(frame))
     }
 
-    /// The `any` variables at some places with their values in the choice of a number, which begins
-    /// at 1, if there are so many. Without variables there is one choice.
-    pub fn choice_frame(
+    /// The `any` variables of a transition of the text with their values in the choice of a number,
+    /// which begins at 1, if there are so many. Without variables there is one choice.
+    pub fn chosen(
         &self,
         alloc: Global,
-        variables: &Places,
+        transition: &Written,
         number: u32,
     ) -> Result<Option<Frame>, AllocError>
         ensures { IfOk result (λ frame. (x : FullTransition)
-            → any_places self.now.outline x ≡ variables.now → frame
+            → IsWritten self.now.outline x transition.now → frame
             ≡ option_map (any_frame self.now.outline x)
             (numbered (any_tuples self.now.outline x) number)) }
     {
-        if variables.as_slice().is_empty() {
+        if transition.variables.as_slice().is_empty() {
             return self.only_frame(alloc, number);
         }
-        choice_frame(alloc, self.text.outline(), variables, number)
+        chosen_frame(
+            alloc,
+            transition.variables.as_slice(),
+            transition.kinds.as_slice(),
+            number,
+        )
     }
 }

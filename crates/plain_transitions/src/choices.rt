@@ -1,5 +1,5 @@
 //! The choices of the values of `any` variables.
-ghost use Rattle.std.specs.Prelude.{◌≡◌, IfOk, map, slice_get};
+ghost use Rattle.std.specs.Prelude.{◌≡◌, IfOk, map};
 ghost use Rattle.std.specs.List.{filter_map};
 ghost use Rattle.std.specs.Option.{option_map};
 ghost use Rattle.est_values.specs.declared.value.Value.TheVariants as value;
@@ -8,7 +8,8 @@ ghost use Rattle.est_meaning.specs.mean_blocks.NamesInRuns.{kind_at};
 ghost use Rattle.est_meaning.specs.ClauseContexts.{FullTransition};
 ghost use Rattle.est_meaning.specs.TransitionChoices.{any_frame, any_places, any_tuples, bound_all};
 ghost use Rattle.est_meaning.specs.TransitionChoices.{numbered};
-ghost use Rattle.plain_transitions.specs.inside.ChosenTuples.{kinds_held, variables_of};
+ghost use Rattle.plain_transitions.specs.WrittenTransitions.{kinds_held};
+ghost use Rattle.plain_transitions.specs.inside.ChosenTuples.{variables_of};
 
 use crate::tuples::tuple_at;
 use est_meaning::mean_blocks::frame::{Binding, Frame, Slot};
@@ -35,8 +36,8 @@ pub(crate) fn variables_of(
     }
 }
 
-// The kinds of what is declared at some places.
-fn kinds_at<'o>(
+/// The kinds of what is declared at some places.
+pub(crate) fn kinds_at<'o>(
     alloc: Global,
     outline: &'o Outline,
     places: &[u32],
@@ -51,22 +52,6 @@ fn kinds_at<'o>(
         }
     }
     Ok(kinds)
-}
-
-// The tuple of values of the variables at some places that has a number, counted from 0, if there
-// are so many.
-fn tuple_of(
-    alloc: Global,
-    outline: &Outline,
-    places: &[u32],
-    number: u32,
-) -> Result<Option<Vec<i32>>, AllocError>
-    ensures { IfOk result (λ tuple. option_map (λ t. t.items) tuple
-        ≡ slice_get (ordinal_tuples (filter_map (kind_at outline.now) places.now)) number) }
-{
-    let kinds = kinds_at(alloc, outline, places)?;
-    let tuple = tuple_at(alloc, kinds.as_slice(), number)?;
-    Ok(tuple)
 }
 
 // Names with their ordinals, as far as there are both.
@@ -88,6 +73,28 @@ fn bound_all(alloc: Global, places: &[u32], ordinals: &[i32]) -> Result<Frame, A
     Ok(frame)
 }
 
+/// The variables at some places with their values in the choice of a number, which begins at 1, if
+/// there are so many, where these are the kinds of the variables.
+pub(crate) fn chosen_frame(
+    alloc: Global,
+    places: &[u32],
+    kinds: &[&Kind],
+    number: u32,
+) -> Result<Option<Frame>, AllocError>
+    ensures { IfOk result (λ frame. frame
+        ≡ option_map (λ zs. bound_all places.now (map (λ z. value.Ordinal z) zs))
+        (numbered (ordinal_tuples (kinds_held kinds.now)) number)) }
+{
+    if number == 0 {
+        return Ok(None);
+    }
+    let Some(tuple) = tuple_at(alloc, kinds, number - 1)? else {
+        return Ok(None);
+    };
+    let frame = bound_all(alloc, places, tuple.as_slice())?;
+    Ok(Some(frame))
+}
+
 /// The `any` variables at some places with their values in the choice of a number, which begins at
 /// 1, if there are so many. Without variables there is one choice.
 pub fn choice_frame(
@@ -100,13 +107,8 @@ pub fn choice_frame(
         → frame
         ≡ option_map (any_frame outline.now x) (numbered (any_tuples outline.now x) number)) }
 {
-    if number == 0 {
-        return Ok(None);
-    }
     let places = variables.as_slice();
-    let Some(tuple) = tuple_of(alloc, outline, places, number - 1)? else {
-        return Ok(None);
-    };
-    let frame = bound_all(alloc, places, tuple.as_slice())?;
-    Ok(Some(frame))
+    let kinds = kinds_at(alloc, outline, places)?;
+    let frame = chosen_frame(alloc, places, kinds.as_slice(), number)?;
+    Ok(frame)
 }

@@ -1,6 +1,9 @@
 //! The transitions of one body that fit one state.
 
+ghost use Rattle.std.specs.Prelude.{◌≡◌, false};
+ghost use Rattle.est_meaning.specs.ClauseContexts.{transitions_of};
 ghost use Rattle.plain_transitions.specs.FittingTransitions.{IsTransition, IsNextFitting};
+ghost use Rattle.plain_transitions.specs.FittingTransitions.{are_timed, AreUntimed};
 
 use crate::numbers::{least_above, smaller};
 use crate::table::item_at;
@@ -19,6 +22,7 @@ pub struct Fits<'b, 't> {
     pub(crate) written: &'b [Written<'t>],
     pub(crate) each: &'b [u32],
     pub(crate) named: &'b [u32],
+    pub(crate) timed: bool,
 }
 
 impl<'b, 't> Model for Fits<'b, 't> {
@@ -42,7 +46,7 @@ impl<'b, 't> Model for Fits<'b, 't> {
       text = record { spec = f.spec.now; outline = f.outline.now };
       body = f.body;
       state = f.state;
-    }) f.written.now f.each.now f.named.now };
+    }) f.written.now f.each.now f.named.now f.timed };
 }
 
 impl<'b, 't> Fits<'b, 't> {
@@ -54,6 +58,14 @@ impl<'b, 't> Fits<'b, 't> {
             return None;
         }
         item_at(self.written, number as usize - 1)
+    }
+
+    /// Whether a transition of the body has a delay, whatever states it fits.
+    pub fn is_timed(&self) -> bool
+        ensures timed { result ≡ are_timed (transitions_of self.now.text self.now.body) }
+        ensures untimed { result ≡ false → AreUntimed self.now.text self.now.body }
+    {
+        self.timed
     }
 
     /// The number of the first transition after this one whose `from` fits the state.

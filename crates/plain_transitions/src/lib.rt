@@ -4,6 +4,7 @@
 
 pub mod behaviour;
 mod bodies;
+mod calm;
 pub mod choices;
 mod clauses;
 mod conditions;

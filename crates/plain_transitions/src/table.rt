@@ -1,11 +1,12 @@
 //! The transitions of one body.
 
-ghost use Rattle.std.specs.Prelude.{◌≡◌, slice_get, IfOk};
+ghost use Rattle.std.specs.Prelude.{◌≡◌, slice_get, is_some, IfOk};
 ghost use Rattle.std.specs.Option.{option_copied};
-ghost use Rattle.std.specs.List.{AllZip, flat_map};
+ghost use Rattle.std.specs.List.{AllZip, flat_map, list_any};
 ghost use Rattle.est_syntax.specs.declared.body.Body.{out-Body};
 ghost use Rattle.est_meaning.specs.ClauseContexts.{group_transitions, transitions_of};
 ghost use Rattle.plain_transitions.specs.FittingTransitions.{IsTransition};
+ghost use Rattle.plain_transitions.specs.declared.written.Written.{Written};
 ghost use Rattle.plain_transitions.specs.WrittenTransitions.{IsWritten};
 ghost use Rattle.plain_transitions.specs.inside.BodyTables.{naming};
 
@@ -27,6 +28,7 @@ pub(crate) struct Table<'t> {
     place: u32,
     written: Vec<Written<'t>>,
     fitting: Fitting,
+    timed: bool,
 }
 
 // In words, so that where it is let go of there is one call.
@@ -38,6 +40,7 @@ impl<'t> Drop for Table<'t> {
             place: _,
             written,
             fitting,
+            timed: _,
         } = self;
         drop(written);
         drop(fitting);
@@ -62,13 +65,13 @@ impl<'t> Model for Table<'t> {
     ghost invariant = { λ t. IsTable (record {
       text = record { spec = t.spec.now; outline = t.outline.now };
       place = t.place;
-    }) t.written.items t.fitting };
+    }) t.written.items t.fitting t.timed };
 }
 
 // The transitions of a body.
 fn written_in<'t>(
     alloc: Global,
-    outline: &Outline,
+    outline: &'t Outline,
     body: &'t Body,
 ) -> Result<Vec<Written<'t>>, AllocError>
     ensures { IfOk result (λ written. AllZip (IsWritten outline.now)
@@ -114,6 +117,13 @@ fn naming(fitting: &Fitting, state: Option<u32>) -> &[u32]
     }
 }
 
+// Whether a transition has a delay.
+fn are_timed(written: &[Written<'_>]) -> bool
+    ensures { result ≡ list_any (λ (w : Written). is_some w.delay) written.now }
+{
+    written.iter().any(|transition| transition.delay.is_some())
+}
+
 impl<'t> Table<'t> {
     /// The table of the body whose name stands at a place. Errs where memory runs out, or where 32
     /// bits do not number its transitions.
@@ -125,12 +135,14 @@ impl<'t> Table<'t> {
             return Err(AllocError);
         }
         let fitting = fitting_of(alloc, written.as_slice())?;
+        let timed = are_timed(written.as_slice());
         Ok(Table {
             spec: text.spec(),
             outline: text.outline(),
             place,
             written,
             fitting,
+            timed,
         })
     }
 
@@ -160,6 +172,7 @@ impl<'t> Table<'t> {
             written: self.written.as_slice(),
             each: self.fitting.each.as_slice(),
             named: naming(&self.fitting, state),
+            timed: self.timed,
         }
     }
 }

@@ -3,7 +3,8 @@
 ghost use Rattle.std.specs.Prelude.{◌≡◌, reverse, slice_get, IfOk};
 ghost use Rattle.std.specs.Option.{option_map};
 ghost use Rattle.est_values.specs.OrdinalTuples.{ordinals_of, ordinal_tuples};
-ghost use Rattle.plain_transitions.specs.inside.ChosenTuples.{kinds_held, IsAbove, IsTaken};
+ghost use Rattle.plain_transitions.specs.WrittenTransitions.{kinds_held};
+ghost use Rattle.plain_transitions.specs.inside.ChosenTuples.{IsAbove, IsTaken};
 
 use est_syntax::kind::Kind;
 use est_values::ordinals::{first_ordinal, last_ordinal, ordinal_count};

@@ -1,23 +1,26 @@
 //! Transitions, written out with all their clauses.
 
-ghost use Rattle.std.specs.Prelude.{◌≡◌, ◌++◌, [], ◌∷◌, IfOk, OnOk, option_and_then, Some};
+ghost use Rattle.std.specs.Prelude.{◌≡◌, List, ◌++◌, [], ◌∷◌, IfOk, OnOk, option_and_then, Some};
 ghost use Rattle.std.specs.List.{flat_map};
 ghost use Rattle.std.specs.Option.{option_copied, option_map};
 ghost use Rattle.est_meaning.specs.rule_scope.Outline.{entry_at};
 ghost use Rattle.est_meaning.specs.rule_kinds.Constants.{constant_value};
-ghost use Rattle.est_meaning.specs.mean_blocks.NamesInRuns.{declared_at};
+ghost use Rattle.est_meaning.specs.rule_scope.declared.declaration.Sort.TheVariants as sort;
+ghost use Rattle.est_meaning.specs.mean_blocks.NamesInRuns.{declared_at, places_of};
 ghost use Rattle.est_meaning.specs.ClauseContexts.{given_by, states_in, state_in, constant_in};
 ghost use Rattle.est_meaning.specs.ClauseContexts.{awaited_in};
 ghost use Rattle.est_meaning.specs.ClauseContexts.{context_after, group_transitions};
 ghost use Rattle.est_meaning.specs.GuardParts.{states_named};
 ghost use Rattle.plain_transitions.specs.WrittenTransitions.{IsWritten, IsFixed, provided_of};
 ghost use Rattle.plain_transitions.specs.WrittenTransitions.{awaited_of};
+ghost use Rattle.plain_transitions.specs.declared.written.Fixed.{Fixed};
 ghost use Rattle.plain_transitions.specs.inside.HeldClauses.{held, conditions_of, written_of};
-ghost use Rattle.plain_transitions.specs.inside.HeldClauses.{ruling_in};
+ghost use Rattle.plain_transitions.specs.inside.HeldClauses.{Condition, ruling_in};
 ghost use Rattle.plain_transitions.specs.inside.AddedTransitions.{provided_by, written_after};
-ghost use Rattle.plain_transitions.specs.inside.AddedTransitions.{AreAdded};
+ghost use Rattle.plain_transitions.specs.inside.AddedTransitions.{AreAdded, IsLookedUp};
 
-use crate::choices::variables_of;
+use crate::calm::are_calm;
+use crate::choices::{kinds_at, variables_of};
 use crate::clauses::{
     any_of, condition_in, delay_of, from_of, priority_of, ruling_of, to_of, when_of,
 };
@@ -25,13 +28,24 @@ use crate::conditions::{Given, given_in, referred};
 use crate::contexts::give_all;
 use crate::written::{Awaits, Fixed, Provision, Written};
 use est_meaning::rule_kinds::constants::constant_value;
+use est_meaning::rule_scope::declaration::Sort;
 use est_meaning::rule_scope::outline::Outline;
 use est_syntax::body::Block;
 use est_syntax::est_items::Items;
+use est_syntax::kind::Kind;
 use est_syntax::name::Used;
 use est_syntax::transition::{Clause, Group, Transition};
-use plain_names::plain_declared::declared::{declared_at, interaction_of};
+use plain_names::plain_declared::declared::{Places, declared_at, interaction_of, places_of};
 use std::alloc::{AllocError, Global};
+
+// The places that are looked up for a transition, and the kinds of its `any` variables.
+#[derive(Drop)]
+struct LookedUp<'t> {
+    parameters: Places,
+    variables: Places,
+    kinds: Vec<&'t Kind>,
+    own: Places,
+}
 
 // The states of the state set that is declared at a place.
 fn set_at(outline: &Outline, place: u32) -> Option<&[u32]>
@@ -128,11 +142,11 @@ fn next_state(outline: &Outline, context: &[&Clause]) -> Option<u32>
     }
 }
 
-// What a `when` awaits, where it has no subscripts and both names are declared.
+// What a `when` awaits, where its subscripts call nothing and both names are declared.
 fn fixed_at(outline: &Outline, awaits: &Awaits) -> Option<Fixed>
     ensures { IsFixed outline.now (Some (awaited_of awaits.now)) result }
 {
-    if !awaits.at.index.as_slice().is_empty() {
+    if !are_calm(outline, awaits.at.index.as_slice()) {
         return None;
     }
     let point = declared_at(outline, &awaits.at.name)?;
@@ -146,6 +160,21 @@ fn fixed_of(outline: &Outline, context: &[&Clause]) -> Option<Fixed>
 {
     let awaits = when_of(context)?;
     fixed_at(outline, &awaits)
+}
+
+// The places of the parameters of what is awaited, where that is known.
+fn parameters_at(
+    alloc: Global,
+    outline: &Outline,
+    fixed: Option<Fixed>,
+) -> Result<Places, AllocError>
+    ensures { IfOk result (λ places. (y : Fixed) → fixed ≡ Some y
+        → places ≡ places_of outline.now sort.Variable y.signal) }
+{
+    match fixed {
+        None => Ok(Items::new(alloc)),
+        Some(fixed) => places_of(alloc, outline, Sort::Variable, fixed.signal),
+    }
 }
 
 // What is provided in a context, by the clause of it that says so.
@@ -183,10 +212,33 @@ fn provision<'t>(
     }
 }
 
+// What is looked up for a transition with the clauses of a context.
+fn look_up<'t>(
+    alloc: Global,
+    outline: &'t Outline,
+    context: &[&'t Clause],
+    fixed: Option<Fixed>,
+    block: &'t Block,
+) -> Result<LookedUp<'t>, AllocError>
+    ensures { IfOk result (λ found. (gs : List Condition)
+        → IsLookedUp outline.now (written_of gs (held context.now) block.now) fixed found) }
+{
+    let variables = variables_of(alloc, outline, any_of(context))?;
+    let kinds = kinds_at(alloc, outline, variables.as_slice())?;
+    let own = places_of(alloc, outline, Sort::Variable, block.place)?;
+    let parameters = parameters_at(alloc, outline, fixed)?;
+    Ok(LookedUp {
+        parameters,
+        variables,
+        kinds,
+        own,
+    })
+}
+
 // A transition with the clauses of a context.
 fn write<'t>(
     alloc: Global,
-    outline: &Outline,
+    outline: &'t Outline,
     given: &[Given<'t>],
     context: &[&'t Clause],
     block: &'t Block,
@@ -196,25 +248,29 @@ fn write<'t>(
 {
     let priority = priority(outline, context)?;
     let states = states_of(alloc, outline, context)?;
-    let variables = variables_of(alloc, outline, any_of(context))?;
+    let fixed = fixed_of(outline, context);
+    let found = look_up(alloc, outline, context, fixed, block)?;
     let condition = provision(alloc, given, context)?;
     Ok(Written {
         states,
         awaits: when_of(context),
-        fixed: fixed_of(outline, context),
-        variables,
+        fixed,
+        parameters: found.parameters,
+        variables: found.variables,
+        kinds: found.kinds,
         condition,
         delay: delay_of(context),
         priority,
         next_state: next_state(outline, context),
         block,
+        own: found.own,
     })
 }
 
 // Writes a transition with its clauses, given after a context.
 fn write_next<'t>(
     alloc: Global,
-    outline: &Outline,
+    outline: &'t Outline,
     given: &[Given<'t>],
     transition: &'t Transition,
     context: &mut Vec<&'t Clause>,
@@ -235,7 +291,7 @@ fn write_next<'t>(
 // Writes transitions after a context.
 fn write_all<'t>(
     alloc: Global,
-    outline: &Outline,
+    outline: &'t Outline,
     given: &[Given<'t>],
     transitions: &'t [Transition],
     context: &mut Vec<&'t Clause>,
@@ -253,7 +309,7 @@ fn write_all<'t>(
 // Writes the transitions after one `trans`.
 fn write_group<'t>(
     alloc: Global,
-    outline: &Outline,
+    outline: &'t Outline,
     group: &'t Group,
     into: &mut Vec<Written<'t>>,
 ) -> Result<(), AllocError>
@@ -277,7 +333,7 @@ fn write_group<'t>(
 /// Writes the transitions of groups.
 pub(crate) fn write_groups<'t>(
     alloc: Global,
-    outline: &Outline,
+    outline: &'t Outline,
     groups: &'t [Group],
     into: &mut Vec<Written<'t>>,
 ) -> Result<(), AllocError>

@@ -1,5 +1,5 @@
 -- The offered choices of a system that may fire, as far as their instances say.
-use Rattle.std.specs.Prelude.{◌≡◌, ◌<◌, ◌≤◌, ℕ, true, false, List, length, get_or, None}
+use Rattle.std.specs.Prelude.{◌≡◌, ◌↔◌, ◌<◌, ◌≤◌, ℕ, true, false, List, length, get_or, None}
 use Rattle.est_syntax.specs.Least.{IsIn}
 use Rattle.est_meaning.specs.mean_blocks.TextByPlace.{Text}
 use Rattle.est_meaning.specs.mean_blocks.GlobalSituation.{Situation, row_of}
@@ -53,6 +53,17 @@ IsAllFound limit t s x Unsettled = IsSettled limit t s → ⊥
 -- an instance descends from one of these
 abbrev pub IsPreceded : Situation → List ℕ → ℕ → Type 0
 IsPreceded s dues n = (a : ℕ) × IsIn a dues × IsAncestor s a n
+
+-- these are exactly the instances below a number that descend from some of others, in order
+pub record AreBlockedBelow (s : Situation) (dues : List ℕ) (end : ℕ) (ns : List ℕ) : Type 0 where
+  pub sorted : AreSorted ns
+  pub within : (n : ℕ) → IsIn n ns → n < end
+  pub sound : (n : ℕ) → IsIn n ns → IsPreceded s dues n
+  pub complete : (n : ℕ) → n < end → IsPreceded s dues n → IsIn n ns
+
+-- these are exactly the instances that descend from some of others, in order
+abbrev pub AreBlocked : Situation → List ℕ → List ℕ → Type 0
+AreBlocked s dues ns = AreSorted ns × ((n : ℕ) → (IsIn n ns ↔ IsPreceded s dues n))
 
 -- these are exactly the firings of others of instances that descend from none of these, in order
 pub record IsKept (s : Situation) (dues : List ℕ) (found kept : List Firing) : Type 0 where

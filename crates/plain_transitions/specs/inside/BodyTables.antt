@@ -13,7 +13,7 @@ use Rattle.est_meaning.specs.GuardParts.{fits_state}
 use Rattle.est_meaning.specs.TransitionChoices.{numbered}
 use Rattle.plain_transitions.specs.declared.fitting.Fitting.{Fitting}
 use Rattle.plain_transitions.specs.declared.written.Written.{Written}
-use Rattle.plain_transitions.specs.FittingTransitions.{AtState, IsNextFitting}
+use Rattle.plain_transitions.specs.FittingTransitions.{AtState, IsNextFitting, are_timed}
 use Rattle.plain_transitions.specs.WrittenTransitions.{IsWritten}
 use Rattle.plain_transitions.specs.inside.KeyedNumbers.{Ascend, IsLeastAbove, listed, smaller}
 use Rattle.plain_transitions.specs.inside.StateNumbers.{AreByStates}
@@ -25,11 +25,13 @@ pub record Sited : Type 0 where
   pub text : Text
   pub place : ℕ
 
--- the transitions of a body are written, and are found by the states that they fit
-pub record IsTable (s : Sited) (ws : List Written) (f : Fitting) : Type 0 where
+-- the transitions of a body are written, and are found by the states that they fit; it is known
+-- whether one has a delay
+pub record IsTable (s : Sited) (ws : List Written) (f : Fitting) (timed : Bool) : Type 0 where
   pub written : AllZip (IsWritten s.text.outline) (transitions_of s.text s.place) ws
   pub few : length ws < 2 ^ 32
   pub fitting : AreByStates ws (length ws) f
+  pub delays : timed ≡ are_timed (transitions_of s.text s.place)
 
 -- the numbers of the transitions that name a state
 abbrev pub naming : Fitting → Option ℕ → List ℕ
@@ -37,13 +39,15 @@ naming f None = []
 naming f (Some state) = listed f.named state
 
 -- the transitions of a body are written, and the numbers of those that fit a state ascend, of those
--- that fit each and of those that name it
-pub record AreFitting (s : AtState) (ws : List Written) (each named : List ℕ) : Type 0 where
+-- that fit each and of those that name it; it is known whether one has a delay
+pub record AreFitting (s : AtState) (ws : List Written) (each named : List ℕ) (timed : Bool)
+    : Type 0 where
   pub written : AllZip (IsWritten s.text.outline) (transitions_of s.text s.body) ws
   pub ascend_each : Ascend each
   pub ascend_named : Ascend named
   pub next : (after : ℕ) (q r : Option ℕ) → IsLeastAbove each after q
       → IsLeastAbove named after r → IsNextFitting s.text s.body s.state after (smaller q r)
+  pub delays : timed ≡ are_timed (transitions_of s.text s.body)
 
 -- whether the transition of a number fits a state
 abbrev pub fits_at : Sited → Option ℕ → ℕ → Bool

@@ -1,8 +1,7 @@
 -- The tuple of a number, by the ordinals of its kinds from the last one on.
-use Rattle.std.specs.Prelude.{◌≡◌, ◌+◌, ◌*◌, ℕ, ℤ, pos, ◌+ℤ◌, ◌≤ℤ◌, ◌<ℤ◌, List, [], map}
+use Rattle.std.specs.Prelude.{◌≡◌, ◌+◌, ◌*◌, ℕ, ℤ, pos, ◌+ℤ◌, ◌≤ℤ◌, ◌<ℤ◌, List, []}
 use Rattle.std.specs.Prelude.{reverse, length, drop, slice_get}
 use Rattle.std.specs.Prelude.{Option, Some, None}
-use Rattle.std.specs.Borrow.{Bor}
 use Rattle.std.specs.Option.{option_map_or}
 use Rattle.est_syntax.specs.declared.kind.Kind.{Kind}
 use Rattle.est_values.specs.FittingValues.{ordinal_count}
@@ -14,10 +13,6 @@ use Rattle.est_meaning.specs.mean_blocks.NamesInRuns.{places_of}
 -- the places of the variables of a region, if there is one
 abbrev pub variables_of : Outline → Option ℕ → List ℕ
 variables_of o any = option_map_or (places_of o sort.Variable) any []
-
--- the kinds that are referred to
-abbrev pub kinds_held : List (Bor Kind) → List Kind
-kinds_held ks = map (λ (k : Bor Kind). k.now) ks
 
 -- the ordinal that stands so far above the first one, or none where it is above the last one
 abbrev pub IsAbove : ℤ → ℤ → ℕ → Option ℤ → Type 0

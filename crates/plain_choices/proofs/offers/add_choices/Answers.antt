@@ -12,7 +12,7 @@ add_choice-requires-clause-choice c = (let d = c.requires.candidate in
     c.loop-chosen.choice c.in-Some.chosen) (sym c.loop-chosen.invariant.0)
     (has_choice c.args.behaviour.now (situation_of c.args.working.now.system)
     c.args.candidate.now c.loop-chosen.choice c.in-Some.chosen d (sym c.in-Some.is
-    ∙ c.in_ok-chosen.ensures d.transition (sym d.written.variables))))
+    ∙ c.in_ok-chosen.ensures d.transition d.written)))
 
 pub returns-clause-survey : goal.returns-clause-survey
 returns-clause-survey c = (let d = c.requires.candidate in
@@ -20,5 +20,5 @@ returns-clause-survey c = (let d = c.requires.candidate in
     c.args.candidate.now c.loop-chosen.choice c.loop-chosen.offers.items d
     c.loop-chosen.invariant.1 (unmapped (any_frame c.args.behaviour.now.outline d.transition)
     (numbered (any_tuples c.args.behaviour.now.outline d.transition) c.loop-chosen.choice)
-    (sym (c.in_ok-chosen.ensures d.transition (sym d.written.variables)) ∙ c.in_default.is))
+    (sym (c.in_ok-chosen.ensures d.transition d.written) ∙ c.in_default.is))
     c.loop-chosen.invariant.2)

@@ -9,9 +9,9 @@ use Rattle.plain_clauses.proofs.ArrivalLaws.{parts_are, no_subscripts, at_point}
 use Rattle.plain_guards.proofs.sight.await_at.Goals as goal
 
 pub returns-in_default-clause-sight : goal.returns-in_default-clause-sight
-returns-in_default-clause-sight c = λ ch b here.
+returns-in_default-clause-sight c = λ ch b known here.
     no_subscripts c.args.limit c.args.text.now (situation_of c.args.working.now.system) ch
-    (awaited_of c.args.awaits.now) c.args.declared here c.args.instance
+    (awaited_of c.args.awaits.now) c.args.declared here c.args.candidate.now.instance
     c.args.working.now.frames b (site_of c.site_at-site.result) c.site_at-site.ensures.site
     c.in_ok-parts.parts
     (parts_are c.args.limit c.args.text.now c.site_at-site.result.text.now c.args.declared
@@ -25,9 +25,9 @@ returns-in_default-clause-sight c = λ ch b here.
     (ap (λ (y : Sight). y.holds) c.nothing.ensures)
 
 pub returns-clause-sight : goal.returns-clause-sight
-returns-clause-sight c = λ ch b here.
+returns-clause-sight c = λ ch b known here.
     at_point c.args.limit c.args.text.now (situation_of c.args.working.now.system) ch
-    (awaited_of c.args.awaits.now) c.args.declared here c.args.instance
+    (awaited_of c.args.awaits.now) c.args.declared here c.args.candidate.now.instance
     c.args.working.now.frames b (site_of c.site_at-site.result) c.site_at-site.ensures.site
     c.in_ok-parts.parts
     (parts_are c.args.limit c.args.text.now c.site_at-site.result.text.now c.args.declared
@@ -39,4 +39,4 @@ returns-clause-sight c = λ ch b here.
     ∙ ap (list_any is_past) c.as_slice.ensures)
     c.in-Some.index
     (sym c.in-Some.is ∙ c.in_ok-index.ensures ∙ ap ordinals_held c.as_slice-2.ensures)
-    c.in_ok-sight.ensures.sight
+    (c.in_ok-sight.ensures.sight known)

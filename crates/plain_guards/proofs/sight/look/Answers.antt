@@ -21,4 +21,4 @@ returns-clause-sight c = λ ch of.
     c.in_ok-sight.sight) c.in_ok-begin.ensures.system
     (c.in_ok-sight.ensures.sight ch
     (before limit t s x c.args.chosen ch of c.begin.new.working.frames
-    c.in_ok-begin.ensures.frames)))
+    c.in_ok-begin.ensures.frames) of.transition))

@@ -14,9 +14,9 @@ returns-in_default-transition c = transition_missing c.args.limit c.args.behavio
 
 pub returns : goal.returns
 returns c = transition_there c.args.limit c.args.behaviour.now
-    (situation_of c.args.working.now.system) c.args.firing.now c.text.result.now
+    (situation_of c.args.working.now.system) c.args.firing.now c.args.behaviour.now
     c.in-Some.row.now c.in-Some-transition.ensures.0 c.in-Some-transition.transition.now
-    c.fire_choice.result c.fire_choice.new.working c.text.ensures (sym c.in-Some.ensures)
+    c.fire_choice.result c.fire_choice.new.working refl (sym c.in-Some.ensures)
     c.in-Some-transition.ensures.1 c.in-Some-transition.ensures.2
     (λ n h. c.fire_choice.ensures c.args.firing.now c.in-Some.row.now
     c.in-Some-transition.ensures.0 n refl h)

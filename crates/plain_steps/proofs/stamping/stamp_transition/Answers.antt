@@ -1,4 +1,4 @@
-use Rattle.std.proofs.Common.{sym, ◌∙◌, subst, Some}
+use Rattle.std.proofs.Common.{refl, sym, ◌∙◌, subst, Some}
 use Rattle.plain_frames.specs.plain_systems.HeldSystems.{situation_of}
 use Rattle.plain_guards.specs.plain_transitions.FittingTransitions.{AtState, IsTransition}
 use Rattle.plain_steps.proofs.StampSteps.{timed_in, one_with, one_without}
@@ -13,9 +13,9 @@ returns-in_ok-push-clause-stamps c =
     one_with c.args.limit c.args.behaviour.now c.args.fired s
     (situation_of c.is_timed.new.working.system) c.args.living c.args.number
     c.since-since.result c.args.stamps.now c.push.new.self
-    (sym (timed_in c.args.limit c.args.behaviour.now c.text.result.now s c.args.living
+    (sym (timed_in c.args.limit c.args.behaviour.now c.args.behaviour.now s c.args.living
     c.args.number there.0 c.in-Some.transition.now c.in_ok-is_timed.field-0
-    c.text.ensures c.requires.living there.1 there.2
+    refl c.requires.living there.1 there.2
     c.in_ok-is_timed.ensures.timed) ∙ c.if-branch.true)
     c.in_ok-is_timed.ensures.system c.since-since.ensures c.in_ok-push.ensures.ok
 
@@ -27,7 +27,7 @@ returns-else-branch-clause-stamps c =
     (Some c.in-Some.transition)) c.requires.fits c.in-Some.ensures in
     one_without c.args.limit c.args.behaviour.now c.args.fired s c.args.living c.args.number
     c.args.stamps.now
-    (sym (timed_in c.args.limit c.args.behaviour.now c.text.result.now s c.args.living
+    (sym (timed_in c.args.limit c.args.behaviour.now c.args.behaviour.now s c.args.living
     c.args.number there.0 c.in-Some.transition.now c.in_ok-is_timed.field-0
-    c.text.ensures c.requires.living there.1 there.2
+    refl c.requires.living there.1 there.2
     c.in_ok-is_timed.ensures.timed) ∙ c.if-branch.false)

@@ -1,7 +1,7 @@
 use Rattle.std.proofs.Common.{ap, ◌∙◌, ◌++◌, ◌∷◌, [], rules, w32}
 use Rattle.std.proofs.lemmas.Int.{to_z-of_z}
 use mir.Val.{SFits}
-use Rattle.plain_transitions.specs.inside.ChosenTuples.{kinds_held}
+use Rattle.plain_transitions.specs.WrittenTransitions.{kinds_held}
 use Rattle.plain_transitions.proofs.TupleLaws.{divided_nowhere, divided_more, divided_past, pushed}
 use Rattle.plain_transitions.proofs.tuples.tuple_at.Goals as goal
 

@@ -1,4 +1,5 @@
-use Rattle.plain_transitions.specs.inside.ChosenTuples.{kinds_held, IsDivided}
+use Rattle.plain_transitions.specs.WrittenTransitions.{kinds_held}
+use Rattle.plain_transitions.specs.inside.ChosenTuples.{IsDivided}
 use Rattle.plain_transitions.proofs.tuples.tuple_at.Given as goal
 
 abbrev pub invariant-loop-i : goal.invariant-loop-i

@@ -11,9 +11,9 @@ invariant_of-result c =
     let t : Text = record { spec = i.spec.now; outline = i.outline.now } in
     let x : AtState = record { text = t; body = i.place; state = c.args.state } in
     let named = naming i.fitting c.args.state in
-    subst (λ n. AreFitting x c.as_slice.result.now c.as_slice-2.result.now n)
+    subst (λ n. AreFitting x c.as_slice.result.now c.as_slice-2.result.now n i.timed)
     (sym c.naming.ensures)
-    (subst (λ e. AreFitting x c.as_slice.result.now e named) (sym c.as_slice-2.ensures)
-    (subst (λ w. AreFitting x w i.fitting.each named) (sym c.as_slice.ensures.value)
-    (at_state (record { text = t; place = i.place }) i.written.items i.fitting c.self.invariant
-    c.args.state)))
+    (subst (λ e. AreFitting x c.as_slice.result.now e named i.timed) (sym c.as_slice-2.ensures)
+    (subst (λ w. AreFitting x w i.fitting.each named i.timed) (sym c.as_slice.ensures.value)
+    (at_state (record { text = t; place = i.place }) i.written.items i.fitting i.timed
+    c.self.invariant c.args.state)))
