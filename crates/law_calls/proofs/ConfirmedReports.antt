@@ -6,20 +6,22 @@ use Rattle.std.proofs.Common.{arith, refl, sym, subst, ap, cond, nat_le, take, a
 use Rattle.std.proofs.lemmas.Bool.Decides.{nat_tests}
 use Rattle.std.proofs.lemmas.List.{take_all}
 use Rattle.est_lexer.specs.declared.kind.Token.{Token}
+use Rattle.rule_declares.specs.PortList.{ports_of}
 use Rattle.est_meaning.specs.declared.firing.Firing.{Firing}
 use Rattle.est_meaning.specs.declared.run.Move.{Move}
 use Rattle.est_meaning.specs.Agreement.{AgreeAll}
+use Rattle.est_meaning.specs.AllowedEvents.{most_events}
 use Rattle.est_meaning.specs.Order.{marks_of}
-use Rattle.est_meaning.specs.Run.{Setup, Place, first_place, IsBoundedRun, Follows, FollowsBefore}
+use Rattle.est_meaning.specs.Run.{Setup, Place, first_place, IsBoundedRun, Follows}
 use Rattle.est_meaning.specs.Run.{Explains, Yields}
-use Rattle.est_meaning.specs.Trials.{IsInner, PassesLimit, guards, block, mark_passed}
+use Rattle.est_meaning.specs.Trials.{PassesLimit, mark_passed}
 use Rattle.est_meaning.proofs.AgreementLaws.{first_taken}
-use Rattle.est_meaning.proofs.OrderLaws.{marks_same}
-use Rattle.est_meaning.proofs.RunLaws.{one_place, run_prefix, follows_grows}
+use Rattle.est_meaning.proofs.RunLaws.{one_place}
 use Rattle.est_search.specs.declared.verdict.Faulted.{Faulted}
 use Rattle.est_search.specs.declared.verdict.Verdict.{Verdict}
 use Rattle.est_search.specs.declared.verdict.Verdict.TheVariants as verdict
 use Rattle.est_search.specs.Verdict.{IsVerdict, IsRefused, IsOverAction, HasEvents}
+use Rattle.est_trace.proofs.Shown.{text_few}
 use Rattle.est_explanation.specs.declared.explanation.Explanation.{Explanation}
 use Rattle.est_explanation.specs.CanonicalExplanation.{canonical, IsWritable}
 use Rattle.est_explanation.specs.declared.verdict.Replayed.TheVariants.{Confirmed}
@@ -28,7 +30,8 @@ use Rattle.call_files.specs.declared.file.File.{File}
 use Rattle.call_files.specs.declared.file.File.TheVariants as file
 use Rattle.call_files.specs.declared.status.Status.{Status}
 use Rattle.call_files.specs.declared.status.Status.TheVariants.{Fine, Refused, OverBudget}
-use Rattle.call_files.specs.FileTexts.{Holds, OfSpecification, OfTrace, OfExplanation}
+use Rattle.call_files.specs.Files.{limit_of}
+use Rattle.call_files.specs.FileTexts.{IsText, Holds, OfSpecification, OfTrace, OfExplanation}
 use Rattle.est_tool.specs.ReplayReports.{replay_line, first_line, all_line}
 use Rattle.call_files.specs.ReadableReports.{IsReadable}
 use Rattle.call_files.specs.SearchReports.{accepted_line, refused_line, faulted_line}
@@ -38,7 +41,11 @@ use Rattle.call_files.specs.FileEnds.{reported, HoldsSpecification, HoldsTrace, 
 use Rattle.est_meaning.specs.Task.{setup_from}
 use Rattle.est_tool.specs.Ends.{ReplayEnds, replayed}
 use Rattle.call_files.specs.Requests.{replay}
+use Rattle.law_numbers.proofs.FewMoves.{follows_before}
+use Rattle.law_numbers.proofs.ReadableVerdicts.{passed_inner}
+use Rattle.law_numbers.proofs.ShortReports.{reports_short}
 use Rattle.law_calls.proofs.OneResult.{result_one}
+use Rattle.law_calls.proofs.SelfRuns.{short_held}
 use Rattle.law_calls.specs.Confirmations.{IsFedBack, IsConfirmedWhole, IsConfirmedBefore}
 use Rattle.law_calls.specs.Confirmations.{IsConfirmedSoFar, action, firings, start}
 use Rattle.law_calls.specs.Confirmations.{ExplainedIsConfirmed}
@@ -63,6 +70,23 @@ module _ (status status' : Status) (report report' : List ℕ)
   abbrev task : Setup
   task = setup_from b.statements b.silent f.spec f.recorded f.start f.outs
 
+  -- the report of such a search is no longer than an explanation may be
+  report_short : length report ≤ limit_of file.Explanation
+  report_short = elim b.within [
+    | inl small ↦
+        (let s = b.same_specification in
+        let t = b.same_trace in
+        let held : IsText file.Specification s.0 (OfSpecification f.spec) =
+        subst (λ told. Holds file.Specification told (OfSpecification f.spec)) s.1 f.holds in
+        let traced : IsText file.Trace t.0 (OfTrace f.spec f.recorded) =
+        subst (λ told. Holds file.Trace told (OfTrace f.spec f.recorded)) t.1 f.traced in
+        let few = text_few most_events (ports_of f.spec) t.0 traced.tokens f.recorded traced.is.0 in
+        subst (λ r. length r ≤ limit_of file.Explanation) (sym f.report_is)
+        (reports_short task b.budget f.verdict (short_held s.0 f.spec held) f.begun few small f.is
+        f.fits))
+    | inr short ↦ short
+  ]
+
   -- the explanation that is the report of such a search is confirmed
   confirmed : (head : List ℕ) (x : Explanation) → IsHead head → IsWritable x
       → report ≡ head ++ canonical x → Yields task (reverse x.moves) x.claim
@@ -72,7 +96,7 @@ module _ (status status' : Status) (report report' : List ℕ)
       let explained : HoldsExplanation b.shelf' b.explanation x =
       subst (λ t. Holds file.Explanation t (OfExplanation x)) (sym b.fed) (record {
         tokens = text.tokens;
-        short = b.short;
+        short = report_short;
         list = text.list;
         is = text.only;
       }) in
@@ -113,14 +137,6 @@ yields_none c = inl record {
   agree = tt;
 }
 
--- the run without its last move follows the trace where the run does
-follows_before : (c : Setup) (run : List Move) (p : Place) → IsBoundedRun c run p → Follows c p
-    → FollowsBefore c run
-follows_before c [] p r follows = tt
-follows_before c (m ∷ earlier) p r follows =
-    let a = run_prefix c (m ∷ []) earlier p r in
-    (a.place, a.is_run, follows_grows c a.place p a.grows follows)
-
 -- a bounded run that follows the trace yields all its events
 pub run_yields : (c : Setup) (run : List Move) (p : Place) → IsBoundedRun c run p → Follows c p
     → Yields c run (length p.events)
@@ -138,22 +154,7 @@ run_yields c run p is_run follows =
 
 -- MARKS
 
--- after a run something passes its limit: the run is inner
-passed_inner : (c : Setup) (run : List Move) (firing : Option Firing)
-    → PassesLimit c (mark_passed firing ∷ marks_of run) → (p : Place) × IsInner c run p
-passed_inner c run firing (guards other at unsettled) =
-    let same : run ≡ other = marks_same run other (let e : marks_of run ≡ marks_of other = cc in e) in (
-      unsettled.place,
-      subst (λ r. IsInner c r unsettled.place) (sym same) unsettled.inner,
-    )
-passed_inner c run firing (block earlier g at comes) =
-    let same : run ≡ earlier =
-    marks_same run earlier (let e : marks_of run ≡ marks_of earlier = cc in e) in (
-      comes.place,
-      subst (λ r. IsInner c r comes.place) (sym same) comes.inner,
-    )
-
--- and it yields as many events as it has
+-- a run after which something passes its limit yields as many events as it has
 passed_yields : (c : Setup) (run : List Move) (reached : ℕ) (firing : Option Firing)
     → PassesLimit c (mark_passed firing ∷ marks_of run) → HasEvents c run reached
     → Yields c run reached

@@ -1,3 +1,4 @@
+pub mod CheckComplete
 pub mod Complete
 pub mod ConfirmedReports
 pub mod Heads
@@ -10,6 +11,7 @@ pub mod PortsConfirmed
 pub mod PortsResults
 pub mod PortsStages
 pub mod Printings
+pub mod ReplayComplete
 pub mod ReportParts
 pub mod SearchStages
 pub mod Searches

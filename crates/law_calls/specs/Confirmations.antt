@@ -1,5 +1,5 @@
 -- What `explain` reports, `replay` confirms.
-use Rattle.std.specs.Prelude.{◌≡◌, ℕ, ◌+◌, ◌≤◌, List, ◌++◌, Option, Some, length}
+use Rattle.std.specs.Prelude.{◌≡◌, ℕ, ◌+◌, ◌≤◌, ◌⊎◌, List, ◌++◌, Option, Some, length}
 use Rattle.call_files.specs.declared.file.File.TheVariants as file
 use Rattle.call_files.specs.declared.status.Status.{Status}
 use Rattle.call_files.specs.declared.status.Status.TheVariants.{Fine, Refused, OverBudget}
@@ -11,12 +11,13 @@ use Rattle.call_files.specs.SearchReports.{over_firings_line, over_start_line}
 use Rattle.call_files.specs.Seen.{Seen}
 use Rattle.call_files.specs.FileEnds.{reported}
 use Rattle.est_tool.specs.Ends.{Ends}
-use Rattle.call_files.specs.Requests.{explain, replay}
+use Rattle.call_files.specs.Requests.{explain, replay, most_budget}
 use Rattle.law_calls.specs.CallLaws.{TellAlike}
 
 -- Two calls: a search ends with this status and this report, and a replay of this report as an
 -- explanation, of the same bytes of specification and trace and with the same limits, ends with
--- that status and that report. The first report is within the limit of an explanation.
+-- that status and that report. The budget is one that words can ask for, or else the first report
+-- is within the limit of an explanation.
 pub record IsFedBack (status : Status) (report : List ℕ) (status' : Status) (report' : List ℕ)
     : Type 0 where
   pub shelf : Seen
@@ -30,7 +31,7 @@ pub record IsFedBack (status : Status) (report : List ℕ) (status' : Status) (r
   pub same_specification : TellAlike shelf shelf' specification
   pub same_trace : TellAlike shelf shelf' trace
   pub fed : shelf'.before.told explanation ≡ Some report
-  pub short : length report ≤ limit_of file.Explanation
+  pub within : (budget ≤ most_budget) ⊎ (length report ≤ limit_of file.Explanation)
   pub search : Ends shelf (explain specification trace silent budget statements)
       (reported status report)
   pub replayed : Ends shelf' (replay specification trace explanation silent statements)

@@ -3,6 +3,7 @@ pub mod EachBody
 pub mod EachClause
 pub mod FewChoices
 pub mod FewInstances
+pub mod FewMoves
 pub mod FewTransitions
 pub mod FineClauses
 pub mod ListedNames
@@ -13,4 +14,5 @@ pub mod ReadBodies
 pub mod ReadablePorts
 pub mod ReadableVerdicts
 pub mod RegionsStay
+pub mod ShortReports
 pub mod WritableRuns

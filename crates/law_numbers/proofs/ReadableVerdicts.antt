@@ -36,6 +36,20 @@ reversed_all P xs h k d l =
     ∙ ap (λ ys. get_or ys k d) (reverse-reverse xs))
     (h (length (reverse xs) - 1 - k) d (omega (arith, m)))
 
+-- after a run something passes its limit: the run follows the trace
+pub passed_inner : (c : Setup) (run : List Move) (firing : Option Firing)
+    → PassesLimit c (mark_passed firing ∷ marks_of run) → (p : Place) × IsInner c run p
+passed_inner c run firing (guards other at unsettled) =
+    let e : marks_of run ≡ marks_of other = cc in (
+      unsettled.place,
+      subst (λ r. IsInner c r unsettled.place) (sym (marks_same run other e)) unsettled.inner,
+    )
+passed_inner c run firing (block earlier g at comes) =
+    let e : marks_of run ≡ marks_of earlier = cc in (
+      comes.place,
+      subst (λ r. IsInner c r comes.place) (sym (marks_same run earlier e)) comes.inner,
+    )
+
 module _ (c : Setup) (short : IsShort c.spec) (begun : IsBegun c)
     (few : length c.trace.events ≤ most_events) where
   -- MOVES
@@ -71,20 +85,6 @@ module _ (c : Setup) (short : IsShort c.spec) (begun : IsBegun c)
   passed_firing run (Some f) (block earlier g at comes) =
       let e : g ≡ f = cc in subst IsWritableFiring e (tried earlier g _ comes)
 
-  -- after a run something passes its limit: the run follows the trace
-  passed_inner : (run : List Move) (firing : Option Firing)
-      → PassesLimit c (mark_passed firing ∷ marks_of run) → (p : Place) × IsInner c run p
-  passed_inner run firing (guards other at unsettled) =
-      let e : marks_of run ≡ marks_of other = cc in (
-        unsettled.place,
-        subst (λ r. IsInner c r unsettled.place) (sym (marks_same run other e)) unsettled.inner,
-      )
-  passed_inner run firing (block earlier g at comes) =
-      let e : marks_of run ≡ marks_of earlier = cc in (
-        comes.place,
-        subst (λ r. IsInner c r comes.place) (sym (marks_same run earlier e)) comes.inner,
-      )
-
   -- VERDICTS
 
   refused_readable : (budget at : ℕ) (run : List Move) (faulted : Option Faulted)
@@ -105,7 +105,7 @@ module _ (c : Setup) (short : IsShort c.spec) (begun : IsBegun c)
       → c.limit < 2 ^ 64 → IsOverAction c budget (reverse run) reached firing
       → IsReadable c.limit (length c.trace.events) (OverAction run reached firing)
   over_readable budget reached run firing below h =
-      let i = passed_inner (reverse run) firing h.first.has in
+      let i = passed_inner c (reverse run) firing h.first.has in
       let same : h.reached.place ≡ i.0 = one_place c (reverse run) h.reached.place i.0
       h.reached.is_run i.1.is_run in
       let n = ap (λ (p : Place). length p.events) same in

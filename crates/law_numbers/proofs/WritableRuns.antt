@@ -4,6 +4,9 @@ use Rattle.std.proofs.Common.{Some, arith}
 use Rattle.std.specs.Prelude.{slice_get}
 use Rattle.std.specs.List.{All, AllByRecursion}
 use Rattle.std.proofs.lemmas.Option.{none-some}
+use Rattle.est_check.specs.Clauses.{most_tuples}
+use Rattle.est_check.specs.Small.{most_parts}
+use Rattle.mean_blocks.specs.InstanceEffects.{most_instances}
 use Rattle.mean_blocks.specs.TextByPlace.{Text, text_of}
 use Rattle.mean_blocks.specs.GlobalSituation.{Situation, row_of}
 use Rattle.est_meaning.specs.declared.firing.Firing.{Firing}
@@ -16,7 +19,7 @@ use Rattle.est_meaning.specs.declared.run.Move.{Move}
 use Rattle.est_meaning.specs.declared.run.Move.TheVariants.{Take, Fire}
 use Rattle.est_meaning.specs.Run.{Setup, Place, IsBegun, IsRun}
 use Rattle.est_meaning.proofs.RunLaws.{bounded_is_run}
-use Rattle.est_explanation.specs.CanonicalExplanation.{IsWritableMove}
+use Rattle.est_explanation.specs.CanonicalExplanation.{IsWritableFiring, IsWritableMove}
 use Rattle.law_numbers.specs.WritableLaws.{IsShort, FiringsAreWritable, RunsAreWritable}
 use Rattle.law_numbers.proofs.FewChoices.{choices_few}
 use Rattle.law_numbers.proofs.FewInstances.{instances_few}
@@ -49,8 +52,16 @@ unfolding IsPossible
 possible_choice limit t s f h =
     let a = or_true (is_offered_choice limit t s) (choice_of t s f) h.offered in (a.0, a.1)
 
-pub firings_writable : FiringsAreWritable
-firings_writable c run p f short begun is possible =
+-- its numbers are those of an instance, a transition and a choice that there may be
+pub record IsNarrowFiring (f : Firing) : Type 0 where
+  pub instance : f.instance ≤ most_instances
+  pub transition : f.transition ≤ most_parts
+  pub choice : f.choice ≤ most_tuples
+
+firings_narrow : (c : Setup) (run : List Move) (p : Place) (f : Firing) → IsShort c.spec
+    → IsBegun c → IsRun c run p → IsPossible c.limit (text_of c.spec) p.situation f
+    → IsNarrowFiring f
+firings_narrow c run p f short begun is possible =
     let t = text_of c.spec in
     let a = possible_choice c.limit t p.situation f possible in
     let b = then_some (choice_in t f) (row_of p.situation f.instance) a.0 a.1 in
@@ -58,7 +69,7 @@ firings_writable c run p f short begun is possible =
     (numbered (transitions_of t b.0.body) f.transition) a.0 b.2 in
     let e = map_some _ (numbered (any_tuples t.outline d.0) f.choice) a.0 d.2 in
     record {
-      instance = let l = instances_few c run p begun is f.instance b.0 b.1 in omega (arith, l);
+      instance = instances_few c run p begun is f.instance b.0 b.1;
       transition = let k = short.few in
           omega (
             arith,
@@ -74,19 +85,45 @@ firings_writable c run p f short begun is possible =
           );
     }
 
+narrow_writable : (f : Firing) → IsNarrowFiring f → IsWritableFiring f
+narrow_writable f narrow =
+    let i = narrow.instance in
+    let t = narrow.transition in
+    let c = narrow.choice in
+    record {
+      instance = omega (arith, i);
+      transition = omega (arith, t);
+      choice = omega (arith, c);
+    }
+
+pub firings_writable : FiringsAreWritable
+firings_writable c run p f short begun is possible =
+    narrow_writable f (firings_narrow c run p f short begun is possible)
+
 -- MOVES
 
-pub moves_writable : (c : Setup) (run : List Move) (p : Place) → IsShort c.spec
-    → IsBegun c → IsRun c run p → AllByRecursion IsWritableMove run
-moves_writable c [] p short begun is = tt
-moves_writable c (Take ∷ earlier) p short begun is =
-    (tt, moves_writable c earlier is.0 short begun is.1)
-moves_writable c (Fire f ∷ earlier) p short begun is = (
-  firings_writable c earlier is.0 f short begun is.1 is.2.step.possible,
-  moves_writable c earlier is.0 short begun is.1,
+-- what a taken event has, and each firing with such numbers, all moves of a run have
+moves_have : (P : Move → Type 0) → P Take → ((f : Firing) → IsNarrowFiring f → P (Fire f))
+    → (c : Setup) (run : List Move) (p : Place) → IsShort c.spec → IsBegun c → IsRun c run p
+    → AllByRecursion P run
+moves_have P taken fired c [] p short begun is = tt
+moves_have P taken fired c (Take ∷ earlier) p short begun is =
+    (taken, moves_have P taken fired c earlier is.0 short begun is.1)
+moves_have P taken fired c (Fire f ∷ earlier) p short begun is = (
+  fired f (firings_narrow c earlier is.0 f short begun is.1 is.2.step.possible),
+  moves_have P taken fired c earlier is.0 short begun is.1,
 )
+
+-- the numbers of the move, if it has any, are such
+abbrev pub IsNarrow : Move → Type 0
+IsNarrow Take = Unit {0}
+IsNarrow (Fire f) = IsNarrowFiring f
+
+pub moves_narrow : (c : Setup) (run : List Move) (p : Place) → IsShort c.spec → IsBegun c
+    → IsRun c run p → AllByRecursion IsNarrow run
+moves_narrow c run p short begun is = moves_have IsNarrow tt (λ f n. n) c run p short begun is
 
 pub runs_writable : RunsAreWritable
 runs_writable c run p short begun is =
     all_of IsWritableMove run
-    (moves_writable c run p short begun (bounded_is_run c run p is))
+    (moves_have IsWritableMove tt narrow_writable c run p short begun (bounded_is_run c run p is))

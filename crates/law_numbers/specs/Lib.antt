@@ -1,1 +1,2 @@
+pub mod ShortReports
 pub mod WritableLaws

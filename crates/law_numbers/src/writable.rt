@@ -1,5 +1,6 @@
 //! What is reported of a sentence that breaks no rule can be written and read. Each function does
 //! nothing; its clauses are the laws.
+ghost use Rattle.law_numbers.specs.ShortReports.{ReportsAreShort};
 ghost use Rattle.law_numbers.specs.WritableLaws.{InstancesAreFew, TransitionsAreFew};
 ghost use Rattle.law_numbers.specs.WritableLaws.{AnysHaveTheirNames, ChoicesAreFew};
 ghost use Rattle.law_numbers.specs.WritableLaws.{FiringsAreWritable, RunsAreWritable};
@@ -40,4 +41,10 @@ pub fn verdicts_are_readable()
 /// So have verdicts along one trace for each port.
 pub fn ports_verdicts_are_readable()
     ensures { PortsVerdictsAreReadable }
+{}
+
+/// The report of a verdict within a budget that words can ask for is no longer than an explanation
+/// may be.
+pub fn reports_are_short()
+    ensures { ReportsAreShort }
 {}
