@@ -140,7 +140,7 @@ def main():
             cells = [f"`{protocol}`", explained, replayed, f"{spin:,}" if spin else ""]
             more = [read, *([shares(folder, other, protocol, ours)] if other else [])]
             print(f"| {' | '.join(cells + more)} |", flush=True)
-            recording.record("instructions", *cells)
+            recording.record("instructions", *cells, read)
 
 
 if __name__ == "__main__":

@@ -21,6 +21,8 @@ import recording
 TOP = pathlib.Path(__file__).resolve().parent.parent
 PROGRAM = subprocess.check_output([TOP / "hawkopal", "--program"], text=True).rstrip("\n")
 RUNS = 3
+# GNU time starts the program, which else would begin with the memory of this script (Debian's package `time` has it).
+TIMED = ["/usr/bin/time", "--quiet", "-f", "%M", "-o", "most"]
 MOST_STATEMENTS = "1000000"
 
 HEAD = """specification Measured;
@@ -338,14 +340,14 @@ def measured(command, folder, wanted=0, source=os.devnull):
     best, most = None, 0
     for _ in range(RUNS):
         with open(folder / source, "rb") as given:
-            process = subprocess.Popen([PROGRAM, *command], cwd=folder, stdin=given, stdout=subprocess.PIPE)
+            process = subprocess.Popen([*TIMED, PROGRAM, *command], cwd=folder, stdin=given, stdout=subprocess.PIPE)
         told = process.stdout.read().decode()
         _, status, used = os.wait4(process.pid, 0)
         if os.waitstatus_to_exitcode(status) != wanted:
             sys.exit(f"{' '.join(command)}: {told[:400]}")
         taken = used.ru_utime + used.ru_stime
         best = taken if best is None else min(best, taken)
-        most = max(most, used.ru_maxrss / 1024)
+        most = max(most, int((folder / "most").read_text().split()[-1]) / 1024)
     return best, most, told
 
 
