@@ -434,6 +434,8 @@ ROWS = [
     ("a scalar among 65,536 written", assigned_alone, 100_000),
     ("`selfrun`: so many events, each third one with 65,536 scalars", made_large, 2_000),
 ]
+# GNU time starts the program, which else would begin with the memory of this script (Debian's package `time` has it).
+TIMED = ["/usr/bin/time", "--quiet", "-f", "%M", "-o", "most"]
 
 failed = 0
 
@@ -452,14 +454,15 @@ def used(program, call, folder):
     words = {"explain": ["a.trace", call.silent, call.firings, call.statements],
              "replay": ["a.trace", "a.explanation", call.silent, call.statements],
              "selfrun": [7, call.drawn]}[call.command]
-    process = subprocess.Popen([program, call.command, "a.est", *map(str, words)], cwd=folder,
+    process = subprocess.Popen([*TIMED, program, call.command, "a.est", *map(str, words)], cwd=folder,
                                stdout=subprocess.PIPE, preexec_fn=limited)
     report = process.stdout.read().decode()
     process.stdout.close()
     _, ended, usage = os.wait4(process.pid, 0)
     process.returncode = os.waitstatus_to_exitcode(ended)
     seconds = usage.ru_utime + usage.ru_stime
-    return Used(process.returncode, report.partition("\n")[0], seconds, usage.ru_maxrss / 1024)
+    most = int((folder / "most").read_text().split()[-1]) / 1024
+    return Used(process.returncode, report.partition("\n")[0], seconds, most)
 
 
 def measured(program, what, call, folder):

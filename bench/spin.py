@@ -23,6 +23,8 @@ SPECIFICATION = TOP / "examples" / "alternating_bit.est"
 PROGRAM = subprocess.check_output([TOP / "hawkopal", "--program"], text=True).rstrip("\n")
 LENGTHS = (1_000, 10_000, 100_000, 199_000)
 RUNS = 3
+# GNU time starts a program, which else would begin with the memory of this script (Debian's package `time` has it).
+TIMED = ["/usr/bin/time", "--quiet", "-f", "%M", "-o", "most"]
 
 
 def trace(length):
@@ -39,12 +41,12 @@ def measured(command, folder, wanted):
     """The least processor time of some runs, in seconds, and the most memory, in MiB."""
     best, most, told = None, 0, ""
     for _ in range(RUNS):
-        process = subprocess.Popen(command, cwd=folder, stdout=subprocess.PIPE, stderr=subprocess.STDOUT)
+        process = subprocess.Popen([*TIMED, *command], cwd=folder, stdout=subprocess.PIPE, stderr=subprocess.STDOUT)
         told = process.stdout.read().decode()
         _, _, used = os.wait4(process.pid, 0)
         taken = used.ru_utime + used.ru_stime
         best = taken if best is None else min(best, taken)
-        most = max(most, used.ru_maxrss / 1024)
+        most = max(most, int((pathlib.Path(folder) / "most").read_text().split()[-1]) / 1024)
         if wanted not in told:
             sys.exit(f"{' '.join(map(str, command))}: {told[:400]}")
     return best, most, told
