@@ -1,6 +1,7 @@
 pub mod CheckComplete
 pub mod Complete
 pub mod ConfirmedReports
+pub mod EndLines
 pub mod Heads
 pub mod Judged
 pub mod MadeEvents
@@ -20,3 +21,6 @@ pub mod SelfRunStages
 pub mod SelfRuns
 pub mod SoundTraces
 pub mod Stages
+pub mod WatchComplete
+pub mod WatchDecided
+pub mod WatchLines

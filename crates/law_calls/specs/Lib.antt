@@ -6,3 +6,4 @@ pub mod PortsCalls
 pub mod PrintedCalls
 pub mod SelfRunLaws
 pub mod SoundTraceLaws
+pub mod WatchCalls

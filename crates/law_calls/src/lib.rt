@@ -10,3 +10,4 @@ pub mod ports;
 pub mod printed;
 pub mod self_runs;
 pub mod sound_traces;
+pub mod watch;
