@@ -34,7 +34,7 @@ unreached p e (l ∷ ls) h =
     let n = neither (is_to p l) (list_any (is_to p) ls) h in
     unreached_arm p e l ls (is_from e l) n.0 (unreached p e ls n.1)
 
-none_found : {A : Type 0} (test : A → Bool) (xs : List A) → ((a : A) → test a ≡ false)
+pub none_found : {A : Type 0} (test : A → Bool) (xs : List A) → ((a : A) → test a ≡ false)
     → find test xs ≡ None
 none_found test [] h = refl
 none_found test (x ∷ xs) h =

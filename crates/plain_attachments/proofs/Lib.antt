@@ -1,3 +1,4 @@
 pub mod AttachmentLaws
 pub mod LinkLaws
 pub mod LostLaws
+pub mod SourceLaws

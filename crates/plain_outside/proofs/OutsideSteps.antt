@@ -5,6 +5,7 @@ use Rattle.std.proofs.Common.{◌∙◌, subst, List, [], length, Option, Some, 
 use Rattle.std.proofs.lemmas.List.{take_more}
 use Rattle.std.proofs.lemmas.List.Elements.{filter_map-append}
 use Rattle.std.proofs.lemmas.Option.{same_Some}
+use Rattle.std.specs.Prelude.{option_and_then}
 use Rattle.std.specs.List.{find, position}
 use Rattle.std.specs.Map.{lookup}
 use Rattle.std.specs.Option.{option_map, option_map_or}
@@ -13,7 +14,7 @@ use Rattle.est_syntax.specs.declared.kind.Kind.{Kind}
 use Rattle.est_syntax.specs.declared.ports.Port.{Port}
 use Rattle.est_syntax.specs.declared.specification.Spec.{Spec}
 use Rattle.est_meaning.specs.rule_scope.declared.declaration.Standing.{Standing}
-use Rattle.est_meaning.specs.rule_scope.Outline.{Outline, names_of}
+use Rattle.est_meaning.specs.rule_scope.Outline.{Outline, names_of, standing}
 use Rattle.est_meaning.specs.rule_declares.Bodies.{outline_of}
 use Rattle.est_meaning.specs.rule_declares.LookUps.{started_header}
 use Rattle.est_meaning.specs.rule_declares.OrdinalValues.{tuples_of}
@@ -28,12 +29,17 @@ use Rattle.est_meaning.specs.declared.event.Event.{Event}
 use Rattle.est_meaning.specs.declared.event.Event.TheVariants as event
 use Rattle.est_meaning.specs.declared.event.Interaction.{Interaction}
 use Rattle.est_meaning.specs.OutsideEvents.{is_port, departure, departures, arrival, after_event}
-use Rattle.est_meaning.proofs.Options.{map_some}
+use Rattle.est_meaning.specs.OutsideEvents.{port_in, port_point}
+use Rattle.est_meaning.specs.mean_blocks.InstancePoints.{point}
+use Rattle.est_meaning.proofs.Options.{map_some, then_some}
 use Rattle.est_meaning.proofs.Outside.{ports_of_the_root}
 use Rattle.plain_outside.specs.inside.NamedPlaces.{stands_at, named}
+use Rattle.plain_outside.specs.declared.firsts.FirstPort.{FirstPort}
+use Rattle.plain_outside.specs.inside.FirstPorts.{place_in, IsFirstPort, AreFirstPorts, StandsIn}
 use Rattle.plain_outside.specs.inside.OutsideParts.{header_names, AreParts, IsFirst, IsFirstOf}
+use Rattle.plain_outside.specs.inside.OutsideParts.{IsKnown}
 use Rattle.plain_outside.proofs.PortNumbers.{none_passes, point_of_port, ports_by_header}
-use Rattle.plain_outside.proofs.PortNumbers.{port_found}
+use Rattle.plain_outside.proofs.PortNumbers.{port_found, same_kinds}
 use Rattle.plain_outside.proofs.PortNumbers.{port_missing, port_nowhere, first_port, some_first}
 
 -- no interaction point of another instance is a port
@@ -235,3 +241,69 @@ module _ (s : Spec) (o : Outline) (ports : List Port) (header : Option ℕ)
       → IsFirstOf u.spec name k (Some first)
       → (first ≤ k) × (slice_get (tuples_of kinds) (k - first)
       ≡ option_map (λ (p : Port). p.index) (slice_get (ports_of u.spec) k))) e subscripts_of
+
+  -- the interaction point of a port by its first port
+  kinds_same : (header : Option ℕ) → started_header (outline_of s) s.first ≡ header → (j k : ℕ)
+      (y x : Port) → slice_get (ports_of s) j ≡ Some y → slice_get (ports_of s) k ≡ Some x
+      → y.name.bytes ≡ x.name.bytes → y.index_kinds ≡ x.index_kinds
+  kinds_same None b j k y x e f a = absurd (no_header k x b f)
+  kinds_same (Some h) b j k y x e f a = same_kinds s h b j k y x e f a
+
+  known_of : (d : FirstPort) (k : ℕ) (name : List ℕ) → IsFirstPort o header ports d → k < 2 ^ 32
+      → Some name ≡ option_map (λ (p : Port). p.name.bytes) (slice_get ports d.first)
+      → option_map (λ (p : Port). p.name.bytes) (slice_get (ports_of s) k) ≡ Some name
+      → IsKnown (record { spec = s; outline = o }) k d
+  known_of d k name r small h named =
+      let first = r.begins.port in
+      let own : first.name.bytes ≡ name = same_Some first.name.bytes name
+      (sym (h ∙ ap (option_map (λ (p : Port). p.name.bytes)) r.begins.stands)) in
+      let stands : slice_get (ports_of s) d.first ≡ Some first =
+      ap (λ (xs : List Port). slice_get xs d.first) (sym parts.ports_are) ∙ r.begins.stands in
+      record {
+        name = name;
+        named = named;
+        first_is = λ x e m. by_header header begins k x first.index (Some d.first) small e
+            (ap (λ ks. slice_get (tuples_of ks) 0)
+            (kinds_same header begins k d.first x first e stands (m ∙ sym own))
+            ∙ r.begins.tuple)
+            (first, stands, own ∙ sym m, refl);
+        at = ap (place_in o (started_header o s.first)) (sym own ∙ r.begins.named)
+            ∙ ap (λ x. place_in o x r.name) (sym parts.header_is) ∙ r.at;
+      }
+
+  pub known_by : (t : Text) → record { spec = s; outline = o } ≡ t → (firsts : List FirstPort)
+      → AreFirstPorts o header ports firsts → (d : FirstPort) → StandsIn firsts d → (k : ℕ)
+      (name : List ℕ) → k < 2 ^ 32
+      → Some name ≡ option_map (λ (p : Port). p.name.bytes) (slice_get ports d.first)
+      → option_map (λ (p : Port). p.name.bytes) (slice_get (ports_of t.spec) k) ≡ Some name
+      → IsKnown t k d
+  known_by t e firsts are d within k name small h = subst (λ (u : Text).
+      option_map (λ (p : Port). p.name.bytes) (slice_get (ports_of u.spec) k) ≡ Some name
+      → IsKnown u k d) e (known_of d k name (are within.0 d within.1) small h)
+
+-- a port that has the interaction point of a first port is that point
+pub known_point : (t : Text) (k : ℕ) (d : FirstPort) (index : List ℤ) → IsKnown t k d
+    → option_map (λ (p : Port). p.index) (slice_get (ports_of t.spec) k) ≡ Some index
+    → Some (point 1 d.place index) ≡ option_and_then (port_point t) (slice_get (ports_of t.spec) k)
+known_point t k d index is h =
+    let x = map_some (λ (p : Port). p.index) (slice_get (ports_of t.spec) k) index h in
+    let header = started_header t.outline t.spec.first in
+    let name : x.0.name.bytes ≡ is.name = same_Some x.0.name.bytes is.name
+    (sym (ap (option_map (λ (p : Port). p.name.bytes)) x.1) ∙ is.named) in
+    let begins = then_some (λ (n : ℕ). option_map (λ (y : Standing). y.place)
+    (standing t.outline n is.name)) header d.place is.at in
+    let at = map_some (λ (y : Standing). y.place) (standing t.outline begins.0 is.name) d.place
+    begins.2 in
+    sym (ap (option_and_then (port_point t)) x.1
+    ∙ ap (option_and_then (port_in t x.0)) begins.1
+    ∙ ap (λ (n : List ℕ). option_map (λ (y : Standing). point 1 y.place x.0.index)
+    (standing t.outline begins.0 n)) name
+    ∙ ap (option_map (λ (y : Standing). point 1 y.place x.0.index)) at.1
+    ∙ ap (λ n. Some (point 1 n x.0.index)) at.2
+    ∙ ap (λ zs. Some (point 1 d.place zs)) x.2)
+
+-- where no port stands there is no point
+pub no_point : {A B C : Type 0} (f : A → B) (g : A → Option C) (o : Option A)
+    → option_map f o ≡ None → None ≡ option_and_then g o
+no_point f g None h = refl
+no_point f g (Some x) h = absurd cc

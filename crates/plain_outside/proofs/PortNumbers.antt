@@ -25,7 +25,8 @@ use Rattle.est_meaning.specs.rule_declares.OrdinalValues.{tuples_of}
 use Rattle.est_meaning.specs.rule_declares.PortList.{element, header_ports, ports_of}
 use Rattle.rule_ports.specs.PortTable.{IsPortNumber}
 use Rattle.rule_ports.proofs.Different.{ports_differ}
-use Rattle.rule_ports.proofs.Listing.{there, within, ahead, ahead_suc, ahead_more}
+use Rattle.rule_ports.proofs.Listing.{there, within, mapped, ahead, ahead_suc, ahead_more}
+use Rattle.rule_ports.proofs.Ranks.{unmapped}
 use Rattle.est_meaning.specs.mean_blocks.declared.situation.InteractionPoint.{InteractionPoint}
 use Rattle.est_meaning.specs.mean_blocks.GlobalSituation.{is_point}
 use Rattle.est_meaning.specs.mean_blocks.InstancePoints.{point}
@@ -329,3 +330,27 @@ module _ (s : Spec) (header : ℕ)
       let f : Some t.0 ≡ None =
       sym t.1 ∙ ap (λ ks. slice_get (tuples_of ks) 0) kinds ∙ none in
       cc
+
+  -- ports of one name have the same kinds of subscripts
+  pub same_kinds : (j k : ℕ) (y x : Port) → slice_get (ports_of s) j ≡ Some y
+      → slice_get (ports_of s) k ≡ Some x → y.name.bytes ≡ x.name.bytes
+      → y.index_kinds ≡ x.index_kinds
+  same_kinds j k y x e f a =
+      let r = placed_at j y e in
+      let q = placed_at k x f in
+      let n : r.number ≡ q.number = same_name r.number q.number r.name q.name r.stands q.stands
+      (ap (λ (z : Port). z.name.bytes) r.is ∙ a ∙ sym (ap (λ (z : Port). z.name.bytes) q.is)) in
+      let found : Some r.name ≡ Some q.name =
+      sym r.stands ∙ ap (slice_get names) n ∙ q.stands in
+      let name : r.name ≡ q.name = same_Some r.name q.name found in
+      let makes = subst (λ (m : List ℕ × Standing).
+      Makes o (entry_at o m.1.place) q.kinds q.signals) (sym name) q.makes in
+      let there = mapped (element r.name.0 r.kinds r.signals) (tuples_of r.kinds) r.own r.tuple
+      r.is_tuple in
+      let u = unmapped (element r.name.0 q.kinds q.signals) (tuples_of q.kinds) r.own
+      (element r.name.0 r.kinds r.signals r.tuple)
+      (ap (λ (xs : List Port). slice_get xs r.own) (sym (makes r.name.0) ∙ r.makes r.name.0)
+      ∙ there) in
+      sym (ap (λ (z : Port). z.index_kinds) r.is)
+      ∙ sym (ap (λ (z : Port). z.index_kinds) u.2)
+      ∙ ap (λ (z : Port). z.index_kinds) q.is

@@ -1,6 +1,6 @@
 //! The outside ports of a specification.
 ghost use Rattle.std.specs.Prelude.{◌≡◌, ◌≤◌, ◌^◌, [], ◌∷◌, ◌++◌, IfOk, OnOk, OnErr, Some};
-ghost use Rattle.std.specs.Prelude.{IsSomeAnd, option_and_then, slice_get};
+ghost use Rattle.std.specs.Prelude.{IfSome, IsSomeAnd, option_and_then, slice_get};
 ghost use Rattle.std.specs.List.{position};
 ghost use Rattle.std.specs.Option.{option_map};
 ghost use Rattle.est_meaning.specs.rule_declares.Bodies.{outline_of};
@@ -10,8 +10,9 @@ ghost use Rattle.est_meaning.specs.declared.event.Event.TheVariants as event;
 ghost use Rattle.est_meaning.specs.OutsideEvents.{is_port, is_signal, signal_place, port_point};
 ghost use Rattle.est_meaning.specs.OutsideEvents.{departure_through, departure, departures};
 ghost use Rattle.est_meaning.specs.OutsideEvents.{item_by, arrival, after_event};
-ghost use Rattle.plain_outside.specs.inside.OutsideParts.{IsFirstOf};
+ghost use Rattle.plain_outside.specs.inside.OutsideParts.{IsFirstOf, IsKnown};
 
+use crate::firsts::{FirstPort, first_ports, last_before};
 use crate::names::{name_of, names_by_place};
 use crate::tuples::tuple_of;
 use est_meaning::event::{Event, Events, Interaction};
@@ -57,6 +58,8 @@ pub struct Outside<'t> {
     // The header of the root, and the first name of it that stands at each place.
     header: Option<u32>,
     names: IndexMap<u32, Name>,
+    // The first ports of its interaction points, ascending.
+    firsts: Items<FirstPort>,
 }
 
 // In words, so that where it is let go of there is one call.
@@ -68,8 +71,10 @@ impl<'t> Drop for Outside<'t> {
             ports: _,
             header: _,
             names,
+            firsts,
         } = self;
         drop(names);
+        drop(firsts);
     }
 }
 
@@ -78,7 +83,7 @@ impl<'t> Model for Outside<'t> {
     ghost use Rattle.est_syntax.specs.contracts.specification.Spec as tree;
     ghost use Rattle.est_meaning.specs.rule_scope.contracts.outline.Outline as declarations;
     ghost use Rattle.est_meaning.specs.mean_blocks.TextByPlace.{Text};
-    ghost use Rattle.plain_outside.specs.inside.OutsideParts.{AreParts};
+    ghost use Rattle.plain_outside.specs.inside.OutsideParts.{AreKept};
 
     ghost Value = { Text };
 
@@ -87,7 +92,7 @@ impl<'t> Model for Outside<'t> {
     ghost view = { λ o. record { spec = o.spec.now; outline = o.outline.now } };
 
     ghost invariant = { λ o.
-        AreParts o.spec.now o.outline.now o.ports.now o.header o.names.entries };
+        AreKept o.spec.now o.outline.now o.ports.now o.header o.names.entries o.firsts };
 }
 
 impl<'t> Outside<'t> {
@@ -106,12 +111,14 @@ impl<'t> Outside<'t> {
     {
         let header = started_header(outline, &spec.first);
         let names = names_by_place(alloc, outline, header)?;
+        let firsts = first_ports(alloc, outline, header, ports)?;
         Ok(Outside {
             spec,
             outline,
             ports,
             header,
             names,
+            firsts,
         })
     }
 
@@ -294,6 +301,42 @@ impl<'t> Outside<'t> {
         }))
     }
 
+    // The first port of the interaction point that the port of a number is, whose name this is, if
+    // it is kept.
+    fn known(&self, name: &[u8], port: u32) -> Option<FirstPort>
+        requires { option_map (λ p. p.name.bytes) (slice_get (ports_of self.now.spec) port)
+            ≡ Some name.now }
+        ensures { IfSome result (IsKnown self.now port) }
+    {
+        let known = last_before(self.firsts.as_slice(), port)?;
+        let own = self.ports.name(known.first)?;
+        if own == name { Some(known) } else { None }
+    }
+
+    // The interaction point that the port of a number is, by its first port.
+    fn point_known(
+        &self,
+        alloc: Global,
+        known: FirstPort,
+        port: u32,
+    ) -> Result<Option<InteractionPoint>, AllocError>
+        requires { IsKnown self.now port known }
+        ensures { IfOk result (λ point. point
+            ≡ option_and_then (port_point self.now) (slice_get (ports_of self.now.spec) port)) }
+    {
+        let Some(kinds) = self.ports.kinds(port) else {
+            return Ok(None);
+        };
+        let Some(index) = tuple_of(alloc, kinds.as_slice(), port - known.first)? else {
+            return Ok(None);
+        };
+        Ok(Some(InteractionPoint {
+            instance: 1,
+            declared: known.place,
+            index,
+        }))
+    }
+
     // The interaction point that the port of a number is, if there is one.
     fn port_point(&self, alloc: Global, port: u32) -> Result<Option<InteractionPoint>, AllocError>
         ensures { IfOk result (λ point. point
@@ -302,6 +345,10 @@ impl<'t> Outside<'t> {
         let Some(bytes) = self.ports.name(port) else {
             return Ok(None);
         };
+        // By the first port, which is kept, and where it is not, by the name.
+        if let Some(known) = self.known(bytes, port) {
+            return self.point_known(alloc, known, port);
+        }
         let name = name_of(alloc, bytes)?;
         self.point_named(alloc, &name, port)
     }

@@ -12,8 +12,8 @@ returns-in-None c =
     let i = c.self.inside in
     let name = c.args.name.now.bytes in
     subst (λ (t : Text). IsFirstOf t.spec name c.args.port None) c.self.view_is
-    (no_tuple i.spec.now i.outline.now i.ports.now i.header i.names.entries c.self.invariant name
-    c.args.port None c.in-Some.kinds.now c.in-Some.ensures
+    (no_tuple i.spec.now i.outline.now i.ports.now i.header i.names.entries
+    c.self.invariant.parts name c.args.port None c.in-Some.kinds.now c.in-Some.ensures
     (sym c.in-None.is ∙ c.in_ok-tuple_of.ensures
     ∙ ap (λ (ks : List Kind). slice_get (tuples_of ks) 0) c.as_slice.ensures))
 
@@ -22,9 +22,9 @@ returns-in-Some-2 c =
     let i = c.self.inside in
     let name = c.args.name.now.bytes in
     subst (λ (t : Text). IsFirstOf t.spec name c.args.port c.find.result) c.self.view_is
-    (first_found i.spec.now i.outline.now i.ports.now i.header i.names.entries c.self.invariant
-    name c.args.port c.find.result c.in-Some.kinds.now c.in-Some-2.index (omega arith)
-    c.in-Some.ensures
+    (first_found i.spec.now i.outline.now i.ports.now i.header i.names.entries
+    c.self.invariant.parts name c.args.port c.find.result c.in-Some.kinds.now c.in-Some-2.index
+    (omega arith) c.in-Some.ensures
     (sym c.in-Some-2.is ∙ c.in_ok-tuple_of.ensures
     ∙ ap (λ (ks : List Kind). slice_get (tuples_of ks) 0) c.as_slice.ensures)
     (subst (λ (z : List ℤ). IsPortNumber name z i.ports.now c.find.result)

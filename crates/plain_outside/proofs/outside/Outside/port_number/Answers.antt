@@ -15,8 +15,8 @@ returns-in_default c =
     let i = c.self.inside in
     let p = c.args.point.now in
     subst (λ (t : Text). None ≡ position (is_port t p) (ports_of t.spec)) c.self.view_is
-    (no_name i.spec.now i.outline.now i.ports.now i.header i.names.entries c.self.invariant p
-    c.in_default.ensures.value)
+    (no_name i.spec.now i.outline.now i.ports.now i.header i.names.entries
+    c.self.invariant.parts p c.in_default.ensures.value)
 
 pub returns-in-Some-find : goal.returns-in-Some-find
 returns-in-Some-find c =
@@ -25,8 +25,8 @@ returns-in-Some-find c =
     let name = c.in-Some.name.now in
     let number = Some c.in-Some-find.number in
     subst (λ (t : Text). number ≡ position (is_port t p) (ports_of t.spec)) c.self.view_is
-    (numbered i.spec.now i.outline.now i.ports.now i.header i.names.entries c.self.invariant p
-    name number c.if-point-ne1.false c.in-Some.ensures.value
+    (numbered i.spec.now i.outline.now i.ports.now i.header i.names.entries
+    c.self.invariant.parts p name number c.if-point-ne1.false c.in-Some.ensures.value
     (subst (λ (z : List ℤ). IsPortNumber name.bytes z i.ports.now number) c.as_slice.ensures
     c.in-Some-find.ensures) (λ none. absurd (cc)))
 
@@ -38,7 +38,7 @@ returns-then-count-le-MOST_PORTS c =
     let count = c.count.ensures in
     let few = c.if-count-le-MOST_PORTS.true in
     subst (λ (t : Text). None ≡ position (is_port t p) (ports_of t.spec)) c.self.view_is
-    (numbered i.spec.now i.outline.now i.ports.now i.header i.names.entries c.self.invariant p
-    name None c.if-point-ne1.false c.in-Some.ensures.value
+    (numbered i.spec.now i.outline.now i.ports.now i.header i.names.entries
+    c.self.invariant.parts p name None c.if-point-ne1.false c.in-Some.ensures.value
     (subst (λ (z : List ℤ). IsPortNumber name.bytes z i.ports.now None) c.as_slice.ensures
     c.in-None.ensures) (λ none. omega (arith, count, few)))

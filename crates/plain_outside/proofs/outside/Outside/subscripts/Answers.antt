@@ -17,9 +17,9 @@ pub overflow_sub-port : goal.overflow_sub-port
 overflow_sub-port c =
     let i = c.self.inside in
     let name = c.args.name.now.bytes in
-    (subscripts_at i.spec.now i.outline.now i.ports.now i.header i.names.entries c.self.invariant
-    c.args.self.now c.self.view_is name c.args.port c.in-Some-2.first c.in-Some.kinds.now
-    c.requires c.in-Some.ensures
+    (subscripts_at i.spec.now i.outline.now i.ports.now i.header i.names.entries
+    c.self.invariant.parts c.args.self.now c.self.view_is name c.args.port c.in-Some-2.first
+    c.in-Some.kinds.now c.requires c.in-Some.ensures
     (subst (IsFirstOf c.args.self.now.spec name c.args.port) c.in-Some-2.is
     c.in_ok-first.ensures)).0
 
@@ -29,7 +29,7 @@ returns c =
     let name = c.args.name.now.bytes in
     let first = c.in-Some-2.first in
     let found = subscripts_at i.spec.now i.outline.now i.ports.now i.header i.names.entries
-    c.self.invariant c.args.self.now c.self.view_is name c.args.port first c.in-Some.kinds.now
+    c.self.invariant.parts c.args.self.now c.self.view_is name c.args.port first c.in-Some.kinds.now
     c.requires c.in-Some.ensures
     (subst (IsFirstOf c.args.self.now.spec name c.args.port) c.in-Some-2.is
     c.in_ok-first.ensures) in
