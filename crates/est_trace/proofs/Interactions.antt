@@ -1,10 +1,10 @@
 -- An event at a port, read part by part.
-use Rattle.std.proofs.Common.{◌≡◌, ℕ, ℤ, List, length, refl, sym, ap, ◌∙◌, subst}
+use Rattle.std.proofs.Common.{◌≡◌, ℕ, ℤ, List, [], length, refl, sym, ap, ◌∙◌, subst}
 use Rattle.std.proofs.Common.{Option, Some, None, slice_get}
 use Rattle.std.specs.List.{AllZip}
 use Rattle.std.specs.Option.{unwrap_or, option_map, IsSomeAnd}
 use Rattle.est_lexer.specs.declared.kind.TokenKind.TheVariants.{Symbol}
-use Rattle.est_lexer.specs.declared.kind.Symbol.TheVariants.{Period}
+use Rattle.est_lexer.specs.declared.kind.Symbol.TheVariants.{Period, LeftBracket, RightBracket}
 use Rattle.est_lexer.specs.Offsets.{text_of, tokens_of}
 use Rattle.text_reader.specs.Grammar.{one_of, seq, both, pick}
 use Rattle.text_reader.proofs.Members.{and_left}
@@ -27,12 +27,14 @@ use Rattle.text_reader.specs.Moving.{Takes}
 use Rattle.text_reader.specs.Going.{Shape}
 use Rattle.text_values.specs.declared.formats.Format.{Format}
 use Rattle.text_values.specs.declared.formats.Format.TheVariants.{Complete, Partial}
-use Rattle.text_values.specs.TraceGrammar.{subscripts, parameters, seen_parameters, brackets}
+use Rattle.text_values.specs.TraceGrammar.{ordinal, subscripts, parameters, seen_parameters}
+use Rattle.text_values.specs.TraceGrammar.{brackets}
 use Rattle.text_values.specs.TraceGrammar.{passes, some_pass, signal, dot_signal, is_head, port}
 use Rattle.text_values.specs.ValueShapes.{AreBracketed, ShowsOrdinal, ShowsValue}
 use Rattle.text_values.specs.ValueReading.{Reads}
 use Rattle.text_values.proofs.Closed.{subscripts_closed}
 use Rattle.text_values.proofs.FitsShown.{index_fits}
+use Rattle.text_values.proofs.Groups.{nothing_read}
 use Rattle.est_trace.specs.PortNames.{GoodPorts, IsElementOf, port_name, signal_name}
 use Rattle.est_trace.specs.PortNames.{kinds_of, signals_of}
 use Rattle.est_trace.specs.TraceShapes.{ShowsAt, ShowsKnown, ShowsPartly, ShowsBrackets}
@@ -40,6 +42,7 @@ use Rattle.est_trace.specs.TraceShapes.{ShowsPassing}
 use Rattle.est_trace.specs.inside.Parts.{IsPortAt, parameters_of, arriving, leaving, ShowsElement}
 use Rattle.est_trace.specs.inside.Parts.{ShowsSignal}
 use Rattle.est_trace.specs.inside.Lookups.{Chooses}
+use Rattle.est_trace.proofs.LonePorts.{without_index}
 use Rattle.est_trace.proofs.Names.{AreTold}
 use Rattle.est_trace.proofs.SameTests.{same_head}
 use Rattle.est_trace.proofs.Lookups.{is_open, after_name, after_signal, port_chosen, signal_chosen}
@@ -178,6 +181,26 @@ element_reads ports n index found k {A} {B} q there h x = record {
         absurd (h p.0 p.1 (subst (λ o. AllZip IsOrdinalOf (kinds_of o) index) p.1
         (index_fits (text_of A.tokens.now) (tokens_of A.tokens.now)
         (length (tokens_of A.tokens.now)) (kinds_of (slice_get ports n)) index r.1.tree (x.is w))))
+
+-- a port without subscripts is the one element
+pub lone_reads : (ports : List Port) → GoodPorts ports → (n : ℕ)
+    → kinds_of (slice_get ports n) ≡ [] → {A : Reader} → (A.outcome ≡ Well → IsPortAt ports n)
+    → Reads (subscripts (kinds_of (slice_get ports n))) (ShowsElement ports n n) A A
+lone_reads ports good n none there =
+    reads_as (nothing_read ordinal ShowsOrdinal LeftBracket RightBracket
+    (kinds_of (slice_get ports n)) [] none refl) (λ w t y.
+    let p = there w in
+    let kinds : p.0.index_kinds ≡ [] = sym (ap kinds_of p.1) ∙ none in
+    record {
+      head = p.0;
+      port = p.0;
+      head_is = p.1;
+      port_is = p.1;
+      named = refl;
+      index_shown = subst (λ zs. AreBracketed ShowsOrdinal p.0.index_kinds zs t)
+          (sym (without_index ports good n p.0 p.1 kinds))
+          (subst (λ o. AreBracketed ShowsOrdinal (kinds_of o) [] t) p.1 y);
+    })
 
 -- BRACKETS
 

@@ -21,6 +21,7 @@ pub mod ListAnswers
 pub mod ListItems
 pub mod ListLines
 pub mod Listed
+pub mod LonePorts
 pub mod Lookups
 pub mod Names
 pub mod OneEvent

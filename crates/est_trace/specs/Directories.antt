@@ -1,5 +1,5 @@
 -- What a directory keeps of its ports.
-use Rattle.std.specs.Prelude.{◌≡◌, ℕ, ◌<◌, ◌^◌, true, List, length, Some, None, slice_get}
+use Rattle.std.specs.Prelude.{◌≡◌, ℕ, ◌<◌, ◌^◌, true, List, [], length, Some, None, slice_get}
 use Rattle.std.specs.Map.{lookup}
 use Rattle.est_syntax.specs.Names.{is_name}
 use Rattle.est_syntax.specs.declared.ports.Port.{Port}
@@ -23,8 +23,9 @@ pub record AreHeads (ports : List Port) (place : ℕ) (heads : List (List ℕ ×
   pub every : (i : ℕ) (p : Port) → i < place → slice_get ports i ≡ Some p
       → lookup (is_name p.name.bytes) heads ≡ None → ⊥
 
--- the directory tells the heads of its ports, each of which 32 bits can tell
+-- the directory tells the heads of its ports, each of which 32 bits can tell, and has no values
 pub record IsDirectory (directory : Directory) : Type 0 where
   pub good : GoodPorts directory.ports.now
   pub few : length directory.ports.now < 2 ^ 32
   pub heads : AreHeads directory.ports.now (length directory.ports.now) directory.heads
+  pub none : directory.none ≡ []

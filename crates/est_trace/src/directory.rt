@@ -12,14 +12,29 @@ use est_meaning::rule_kinds::hosts::count;
 use est_syntax::kind::Kind;
 use est_syntax::name::{Bytes, Name};
 use est_syntax::ports::Signal;
+use est_values::value::Values;
 use rule_ports::ports::Ports;
 use std::alloc::{AllocError, Global};
 
-/// The ports of a specification, to be found by their names and subscripts.
-#[derive(Drop)]
+/// The ports of a specification, to be found by their names and subscripts, and no values, with
+/// which events that have none share their list.
 pub struct Directory<'p> {
     pub ports: &'p Ports,
     heads: HeadTable,
+    pub(crate) none: Values,
+}
+
+// In words, so that where one is let go of there is one call.
+impl<'p> Drop for Directory<'p> {
+    fn drop(self) {
+        let Directory {
+            ports: _,
+            heads,
+            none,
+        } = self;
+        drop(heads);
+        drop(none);
+    }
 }
 
 // A name of these bytes.
@@ -101,7 +116,8 @@ pub fn directory_of<'p>(alloc: Global, ports: &'p Ports) -> Result<Directory<'p>
         return Err(AllocError);
     }
     let heads = heads_of(alloc, ports, count as u32)?;
-    Ok(Directory { ports, heads })
+    let none = Values::new(alloc)?;
+    Ok(Directory { ports, heads, none })
 }
 
 impl<'p> Directory<'p> {

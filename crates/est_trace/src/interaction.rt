@@ -29,7 +29,7 @@ use est_values::value::Values;
 use text_reader::Reader;
 use text_values::formats::Format;
 use text_values::seens::seens;
-use text_values::values::{subscripts, values};
+use text_values::values::{subscripts, values_beside};
 
 // A signal of a port, by their numbers.
 #[derive(Clone, Copy)]
@@ -62,6 +62,7 @@ pub fn port_signal(
     brackets(
         reader,
         parameters_at(signals, signal),
+        &directory.none,
         place,
         direction,
         format,
@@ -86,7 +87,11 @@ pub fn element(reader: &mut Reader, directory: &Directory, head: u32) -> u32
     ensures { Reads (grammar.subscripts (kinds_of (slice_get directory.now.ports.now head)))
         (ShowsElement directory.now.ports.now head result) reader.old reader.new }
 {
-    let index = subscripts(reader, directory.kinds(head));
+    let kinds = directory.kinds(head);
+    if kinds.is_empty() {
+        return head;
+    }
+    let index = subscripts(reader, kinds);
     directory.element(head, index.as_slice()).unwrap_or(0)
 }
 
@@ -106,11 +111,12 @@ pub fn signal(
     found.unwrap_or(0)
 }
 
-// What stands in the brackets of a signal with parameters of these kinds, as an event. None where
-// it is not there, or memory ran out.
+// What stands in the brackets of a signal with parameters of these kinds, as an event, beside no
+// values. None where it is not there, or memory ran out.
 fn brackets(
     reader: &mut Reader,
     kinds: &[Kind],
+    none: &Values,
     place: Place,
     direction: Direction,
     format: Format,
@@ -121,9 +127,9 @@ fn brackets(
         reader.old reader.new }
 {
     match direction {
-        Direction::Receives => arrival(place, values(reader, kinds)),
+        Direction::Receives => arrival(place, values_beside(reader, kinds, none)),
         Direction::Sends => match format {
-            Format::Complete => departure(place, values(reader, kinds)),
+            Format::Complete => departure(place, values_beside(reader, kinds, none)),
             Format::Partial => seen_departure(reader, kinds, place),
         },
     }

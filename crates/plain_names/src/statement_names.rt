@@ -4,10 +4,47 @@ ghost use Rattle.std.specs.Prelude.{◌≡◌, OnOk};
 
 use crate::expression_names::{access, expr, exprs, selectors};
 use est_syntax::est_items::Boxed;
-use est_syntax::expression::Expr;
+use est_syntax::expression::{EndPoint, Expr};
 use est_syntax::statement::{Arm, Sending, Statement};
 use plain_texts::known::KnownNames;
 use std::alloc::AllocError;
+
+// Keeps the names of an end of a link, but for that of an interaction point of a child, which its
+// header declares.
+fn end<'t>(one: &'t EndPoint, known: &mut KnownNames<'t>) -> Result<(), AllocError>
+    ensures { OnOk result (known.new ≡ known.old) }
+{
+    access(&one.first, known)?;
+    match &one.second {
+        None => Ok(()),
+        Some(point) => exprs(point.index.as_slice(), known),
+    }
+}
+
+// Keeps the names of a statement on a link, but for that of an interaction point of a child.
+fn linking<'t>(one: &'t Statement, known: &mut KnownNames<'t>) -> Result<(), AllocError>
+    ensures { OnOk result (known.new ≡ known.old) }
+{
+    match one {
+        Statement::Connect { one, other, .. } => {
+            end(one, known)?;
+            end(other, known)
+        }
+        Statement::Disconnect { end: one, .. } => end(one, known),
+        Statement::Attach {
+            own,
+            child,
+            point,
+            ..
+        } => {
+            access(own, known)?;
+            access(child, known)?;
+            exprs(point.index.as_slice(), known)
+        }
+        Statement::Detach { end: one, .. } => end(one, known),
+        _ => Ok(()),
+    }
+}
 
 // Keeps the names of sendings.
 fn sendings<'t>(list: &'t [Sending], known: &mut KnownNames<'t>) -> Result<(), AllocError>
@@ -21,9 +58,7 @@ fn sendings<'t>(list: &'t [Sending], known: &mut KnownNames<'t>) -> Result<(), A
     Ok(())
 }
 
-// Keeps the names of a statement that has no statement in it: all of assignments, calls and
-// outputs, the module variable and the arguments of `init` and `release`, and none of links, whose
-// names are looked up at each use.
+// Keeps the names of a statement that has no statement in it.
 fn plain<'t>(one: &'t Statement, known: &mut KnownNames<'t>) -> Result<(), AllocError>
     ensures { OnOk result (known.new ≡ known.old) }
 {
@@ -49,14 +84,16 @@ fn plain<'t>(one: &'t Statement, known: &mut KnownNames<'t>) -> Result<(), Alloc
         Statement::Output { sendings: list, .. } => sendings(list.as_slice(), known),
         Statement::Init {
             target,
+            body,
             arguments,
             ..
         } => {
             access(target, known)?;
+            known.note(body)?;
             exprs(arguments.as_slice(), known)
         }
         Statement::Release { target, .. } => access(target, known),
-        _ => Ok(()),
+        _ => linking(one, known),
     }
 }
 

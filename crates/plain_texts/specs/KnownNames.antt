@@ -1,6 +1,6 @@
 -- Names that are kept with what they mean and stand for.
-use Rattle.std.specs.Prelude.{◌≡◌, ℕ, nat_eq, List, Some}
-use Rattle.std.specs.Map.{lookup}
+use Rattle.std.specs.Prelude.{◌≡◌, List}
+use Rattle.std.specs.List.{All}
 use Rattle.est_syntax.specs.declared.name.Used.{Used}
 use Rattle.plain_declared.specs.rule_scope.Outline.{Outline}
 use Rattle.plain_declared.specs.rule_scope.Uses.{meaning}
@@ -18,11 +18,14 @@ pub record IsOf (o : Outline) (u : Used) (k : KnownName) : Type 0 where
 abbrev pub IsKnown : Outline → KnownName → Type 0
 IsKnown o k = IsOf o k.used.now k
 
--- each of these, at its place, is kept so
-abbrev pub AreKnown : Outline → List (ℕ × KnownName) → Type 0
-AreKnown o es = (p : ℕ) (k : KnownName) → lookup (nat_eq p) es ≡ Some k → IsKnown o k
+-- each of these is kept so
+abbrev pub AreKnown : Outline → List KnownName → Type 0
+AreKnown o ks = All (IsKnown o) ks
 
--- each of these interactions, at its place, is kept with where it is declared
-abbrev pub AreKnownInteractions : Outline → List (ℕ × KnownInteraction) → Type 0
-AreKnownInteractions o es = (p : ℕ) (k : KnownInteraction) → lookup (nat_eq p) es ≡ Some k
-    → k.interaction ≡ interaction_of o k.point k.used.now
+-- an interaction is kept with where it is declared
+abbrev pub IsKnownInteraction : Outline → KnownInteraction → Type 0
+IsKnownInteraction o k = k.interaction ≡ interaction_of o k.point k.used.now
+
+-- each of these interactions is kept so
+abbrev pub AreKnownInteractions : Outline → List KnownInteraction → Type 0
+AreKnownInteractions o ks = All (IsKnownInteraction o) ks

@@ -4,10 +4,9 @@ ghost use Rattle.std.specs.Prelude.{◌≡◌, true, OnOk, IfSome};
 ghost use Rattle.plain_declared.specs.rule_scope.Uses.{meaning};
 ghost use Rattle.plain_declared.specs.mean_blocks.NamesInRuns.{head, interaction_of};
 ghost use Rattle.plain_declared.specs.ShownNames.{head_of};
-ghost use Rattle.plain_texts.specs.KnownNames.{IsOf};
+ghost use Rattle.plain_texts.specs.KnownNames.{IsOf, IsKnown, IsKnownInteraction};
 
 use est_syntax::name::Used;
-use indexmap::IndexMap;
 use plain_declared::declared::interaction_of;
 use plain_declared::heads::Head;
 use plain_declared::names::head;
@@ -32,12 +31,17 @@ pub(crate) struct KnownInteraction<'t> {
     pub(crate) interaction: Option<u32>,
 }
 
-/// Names of a text that declares this, each looked up once. What is asked of another name is looked
-/// up then.
+// The number where nothing is kept of a place.
+const NONE: u32 = u32::MAX;
+
+/// Names of a text that declares this, each looked up once, and their numbers by their places. What
+/// is asked of another name is looked up then.
 pub struct KnownNames<'t> {
     outline: &'t Outline,
-    names: IndexMap<u32, KnownName<'t>>,
-    interactions: IndexMap<u32, KnownInteraction<'t>>,
+    names: Vec<KnownName<'t>>,
+    name_numbers: Vec<u32>,
+    interactions: Vec<KnownInteraction<'t>>,
+    interaction_numbers: Vec<u32>,
 }
 
 // In words, so that where they are let go of there is one call.
@@ -46,10 +50,14 @@ impl<'t> Drop for KnownNames<'t> {
         let KnownNames {
             outline: _,
             names,
+            name_numbers,
             interactions,
+            interaction_numbers,
         } = self;
         drop(names);
+        drop(name_numbers);
         drop(interactions);
+        drop(interaction_numbers);
     }
 }
 
@@ -65,8 +73,8 @@ impl<'t> Model for KnownNames<'t> {
 
     ghost view = { λ t. t.outline.now };
 
-    ghost invariant = { λ t. AreKnown t.outline.now t.names.entries
-        × AreKnownInteractions t.outline.now t.interactions.entries };
+    ghost invariant = { λ t. AreKnown t.outline.now t.names.items
+        × AreKnownInteractions t.outline.now t.interactions.items };
 }
 
 // Whether two names are one at one place.
@@ -76,6 +84,20 @@ fn is_same(one: &Used, other: &Used) -> bool
     one.place == other.place && one.name.bytes.as_slice() == other.name.bytes.as_slice()
 }
 
+// Keeps the number of what stands at a place. Errs where memory runs out, or where 32 bits cannot
+// tell the number.
+fn put_number(numbers: &mut Vec<u32>, place: u32, number: usize) -> Result<(), AllocError> {
+    let number = u32::try_from(number).map_err(|_| AllocError)?;
+    let at = place as usize;
+    for _ in numbers.len()..=at {
+        numbers.push(NONE)?;
+    }
+    if let Some(slot) = numbers.get_mut(at) {
+        *slot = number;
+    }
+    Ok(())
+}
+
 impl<'t> KnownNames<'t> {
     /// No names yet.
     pub fn new(alloc: Global, outline: &'t Outline) -> KnownNames<'t>
@@ -83,8 +105,10 @@ impl<'t> KnownNames<'t> {
     {
         KnownNames {
             outline,
-            names: IndexMap::new(alloc),
-            interactions: IndexMap::new(alloc),
+            names: Vec::new(alloc),
+            name_numbers: Vec::new(alloc),
+            interactions: Vec::new(alloc),
+            interaction_numbers: Vec::new(alloc),
         }
     }
 
@@ -95,11 +119,27 @@ impl<'t> KnownNames<'t> {
         self.outline
     }
 
+    // What is kept of the name at a place.
+    fn kept(&self, place: u32) -> Option<&KnownName<'t>>
+        ensures { IfSome result (λ known. IsKnown self.now known.now) }
+    {
+        let number = self.name_numbers.get(place as usize)?;
+        self.names.get(*number as usize)
+    }
+
+    // What is kept of the name of an interaction at a place.
+    fn kept_interaction(&self, place: u32) -> Option<&KnownInteraction<'t>>
+        ensures { IfSome result (λ known. IsKnownInteraction self.now known.now) }
+    {
+        let number = self.interaction_numbers.get(place as usize)?;
+        self.interactions.get(*number as usize)
+    }
+
     // What is kept of a name.
     fn found(&self, used: &Used) -> Option<&KnownName<'t>>
         ensures { IfSome result (λ known. IsOf self.now used.now known.now) }
     {
-        match self.names.get(&used.place) {
+        match self.kept(used.place) {
             None => None,
             Some(known) => if is_same(known.used, used) {
                 Some(known)
@@ -133,7 +173,7 @@ impl<'t> KnownNames<'t> {
     pub(crate) fn interaction_of(&self, point: u32, used: &Used) -> Option<u32>
         ensures { result ≡ interaction_of self.now point used.now }
     {
-        match self.interactions.get(&used.place) {
+        match self.kept_interaction(used.place) {
             None => interaction_of(self.outline, point, used),
             Some(known) => if known.point == point && is_same(known.used, used) {
                 known.interaction
@@ -147,7 +187,7 @@ impl<'t> KnownNames<'t> {
     pub fn note(&mut self, used: &'t Used) -> Result<(), AllocError>
         ensures { OnOk result (self.new ≡ self.old) }
     {
-        if self.names.get(&used.place).is_some() {
+        if self.kept(used.place).is_some() {
             return Ok(());
         }
         let known = KnownName {
@@ -155,8 +195,9 @@ impl<'t> KnownNames<'t> {
             meant: self.outline.meaning(used),
             head: head(self.outline, used),
         };
-        self.names.insert(used.place, known)?;
-        Ok(())
+        let number = self.names.len();
+        self.names.push(known)?;
+        put_number(&mut self.name_numbers, used.place, number)
     }
 
     /// Looks the name of an interaction up at the interaction point that another name means, and
@@ -164,7 +205,7 @@ impl<'t> KnownNames<'t> {
     pub fn note_interaction(&mut self, at: &Used, used: &'t Used) -> Result<(), AllocError>
         ensures { OnOk result (self.new ≡ self.old) }
     {
-        if self.interactions.get(&used.place).is_some() {
+        if self.kept_interaction(used.place).is_some() {
             return Ok(());
         }
         let Meant::Seen(point) = self.meaning(at) else {
@@ -175,7 +216,8 @@ impl<'t> KnownNames<'t> {
             point,
             interaction: interaction_of(self.outline, point, used),
         };
-        self.interactions.insert(used.place, known)?;
-        Ok(())
+        let number = self.interactions.len();
+        self.interactions.push(known)?;
+        put_number(&mut self.interaction_numbers, used.place, number)
     }
 }

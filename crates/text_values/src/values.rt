@@ -28,7 +28,29 @@ pub fn values(reader: &mut Reader, kinds: &[Kind]) -> Option<Values>
         (λ t. IsSomeAnd result (λ vs. AreBracketed ShowsValue kinds.now vs t))
         reader.old reader.new }
 {
-    let mut values = no_values(reader)?;
+    let none = no_values(reader)?;
+    bracketed(reader, kinds, none)
+}
+
+/// The values of parameters of these kinds in parentheses, or nothing where there are no kinds,
+/// beside others, with which what holds nothing is shared. None where memory runs out.
+pub fn values_beside(reader: &mut Reader, kinds: &[Kind], others: &Values) -> Option<Values>
+    ensures { Reads (grammar.parameters kinds.now)
+        (λ t. IsSomeAnd result (λ vs. AreBracketed ShowsValue kinds.now vs t))
+        reader.old reader.new }
+{
+    let none = no_parts(reader, others, kinds.len())?;
+    bracketed(reader, kinds, none)
+}
+
+// The values in parentheses, or nothing where there are no kinds, put into a list that has none.
+fn bracketed(reader: &mut Reader, kinds: &[Kind], none: Values) -> Option<Values>
+    requires { none ≡ [] }
+    ensures { Reads (grammar.parameters kinds.now)
+        (λ t. IsSomeAnd result (λ vs. AreBracketed ShowsValue kinds.now vs t))
+        reader.old reader.new }
+{
+    let mut values = none;
     if kinds.is_empty() {
         return Some(values);
     }
