@@ -68,6 +68,7 @@ use plain_effects::plain_operands::reached::{
     Reached, begun, loaded, placed, result_begun, take_part, with_component, with_field,
     with_subscript,
 };
+use plain_effects::plain_operands::scalars::scalar_of;
 use plain_effects::plain_operands::site::{
     Site, declared_of, dims_of, head_at, is_given_place, meaning_at,
 };
@@ -80,10 +81,31 @@ use plain_values::values::{decides, ordinal, unsigned_integer};
 use std::alloc::{AllocError, Global};
 use std::mem;
 
-/// The value of an expression.
+/// The value of an expression: its ordinal, where that is found at once.
 #[cycle(run)]
 #[inline(always)]
 pub fn value_of(
+    alloc: Global,
+    site: &Site,
+    e: &Expr,
+    working: &mut Working,
+    left: &mut u32,
+) -> Result<Value, Stop>
+    ensures value { Answers (value_of e.now (view_of site.now working.old) left.old)
+        result left.new }
+    ensures world { OnOk result (LooksSame working.old working.new) }
+{
+    if let Some(z) = scalar_of(alloc, site, e, working) {
+        return Ok(Value::Ordinal(z));
+    }
+    evaluated(alloc, site, e, working, left)
+}
+
+// The value of a subscript, whose ordinal is not looked for by itself: it was looked for with that
+// of the variable, and is not again at each level.
+#[cycle(run)]
+#[inline(always)]
+fn evaluated(
     alloc: Global,
     site: &Site,
     e: &Expr,
@@ -541,7 +563,7 @@ fn components_in<'t>(
 {
     let mut reached = whole;
     for e in exprs {
-        let value = value_of(alloc, site, e, working, left)?;
+        let value = evaluated(alloc, site, e, working, left)?;
         let z = number(value)?;
         reached = with_component(reached, z)?;
     }
@@ -587,7 +609,7 @@ pub fn subscripts_in(
 {
     let mut index = before;
     for e in exprs {
-        let value = value_of(alloc, site, e, working, left)?;
+        let value = evaluated(alloc, site, e, working, left)?;
         let z = number(value)?;
         index = with_subscript(kinds, index, z)?;
     }
@@ -680,8 +702,7 @@ pub fn values_in(
 {
     let mut slots = Slots::new(alloc);
     for e in exprs {
-        let mut value = Value::Undefined;
-        evaluate(alloc, site, e, &mut value, working, left)?;
+        let mut value = value_of(alloc, site, e, working, left)?;
         add_value(&mut slots, &mut value)?;
     }
     Ok(slots)

@@ -4,6 +4,3 @@ pub mod JudgedLaws
 pub mod KnownLaws
 pub mod MissedLaws
 pub mod PartLaws
-pub mod ReachedParts
-pub mod ScalarLaws
-pub mod SetLaws

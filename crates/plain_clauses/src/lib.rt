@@ -5,10 +5,8 @@ pub mod ages;
 mod arrivals;
 pub mod candidate;
 pub mod evaluated;
-mod held;
 pub mod met;
 pub mod missed;
-pub mod scalars;
 pub mod sights;
 pub mod verdict;
 

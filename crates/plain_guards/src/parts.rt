@@ -7,10 +7,10 @@ ghost use Rattle.plain_blocks.specs.plain_operands.ExecutionSites.{view_of};
 use est_syntax::est_items::Twin;
 use est_syntax::expression::Expr;
 use plain_blocks::expressions::value_of;
+use plain_blocks::plain_operands::scalars::scalar_of;
 use plain_blocks::plain_operands::site::Site;
 use plain_clauses::evaluated::{Evaluated, ordinal_of};
 use plain_clauses::plain_systems::system::Working;
-use plain_clauses::scalars::scalar_of;
 use std::alloc::{AllocError, Global};
 
 /// What comes of an expression, which has the whole limit of statements for itself. The working

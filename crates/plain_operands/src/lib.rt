@@ -4,10 +4,12 @@
 
 pub mod calls;
 pub mod chosen;
+mod held;
 pub mod lone;
 pub mod loops;
 pub mod operands;
 pub mod reached;
+pub mod scalars;
 pub mod site;
 
 pub use plain_frames;

@@ -17,8 +17,8 @@ fn lone_term(term: &Term) -> Option<&Factor>
     }
 }
 
-// The operand that a sum is.
-fn lone_simple(simple: &Simple) -> Option<&Factor>
+/// The operand that a sum is, where it has no operator and no minus.
+pub fn lone_simple(simple: &Simple) -> Option<&Factor>
     ensures { option_copied result ≡ lone_simple simple.now }
 {
     match simple.sign {

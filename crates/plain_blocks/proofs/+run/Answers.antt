@@ -114,8 +114,8 @@ expressions::arguments_in-argument_of-requires t c = (
   tt,
 )
 
-pub expressions::components_in-value_of-requires : goal.expressions::components_in-value_of-requires
-expressions::components_in-value_of-requires t c = (
+pub expressions::components_in-evaluated-requires : goal.expressions::components_in-evaluated-requires
+expressions::components_in-evaluated-requires t c = (
   omega (
     arith,
     item_weighed (λ e. expr_weight e + 3) c.args.exprs.now c.loop-e.e-index
@@ -125,8 +125,8 @@ expressions::components_in-value_of-requires t c = (
   tt,
 )
 
-pub expressions::subscripts_in-value_of-requires : goal.expressions::subscripts_in-value_of-requires
-expressions::subscripts_in-value_of-requires t c = (
+pub expressions::subscripts_in-evaluated-requires : goal.expressions::subscripts_in-evaluated-requires
+expressions::subscripts_in-evaluated-requires t c = (
   omega (
     arith,
     item_weighed (λ e. expr_weight e + 3) c.args.exprs.now c.loop-e.e-index
@@ -136,8 +136,8 @@ expressions::subscripts_in-value_of-requires t c = (
   tt,
 )
 
-pub expressions::values_in-evaluate-requires : goal.expressions::values_in-evaluate-requires
-expressions::values_in-evaluate-requires t c = (
+pub expressions::values_in-value_of-requires : goal.expressions::values_in-value_of-requires
+expressions::values_in-value_of-requires t c = (
   omega (
     arith,
     item_weighed (λ e. expr_weight e + 3) c.args.exprs.now c.loop-e.e-index
@@ -815,11 +815,11 @@ expressions::components_in-loop-e-preserved t c =
     let number = sym c.in_ok-z.ensures ∙ ap Ok (sym (to_z-of_z w32 c.in_ok-z.z fz)) in
     let v = view_of c.args.site.now c.args.working.now in (
       components_step c.args.exprs.now w.e-index (w.e-index + 1) c.e-item.result c.e-item.result v
-          (view_of c.args.site.now w.working) w.left c.value_of.new.left c.in_ok-value.value z
+          (view_of c.args.site.now w.working) w.left c.evaluated.new.left c.in_ok-value.value z
           c.loop-e-test.true c.e-item.is (omega arith)
           (view_same c.args.site.now c.args.working.now w.working w.invariant.1)
           c.in_ok-value.ensures.value number (reached_of w.reached)
-          (reached_of c.in_ok-reached.reached) (c.in_ok-reached.ensures c.value_of.new.left)
+          (reached_of c.in_ok-reached.reached) (c.in_ok-reached.ensures c.evaluated.new.left)
           ∙ w.invariant.0,
       search rules,
     )
@@ -837,13 +837,13 @@ expressions::components_in-returns-in_err-reached-clause-value t c =
     rw r (answers_by (components_in (drop w.e-index c.args.exprs.now) (reached_of w.reached) v
     w.left)
     (components_in c.args.exprs.now (reached_of c.args.whole) v c.args.left.now) (Err e)
-    c.value_of.new.left (sym w.invariant.0)
+    c.evaluated.new.left (sym w.invariant.0)
     (components_stop c.args.exprs.now w.e-index (w.e-index + 1) c.e-item.result c.e-item.result v
-    (view_of c.args.site.now w.working) w.left c.value_of.new.left c.in_ok-value.value z
+    (view_of c.args.site.now w.working) w.left c.evaluated.new.left c.in_ok-value.value z
     c.loop-e-test.true c.e-item.is (omega arith)
     (view_same c.args.site.now c.args.working.now w.working w.invariant.1)
-    c.in_ok-value.ensures.value number (reached_of w.reached) e c.value_of.new.left
-    (c.in_err-reached.ensures c.value_of.new.left)))
+    c.in_ok-value.ensures.value number (reached_of w.reached) e c.evaluated.new.left
+    (c.in_err-reached.ensures c.evaluated.new.left)))
 
 pub expressions::subscripts_in-loop-e-preserved : goal.expressions::subscripts_in-loop-e-preserved
 expressions::subscripts_in-loop-e-preserved t c =
@@ -853,11 +853,11 @@ expressions::subscripts_in-loop-e-preserved t c =
     let number = sym c.in_ok-z.ensures ∙ ap Ok (sym (to_z-of_z w32 c.in_ok-z.z fz)) in
     let v = view_of c.args.site.now c.args.working.now in (
       subscripts_step c.args.exprs.now w.e-index (w.e-index + 1) c.e-item.result c.e-item.result v
-          (view_of c.args.site.now w.working) w.left c.value_of.new.left c.in_ok-value.value z
+          (view_of c.args.site.now w.working) w.left c.evaluated.new.left c.in_ok-value.value z
           c.loop-e-test.true c.e-item.is (omega arith)
           (view_same c.args.site.now c.args.working.now w.working w.invariant.1)
           c.in_ok-value.ensures.value number (option_copied c.args.kinds) w.index
-          c.in_ok-index.index (c.in_ok-index.ensures c.value_of.new.left)
+          c.in_ok-index.index (c.in_ok-index.ensures c.evaluated.new.left)
           ∙ w.invariant.0,
       search rules,
     )
@@ -875,13 +875,13 @@ expressions::subscripts_in-returns-in_err-index-clause-value t c =
     let r : c.from_residual-in_err-index.result ≡ Err e = search rules in
     rw r (answers_by (subscripts_in (drop w.e-index c.args.exprs.now) ks w.index v w.left)
     (subscripts_in c.args.exprs.now ks c.args.before v c.args.left.now) (Err e)
-    c.value_of.new.left (sym w.invariant.0)
+    c.evaluated.new.left (sym w.invariant.0)
     (subscripts_stop c.args.exprs.now w.e-index (w.e-index + 1) c.e-item.result c.e-item.result v
-    (view_of c.args.site.now w.working) w.left c.value_of.new.left c.in_ok-value.value z
+    (view_of c.args.site.now w.working) w.left c.evaluated.new.left c.in_ok-value.value z
     c.loop-e-test.true c.e-item.is (omega arith)
     (view_same c.args.site.now c.args.working.now w.working w.invariant.1)
-    c.in_ok-value.ensures.value number ks w.index e c.value_of.new.left
-    (c.in_err-index.ensures c.value_of.new.left)))
+    c.in_ok-value.ensures.value number ks w.index e c.evaluated.new.left
+    (c.in_err-index.ensures c.evaluated.new.left)))
 
 pub expressions::set_value-loop-member-preserved : goal.expressions::set_value-loop-member-preserved
 expressions::set_value-loop-member-preserved t c =

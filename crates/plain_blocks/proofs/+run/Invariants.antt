@@ -29,7 +29,10 @@ use Rattle.mean_blocks.specs.StatementEffects.{all_sent}
 use Rattle.plain_blocks.proofs.+run.Given as goal
 
 abbrev pub decreases-expressions::value_of : goal.decreases-expressions::value_of
-decreases-expressions::value_of l = room l.site.now + expr_weight l.e.now + 1
+decreases-expressions::value_of l = room l.site.now + expr_weight l.e.now + 2
+
+abbrev pub decreases-expressions::evaluated : goal.decreases-expressions::evaluated
+decreases-expressions::evaluated l = room l.site.now + expr_weight l.e.now + 1
 
 abbrev pub decreases-expressions::evaluate : goal.decreases-expressions::evaluate
 decreases-expressions::evaluate l = room l.site.now + expr_weight l.e.now
@@ -56,10 +59,10 @@ abbrev pub decreases-expressions::opposite : goal.decreases-expressions::opposit
 decreases-expressions::opposite l = room l.site.now + factor_weight l.factor.now + 1
 
 abbrev pub decreases-expressions::set_value : goal.decreases-expressions::set_value
-decreases-expressions::set_value l = room l.site.now + members_weight l.members.now + 1
+decreases-expressions::set_value l = room l.site.now + members_weight l.members.now + 2
 
 abbrev pub decreases-expressions::with_member : goal.decreases-expressions::with_member
-decreases-expressions::with_member l = room l.site.now + member_weight l.member.now + 1
+decreases-expressions::with_member l = room l.site.now + member_weight l.member.now + 2
 
 abbrev pub decreases-expressions::variable_value : goal.decreases-expressions::variable_value
 decreases-expressions::variable_value l = room l.site.now + path_weight l.path.now + 4
@@ -113,7 +116,7 @@ abbrev pub decreases-expressions::arguments_in : goal.decreases-expressions::arg
 decreases-expressions::arguments_in l = room l.site.now + exprs_weight l.exprs.now + 1
 
 abbrev pub decreases-expressions::argument_of : goal.decreases-expressions::argument_of
-decreases-expressions::argument_of l = room l.site.now + expr_weight l.e.now + 2
+decreases-expressions::argument_of l = room l.site.now + expr_weight l.e.now + 3
 
 abbrev pub decreases-expressions::variable_place : goal.decreases-expressions::variable_place
 decreases-expressions::variable_place l = room l.site.now + expr_weight l.e.now + 1

@@ -2,25 +2,26 @@
 ghost use Rattle.std.specs.Prelude.{◌≡◌, Ok, IfSome, option_copied};
 ghost use Rattle.est_syntax.specs.declared.expression.Operator.TheVariants.{Within};
 ghost use Rattle.est_values.specs.declared.value.Value.TheVariants.{Ordinal, Set};
-ghost use Rattle.est_meaning.specs.mean_blocks.declared.frame.Place.{Place};
-ghost use Rattle.est_meaning.specs.mean_blocks.ExpressionValues.{value_of, related, simple_of};
-ghost use Rattle.est_meaning.specs.mean_blocks.ExpressionValues.{with_term, term_of, factor_of};
-ghost use Rattle.est_meaning.specs.mean_blocks.ExpressionValues.{variable_value, selected_in};
-ghost use Rattle.est_meaning.specs.mean_blocks.ExpressionValues.{selected, components_in};
-ghost use Rattle.est_meaning.specs.mean_blocks.NamesInRuns.{Variable, Modules};
-ghost use Rattle.est_meaning.specs.mean_blocks.OrdinalOperators.{truth};
-ghost use Rattle.est_meaning.specs.mean_blocks.Outcome.{give};
-ghost use Rattle.est_meaning.specs.mean_blocks.ReachedVariables.{Component};
-ghost use Rattle.est_meaning.specs.mean_blocks.SetOperators.{is_included, are_equal, is_member};
-ghost use Rattle.est_meaning.specs.mean_blocks.ValueOperators.{joined, signed, unsigned_integer};
+ghost use Rattle.mean_blocks.specs.declared.frame.Place.{Place};
+ghost use Rattle.mean_blocks.specs.ExpressionValues.{value_of, related, simple_of};
+ghost use Rattle.mean_blocks.specs.ExpressionValues.{with_term, term_of, factor_of};
+ghost use Rattle.mean_blocks.specs.ExpressionValues.{variable_value, selected_in};
+ghost use Rattle.mean_blocks.specs.ExpressionValues.{selected, components_in};
+ghost use Rattle.mean_blocks.specs.NamesInRuns.{Variable, Modules};
+ghost use Rattle.mean_blocks.specs.OrdinalOperators.{truth};
+ghost use Rattle.mean_blocks.specs.Outcome.{give};
+ghost use Rattle.mean_blocks.specs.ReachedVariables.{Component};
+ghost use Rattle.mean_blocks.specs.SetOperators.{is_included, are_equal, is_member};
+ghost use Rattle.mean_blocks.specs.ValueOperators.{joined, signed, unsigned_integer};
 ghost use Rattle.plain_operands.specs.ExecutionSites.{view_of};
 ghost use Rattle.plain_operands.specs.ExpressionSteps.{with_factor, opposite};
-ghost use Rattle.plain_operands.specs.LoneOperands.{lone_simple, lone_term};
 ghost use Rattle.plain_values.specs.JoinedValues.{stops, of_both};
-ghost use Rattle.plain_clauses.specs.ScalarValues.{Finds, FindsMembers, Sees, Makes, Holds};
-ghost use Rattle.plain_clauses.specs.ScalarValues.{IsAt, Reaches, value_of_seen, compared, held_at};
+ghost use Rattle.plain_operands.specs.ScalarValues.{Finds, FindsMembers, Sees, Makes, Holds};
+ghost use Rattle.plain_operands.specs.ScalarValues.{IsAt, Reaches, value_of_seen, compared, held_at};
 
 use crate::held::{Part, Seen, exported, value_at, with_component, with_field};
+use crate::lone::lone_simple;
+use crate::site::{Site, head_at};
 use est_syntax::constant::Sign;
 use est_syntax::expression::{
     Expr, Factor, Operator, ProductStep, Relation, Selector, Simple, SumStep, Term,
@@ -29,9 +30,8 @@ use est_syntax::kind::{Kind, MAXINT};
 use est_syntax::name::Used;
 use est_values::arithmetic::negative;
 use est_values::value::Value;
-use plain_operands::plain_declared::heads::Head;
-use plain_operands::plain_systems::system::Working;
-use plain_operands::site::{Site, head_at};
+use plain_frames::plain_systems::system::Working;
+use plain_texts::plain_declared::heads::Head;
 use plain_values::ordinals::{is_true, operated, truth};
 use plain_values::sets::is_member;
 use std::alloc::Global;
@@ -42,6 +42,7 @@ const MOST_DEPTH: u32 = 32;
 /// The ordinal of an expression, where it has one that is found at once. There is none of an
 /// expression that calls a function, makes a set, has a fault, or is very deep. No part is
 /// evaluated twice.
+#[inline(never)]
 pub fn scalar_of(alloc: Global, site: &Site, e: &Expr, working: &Working) -> Option<i32>
     ensures { Finds (value_of e.now (view_of site.now working.now)) result }
 {
@@ -460,31 +461,6 @@ fn components_in<'w, 't>(
         part = with_component(part, z)?;
     }
     Some(part)
-}
-
-// The operand that a product is.
-fn lone_term(term: &Term) -> Option<&Factor>
-    ensures { option_copied result ≡ lone_term term.now }
-{
-    if term.rest.as_slice().is_empty() {
-        Some(&term.first)
-    } else {
-        None
-    }
-}
-
-// The operand that a sum is.
-fn lone_simple(simple: &Simple) -> Option<&Factor>
-    ensures { option_copied result ≡ lone_simple simple.now }
-{
-    match simple.sign {
-        Some(Sign::Minus) => None,
-        _ => if simple.rest.as_slice().is_empty() {
-            lone_term(&simple.first)
-        } else {
-            None
-        },
-    }
 }
 
 // Whether all members of one are in another.

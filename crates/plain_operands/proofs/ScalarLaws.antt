@@ -13,18 +13,18 @@ use Rattle.est_syntax.specs.declared.expression.Term.{Term, out-Term}
 use Rattle.est_syntax.specs.declared.name.Used.{Used}
 use Rattle.est_values.specs.declared.value.Value.{Value}
 use Rattle.est_values.specs.declared.value.Value.TheVariants.{Ordinal}
-use Rattle.est_meaning.specs.mean_blocks.Outcome.{Done, onward, ◌>>=◌}
-use Rattle.est_meaning.specs.mean_blocks.ExpressionValues.{value_of}
-use Rattle.est_meaning.specs.mean_blocks.ExpressionValues.{simple_of, sums_in, term_of}
-use Rattle.est_meaning.specs.mean_blocks.ExpressionValues.{products_in, factor_of}
-use Rattle.est_meaning.specs.mean_blocks.ExpressionValues.{variable_value}
-use Rattle.est_meaning.specs.mean_blocks.ValueOperators.{signed}
-use Rattle.est_meaning.specs.mean_blocks.WorkingState.{View, Counts}
-use Rattle.est_meaning.proofs.of_mean_blocks.ExpressionLayers.{simple_at}
-use Rattle.est_meaning.proofs.of_mean_blocks.ExpressionLayers.{term_at, group_at}
-use Rattle.est_meaning.proofs.of_mean_blocks.ExpressionLayers.{not_at, variable_at}
+use Rattle.mean_blocks.specs.Outcome.{Done, onward, ◌>>=◌}
+use Rattle.mean_blocks.specs.ExpressionValues.{value_of}
+use Rattle.mean_blocks.specs.ExpressionValues.{simple_of, sums_in, term_of}
+use Rattle.mean_blocks.specs.ExpressionValues.{products_in, factor_of}
+use Rattle.mean_blocks.specs.ExpressionValues.{variable_value}
+use Rattle.mean_blocks.specs.ValueOperators.{signed}
+use Rattle.mean_blocks.specs.WorkingState.{View, Counts}
+use Rattle.mean_blocks.proofs.ExpressionLayers.{simple_at}
+use Rattle.mean_blocks.proofs.ExpressionLayers.{term_at, group_at}
+use Rattle.mean_blocks.proofs.ExpressionLayers.{not_at, variable_at}
 use Rattle.plain_operands.specs.ExpressionSteps.{opposite}
-use Rattle.plain_clauses.specs.ScalarValues.{Yields, Finds}
+use Rattle.plain_operands.specs.ScalarValues.{Yields, Finds}
 
 -- EVALUATION
 

@@ -1,6 +1,6 @@
 use Rattle.std.proofs.Common.{sym}
-use Rattle.plain_clauses.proofs.ReachedParts.{field_arrives}
-use Rattle.plain_clauses.proofs.held.with_field.Goals as goal
+use Rattle.plain_operands.proofs.ReachedParts.{field_arrives}
+use Rattle.plain_operands.proofs.held.with_field.Goals as goal
 
 pub returns : goal.returns
 returns c = λ v p at. field_arrives v p c.args.used.now c.args.whole.kind.now

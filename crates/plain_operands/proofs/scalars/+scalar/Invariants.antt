@@ -1,12 +1,12 @@
 use Rattle.std.proofs.Common.{◌≡◌, ℕ, ◌+◌, ◌*◌, drop}
 use Rattle.est_values.specs.declared.value.Value.TheVariants.{Ordinal}
-use Rattle.est_meaning.specs.mean_blocks.declared.frame.Place.{Place}
-use Rattle.est_meaning.specs.mean_blocks.ExpressionValues.{simple_of, sums_in, term_of, products_in}
-use Rattle.est_meaning.specs.mean_blocks.ExpressionValues.{selected_in, components_in}
-use Rattle.est_meaning.specs.mean_blocks.ReachedVariables.{Component}
+use Rattle.mean_blocks.specs.declared.frame.Place.{Place}
+use Rattle.mean_blocks.specs.ExpressionValues.{simple_of, sums_in, term_of, products_in}
+use Rattle.mean_blocks.specs.ExpressionValues.{selected_in, components_in}
+use Rattle.mean_blocks.specs.ReachedVariables.{Component}
 use Rattle.plain_operands.specs.ExecutionSites.{view_of}
-use Rattle.plain_clauses.specs.ScalarValues.{IsAt, LeadsOn}
-use Rattle.plain_clauses.proofs.scalars.+scalar.Given as goal
+use Rattle.plain_operands.specs.ScalarValues.{IsAt, LeadsOn}
+use Rattle.plain_operands.proofs.scalars.+scalar.Given as goal
 
 -- what has come so far, and then the steps that are left, is the whole sum
 abbrev pub invariant-scalar_simple-loop-step : goal.invariant-scalar_simple-loop-step

@@ -1,8 +1,8 @@
 use Rattle.std.proofs.Common.{sym, ap, ◌∙◌, w32}
 use Rattle.std.proofs.lemmas.Int.{to_z-of_z}
-use Rattle.est_meaning.specs.mean_blocks.TakenValues.{component_at}
-use Rattle.plain_clauses.proofs.ReachedParts.{component_arrives}
-use Rattle.plain_clauses.proofs.held.with_component.Goals as goal
+use Rattle.mean_blocks.specs.TakenValues.{component_at}
+use Rattle.plain_operands.proofs.ReachedParts.{component_arrives}
+use Rattle.plain_operands.proofs.held.with_component.Goals as goal
 
 pub returns : goal.returns
 returns c = λ v p at. component_arrives v p c.args.z c.args.whole.kind.now

@@ -7,20 +7,20 @@ use Rattle.est_syntax.specs.declared.expression.Simple.{Simple}
 use Rattle.est_syntax.specs.declared.kind.Kind.{Kind}
 use Rattle.est_values.specs.declared.value.Value.{Value}
 use Rattle.est_values.specs.declared.value.Value.TheVariants.{Ordinal, Set}
-use Rattle.est_meaning.specs.mean_blocks.declared.fault.BlockFault.{BlockFault}
-use Rattle.est_meaning.specs.mean_blocks.declared.frame.Place.{Place}
-use Rattle.est_meaning.specs.mean_blocks.Outcome.{Done, ◌>>=◌}
-use Rattle.est_meaning.specs.mean_blocks.ExpressionValues.{simple_of, related, selected_in}
-use Rattle.est_meaning.specs.mean_blocks.Frames.{place_of, read_at}
-use Rattle.est_meaning.specs.mean_blocks.FunctionCalls.{valued}
-use Rattle.est_meaning.specs.mean_blocks.GlobalSituation.{Frame, Situation}
-use Rattle.est_meaning.specs.mean_blocks.NamesInRuns.{Head}
-use Rattle.est_meaning.specs.mean_blocks.ReachedVariables.{Reached, Component, value_begun}
-use Rattle.est_meaning.specs.mean_blocks.ValueOperators.{defined}
-use Rattle.est_meaning.specs.mean_blocks.WorkingState.{View, Counts}
-use Rattle.plain_clauses.specs.declared.held.Part.{Part}
-use Rattle.plain_clauses.specs.declared.held.Seen.{Seen}
-use Rattle.plain_clauses.specs.declared.held.Seen.TheVariants as seen
+use Rattle.mean_blocks.specs.declared.fault.BlockFault.{BlockFault}
+use Rattle.mean_blocks.specs.declared.frame.Place.{Place}
+use Rattle.mean_blocks.specs.Outcome.{Done, ◌>>=◌}
+use Rattle.mean_blocks.specs.ExpressionValues.{simple_of, related, selected_in}
+use Rattle.mean_blocks.specs.Frames.{place_of, read_at}
+use Rattle.mean_blocks.specs.FunctionCalls.{valued}
+use Rattle.mean_blocks.specs.GlobalSituation.{Frame, Situation}
+use Rattle.mean_blocks.specs.NamesInRuns.{Head}
+use Rattle.mean_blocks.specs.ReachedVariables.{Reached, Component, value_begun}
+use Rattle.mean_blocks.specs.ValueOperators.{defined}
+use Rattle.mean_blocks.specs.WorkingState.{View, Counts}
+use Rattle.plain_operands.specs.declared.held.Part.{Part}
+use Rattle.plain_operands.specs.declared.held.Seen.{Seen}
+use Rattle.plain_operands.specs.declared.held.Seen.TheVariants as seen
 
 -- a thing is what comes of an expression, of which no statement is counted
 abbrev pub Yields : {A : Type 0} → Counts A → A → Type 0

@@ -10,29 +10,29 @@ use Rattle.est_syntax.specs.declared.name.Used.{Used}
 use Rattle.est_values.specs.declared.value.Value.{Value, out-Value}
 use Rattle.est_values.specs.declared.value.Value.TheVariants.{Ordinal}
 use Rattle.est_values.specs.PartsOfValues.{part_at, parts_of, numbered_part, onward as part_onward}
-use Rattle.est_meaning.specs.mean_blocks.declared.fault.BlockFault.{BlockFault}
-use Rattle.est_meaning.specs.mean_blocks.declared.frame.Place.{Place}
-use Rattle.est_meaning.specs.mean_blocks.ExpressionValues.{value_of, selected, selected_in}
-use Rattle.est_meaning.specs.mean_blocks.ExpressionValues.{components_in}
-use Rattle.est_meaning.specs.mean_blocks.Frames.{slot_of, value_in, existing, held_by, read_at}
-use Rattle.est_meaning.specs.mean_blocks.Frames.{component_of}
-use Rattle.est_meaning.specs.mean_blocks.GlobalSituation.{Frame, Situation}
-use Rattle.est_meaning.specs.mean_blocks.NamesInRuns.{Modules, array_in, field_in}
-use Rattle.est_meaning.specs.mean_blocks.NamesInRuns.{declared_in_header, kind_at}
-use Rattle.est_meaning.specs.mean_blocks.rule_scope.Outline.{Outline}
-use Rattle.est_meaning.specs.mean_blocks.declared.frame.Holder.TheVariants.{Instance}
-use Rattle.est_meaning.specs.mean_blocks.ReachedVariables.{Module, child_of, exported}
-use Rattle.est_meaning.specs.mean_blocks.Frames.{whole}
+use Rattle.mean_blocks.specs.declared.fault.BlockFault.{BlockFault}
+use Rattle.mean_blocks.specs.declared.frame.Place.{Place}
+use Rattle.mean_blocks.specs.ExpressionValues.{value_of, selected, selected_in}
+use Rattle.mean_blocks.specs.ExpressionValues.{components_in}
+use Rattle.mean_blocks.specs.Frames.{slot_of, value_in, existing, held_by, read_at}
+use Rattle.mean_blocks.specs.Frames.{component_of}
+use Rattle.mean_blocks.specs.GlobalSituation.{Frame, Situation}
+use Rattle.mean_blocks.specs.NamesInRuns.{Modules, array_in, field_in}
+use Rattle.mean_blocks.specs.NamesInRuns.{declared_in_header, kind_at}
+use Rattle.mean_blocks.specs.rule_scope.Outline.{Outline}
+use Rattle.mean_blocks.specs.declared.frame.Holder.TheVariants.{Instance}
+use Rattle.mean_blocks.specs.ReachedVariables.{Module, child_of, exported}
+use Rattle.mean_blocks.specs.Frames.{whole}
 use Rattle.est_syntax.specs.declared.expression.Selector.TheVariants as selector
-use Rattle.est_meaning.specs.mean_blocks.Outcome.{onward, ◌>>=◌, give, lift, known, on_ok}
-use Rattle.est_meaning.specs.mean_blocks.ReachedVariables.{Reached, Component, with_field, loaded}
-use Rattle.est_meaning.specs.mean_blocks.ReachedVariables.{with_component}
-use Rattle.est_meaning.specs.mean_blocks.TakenValues.{component_at}
-use Rattle.est_meaning.specs.mean_blocks.ValueOperators.{defined, ordinal}
-use Rattle.est_meaning.specs.mean_blocks.WorkingState.{View, Counts}
-use Rattle.plain_clauses.specs.declared.held.Part.{Part}
-use Rattle.plain_clauses.specs.ScalarValues.{Yields, held_at, IsAt, Reaches}
-use Rattle.plain_clauses.specs.ScalarValues.{Arrives, LeadsOn}
+use Rattle.mean_blocks.specs.Outcome.{onward, ◌>>=◌, give, lift, known, on_ok}
+use Rattle.mean_blocks.specs.ReachedVariables.{Reached, Component, with_field, loaded}
+use Rattle.mean_blocks.specs.ReachedVariables.{with_component}
+use Rattle.mean_blocks.specs.TakenValues.{component_at}
+use Rattle.mean_blocks.specs.ValueOperators.{defined, ordinal}
+use Rattle.mean_blocks.specs.WorkingState.{View, Counts}
+use Rattle.plain_operands.specs.declared.held.Part.{Part}
+use Rattle.plain_operands.specs.ScalarValues.{Yields, held_at, IsAt, Reaches}
+use Rattle.plain_operands.specs.ScalarValues.{Arrives, LeadsOn}
 
 -- the rest of a list from an item on
 drop_item : {A : Type 0} (xs : List A) (i j : ℕ) (x d : A) → i < length xs → x ≡ get_or xs i d

@@ -4,27 +4,27 @@ use Rattle.std.proofs.lemmas.Int.{to_z-of_z}
 use Rattle.est_syntax.specs.declared.expression.Simple.{out-Simple}
 use Rattle.est_syntax.specs.declared.expression.Term.{out-Term}
 use Rattle.est_values.specs.declared.value.Value.TheVariants.{Ordinal, Set}
-use Rattle.est_meaning.specs.mean_blocks.ExpressionValues.{value_of, simple_of, term_of, factor_of}
-use Rattle.est_meaning.specs.mean_blocks.ExpressionValues.{selected, selected_in, components_in}
-use Rattle.est_meaning.specs.mean_blocks.Frames.{place_of}
-use Rattle.est_meaning.specs.mean_blocks.NamesInRuns.{Variable, Modules}
-use Rattle.est_meaning.specs.mean_blocks.OrdinalOperators.{truth}
-use Rattle.est_meaning.specs.mean_blocks.ReachedVariables.{Component, with_field}
-use Rattle.est_meaning.specs.mean_blocks.SetOperators.{is_member}
-use Rattle.est_meaning.specs.mean_blocks.ValueOperators.{signed}
-use Rattle.est_meaning.proofs.of_mean_blocks.ExpressionLayers.{component_at}
+use Rattle.mean_blocks.specs.ExpressionValues.{value_of, simple_of, term_of, factor_of}
+use Rattle.mean_blocks.specs.ExpressionValues.{selected, selected_in, components_in}
+use Rattle.mean_blocks.specs.Frames.{place_of}
+use Rattle.mean_blocks.specs.NamesInRuns.{Variable, Modules}
+use Rattle.mean_blocks.specs.OrdinalOperators.{truth}
+use Rattle.mean_blocks.specs.ReachedVariables.{Component, with_field}
+use Rattle.mean_blocks.specs.SetOperators.{is_member}
+use Rattle.mean_blocks.specs.ValueOperators.{signed}
+use Rattle.mean_blocks.proofs.ExpressionLayers.{component_at}
 use Rattle.plain_operands.specs.ExecutionSites.{view_of}
-use Rattle.plain_clauses.specs.declared.held.Seen.TheVariants as seen
-use Rattle.plain_clauses.specs.ScalarValues.{value_of_seen}
-use Rattle.plain_clauses.proofs.ReachedParts.{reaches_by, selected_goes, selected_ends}
-use Rattle.plain_clauses.proofs.ReachedParts.{components_go, components_end, loaded_holds}
-use Rattle.plain_clauses.proofs.ReachedParts.{exported_holds}
-use Rattle.plain_clauses.proofs.ScalarLaws.{yields_as, yields_same, sum_begins, product_begins}
-use Rattle.plain_clauses.proofs.ScalarLaws.{group_finds, not_finds, variable_finds}
-use Rattle.plain_clauses.proofs.SetLaws.{related_finds, within_yields, within_finds}
-use Rattle.plain_clauses.proofs.SetLaws.{compared_finds, sets_find, lone_sees, variable_sees}
-use Rattle.plain_clauses.proofs.SetLaws.{held_sees}
-use Rattle.plain_clauses.proofs.scalars.+scalar.Goals as goal
+use Rattle.plain_operands.specs.declared.held.Seen.TheVariants as seen
+use Rattle.plain_operands.specs.ScalarValues.{value_of_seen}
+use Rattle.plain_operands.proofs.ReachedParts.{reaches_by, selected_goes, selected_ends}
+use Rattle.plain_operands.proofs.ReachedParts.{components_go, components_end, loaded_holds}
+use Rattle.plain_operands.proofs.ReachedParts.{exported_holds}
+use Rattle.plain_operands.proofs.ScalarLaws.{yields_as, yields_same, sum_begins, product_begins}
+use Rattle.plain_operands.proofs.ScalarLaws.{group_finds, not_finds, variable_finds}
+use Rattle.plain_operands.proofs.SetLaws.{related_finds, within_yields, within_finds}
+use Rattle.plain_operands.proofs.SetLaws.{compared_finds, sets_find, lone_sees, variable_sees}
+use Rattle.plain_operands.proofs.SetLaws.{held_sees}
+use Rattle.plain_operands.proofs.scalars.+scalar.Goals as goal
 
 pub scalar_factor-returns-in-Group : goal.scalar_factor-returns-in-Group
 scalar_factor-returns-in-Group t c = group_finds c.args.factor.now c.in-Group.of c.get.result.now

@@ -18,26 +18,26 @@ use Rattle.est_syntax.specs.declared.expression.Term.{Term, out-Term}
 use Rattle.est_syntax.specs.declared.name.Used.{Used}
 use Rattle.est_values.specs.declared.value.Value.{Value}
 use Rattle.est_values.specs.declared.value.Value.TheVariants.{Ordinal, Set}
-use Rattle.est_meaning.specs.mean_blocks.declared.fault.BlockFault.{BlockFault}
-use Rattle.est_meaning.specs.mean_blocks.ExpressionValues.{simple_of, sums_in, term_of, products_in}
-use Rattle.est_meaning.specs.mean_blocks.ExpressionValues.{factor_of, related, variable_value}
-use Rattle.est_meaning.specs.mean_blocks.ExpressionValues.{value_of, related_in}
-use Rattle.est_meaning.specs.mean_blocks.NamesInRuns.{Head, head}
-use Rattle.est_meaning.specs.mean_blocks.OrdinalOperators.{truth}
-use Rattle.est_meaning.specs.mean_blocks.Outcome.{Outcome, Done, Fault, Limit, onward, ◌>>=◌}
-use Rattle.est_meaning.specs.mean_blocks.Outcome.{give, lift}
-use Rattle.est_meaning.specs.mean_blocks.SetOperators.{is_member}
-use Rattle.est_meaning.specs.mean_blocks.ValueOperators.{joined, operated, signed, defined}
-use Rattle.est_meaning.specs.mean_blocks.WorkingState.{View, Counts}
-use Rattle.est_meaning.proofs.of_mean_blocks.ExpressionLayers.{related_at, simple_at, term_at}
-use Rattle.est_meaning.proofs.of_mean_blocks.ExpressionLayers.{variable_at, value_at}
+use Rattle.mean_blocks.specs.declared.fault.BlockFault.{BlockFault}
+use Rattle.mean_blocks.specs.ExpressionValues.{simple_of, sums_in, term_of, products_in}
+use Rattle.mean_blocks.specs.ExpressionValues.{factor_of, related, variable_value}
+use Rattle.mean_blocks.specs.ExpressionValues.{value_of, related_in}
+use Rattle.mean_blocks.specs.NamesInRuns.{Head, head}
+use Rattle.mean_blocks.specs.OrdinalOperators.{truth}
+use Rattle.mean_blocks.specs.Outcome.{Outcome, Done, Fault, Limit, onward, ◌>>=◌}
+use Rattle.mean_blocks.specs.Outcome.{give, lift}
+use Rattle.mean_blocks.specs.SetOperators.{is_member}
+use Rattle.mean_blocks.specs.ValueOperators.{joined, operated, signed, defined}
+use Rattle.mean_blocks.specs.WorkingState.{View, Counts}
+use Rattle.mean_blocks.proofs.ExpressionLayers.{related_at, simple_at, term_at}
+use Rattle.mean_blocks.proofs.ExpressionLayers.{variable_at, value_at}
 use Rattle.plain_operands.specs.LoneOperands.{lone_product, lone_sum, lone_simple}
 use Rattle.plain_values.specs.JoinedValues.{stops, of_both}
 use Rattle.plain_values.proofs.JoinedOperators.{joined_at, after_both}
-use Rattle.plain_clauses.specs.ScalarValues.{Yields, Finds, Sees, value_of_seen, compared}
-use Rattle.plain_clauses.specs.ScalarValues.{held_at}
-use Rattle.plain_clauses.specs.declared.held.Seen.{Seen}
-use Rattle.plain_clauses.specs.declared.held.Seen.TheVariants as seen
+use Rattle.plain_operands.specs.ScalarValues.{Yields, Finds, Sees, value_of_seen, compared}
+use Rattle.plain_operands.specs.ScalarValues.{held_at}
+use Rattle.plain_operands.specs.declared.held.Seen.{Seen}
+use Rattle.plain_operands.specs.declared.held.Seen.TheVariants as seen
 
 -- OPERATORS
 

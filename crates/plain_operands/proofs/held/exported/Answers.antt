@@ -1,6 +1,6 @@
 use Rattle.plain_operands.specs.ExecutionSites.{view_of}
-use Rattle.plain_clauses.proofs.ReachedParts.{exported_arrives}
-use Rattle.plain_clauses.proofs.held.exported.Goals as goal
+use Rattle.plain_operands.proofs.ReachedParts.{exported_arrives}
+use Rattle.plain_operands.proofs.held.exported.Goals as goal
 
 pub returns : goal.returns
 returns c = exported_arrives (view_of c.args.site.now c.args.working.now)
